@@ -1,0 +1,4 @@
+mod Lengths
+mod Needs
+mod Permuted
+mod Vectors

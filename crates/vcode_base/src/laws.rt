@@ -1,0 +1,14 @@
+//! Laws over the definitions alone: each is the contract of a function that does nothing.
+
+ghost use Rattle.vcode_base.specs.Laws.{ResultsHaveNeededLengths, EachElementAtItsIndex};
+
+/// Where an instruction has no fault, its results have the lengths that `need` gives.
+pub fn results_have_needed_lengths()
+    ensures { ResultsHaveNeededLengths }
+{}
+
+/// Where no index of a segment comes twice and none is outside it, `PERMUTE` puts the element at
+/// place `p` of the segment to the place that the index at `p` names.
+pub fn each_element_at_its_index()
+    ensures { EachElementAtItsIndex }
+{}
