@@ -1,0 +1,57 @@
+ghost use Rattle.std.specs.Prelude.{◌≡◌, ◌≤◌, ◌<◌, ◌*◌, IfOk, length, pos};
+ghost use Rattle.vcode_base.specs.Kinds.{HasKind, greatest_total};
+ghost use Rattle.vcode_base.specs.declared.kind.Kind.TheVariants.{Bool, Segdes};
+
+use std::alloc::{AllocError, Allocator};
+
+/// A descriptor of `segments` segments of `size` words each.
+pub fn descriptor<A: Allocator>(alloc: A, segments: usize, size: u32) -> Result<Vec<i64, A>, AllocError>
+    requires { segments * size ≤ greatest_total }
+    ensures long { IfOk result (λ s. length s.items ≡ segments) }
+    ensures kind { IfOk result (λ s. HasKind Segdes s.items) }
+{
+    vec![in alloc; i64::from(size); segments]
+}
+
+/// So many flags, two of three T.
+pub fn flags<A: Allocator>(alloc: A, count: usize) -> Result<Vec<i64, A>, AllocError>
+    ensures long { IfOk result (λ s. length s.items ≡ count) }
+    ensures kind { IfOk result (λ s. HasKind Bool s.items) }
+{
+    let mut flags = Vec::with_capacity(alloc, count)?;
+    for i in 0..count {
+        flags.push(if i % 3 == 0 { 0 } else { 1 })?;
+    }
+    Ok(flags)
+}
+
+/// The numbers from 0 on, as many in each segment as it has words, in reverse.
+pub fn indices<A: Allocator>(alloc: A, segments: usize, size: u32) -> Result<Vec<i64, A>, AllocError>
+{
+    let mut indices = Vec::new(alloc);
+    for _ in 0..segments {
+        for i in 0..size {
+            indices.push(i64::from(size - 1 - i))?;
+        }
+    }
+    Ok(indices)
+}
+
+/// Numbers that aren't 0, of both signs.
+pub fn numbers<A: Allocator>(alloc: A, count: usize) -> Result<Vec<i64, A>, AllocError> {
+    let mut numbers = Vec::with_capacity(alloc, count)?;
+    for i in 0..count {
+        let small = (i % 1000) as i64;
+        numbers.push(if i % 2 == 0 { small + 1 } else { -small })?;
+    }
+    Ok(numbers)
+}
+
+/// Shifts of 0 to 6 places.
+pub fn shifts<A: Allocator>(alloc: A, count: usize) -> Result<Vec<i64, A>, AllocError> {
+    let mut shifts = Vec::with_capacity(alloc, count)?;
+    for i in 0..count {
+        shifts.push((i % 7) as i64)?;
+    }
+    Ok(shifts)
+}

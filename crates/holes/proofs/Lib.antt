@@ -1,0 +1,4 @@
+pub mod Ranges
+mod Layouts
+mod Changes
+mod Facts

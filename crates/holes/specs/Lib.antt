@@ -1,0 +1,3 @@
+pub mod FreeWords
+pub mod Laws
+pub mod Layout

@@ -1,0 +1,4 @@
+pub mod Folds
+pub mod Indices
+pub mod Operands
+pub mod Served

@@ -1,0 +1,53 @@
+ghost use Rattle.std.specs.Prelude.{◌≡◌, length, flat_map, replicate, zip};
+ghost use Rattle.vcode_base.specs.Kinds.{AreLengths};
+ghost use Rattle.vcode_base.specs.Segments.{total, sizes, progression};
+
+/// `DIST`: writes at each position the element of its segment.
+///
+/// `elements` has one element a segment of `descriptor`, and `out` is in its segments. INT and BOOL
+/// have one meaning.
+pub fn distribute(elements: &[i64], descriptor: &[i64], out: &mut [i64])
+    requires lengths { AreLengths descriptor.now }
+    requires each { length elements.now ≡ length descriptor.now }
+    requires room { length out.old ≡ total descriptor.now }
+    ensures { out.new
+        ≡ flat_map (λ (n, x). replicate n x) (zip (sizes descriptor.now) elements.now) }
+{
+    let mut begin = 0;
+    for segment in 0..descriptor.len() {
+        let end = begin + descriptor[segment] as usize;
+        out[begin..end].fill(elements[segment]);
+        begin = end;
+    }
+}
+
+/// `INDEX`: writes at index `i` of each segment the segment's number of `firsts` and `i` times that
+/// of `strides`, modulo 2^64.
+///
+/// `firsts` and `strides` have one element a segment of `descriptor`, and `out` is in its segments.
+pub fn index(firsts: &[i64], strides: &[i64], descriptor: &[i64], out: &mut [i64])
+    requires lengths { AreLengths descriptor.now }
+    requires each_first { length firsts.now ≡ length descriptor.now }
+    requires each_stride { length strides.now ≡ length descriptor.now }
+    requires room { length out.old ≡ total descriptor.now }
+    ensures { let numbers = zip firsts.now strides.now
+        in out.new ≡ flat_map (λ (n, p). progression n p.0 p.1) (zip (sizes descriptor.now) numbers) }
+{
+    let mut begin = 0;
+    for segment in 0..descriptor.len() {
+        let end = begin + descriptor[segment] as usize;
+        progress(firsts[segment], strides[segment], &mut out[begin..end]);
+        begin = end;
+    }
+}
+
+/// Fills `out` with the numbers from `first` on, each `stride` more than the one before.
+fn progress(first: i64, stride: i64, out: &mut [i64])
+    ensures { out.new ≡ progression (length out.old) first stride }
+{
+    let mut next = first;
+    for element in out.iter_mut() {
+        *element = next;
+        next = next.wrapping_add(stride);
+    }
+}

@@ -1,0 +1,82 @@
+ghost use Rattle.std.specs.Prelude.{◌≡◌, length, MatchResult, None, Some};
+ghost use Rattle.vcode_base.specs.Kinds.{HaveKinds, source_kinds, segmented_operands};
+ghost use Rattle.vcode_base.specs.Meaning.{shape, need, value_fault, result_of, second_result_of};
+ghost use Rattle.vcode_base.specs.Meaning.{segmented_shape, segmented_need, segmented_fault, segmented_result, segmented_second};
+ghost use Rattle.segment_ops.specs.Operands.{contents};
+ghost use Rattle.segment_ops.specs.Served.{IsServed};
+
+use crate::descriptors::make_descriptor;
+use crate::distributions::{distribute, index};
+use crate::extractions::extract;
+use crate::gathers::back_permute;
+use crate::overlays::default_permute;
+use crate::packs::pack;
+use crate::permutations::permute;
+use crate::reductions::reduce;
+use crate::replacements::replace;
+use crate::scans::scan;
+use vcode_base::{DataFault, Op, Segmented};
+
+/// Writes the results of the instruction.
+///
+/// `op` and `ops` are as for [`shape`](crate::shape), which has answered `Ok`, and `first` and
+/// `second` have the lengths that [`need`](crate::need) answers.
+///
+/// # Errors
+///
+/// [`BadIndex`](DataFault::BadIndex) where an index is outside its segment, else
+/// [`IndexTwice`](DataFault::IndexTwice) where two elements of a segment go to one index.
+/// [`BadLength`](DataFault::BadLength) where a descriptor is made of a negative length or of lengths
+/// whose total passes the greatest. What the results hold then is not said.
+#[tactic(auto, unfolding(vcode_base::specs::Meaning::shape, vcode_base::specs::Meaning::need, vcode_base::specs::Meaning::value_fault, vcode_base::specs::Meaning::result_of, vcode_base::specs::Meaning::second_result_of))]
+pub fn fill(op: Op, ops: &[&[i64]], first: &mut [i64], second: &mut [i64]) -> Result<(), DataFault>
+    requires served { IsServed op }
+    requires kinds { HaveKinds (source_kinds op) (contents ops.now) }
+    requires shape { shape op (contents ops.now) ≡ None }
+    requires room { need op (contents ops.now) ≡ (length first.old, length second.old) }
+    ensures { MatchResult result
+        (λ _. (value_fault op (contents ops.now) ≡ None)
+        × (first.new ≡ result_of op (contents ops.now))
+        × (second.new ≡ second_result_of op (contents ops.now)))
+        (λ fault. value_fault op (contents ops.now) ≡ Some fault) }
+{
+    match op {
+        Op::Segmented(op) => fill_segmented(op, ops, first, second),
+        _ => unreachable!(),
+    }
+}
+
+/// Writes the results of an instruction over segments.
+fn fill_segmented(
+    op: Segmented,
+    ops: &[&[i64]],
+    first: &mut [i64],
+    second: &mut [i64],
+) -> Result<(), DataFault>
+    requires kinds { HaveKinds (segmented_operands op) (contents ops.now) }
+    requires shape { segmented_shape op (contents ops.now) ≡ None }
+    requires room { segmented_need op (contents ops.now) ≡ (length first.old, length second.old) }
+    ensures { MatchResult result
+        (λ _. (segmented_fault op (contents ops.now) ≡ None)
+        × (first.new ≡ segmented_result op (contents ops.now))
+        × (second.new ≡ segmented_second op (contents ops.now)))
+        (λ fault. segmented_fault op (contents ops.now) ≡ Some fault) }
+{
+    match op {
+        Segmented::Scan(fold) => scan(fold, ops[0], ops[1], first),
+        Segmented::Reduce(fold) => reduce(fold, ops[0], ops[1], first),
+        Segmented::Distribute(_) => distribute(ops[0], ops[1], first),
+        Segmented::Index => index(ops[0], ops[1], ops[2], first),
+        Segmented::Permute(_) => permute(ops[0], ops[1], ops[2], first)?,
+        Segmented::BackPermute(_) => back_permute(ops[0], ops[1], ops[2], ops[3], first)?,
+        Segmented::DefaultPermute(_) => {
+            default_permute(ops[0], ops[1], ops[2], ops[3], ops[4], first)?;
+        }
+        Segmented::Extract(_) => extract(ops[0], ops[1], ops[2], first)?,
+        Segmented::Replace(_) => replace(ops[0], ops[1], ops[2], ops[3], first)?,
+        Segmented::Pack(_) => pack(ops[0], ops[1], ops[2], first, second),
+        Segmented::MakeSegdes => make_descriptor(ops[0], first)?,
+        Segmented::Lengths => first.copy_from_slice(ops[0]),
+    }
+    Ok(())
+}

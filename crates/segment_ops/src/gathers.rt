@@ -1,0 +1,69 @@
+ghost use Rattle.std.specs.Prelude.{◌≡◌, length, [], ◌∷◌, map, MatchResult, None, Some};
+ghost use Rattle.segment_ops.specs.Indices.{AreWithin};
+ghost use Rattle.vcode_base.specs.Kinds.{AreLengths};
+ghost use Rattle.vcode_base.specs.Meaning.{segmented_result, segmented_fault};
+ghost use Rattle.vcode_base.specs.Segments.{total, element};
+ghost use Rattle.vcode_base.specs.declared.kind.Scalar.TheVariants.{Int};
+ghost use Rattle.vcode_base.specs.declared.op.Segmented.TheVariants.{BackPermute};
+
+use crate::indices::any_outside;
+use vcode_base::DataFault;
+
+/// `BPERMUTE`: writes at each position the element that its index names.
+///
+/// `elements` are in the segments of `source`, `indices` and `out` in those of `target`, and an
+/// index counts in the segment of `elements` with the number of its own. The clauses name INT, and
+/// BOOL means the same.
+///
+/// # Errors
+///
+/// [`BadIndex`](DataFault::BadIndex) where an index is outside that segment. Then `out` holds no
+/// result.
+pub fn back_permute(
+    elements: &[i64],
+    indices: &[i64],
+    source: &[i64],
+    target: &[i64],
+    out: &mut [i64],
+) -> Result<(), DataFault>
+    requires source_lengths { AreLengths source.now }
+    requires target_lengths { AreLengths target.now }
+    requires matched { length source.now ≡ length target.now }
+    requires whole { length elements.now ≡ total source.now }
+    requires index_whole { length indices.now ≡ total target.now }
+    requires room { length out.old ≡ total target.now }
+    ensures { let operands = elements.now ∷ indices.now ∷ source.now ∷ target.now ∷ []
+        in MatchResult result
+        (λ _. (segmented_fault (BackPermute Int) operands ≡ None)
+        × (out.new ≡ segmented_result (BackPermute Int) operands))
+        (λ fault. segmented_fault (BackPermute Int) operands ≡ Some fault) }
+{
+    if any_outside(indices, target, source) {
+        return Err(DataFault::BadIndex);
+    }
+    let mut begin = 0;
+    let mut target_begin = 0;
+    for segment in 0..source.len() {
+        let end = begin + source[segment] as usize;
+        let target_end = target_begin + target[segment] as usize;
+        gather(
+            &elements[begin..end],
+            &indices[target_begin..target_end],
+            &mut out[target_begin..target_end],
+        );
+        begin = end;
+        target_begin = target_end;
+    }
+    Ok(())
+}
+
+/// Writes the element that each index names.
+fn gather(elements: &[i64], indices: &[i64], out: &mut [i64])
+    requires within { AreWithin (length elements.now) indices.now }
+    requires room { length out.old ≡ length indices.now }
+    ensures { out.new ≡ map (element elements.now) indices.now }
+{
+    for place in 0..indices.len() {
+        out[place] = elements[indices[place] as usize];
+    }
+}

@@ -1,0 +1,36 @@
+//! The instructions that make, read or take a segment descriptor, over slices that the caller
+//! lends.
+//!
+//! A descriptor is a vector of segment lengths. Its segments lie one after the other in another
+//! vector, and their total is that vector's length.
+//!
+//! An instruction runs in three calls: [`shape`] says whether the lengths of its operands fit,
+//! [`need`] how many words its results have, and [`fill`] writes them. None of them takes memory,
+//! and each goes a fixed number of times over the operands and the results.
+//!
+//! What the instructions mean is defined in `vcode_base`. One function a row of its table stands in
+//! the module of the row's family, and what it ensures is that row.
+#![tactic(auto)]
+
+mod descriptors;
+mod distributions;
+mod extractions;
+mod fills;
+mod gathers;
+mod indices;
+mod needs;
+mod overlays;
+mod packs;
+mod permutations;
+mod reductions;
+mod replacements;
+mod scans;
+mod scatters;
+mod shapes;
+mod steps;
+#[cfg(test)]
+mod tests;
+
+pub use fills::fill;
+pub use needs::need;
+pub use shapes::shape;

@@ -1,0 +1,47 @@
+ghost use Rattle.std.specs.Prelude.{◌≡◌, None};
+ghost use Rattle.vcode_base.specs.Kinds.{HaveKinds, source_kinds, segmented_operands};
+ghost use Rattle.vcode_base.specs.Meaning.{shape, need, segmented_need};
+ghost use Rattle.segment_ops.specs.Operands.{contents};
+ghost use Rattle.segment_ops.specs.Served.{IsServed};
+
+use crate::descriptors::total_of;
+use crate::packs::count_set;
+use vcode_base::{Op, Segmented};
+
+/// The lengths of the first and of the second result, in words: 0 where there is none.
+///
+/// `ops` are the operands from the bottom of the stack up, whose lengths fit one another. Nothing
+/// is made: the length of a result that no memory could hold is found as fast as any.
+#[tactic(auto, unfolding(vcode_base::specs::Meaning::need))]
+pub fn need(op: Op, ops: &[&[i64]]) -> (u64, u64)
+    requires served { IsServed op }
+    requires kinds { HaveKinds (source_kinds op) (contents ops.now) }
+    requires shape { shape op (contents ops.now) ≡ None }
+    ensures { result ≡ need op (contents ops.now) }
+{
+    match op {
+        Op::Segmented(op) => need_segmented(op, ops),
+        _ => unreachable!(),
+    }
+}
+
+/// The same of an instruction over segments.
+fn need_segmented(op: Segmented, ops: &[&[i64]]) -> (u64, u64)
+    requires kinds { HaveKinds (segmented_operands op) (contents ops.now) }
+    ensures { result ≡ segmented_need op (contents ops.now) }
+{
+    match op {
+        Segmented::Scan(_)
+        | Segmented::Permute(_)
+        | Segmented::Replace(_)
+        | Segmented::MakeSegdes
+        | Segmented::Lengths => (ops[0].len() as u64, 0),
+        Segmented::Reduce(_) => (ops[1].len() as u64, 0),
+        Segmented::Extract(_) => (ops[2].len() as u64, 0),
+        Segmented::Distribute(_) => (total_of(ops[1]), 0),
+        Segmented::Index => (total_of(ops[2]), 0),
+        Segmented::BackPermute(_) => (total_of(ops[3]), 0),
+        Segmented::DefaultPermute(_) => (total_of(ops[4]), 0),
+        Segmented::Pack(_) => (count_set(ops[1]), ops[2].len() as u64),
+    }
+}

@@ -1,0 +1,48 @@
+ghost use Rattle.std.specs.Prelude.{◌≡◌, length, [], ◌∷◌, MatchResult, None, Some};
+ghost use Rattle.vcode_base.specs.Kinds.{AreLengths};
+ghost use Rattle.vcode_base.specs.Meaning.{segmented_result, segmented_fault};
+ghost use Rattle.vcode_base.specs.Segments.{total};
+ghost use Rattle.vcode_base.specs.declared.kind.Scalar.TheVariants.{Int};
+ghost use Rattle.vcode_base.specs.declared.op.Segmented.TheVariants.{Replace};
+
+use crate::indices::is_outside;
+use vcode_base::DataFault;
+
+/// `REPLACE`: writes the elements with the one at the index of each segment replaced.
+///
+/// `elements` and `out` are in the segments of `descriptor`; `indices` and `replacements` have one
+/// element a segment. The clauses name INT, and BOOL means the same.
+///
+/// # Errors
+///
+/// [`BadIndex`](DataFault::BadIndex) where an index is outside its segment, so always where a
+/// segment is empty. Then `out` holds no result.
+pub fn replace(
+    elements: &[i64],
+    indices: &[i64],
+    replacements: &[i64],
+    descriptor: &[i64],
+    out: &mut [i64],
+) -> Result<(), DataFault>
+    requires lengths { AreLengths descriptor.now }
+    requires whole { length elements.now ≡ total descriptor.now }
+    requires single { length indices.now ≡ length descriptor.now }
+    requires single_replacement { length replacements.now ≡ length descriptor.now }
+    requires room { length out.old ≡ length elements.now }
+    ensures { let operands = elements.now ∷ indices.now ∷ replacements.now ∷ descriptor.now ∷ []
+        in MatchResult result
+        (λ _. (segmented_fault (Replace Int) operands ≡ None)
+        × (out.new ≡ segmented_result (Replace Int) operands))
+        (λ fault. segmented_fault (Replace Int) operands ≡ Some fault) }
+{
+    out.copy_from_slice(elements);
+    let mut begin = 0;
+    for segment in 0..descriptor.len() {
+        if is_outside(descriptor[segment], indices[segment]) {
+            return Err(DataFault::BadIndex);
+        }
+        out[begin + indices[segment] as usize] = replacements[segment];
+        begin += descriptor[segment] as usize;
+    }
+    Ok(())
+}

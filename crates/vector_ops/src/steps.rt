@@ -1,0 +1,64 @@
+ghost use Rattle.std.specs.Prelude.{◌≡◌, ℤ, length, map, Bool, false};
+ghost use Rattle.std.specs.List.{list_any};
+ghost use Rattle.vcode_base.specs.Meaning.{two_by_two};
+
+/// What makes one element of the two at its place.
+pub trait PairStep {
+    ghost gives: { ℤ → ℤ → ℤ };
+
+    // the right elements at which nothing is made
+    ghost refuses: { ℤ → Bool } = { λ _. false };
+
+    fn apply(left: i64, right: i64) -> i64
+        requires { refuses right ≡ false }
+        ensures { result ≡ gives left right };
+}
+
+/// What makes one element of the one at its place.
+pub trait ElementStep {
+    ghost gives: { ℤ → ℤ };
+
+    fn apply(element: i64) -> i64
+        ensures { result ≡ gives element };
+}
+
+/// A test of one element.
+pub trait ElementTest {
+    ghost holds: { ℤ → Bool };
+
+    fn test(element: i64) -> bool
+        ensures { result ≡ holds element };
+}
+
+/// Writes the step's element of each two elements at one place.
+pub fn fill_pairs<S: PairStep>(left: &[i64], right: &[i64], out: &mut [i64])
+    requires same { length right.now ≡ length left.now }
+    requires room { length out.old ≡ length left.now }
+    requires allowed { list_any S.refuses right.now ≡ false }
+    ensures { out.new ≡ two_by_two S.gives left.now right.now }
+{
+    for i in 0..out.len() {
+        out[i] = S::apply(left[i], right[i]);
+    }
+}
+
+/// Writes the step's element of each element.
+pub fn fill_each<S: ElementStep>(elements: &[i64], out: &mut [i64])
+    requires room { length out.old ≡ length elements.now }
+    ensures { out.new ≡ map S.gives elements.now }
+{
+    for i in 0..out.len() {
+        out[i] = S::apply(elements[i]);
+    }
+}
+
+/// Whether the test holds at some element. It goes over all of them, without leaving early.
+pub fn any<T: ElementTest>(elements: &[i64]) -> bool
+    ensures { result ≡ list_any T.holds elements.now }
+{
+    let mut found = false;
+    for element in elements {
+        found |= T::test(*element);
+    }
+    found
+}
