@@ -49,7 +49,13 @@ fn print_row(
 }
 
 /// The least nanoseconds that filling an elementwise instruction took.
-fn elementwise_time(rt: &impl Runtime, op: Op, ops: &[&[i64]], first: &mut [i64], second: &mut [i64]) -> io::Result<u128>
+fn elementwise_time(
+    rt: &impl Runtime,
+    op: Op,
+    ops: &[&[i64]],
+    first: &mut [i64],
+    second: &mut [i64],
+) -> io::Result<u128>
     requires served { IsElementwise op }
     requires kinds { HaveKinds (source_kinds op) (contents ops.now) }
     requires shape { shape op (contents ops.now) ≡ None }
@@ -65,7 +71,13 @@ fn elementwise_time(rt: &impl Runtime, op: Op, ops: &[&[i64]], first: &mut [i64]
 }
 
 /// Fills an elementwise instruction over and over, and prints its line.
-fn elementwise_row(rt: &impl Runtime, load: Load, name: &str, op: Elementwise, ops: &[&[i64]]) -> io::Result<()>
+fn elementwise_row(
+    rt: &impl Runtime,
+    load: Load,
+    name: &str,
+    op: Elementwise,
+    ops: &[&[i64]],
+) -> io::Result<()>
     requires kinds { HaveKinds (source_kinds (Op.Elementwise op)) (contents ops.now) }
 {
     let op = Op::Elementwise(op);
@@ -80,7 +92,13 @@ fn elementwise_row(rt: &impl Runtime, load: Load, name: &str, op: Elementwise, o
 }
 
 /// The least nanoseconds that filling a segment instruction took.
-fn segment_time(rt: &impl Runtime, op: Op, ops: &[&[i64]], first: &mut [i64], second: &mut [i64]) -> io::Result<u128>
+fn segment_time(
+    rt: &impl Runtime,
+    op: Op,
+    ops: &[&[i64]],
+    first: &mut [i64],
+    second: &mut [i64],
+) -> io::Result<u128>
     requires served { IsSegmented op }
     requires kinds { HaveKinds (source_kinds op) (segment_operands ops.now) }
     requires shape { shape op (segment_operands ops.now) ≡ None }
@@ -96,7 +114,13 @@ fn segment_time(rt: &impl Runtime, op: Op, ops: &[&[i64]], first: &mut [i64], se
 }
 
 /// Fills a segment instruction over and over, and prints its line.
-fn segment_row(rt: &impl Runtime, load: Load, name: &str, op: Segmented, ops: &[&[i64]]) -> io::Result<()>
+fn segment_row(
+    rt: &impl Runtime,
+    load: Load,
+    name: &str,
+    op: Segmented,
+    ops: &[&[i64]],
+) -> io::Result<()>
     requires kinds { HaveKinds (source_kinds (Op.Segmented op)) (segment_operands ops.now) }
 {
     let op = Op::Segmented(op);
@@ -111,49 +135,104 @@ fn segment_row(rt: &impl Runtime, load: Load, name: &str, op: Segmented, ops: &[
 }
 
 /// The line of an elementwise instruction of one operand.
-fn elementwise_of_one<'a>(rt: &impl Runtime, load: Load, name: &str, op: Elementwise, first: &'a [i64]) -> io::Result<()>
+fn elementwise_of_one<'a>(
+    rt: &impl Runtime,
+    load: Load,
+    name: &str,
+    op: Elementwise,
+    first: &'a [i64],
+) -> io::Result<()>
     requires kinds { HaveKinds (source_kinds (Op.Elementwise op)) (first.now ∷ []) }
 {
     elementwise_row(rt, load, name, op, &[first])
 }
 
 /// The line of an elementwise instruction of two operands.
-fn elementwise_of_two<'a>(rt: &impl Runtime, load: Load, name: &str, op: Elementwise, first: &'a [i64], second: &'a [i64]) -> io::Result<()>
+fn elementwise_of_two<'a>(
+    rt: &impl Runtime,
+    load: Load,
+    name: &str,
+    op: Elementwise,
+    first: &'a [i64],
+    second: &'a [i64],
+) -> io::Result<()>
     requires kinds { HaveKinds (source_kinds (Op.Elementwise op)) (first.now ∷ second.now ∷ []) }
 {
     elementwise_row(rt, load, name, op, &[first, second])
 }
 
 /// The line of an elementwise instruction of three operands.
-fn elementwise_of_three<'a>(rt: &impl Runtime, load: Load, name: &str, op: Elementwise, first: &'a [i64], second: &'a [i64], third: &'a [i64]) -> io::Result<()>
+fn elementwise_of_three<'a>(
+    rt: &impl Runtime,
+    load: Load,
+    name: &str,
+    op: Elementwise,
+    first: &'a [i64],
+    second: &'a [i64],
+    third: &'a [i64],
+) -> io::Result<()>
     requires kinds { HaveKinds (source_kinds (Op.Elementwise op)) (first.now ∷ second.now ∷ third.now ∷ []) }
 {
     elementwise_row(rt, load, name, op, &[first, second, third])
 }
 
 /// The line of a segment instruction of two operands.
-fn segment_of_two<'a>(rt: &impl Runtime, load: Load, name: &str, op: Segmented, first: &'a [i64], second: &'a [i64]) -> io::Result<()>
+fn segment_of_two<'a>(
+    rt: &impl Runtime,
+    load: Load,
+    name: &str,
+    op: Segmented,
+    first: &'a [i64],
+    second: &'a [i64],
+) -> io::Result<()>
     requires kinds { HaveKinds (source_kinds (Op.Segmented op)) (first.now ∷ second.now ∷ []) }
 {
     segment_row(rt, load, name, op, &[first, second])
 }
 
 /// The line of a segment instruction of three operands.
-fn segment_of_three<'a>(rt: &impl Runtime, load: Load, name: &str, op: Segmented, first: &'a [i64], second: &'a [i64], third: &'a [i64]) -> io::Result<()>
+fn segment_of_three<'a>(
+    rt: &impl Runtime,
+    load: Load,
+    name: &str,
+    op: Segmented,
+    first: &'a [i64],
+    second: &'a [i64],
+    third: &'a [i64],
+) -> io::Result<()>
     requires kinds { HaveKinds (source_kinds (Op.Segmented op)) (first.now ∷ second.now ∷ third.now ∷ []) }
 {
     segment_row(rt, load, name, op, &[first, second, third])
 }
 
 /// The line of a segment instruction of four operands.
-fn segment_of_four<'a>(rt: &impl Runtime, load: Load, name: &str, op: Segmented, first: &'a [i64], second: &'a [i64], third: &'a [i64], fourth: &'a [i64]) -> io::Result<()>
+fn segment_of_four<'a>(
+    rt: &impl Runtime,
+    load: Load,
+    name: &str,
+    op: Segmented,
+    first: &'a [i64],
+    second: &'a [i64],
+    third: &'a [i64],
+    fourth: &'a [i64],
+) -> io::Result<()>
     requires kinds { HaveKinds (source_kinds (Op.Segmented op)) (first.now ∷ second.now ∷ third.now ∷ fourth.now ∷ []) }
 {
     segment_row(rt, load, name, op, &[first, second, third, fourth])
 }
 
 /// The line of a segment instruction of five operands.
-fn segment_of_five<'a>(rt: &impl Runtime, load: Load, name: &str, op: Segmented, first: &'a [i64], second: &'a [i64], third: &'a [i64], fourth: &'a [i64], fifth: &'a [i64]) -> io::Result<()>
+fn segment_of_five<'a>(
+    rt: &impl Runtime,
+    load: Load,
+    name: &str,
+    op: Segmented,
+    first: &'a [i64],
+    second: &'a [i64],
+    third: &'a [i64],
+    fourth: &'a [i64],
+    fifth: &'a [i64],
+) -> io::Result<()>
     requires kinds { HaveKinds (source_kinds (Op.Segmented op)) (first.now ∷ second.now ∷ third.now ∷ fourth.now ∷ fifth.now ∷ []) }
 {
     segment_row(rt, load, name, op, &[first, second, third, fourth, fifth])
@@ -164,14 +243,64 @@ pub fn elementwise_rows<R: Runtime>(rt: &R, load: Load) -> io::Result<()> {
     let left = &numbers(rt.alloc(), load.words)?;
     let bits = &shifts(rt.alloc(), load.words)?;
     let truth = &flags(rt.alloc(), load.words)?;
-    elementwise_of_two(rt, load, "+ INT", Elementwise::Arith(Arith::Add), left, left)?;
-    elementwise_of_two(rt, load, "* INT", Elementwise::Arith(Arith::Multiply), left, left)?;
-    elementwise_of_two(rt, load, "/ INT", Elementwise::Arith(Arith::Divide), left, left)?;
-    elementwise_of_two(rt, load, "LSHIFT INT", Elementwise::Arith(Arith::ShiftLeft), left, bits)?;
-    elementwise_of_two(rt, load, "< INT", Elementwise::Compare(Comparison::Less), left, bits)?;
-    elementwise_of_two(rt, load, "XOR INT", Elementwise::Logic(Logic::Xor, Scalar::Int), left, bits)?;
+    elementwise_of_two(
+        rt,
+        load,
+        "+ INT",
+        Elementwise::Arith(Arith::Add),
+        left,
+        left,
+    )?;
+    elementwise_of_two(
+        rt,
+        load,
+        "* INT",
+        Elementwise::Arith(Arith::Multiply),
+        left,
+        left,
+    )?;
+    elementwise_of_two(
+        rt,
+        load,
+        "/ INT",
+        Elementwise::Arith(Arith::Divide),
+        left,
+        left,
+    )?;
+    elementwise_of_two(
+        rt,
+        load,
+        "LSHIFT INT",
+        Elementwise::Arith(Arith::ShiftLeft),
+        left,
+        bits,
+    )?;
+    elementwise_of_two(
+        rt,
+        load,
+        "< INT",
+        Elementwise::Compare(Comparison::Less),
+        left,
+        bits,
+    )?;
+    elementwise_of_two(
+        rt,
+        load,
+        "XOR INT",
+        Elementwise::Logic(Logic::Xor, Scalar::Int),
+        left,
+        bits,
+    )?;
     elementwise_of_one(rt, load, "NOT BOOL", Elementwise::Not(Scalar::Bool), truth)?;
-    elementwise_of_three(rt, load, "SELECT INT", Elementwise::Select(Scalar::Int), truth, left, bits)?;
+    elementwise_of_three(
+        rt,
+        load,
+        "SELECT INT",
+        Elementwise::Select(Scalar::Int),
+        truth,
+        left,
+        bits,
+    )?;
     elementwise_of_one(rt, load, "I_TO_B", Elementwise::IntToBool, left)
 }
 
@@ -179,21 +308,102 @@ pub fn elementwise_rows<R: Runtime>(rt: &R, load: Load) -> io::Result<()> {
 pub fn segment_rows<R: Runtime>(rt: &R, shown: Shown, segments: usize, size: u32) -> io::Result<()>
     requires { segments * size ≤ greatest_total }
 {
-    let load = Load { shown, words: segments * size as usize };
+    let load = Load {
+        shown,
+        words: segments * size as usize,
+    };
     let values = &numbers(rt.alloc(), load.words)?;
     let each = &shifts(rt.alloc(), segments)?;
     let places = &indices(rt.alloc(), segments, size)?;
     let truth = &flags(rt.alloc(), load.words)?;
     let lengths = &descriptor(rt.alloc(), segments, size)?;
-    segment_of_two(rt, load, "+_SCAN INT", Segmented::Scan(Fold::Sum), values, lengths)?;
-    segment_of_two(rt, load, "MAX_SCAN INT", Segmented::Scan(Fold::Max), values, lengths)?;
-    segment_of_two(rt, load, "+_REDUCE INT", Segmented::Reduce(Fold::Sum), values, lengths)?;
-    segment_of_two(rt, load, "MAX_REDUCE INT", Segmented::Reduce(Fold::Max), values, lengths)?;
-    segment_of_two(rt, load, "DIST INT", Segmented::Distribute(Scalar::Int), each, lengths)?;
+    segment_of_two(
+        rt,
+        load,
+        "+_SCAN INT",
+        Segmented::Scan(Fold::Sum),
+        values,
+        lengths,
+    )?;
+    segment_of_two(
+        rt,
+        load,
+        "MAX_SCAN INT",
+        Segmented::Scan(Fold::Max),
+        values,
+        lengths,
+    )?;
+    segment_of_two(
+        rt,
+        load,
+        "+_REDUCE INT",
+        Segmented::Reduce(Fold::Sum),
+        values,
+        lengths,
+    )?;
+    segment_of_two(
+        rt,
+        load,
+        "MAX_REDUCE INT",
+        Segmented::Reduce(Fold::Max),
+        values,
+        lengths,
+    )?;
+    segment_of_two(
+        rt,
+        load,
+        "DIST INT",
+        Segmented::Distribute(Scalar::Int),
+        each,
+        lengths,
+    )?;
     segment_of_three(rt, load, "INDEX", Segmented::Index, each, each, lengths)?;
-    segment_of_three(rt, load, "PERMUTE INT", Segmented::Permute(Scalar::Int), values, places, lengths)?;
-    segment_of_four(rt, load, "BPERMUTE INT", Segmented::BackPermute(Scalar::Int), values, places, lengths, lengths)?;
-    segment_of_five(rt, load, "DPERMUTE INT", Segmented::DefaultPermute(Scalar::Int), values, places, values, lengths, lengths)?;
-    segment_of_three(rt, load, "EXTRACT INT", Segmented::Extract(Scalar::Int), values, each, lengths)?;
-    segment_of_three(rt, load, "PACK INT", Segmented::Pack(Scalar::Int), values, truth, lengths)
+    segment_of_three(
+        rt,
+        load,
+        "PERMUTE INT",
+        Segmented::Permute(Scalar::Int),
+        values,
+        places,
+        lengths,
+    )?;
+    segment_of_four(
+        rt,
+        load,
+        "BPERMUTE INT",
+        Segmented::BackPermute(Scalar::Int),
+        values,
+        places,
+        lengths,
+        lengths,
+    )?;
+    segment_of_five(
+        rt,
+        load,
+        "DPERMUTE INT",
+        Segmented::DefaultPermute(Scalar::Int),
+        values,
+        places,
+        values,
+        lengths,
+        lengths,
+    )?;
+    segment_of_three(
+        rt,
+        load,
+        "EXTRACT INT",
+        Segmented::Extract(Scalar::Int),
+        values,
+        each,
+        lengths,
+    )?;
+    segment_of_three(
+        rt,
+        load,
+        "PACK INT",
+        Segmented::Pack(Scalar::Int),
+        values,
+        truth,
+        lengths,
+    )
 }

@@ -5,7 +5,11 @@ ghost use Rattle.vcode_base.specs.declared.kind.Kind.TheVariants.{Bool, Segdes};
 use std::alloc::{AllocError, Allocator};
 
 /// A descriptor of `segments` segments of `size` words each.
-pub fn descriptor<A: Allocator>(alloc: A, segments: usize, size: u32) -> Result<Vec<i64, A>, AllocError>
+pub fn descriptor<A: Allocator>(
+    alloc: A,
+    segments: usize,
+    size: u32,
+) -> Result<Vec<i64, A>, AllocError>
     requires { segments * size ≤ greatest_total }
     ensures long { IfOk result (λ s. length s.items ≡ segments) }
     ensures kind { IfOk result (λ s. HasKind Segdes s.items) }
@@ -26,8 +30,11 @@ pub fn flags<A: Allocator>(alloc: A, count: usize) -> Result<Vec<i64, A>, AllocE
 }
 
 /// The numbers from 0 on, as many in each segment as it has words, in reverse.
-pub fn indices<A: Allocator>(alloc: A, segments: usize, size: u32) -> Result<Vec<i64, A>, AllocError>
-{
+pub fn indices<A: Allocator>(
+    alloc: A,
+    segments: usize,
+    size: u32,
+) -> Result<Vec<i64, A>, AllocError> {
     let mut indices = Vec::new(alloc);
     for _ in 0..segments {
         for i in 0..size {

@@ -9,13 +9,22 @@ mod bench;
 mod loads;
 
 use bench::{Load, Shown, elementwise_rows, segment_rows};
-use std::env;
-use std::io;
+use std::{env, io};
 
 fn main(rt: HostRuntime) -> io::Result<()> {
     let is_timed = env::args(&rt)?.any(|word| word.as_str() == "time");
-    let (shown, tens) = if is_timed { (Shown::Time, 100_000) } else { (Shown::Ends, 10) };
-    elementwise_rows(&rt, Load { shown, words: 10 * tens as usize })?;
+    let (shown, tens) = if is_timed {
+        (Shown::Time, 100_000)
+    } else {
+        (Shown::Ends, 10)
+    };
+    elementwise_rows(
+        &rt,
+        Load {
+            shown,
+            words: 10 * tens as usize,
+        },
+    )?;
     println!(rt; "in segments of ten")?;
     segment_rows(&rt, shown, tens as usize, 10)?;
     println!(rt; "in one segment")?;

@@ -22,7 +22,7 @@ pub hole_is_at : (size : ℕ) (holes : List Hole) (index : ℕ) → AreApart 0 s
 hole_is_at size holes index a lt =
     let split : holes ≡ take index holes ++ hole_at holes index ∷ drop (suc index) holes = split_at holes index (record { place = 0; len = 0 }) lt in
     subst (λ (old : List Hole). IsHole (words_from 0 size old) (hole_at holes index).place (hole_at holes index).len) (sym split)
-      (hole_is_hole size (take index holes) (hole_at holes index) (drop (suc index) holes) (subst (AreApart 0 size) split a))
+    (hole_is_hole size (take index holes) (hole_at holes index) (drop (suc index) holes) (subst (AreApart 0 size) split a))
 
 pub end_within : (from size : ℕ) (holes : List Hole) (index : ℕ) → AreApart from size holes → index < length holes → (hole_at holes index).place + (hole_at holes index).len ≤ size
 end_within from size [] index a lt = absurd (omega arith)
@@ -62,11 +62,11 @@ lowest_at size len holes index a some lt fits shorter = record {
   hole = hole_is_at size holes index a lt;
   fits = fits;
   lowest = λ other other_len is wide.
-    let in_hole = run_in_hole 0 0 size holes other other_len (record { place = 0; len = 0 }) (omega arith) a is.inside (omega arith) in
-    elim (cases_lt in_hole.0 index) [
-      | inl before ↦ absurd (let short = shorter in_hole.0 before in let from = in_hole.2 in let to = in_hole.3 in omega arith)
-      | inr from ↦ omega (arith, places_in_order 0 size holes index in_hole.0 (record { place = 0; len = 0 }) a from in_hole.1, in_hole.2)
-    ];
+      let in_hole = run_in_hole 0 0 size holes other other_len (record { place = 0; len = 0 }) (omega arith) a is.inside (omega arith) in
+      elim (cases_lt in_hole.0 index) [
+        | inl before ↦ absurd (let short = shorter in_hole.0 before in let from = in_hole.2 in let to = in_hole.3 in omega arith)
+        | inr from ↦ omega (arith, places_in_order 0 size holes index in_hole.0 (record { place = 0; len = 0 }) a from in_hole.1, in_hole.2)
+      ];
 }
 
 -- The widest hole.
@@ -112,7 +112,7 @@ given_within holes size free most capacity place len l within none =
       free_count-words_from 0 size holes,
       free_count_given words place len range none,
       free_count-le-length (set_range words place len true),
-      length-set_range words place len true range
+      length-set_range words place len true range,
     )
 
 pub layout_given : (holes new : List Hole) (size free most capacity new_capacity place len : ℕ) → IsLayout holes size free most capacity → Gives size place len holes new → free + len ≤ size → length holes < most → capacity ≤ new_capacity → IsLayout new size (free + len) most new_capacity
@@ -129,13 +129,13 @@ layout_given holes new size free most capacity new_capacity place len l t within
 pub words_of_none : (from size : ℕ) → from ≤ size → size ≤ from → words_from 0 size [] ≡ free_from from size
 words_of_none from size within past =
     ap (λ n. replicate n false) (let e : size - 0 ≡ from = omega arith in e)
-      ∙ (sym (append-nil (replicate from false)) ∙ ap (λ n. replicate from false ++ replicate n true) (let e : 0 ≡ size - from = omega arith in e))
+    ∙ (sym (append-nil (replicate from false)) ∙ ap (λ n. replicate from false ++ replicate n true) (let e : 0 ≡ size - from = omega arith in e))
 
 pub words_of_one : (from size : ℕ) → from < size → words_from 0 size (record { place = from; len = size - from } ∷ []) ≡ free_from from size
 words_of_one from size lt =
     ap (λ n. replicate n false ++ replicate (size - from) true ++ replicate (size - (from + (size - from))) false) (let e : from - 0 ≡ from = omega arith in e)
-      ∙ (ap (λ n. replicate from false ++ replicate (size - from) true ++ replicate n false) (let e : size - (from + (size - from)) ≡ 0 = omega arith in e)
-      ∙ append-nil (replicate from false ++ replicate (size - from) true))
+    ∙ (ap (λ n. replicate from false ++ replicate (size - from) true ++ replicate n false) (let e : size - (from + (size - from)) ≡ 0 = omega arith in e)
+    ∙ append-nil (replicate from false ++ replicate (size - from) true))
 
 pub same_region : (xs ys : List Bool) (m n : ℕ) → xs ≡ ys → m ≡ n → ◌≡◌ {A = Region} (record { free = xs; most = m }) (record { free = ys; most = n })
 same_region xs ys m n words most =
@@ -163,9 +163,9 @@ gives_range holes size free most capacity words index place len l is some in_wor
     let none : NoneFree (words_from 0 size holes) place len = subst (λ (xs : List Bool). NoneFree xs place len) (sym is) none_words in
     let range : place + len ≤ size = omega (arith, length_words size holes l.apart, ap length is) in
     let before : 0 < index → (hole_at holes (index - 1)).place + (hole_at holes (index - 1)).len ≤ place =
-      λ h. ends_below size place len holes (index - 1) l.apart some none (omega arith) (ltb-true (hole_at holes (index - 1)).place place (between.0 (index - 1) d (omega arith) (omega arith))) in
+    λ h. ends_below size place len holes (index - 1) l.apart some none (omega arith) (ltb-true (hole_at holes (index - 1)).place place (between.0 (index - 1) d (omega arith) (omega arith))) in
     let behind : index < length holes → place + len ≤ (hole_at holes index).place =
-      λ lt. begins_behind size place len holes index l.apart none lt (ltb-false (hole_at holes index).place place (between.1 index d (omega arith) lt)) in
+    λ lt. begins_behind size place len holes index l.apart none lt (ltb-false (hole_at holes index).place place (between.1 index d (omega arith) lt)) in
     record {
       before = before;
       behind = behind;

@@ -80,7 +80,7 @@ words_from-append from size [] ys = refl
 words_from-append from size (hole ∷ xs) ys =
     let front = replicate (hole.place - from) false ++ replicate hole.len true in
     ap (λ (rest : List Bool). front ++ rest) (words_from-append (hole.place + hole.len) size xs ys)
-      ∙ sym (append_assoc front (words_before (hole.place + hole.len) xs) (words_from (next_from (hole.place + hole.len) xs) size ys))
+    ∙ sym (append_assoc front (words_before (hole.place + hole.len) xs) (words_from (next_from (hole.place + hole.len) xs) size ys))
 
 from-le-next : (from to size : ℕ) (holes : List Hole) → from ≤ to → AreApart to size holes → from ≤ next_from from holes
 unfolding next_from
@@ -98,7 +98,7 @@ length-words_before from to size (hole ∷ holes) le a =
       length-append (replicate (hole.place - from) false) (replicate hole.len true),
       length-replicate (hole.place - from) false,
       length-replicate hole.len true,
-      length-words_before (hole.place + hole.len) (hole.place + hole.len + 1) size holes (omega arith) a.3
+      length-words_before (hole.place + hole.len) (hole.place + hole.len + 1) size holes (omega arith) a.3,
     )
 
 pub length-words_from : (from to size : ℕ) (holes : List Hole) → from ≤ to → AreApart to size holes → length (words_from from size holes) ≡ size - from
@@ -112,7 +112,7 @@ length-words_from from to size (hole ∷ holes) le a =
       length-append (replicate (hole.place - from) false) (replicate hole.len true),
       length-replicate (hole.place - from) false,
       length-replicate hole.len true,
-      length-words_from (hole.place + hole.len) (hole.place + hole.len + 1) size holes (omega arith) a.3
+      length-words_from (hole.place + hole.len) (hole.place + hole.len + 1) size holes (omega arith) a.3,
     )
 
 -- so many words before the first hole of the rest
@@ -126,8 +126,8 @@ words_from_later from to size (hole ∷ holes) le starts =
     let more = replicate (hole.place - to) false in
     let len = replicate hole.len true in
     ap (λ (xs : List Bool). xs ++ len ++ rest)
-      (ap (λ n. replicate n false) (let e : hole.place - from ≡ (to - from) + (hole.place - to) = omega arith in e) ∙ sym (replicate-append-replicate (to - from) (hole.place - to) false))
-      ∙ (ap (λ (xs : List Bool). xs ++ rest) (append_assoc some more len) ∙ append_assoc some (more ++ len) rest)
+    (ap (λ n. replicate n false) (let e : hole.place - from ≡ (to - from) + (hole.place - to) = omega arith in e) ∙ sym (replicate-append-replicate (to - from) (hole.place - to) false))
+    ∙ (ap (λ (xs : List Bool). xs ++ rest) (append_assoc some more len) ∙ append_assoc some (more ++ len) rest)
 
 -- a range in the middle
 set_range_mid : (front back : List Bool) (place len : ℕ) (old new : Bool) → length front ≡ place → set_range (front ++ (replicate len old ++ back)) place len new ≡ front ++ (replicate len new ++ back)
@@ -135,9 +135,9 @@ set_range_mid front back place len old new at =
     let middle = replicate len old in
     let whole = front ++ (middle ++ back) in
     ap (λ (xs : List Bool). xs ++ replicate len new ++ drop (place + len) whole) (take_at front (middle ++ back) place at)
-      ∙ (ap (λ (xs : List Bool). front ++ replicate len new ++ xs)
-        (ap (drop (place + len)) (sym (append_assoc front middle back)) ∙ drop_at (front ++ middle) back (place + len) (omega (arith, length-append front middle, length-replicate len old)))
-      ∙ append_assoc front (replicate len new) back)
+    ∙ (ap (λ (xs : List Bool). front ++ replicate len new ++ xs)
+    (ap (drop (place + len)) (sym (append_assoc front middle back)) ∙ drop_at (front ++ middle) back (place + len) (omega (arith, length-append front middle, length-replicate len old)))
+    ∙ append_assoc front (replicate len new) back)
 
 -- the words before a place behind some holes
 front_of : List Hole → ℕ → List Bool
@@ -156,7 +156,7 @@ hole_between size xs hole ys =
     let len = replicate hole.len true in
     let rest = words_from (hole.place + hole.len) size ys in
     words_from-append 0 size xs (hole ∷ ys)
-      ∙ (ap (λ (zs : List Bool). before ++ zs) (append_assoc gap len rest) ∙ sym (append_assoc before gap (len ++ rest)))
+    ∙ (ap (λ (zs : List Bool). before ++ zs) (append_assoc gap len rest) ∙ sym (append_assoc before gap (len ++ rest)))
 
 no_hole_between : (size : ℕ) (xs : List Hole) (place len : ℕ) (ys : List Hole) → next_from 0 xs ≤ place → StartsFrom (place + len) size ys → words_from 0 size (xs ++ ys) ≡ front_of xs place ++ (replicate len false ++ words_from (place + len) size ys)
 unfolding front_of
@@ -166,26 +166,26 @@ no_hole_between size xs place len ys le starts =
     let gap = replicate (place - from) false in
     let rest = words_from (place + len) size ys in
     words_from-append 0 size xs ys
-      ∙ (ap (λ (zs : List Bool). before ++ zs)
-        (words_from_later from (place + len) size ys (omega arith) starts
-          ∙ (ap (λ (zs : List Bool). zs ++ rest) (ap (λ n. replicate n false) (let e : (place + len) - from ≡ (place - from) + len = omega arith in e) ∙ sym (replicate-append-replicate (place - from) len false))
-          ∙ append_assoc gap (replicate len false) rest))
-      ∙ sym (append_assoc before gap (replicate len false ++ rest)))
+    ∙ (ap (λ (zs : List Bool). before ++ zs)
+    (words_from_later from (place + len) size ys (omega arith) starts
+    ∙ (ap (λ (zs : List Bool). zs ++ rest) (ap (λ n. replicate n false) (let e : (place + len) - from ≡ (place - from) + len = omega arith in e) ∙ sym (replicate-append-replicate (place - from) len false))
+    ∙ append_assoc gap (replicate len false) rest))
+    ∙ sym (append_assoc before gap (replicate len false ++ rest)))
 
 -- a hole more between holes, and a hole less
 pub words_given : (size : ℕ) (xs : List Hole) (place len : ℕ) (ys : List Hole) → AreApart 0 size xs → next_from 0 xs ≤ place → StartsFrom (place + len) size ys → words_from 0 size (xs ++ record { place = place; len = len } ∷ ys) ≡ set_range (words_from 0 size (xs ++ ys)) place len true
 words_given size xs place len ys a le starts =
     let rest = words_from (place + len) size ys in
     hole_between size xs (record { place = place; len = len }) ys
-      ∙ sym (ap (λ (free : List Bool). set_range free place len true) (no_hole_between size xs place len ys le starts)
-      ∙ set_range_mid (front_of xs place) rest place len false true (length-front_of size place xs a le))
+    ∙ sym (ap (λ (free : List Bool). set_range free place len true) (no_hole_between size xs place len ys le starts)
+    ∙ set_range_mid (front_of xs place) rest place len false true (length-front_of size place xs a le))
 
 pub words_taken : (size : ℕ) (xs : List Hole) (place len : ℕ) (ys : List Hole) → AreApart 0 size xs → next_from 0 xs ≤ place → StartsFrom (place + len) size ys → words_from 0 size (xs ++ ys) ≡ set_range (words_from 0 size (xs ++ record { place = place; len = len } ∷ ys)) place len false
 words_taken size xs place len ys a le starts =
     let rest = words_from (place + len) size ys in
     no_hole_between size xs place len ys le starts
-      ∙ sym (ap (λ (free : List Bool). set_range free place len false) (hole_between size xs (record { place = place; len = len }) ys)
-      ∙ set_range_mid (front_of xs place) rest place len true false (length-front_of size place xs a le))
+    ∙ sym (ap (λ (free : List Bool). set_range free place len false) (hole_between size xs (record { place = place; len = len }) ys)
+    ∙ set_range_mid (front_of xs place) rest place len true false (length-front_of size place xs a le))
 
 -- two holes that touch make the same words free as one
 fused_first : (from size place first second : ℕ) (ys : List Hole) → words_from from size (record { place = place; len = first + second } ∷ ys) ≡ words_from from size (record { place = place; len = first } ∷ (record { place = place + first; len = second } ∷ ys))
@@ -195,17 +195,17 @@ fused_first from size place first second ys =
     let two = replicate second true in
     let rest = words_from (place + first + second) size ys in
     ap (λ (n : ℕ). gap ++ replicate (first + second) true ++ words_from n size ys) (let e : place + (first + second) ≡ place + first + second = omega arith in e)
-      ∙ (append_assoc gap (replicate (first + second) true) rest
-      ∙ (ap (λ (zs : List Bool). gap ++ (zs ++ rest)) (sym (replicate-append-replicate first second true))
-      ∙ (ap (λ (zs : List Bool). gap ++ zs) (append_assoc one two rest)
-      ∙ (sym (append_assoc gap one (two ++ rest))
-      ∙ ap (λ (n : ℕ). gap ++ one ++ (replicate n false ++ two ++ rest)) (let e : 0 ≡ (place + first) - (place + first) = omega arith in e)))))
+    ∙ (append_assoc gap (replicate (first + second) true) rest
+    ∙ (ap (λ (zs : List Bool). gap ++ (zs ++ rest)) (sym (replicate-append-replicate first second true))
+    ∙ (ap (λ (zs : List Bool). gap ++ zs) (append_assoc one two rest)
+    ∙ (sym (append_assoc gap one (two ++ rest))
+    ∙ ap (λ (n : ℕ). gap ++ one ++ (replicate n false ++ two ++ rest)) (let e : 0 ≡ (place + first) - (place + first) = omega arith in e)))))
 
 pub words_fused : (size : ℕ) (xs : List Hole) (place first second : ℕ) (ys : List Hole) → words_from 0 size (xs ++ record { place = place; len = first + second } ∷ ys) ≡ words_from 0 size (xs ++ record { place = place; len = first } ∷ (record { place = place + first; len = second } ∷ ys))
 words_fused size xs place first second ys =
     words_from-append 0 size xs (record { place = place; len = first + second } ∷ ys)
-      ∙ (ap (λ (zs : List Bool). words_before 0 xs ++ zs) (fused_first (next_from 0 xs) size place first second ys)
-      ∙ sym (words_from-append 0 size xs (record { place = place; len = first } ∷ (record { place = place + first; len = second } ∷ ys))))
+    ∙ (ap (λ (zs : List Bool). words_before 0 xs ++ zs) (fused_first (next_from 0 xs) size place first second ys)
+    ∙ sym (words_from-append 0 size xs (record { place = place; len = first } ∷ (record { place = place + first; len = second } ∷ ys))))
 
 -- The word right behind a hole isn't free.
 front_taken : (from size : ℕ) (holes : List Hole) → AreApart (from + 1) size holes → is_free (words_from from size holes) 0 ≡ false
@@ -220,7 +220,7 @@ front_taken from size (hole ∷ holes) a =
     let rest = words_from (hole.place + hole.len) size holes in
     let some : 0 < length gap = omega (arith, a.0, length-replicate (hole.place - from) false) in
     get_or_append_left (gap ++ len) rest false 0 (omega (arith, length-append gap len))
-      ∙ (get_or_append_left gap len false 0 some ∙ get_or-replicate (hole.place - from) 0 false false (omega (arith, length-replicate (hole.place - from) false)))
+    ∙ (get_or_append_left gap len false 0 some ∙ get_or-replicate (hole.place - from) 0 false false (omega (arith, length-replicate (hole.place - from) false)))
 
 -- How many words, and how many holes.
 pub free_count-words_from : (from size : ℕ) (holes : List Hole) → free_count (words_from from size holes) ≡ sum_by (λ hole. hole.len) holes
@@ -236,7 +236,7 @@ free_count-words_from from size (hole ∷ holes) =
       free_count-false (hole.place - from),
       free_count-true hole.len,
       free_count-words_from (hole.place + hole.len) size holes,
-      sum_by-cons (λ (next : Hole). next.len) hole holes
+      sum_by-cons (λ (next : Hole). next.len) hole holes,
     )
 
 count_behind_false : (n : ℕ) (free : List Bool) → hole_count_after false (replicate n false ++ free) ≡ hole_count_after false free
@@ -273,9 +273,9 @@ hole_count-words_from from to size (hole ∷ holes) a =
     let len = replicate hole.len true in
     let rest = words_from (hole.place + hole.len) size holes in
     ap hole_count (append_assoc gap len rest)
-      ∙ (count_behind_false (hole.place - from) (len ++ rest)
-      ∙ (count_of_hole hole.len rest a.1
-      ∙ (let e : 1 + hole_count_after true rest ≡ suc (length holes) = omega (arith, count_from_taken true rest (front_taken (hole.place + hole.len) size holes a.3), hole_count-words_from (hole.place + hole.len) (hole.place + hole.len + 1) size holes a.3) in e)))
+    ∙ (count_behind_false (hole.place - from) (len ++ rest)
+    ∙ (count_of_hole hole.len rest a.1
+    ∙ (let e : 1 + hole_count_after true rest ≡ suc (length holes) = omega (arith, count_from_taken true rest (front_taken (hole.place + hole.len) size holes a.3), hole_count-words_from (hole.place + hole.len) (hole.place + hole.len + 1) size holes a.3) in e)))
 
 -- The widest hole.
 unfoldable pub most_len : List Hole → ℕ
@@ -306,9 +306,9 @@ widest-words_from from to size (hole ∷ holes) a =
     let len = replicate hole.len true in
     let rest = words_from (hole.place + hole.len) size holes in
     ap widest (append_assoc gap len rest)
-      ∙ (widest_behind_false (hole.place - from) (len ++ rest)
-      ∙ (widest_of_hole hole.len rest (run_from_taken rest (front_taken (hole.place + hole.len) size holes a.3))
-      ∙ ap (max hole.len) (widest-words_from (hole.place + hole.len) (hole.place + hole.len + 1) size holes a.3)))
+    ∙ (widest_behind_false (hole.place - from) (len ++ rest)
+    ∙ (widest_of_hole hole.len rest (run_from_taken rest (front_taken (hole.place + hole.len) size holes a.3))
+    ∙ ap (max hole.len) (widest-words_from (hole.place + hole.len) (hole.place + hole.len + 1) size holes a.3)))
 
 -- The holes of the list are the holes of the words.
 pub starts : (from size : ℕ) (holes : List Hole) → from ≤ size → AreApart from size holes → StartsFrom from size holes
@@ -335,8 +335,8 @@ hole_inside size xs hole ys a word from to =
     let others = words_from 0 size (xs ++ ys) in
     let size_is : length others ≡ size - 0 = length-words_from 0 0 size (xs ++ ys) (omega arith) (without_hole size xs hole ys a) in
     ap (λ (free : List Bool). is_free free word)
-      (words_given size xs hole.place hole.len ys (apart_front 0 size xs (hole ∷ ys) a) (next-le-hole size xs hole ys a) (starts_behind size xs hole ys a))
-      ∙ set_range_inside others hole.place hole.len true word (omega (arith, b.2)) from to
+    (words_given size xs hole.place hole.len ys (apart_front 0 size xs (hole ∷ ys) a) (next-le-hole size xs hole ys a) (starts_behind size xs hole ys a))
+    ∙ set_range_inside others hole.place hole.len true word (omega (arith, b.2)) from to
 
 hole_before : (size : ℕ) (xs : List Hole) (hole : Hole) (ys : List Hole) → AreApart 0 size (xs ++ hole ∷ ys) → (word : ℕ) → word + 1 ≡ hole.place → is_free (words_from 0 size (xs ++ hole ∷ ys)) word ≡ false
 unfolding front_of
@@ -349,9 +349,9 @@ hole_before size xs hole ys a word next =
     let lt : next_from 0 xs < hole.place = next-lt-place hole.place xs (omega arith) b.0 in
     let at : length before + 0 ≡ next_from 0 xs = length-words_before 0 0 size xs (omega arith) front in
     ap (λ (free : List Bool). is_free free word) (hole_between size xs hole ys)
-      ∙ (get_or_append_left (before ++ gap) back false word (omega (arith, length-append before gap, length-replicate (hole.place - next_from 0 xs) false))
-      ∙ (get_or-append_right before gap (next_from 0 xs) word false (omega arith) (omega arith)
-      ∙ get_or-replicate (hole.place - next_from 0 xs) (word - next_from 0 xs) false false (omega arith)))
+    ∙ (get_or_append_left (before ++ gap) back false word (omega (arith, length-append before gap, length-replicate (hole.place - next_from 0 xs) false))
+    ∙ (get_or-append_right before gap (next_from 0 xs) word false (omega arith) (omega arith)
+    ∙ get_or-replicate (hole.place - next_from 0 xs) (word - next_from 0 xs) false false (omega arith)))
 
 hole_behind : (size : ℕ) (xs : List Hole) (hole : Hole) (ys : List Hole) → AreApart 0 size (xs ++ hole ∷ ys) → is_free (words_from 0 size (xs ++ hole ∷ ys)) (hole.place + hole.len) ≡ false
 hole_behind size xs hole ys a =
@@ -362,9 +362,9 @@ hole_behind size xs hole ys a =
     let before = front_of xs hole.place in
     let at : length before ≡ hole.place = length-front_of size hole.place xs front (next-le-hole size xs hole ys a) in
     ap (λ (free : List Bool). is_free free (hole.place + hole.len)) (hole_between size xs hole ys ∙ sym (append_assoc before len rest))
-      ∙ (get_or-append_right (before ++ len) rest (hole.place + hole.len) (hole.place + hole.len) false (omega (arith, length-append before len, length-replicate hole.len true)) (omega arith)
-      ∙ (ap (λ n. get_or rest n false) (let e : (hole.place + hole.len) - (hole.place + hole.len) ≡ 0 = omega arith in e)
-      ∙ front_taken (hole.place + hole.len) size ys b.3))
+    ∙ (get_or-append_right (before ++ len) rest (hole.place + hole.len) (hole.place + hole.len) false (omega (arith, length-append before len, length-replicate hole.len true)) (omega arith)
+    ∙ (ap (λ n. get_or rest n false) (let e : (hole.place + hole.len) - (hole.place + hole.len) ≡ 0 = omega arith in e)
+    ∙ front_taken (hole.place + hole.len) size ys b.3))
 
 pub hole_is_hole : (size : ℕ) (xs : List Hole) (hole : Hole) (ys : List Hole) → AreApart 0 size (xs ++ hole ∷ ys) → IsHole (words_from 0 size (xs ++ hole ∷ ys)) hole.place hole.len
 hole_is_hole size xs hole ys a = record {
@@ -395,16 +395,16 @@ run_in_hole from to size (hole ∷ holes) place len d le a all some =
     elim (cases_lt (from + place) hole.place) [
       | inl before ↦ absurd (not_in_gap (hole.place - from) place (words ++ rest) (omega arith) (ap (λ (free : List Bool). is_free free place) (sym (append_assoc gap words rest)) ∙ all place (omega arith) (omega arith)))
       | inr behind ↦ elim (cases_lt (from + place) (hole.place + hole.len)) [
-          | inl inside ↦ elim (cases_lt (hole.place + hole.len) (from + place + len)) [
-              | inl past ↦ absurd (false≢true (sym (later end (omega arith) ∙ (ap (λ n. is_free rest n) (let e : end - end ≡ 0 = omega arith in e) ∙ front_taken (hole.place + hole.len) size holes a.3)) ∙ all end (omega (arith, a.0)) (omega (arith, a.0))))
-              | inr within ↦ (0, omega arith, behind, within)
-            ]
-          | inr past ↦
-              let rec = run_in_hole (hole.place + hole.len) (hole.place + hole.len + 1) size holes (place - end) len d (omega arith) a.3
-                (λ word ge lt. ap (λ n. is_free rest n) (let e : word ≡ (word + end) - end = omega arith in e) ∙ (sym (later (word + end) (omega arith)) ∙ all (word + end) (omega (arith, a.0)) (omega (arith, a.0))))
-                some in
-              (suc rec.0, omega (arith, rec.1), omega (arith, rec.2, a.0), omega (arith, rec.3, a.0))
+        | inl inside ↦ elim (cases_lt (hole.place + hole.len) (from + place + len)) [
+          | inl past ↦ absurd (false≢true (sym (later end (omega arith) ∙ (ap (λ n. is_free rest n) (let e : end - end ≡ 0 = omega arith in e) ∙ front_taken (hole.place + hole.len) size holes a.3)) ∙ all end (omega (arith, a.0)) (omega (arith, a.0))))
+          | inr within ↦ (0, omega arith, behind, within)
         ]
+        | inr past ↦
+            let rec = run_in_hole (hole.place + hole.len) (hole.place + hole.len + 1) size holes (place - end) len d (omega arith) a.3
+            (λ word ge lt. ap (λ n. is_free rest n) (let e : word ≡ (word + end) - end = omega arith in e) ∙ (sym (later (word + end) (omega arith)) ∙ all (word + end) (omega (arith, a.0)) (omega (arith, a.0))))
+            some in
+            (suc rec.0, omega (arith, rec.1), omega (arith, rec.2, a.0), omega (arith, rec.3, a.0))
+      ]
     ]
 
 -- the holes stand in order

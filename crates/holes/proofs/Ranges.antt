@@ -19,22 +19,22 @@ length-set_range free place len value within =
 pub set_range_inside : (free : List Bool) (place len : ℕ) (value : Bool) (word : ℕ) → place ≤ length free → place ≤ word → word < place + len → is_free (set_range free place len value) word ≡ value
 set_range_inside free place len value word within from to =
     get_or_append_left (take place free ++ replicate len value) (drop (place + len) free) false word (omega (arith, length_front free place len value within))
-      ∙ (get_or-append_right (take place free) (replicate len value) place word false (length-take-le place free within) from
-      ∙ get_or-replicate len (word - place) value false (omega arith))
+    ∙ (get_or-append_right (take place free) (replicate len value) place word false (length-take-le place free within) from
+    ∙ get_or-replicate len (word - place) value false (omega arith))
 
 -- a word before the range
 pub set_range_before : (free : List Bool) (place len : ℕ) (value : Bool) (word : ℕ) → place ≤ length free → word < place → is_free (set_range free place len value) word ≡ is_free free word
 set_range_before free place len value word within lt =
     get_or_append_left (take place free ++ replicate len value) (drop (place + len) free) false word (omega (arith, length_front free place len value within))
-      ∙ (get_or_append_left (take place free) (replicate len value) false word (omega (arith, length-take-le place free within))
-      ∙ get_or-take place free word false lt)
+    ∙ (get_or_append_left (take place free) (replicate len value) false word (omega (arith, length-take-le place free within))
+    ∙ get_or-take place free word false lt)
 
 -- a word behind the range
 pub set_range_behind : (free : List Bool) (place len : ℕ) (value : Bool) (word : ℕ) → place ≤ length free → place + len ≤ word → is_free (set_range free place len value) word ≡ is_free free word
 set_range_behind free place len value word within ge =
     get_or-append_right (take place free ++ replicate len value) (drop (place + len) free) (place + len) word false (length_front free place len value within) ge
-      ∙ (get_or-drop (place + len) free (word - (place + len)) false
-      ∙ ap (λ k. get_or free k false) (omega arith))
+    ∙ (get_or-drop (place + len) free (word - (place + len)) false
+    ∙ ap (λ k. get_or free k false) (omega arith))
 
 -- two regions with the same free words
 pub same_words : (xs ys : List Bool) → length xs ≡ length ys → ((word : ℕ) → word < length xs → is_free xs word ≡ is_free ys word) → xs ≡ ys
@@ -44,13 +44,13 @@ same_words xs ys len each = ext_get_or false xs ys len each
 pub set_range_same : (free : List Bool) (place len : ℕ) (value : Bool) → place + len ≤ length free → ((word : ℕ) → place ≤ word → word < place + len → is_free free word ≡ value) → set_range free place len value ≡ free
 set_range_same free place len value within has =
     same_words (set_range free place len value) free (length-set_range free place len value within) (λ word lt.
-      elim (cases_lt word place) [
-        | inl before ↦ set_range_before free place len value word (omega arith) before
-        | inr from ↦ elim (cases_lt word (place + len)) [
-            | inl inside ↦ set_range_inside free place len value word (omega arith) from inside ∙ sym (has word from inside)
-            | inr behind ↦ set_range_behind free place len value word (omega arith) behind
-          ]
-      ])
+    elim (cases_lt word place) [
+      | inl before ↦ set_range_before free place len value word (omega arith) before
+      | inr from ↦ elim (cases_lt word (place + len)) [
+        | inl inside ↦ set_range_inside free place len value word (omega arith) from inside ∙ sym (has word from inside)
+        | inr behind ↦ set_range_behind free place len value word (omega arith) behind
+      ]
+    ])
 
 -- a range that is set twice
 pub set_range-set_range : (free : List Bool) (place len : ℕ) (first second : Bool) → place + len ≤ length free → set_range (set_range free place len first) place len second ≡ set_range free place len second
@@ -58,16 +58,16 @@ set_range-set_range free place len first second within =
     let once = set_range free place len first in
     let len_once : length once ≡ length free = length-set_range free place len first within in
     same_words (set_range once place len second) (set_range free place len second)
-      (length-set_range once place len second (omega arith) ∙ (len_once ∙ sym (length-set_range free place len second within)))
-      (λ word lt. elim (cases_lt word place) [
-        | inl before ↦ set_range_before once place len second word (omega arith) before
-            ∙ (set_range_before free place len first word (omega arith) before ∙ sym (set_range_before free place len second word (omega arith) before))
-        | inr from ↦ elim (cases_lt word (place + len)) [
-            | inl inside ↦ set_range_inside once place len second word (omega arith) from inside ∙ sym (set_range_inside free place len second word (omega arith) from inside)
-            | inr behind ↦ set_range_behind once place len second word (omega arith) behind
-                ∙ (set_range_behind free place len first word (omega arith) behind ∙ sym (set_range_behind free place len second word (omega arith) behind))
-          ]
-      ])
+    (length-set_range once place len second (omega arith) ∙ (len_once ∙ sym (length-set_range free place len second within)))
+    (λ word lt. elim (cases_lt word place) [
+      | inl before ↦ set_range_before once place len second word (omega arith) before
+          ∙ (set_range_before free place len first word (omega arith) before ∙ sym (set_range_before free place len second word (omega arith) before))
+      | inr from ↦ elim (cases_lt word (place + len)) [
+        | inl inside ↦ set_range_inside once place len second word (omega arith) from inside ∙ sym (set_range_inside free place len second word (omega arith) from inside)
+        | inr behind ↦ set_range_behind once place len second word (omega arith) behind
+            ∙ (set_range_behind free place len first word (omega arith) behind ∙ sym (set_range_behind free place len second word (omega arith) behind))
+      ]
+    ])
 
 -- How many words are free.
 pub free_count-append : (xs ys : List Bool) → free_count (xs ++ ys) ≡ free_count xs + free_count ys
@@ -164,7 +164,7 @@ hole_count_taken free place len =
     let middle = take len (drop place free) in
     let back = drop (place + len) free in
     let whole : free ≡ front ++ (middle ++ back) =
-      sym (take-append-drop place free) ∙ ap (λ (xs : List Bool). front ++ xs) (sym (take-append-drop len (drop place free)) ∙ ap (λ (xs : List Bool). middle ++ xs) (drop-drop len place free)) in
+    sym (take-append-drop place free) ∙ ap (λ (xs : List Bool). front ++ xs) (sym (take-append-drop len (drop place free)) ∙ ap (λ (xs : List Bool). middle ++ xs) (drop-drop len place free)) in
     omega (
       arith,
       ap hole_count whole,
@@ -173,7 +173,7 @@ hole_count_taken free place len =
       hole_count_after-append false (front ++ replicate len false) back,
       hole_count_after-append false front (replicate len false),
       hole_count_after-false (last_of false front) len,
-      hole_count_after-le (last_of false (front ++ replicate len false)) (last_of (last_of false front) middle) back
+      hole_count_after-le (last_of false (front ++ replicate len false)) (last_of (last_of false front) middle) back,
     )
 
 pub hole_count-true : (n : ℕ) → hole_count (replicate n true) ≤ 1

@@ -47,8 +47,8 @@ joined holes index place len =
     let behind = hole_at holes index in
     if ends_at holes index place
     then if begins_at holes index (place + len)
-      then slice_set (remove holes index) (index - 1) (record { place = before.place; len = before.len + (len + behind.len) })
-      else slice_set holes (index - 1) (record { place = before.place; len = before.len + len })
+    then slice_set (remove holes index) (index - 1) (record { place = before.place; len = before.len + (len + behind.len) })
+    else slice_set holes (index - 1) (record { place = before.place; len = before.len + len })
     else if begins_at holes index (place + len)
-      then slice_set holes index (record { place = place; len = len + behind.len })
-      else insert holes index (record { place = place; len = len })
+    then slice_set holes index (record { place = place; len = len + behind.len })
+    else insert holes index (record { place = place; len = len })

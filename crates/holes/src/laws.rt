@@ -5,23 +5,19 @@ ghost use Rattle.holes.specs.Laws.{OneHoleHasAll, TakingLowersCount, GivingRaise
 /// Where there is at most one hole, it has all free words, so that every length up to their number fits.
 pub fn one_hole_has_all()
     ensures { OneHoleHasAll }
-{
-}
+{}
 
 /// Taking free words lowers the number of free words by their number.
 pub fn taking_lowers_count()
     ensures { TakingLowersCount }
-{
-}
+{}
 
 /// Giving words back raises the number of free words by their number.
 pub fn giving_raises_count()
     ensures { GivingRaisesCount }
-{
-}
+{}
 
 /// Where all words but those of some ranges are free, there is at most one hole more than there are ranges.
 pub fn one_hole_more_than_ranges()
     ensures { OneHoleMoreThanRanges }
-{
-}
+{}

@@ -16,15 +16,15 @@ returns-then-self-gt0 g c =
     let size : length c.args.self.now.free ≡ c.self.inside.size = sym (ap (λ (r : Region). length r.free) c.self.view_is) ∙ length_words c.self.inside.size c.self.inside.holes.items c.self.invariant.apart in
     let rest : Hole = record { place = c.args.from; len = c.self.inside.size - c.args.from } in
     same_region (words_from 0 c.self.inside.size c.push_reserved.new.self.items) (free_from c.args.from (length c.args.self.now.free)) c.self.inside.most c.args.self.now.most
-      (ap (words_from 0 c.self.inside.size) (c.push_reserved.ensures.items ∙ ap (λ (holes : List Hole). holes ++ rest ∷ []) c.clear.ensures.items)
-        ∙ (words_of_one c.args.from c.self.inside.size (omega (arith, c.if-self-gt0.true)) ∙ ap (free_from c.args.from) (sym size)))
-      (ap (λ (r : Region). r.most) c.self.view_is)
+    (ap (words_from 0 c.self.inside.size) (c.push_reserved.ensures.items ∙ ap (λ (holes : List Hole). holes ++ rest ∷ []) c.clear.ensures.items)
+    ∙ (words_of_one c.args.from c.self.inside.size (omega (arith, c.if-self-gt0.true)) ∙ ap (free_from c.args.from) (sym size)))
+    (ap (λ (r : Region). r.most) c.self.view_is)
 
 -- No hole.
 pub returns-else-self-gt0 : goal.returns-else-self-gt0
 returns-else-self-gt0 g c =
     let size : length c.args.self.now.free ≡ c.self.inside.size = sym (ap (λ (r : Region). length r.free) c.self.view_is) ∙ length_words c.self.inside.size c.self.inside.holes.items c.self.invariant.apart in
     same_region (words_from 0 c.self.inside.size c.clear.new.self.items) (free_from c.args.from (length c.args.self.now.free)) c.self.inside.most c.args.self.now.most
-      (ap (words_from 0 c.self.inside.size) c.clear.ensures.items
-        ∙ (words_of_none c.args.from c.self.inside.size (omega (arith, c.requires)) (omega (arith, c.if-self-gt0.false)) ∙ ap (free_from c.args.from) (sym size)))
-      (ap (λ (r : Region). r.most) c.self.view_is)
+    (ap (words_from 0 c.self.inside.size) c.clear.ensures.items
+    ∙ (words_of_none c.args.from c.self.inside.size (omega (arith, c.requires)) (omega (arith, c.if-self-gt0.false)) ∙ ap (free_from c.args.from) (sym size)))
+    (ap (λ (r : Region). r.most) c.self.view_is)

@@ -10,6 +10,6 @@ give-requires-2-clause-none_free g c =
     let within : 7 + 3 ≤ length c.take-2.new.self.free = search rules in
     let unchanged : c.take-4.new.self ≡ c.take-3.new.self = search rules in
     λ word from to.
-      ap (λ (r : Region). is_free r.free word) c.give.ensures
-        ∙ (set_range_behind c.take-4.new.self.free 0 3 true word (omega arith) (omega arith)
-        ∙ (ap (λ (r : Region). is_free r.free word) (unchanged ∙ taken) ∙ set_range_inside c.take-2.new.self.free 7 3 false word (omega arith) from to))
+    ap (λ (r : Region). is_free r.free word) c.give.ensures
+    ∙ (set_range_behind c.take-4.new.self.free 0 3 true word (omega arith) (omega arith)
+    ∙ (ap (λ (r : Region). is_free r.free word) (unchanged ∙ taken) ∙ set_range_inside c.take-2.new.self.free 7 3 false word (omega arith) from to))
