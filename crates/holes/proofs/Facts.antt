@@ -1,5 +1,5 @@
 -- What the holes of a region tell of its words, and its words of the holes.
-use Rattle.std.proofs.Common.{◌≡◌, ℕ, ◌+◌, ◌-◌, ◌<◌, ◌≤◌, max, Bool, true, false, cond, ltb, leb, List, [], ◌∷◌, ◌++◌, length, take, drop, get_or, refl, sym, ◌∙◌, ap, subst, inl, inr, arith, zero, suc, fold, Some, None, Option}
+use Rattle.std.proofs.Common.{◌≡◌, ℕ, ◌+◌, ◌-◌, ◌<◌, ◌≤◌, max, Bool, true, false, cond, ltb, leb, List, [], ◌∷◌, ◌++◌, length, take, drop, get_or, sym, ◌∙◌, ap, subst, inl, inr, arith, zero, suc, fold, Some, None}
 use Rattle.std.proofs.Math.Seq.{split_at}
 use Rattle.std.proofs.lemmas.Bool.{cases_lt, false≢true, ltb-true, ltb-false, leb-true, leb-false}
 use Rattle.std.proofs.lemmas.Bool.Decides.{nat_tests}
@@ -11,11 +11,11 @@ use Rattle.std.proofs.lemmas.List.Quantifiers.{position-Some}
 use Rattle.std.proofs.lemmas.List.Sums.{fails_before_first}
 use Rattle.std.proofs.lemmas.Option.{none-some}
 use Rattle.std.proofs.lemmas.List.{append-nil, get_or_past}
-use Rattle.holes.specs.FreeWords.{Region, is_free, AllFree, NoneFree, set_range, free_from, IsHole, IsLowestFit, free_count, hole_count, widest}
-use Rattle.holes.specs.Layout.{words_from, AreApart, IsLayout, hole_at, cut_front, joined}
+use Rattle.holes.specs.FreeWords.{Region, NoneFree, set_range, free_from, IsHole, IsLowestFit}
+use Rattle.holes.specs.Layout.{words_from, AreApart, IsLayout, hole_at, joined}
 use Rattle.holes.proofs.Ranges.{length-set_range, free_count_given, free_count-le-length}
 use Rattle.holes.proofs.Layouts.{most_len, length-words_from, free_count-words_from, hole_is_hole, run_in_hole, places_in_order}
-use Rattle.holes.proofs.Changes.{sum_len, Takes, Gives, takes_at, gives_at}
+use Rattle.holes.proofs.Changes.{Takes, Gives, gives_at}
 
 -- each hole of the list is one of the words
 pub hole_is_at : (size : ℕ) (holes : List Hole) (index : ℕ) → AreApart 0 size holes → index < length holes → IsHole (words_from 0 size holes) (hole_at holes index).place (hole_at holes index).len

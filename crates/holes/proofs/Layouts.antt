@@ -1,13 +1,13 @@
 -- The words that holes in order of place make free: what they count, and what taking and giving a range does to them.
-use Rattle.std.proofs.Common.{◌≡◌, ℕ, ◌+◌, ◌-◌, ◌<◌, ◌≤◌, max, Bool, true, false, List, [], ◌∷◌, ◌++◌, length, take, drop, get_or, refl, sym, ◌∙◌, ap, subst, inl, inr, arith, zero, suc}
+use Rattle.std.proofs.Common.{◌≡◌, ℕ, ◌+◌, ◌-◌, ◌<◌, ◌≤◌, max, Bool, true, false, List, [], ◌∷◌, ◌++◌, length, drop, get_or, refl, sym, ◌∙◌, ap, inl, inr, arith, zero, suc}
 use Rattle.std.specs.Prelude.{replicate, sum_by}
 use Rattle.std.proofs.lemmas.Bool.{cases_lt, false≢true}
-use Rattle.std.proofs.lemmas.List.{append_assoc, append-nil, length-append, length-replicate, get_or-replicate, get_or_append_left, get_or-append_right, get_or_past, take_at, drop_at, take_more, replicate-append-replicate}
+use Rattle.std.proofs.lemmas.List.{append_assoc, length-append, length-replicate, get_or-replicate, get_or_append_left, get_or-append_right, get_or_past, take_at, drop_at, replicate-append-replicate}
 use Rattle.std.proofs.lemmas.List.Sums.{sum_by-cons}
 use Rattle.holes.specs.declared.hole.Hole.{Hole}
-use Rattle.holes.specs.FreeWords.{is_free, AllFree, NoneFree, set_range, IsHole, IsLowestFit, free_count, hole_count_after, hole_count, front_run, widest}
+use Rattle.holes.specs.FreeWords.{is_free, AllFree, set_range, IsHole, free_count, hole_count_after, hole_count, front_run, widest}
 use Rattle.holes.specs.Layout.{words_from, AreApart}
-use Rattle.holes.proofs.Ranges.{set_range_inside, set_range_same, free_count-append, free_count-true, free_count-false, length-set_range}
+use Rattle.holes.proofs.Ranges.{set_range_inside, free_count-append, free_count-true, free_count-false}
 
 -- where the words behind some holes begin
 unfoldable pub next_from : ℕ → List Hole → ℕ
@@ -188,7 +188,7 @@ words_taken size xs place len ys a le starts =
     ∙ set_range_mid (front_of xs place) rest place len true false (length-front_of size place xs a le))
 
 -- two holes that touch make the same words free as one
-fused_first : (from size place first second : ℕ) (ys : List Hole) → words_from from size (record { place = place; len = first + second } ∷ ys) ≡ words_from from size (record { place = place; len = first } ∷ (record { place = place + first; len = second } ∷ ys))
+pub fused_first : (from size place first second : ℕ) (ys : List Hole) → words_from from size (record { place = place; len = first + second } ∷ ys) ≡ words_from from size (record { place = place; len = first } ∷ (record { place = place + first; len = second } ∷ ys))
 fused_first from size place first second ys =
     let gap = replicate (place - from) false in
     let one = replicate first true in

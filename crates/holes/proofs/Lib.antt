@@ -2,3 +2,4 @@ pub mod Ranges
 mod Layouts
 mod Changes
 mod Facts
+mod Listed

@@ -1,5 +1,5 @@
 -- The holes of a region in order of place, and the words that they make free.
-use Rattle.std.specs.Prelude.{◌≡◌, ℕ, zero, suc, ◌+◌, ◌-◌, ◌<◌, ◌≤◌, nat_eq, nat_le, nat_lt, if◌then◌else◌, Bool, true, false, List, [], ◌∷◌, ◌++◌, length, replicate, sum_by, slice_index_or, slice_set, insert, remove}
+use Rattle.std.specs.Prelude.{◌≡◌, ℕ, zero, suc, ◌+◌, ◌-◌, ◌<◌, ◌≤◌, nat_eq, nat_lt, if◌then◌else◌, Bool, true, false, List, [], ◌∷◌, ◌++◌, length, replicate, sum_by, slice_index_or, slice_set, insert, remove}
 use Rattle.holes.specs.declared.hole.Hole.{Hole}
 
 -- the words from a place to the end of the region, those of the holes free

@@ -1,6 +1,6 @@
 //! Laws of free words. Each function does nothing, and its contract is the law.
 
-ghost use Rattle.holes.specs.Laws.{OneHoleHasAll, TakingLowersCount, GivingRaisesCount, OneHoleMoreThanRanges};
+ghost use Rattle.holes.specs.Laws.{OneHoleHasAll, TakingLowersCount, GivingRaisesCount, OneHoleMoreThanRanges, HolesAreCounted, WidestIsGreatest};
 
 /// Where there is at most one hole, it has all free words, so that every length up to their number fits.
 pub fn one_hole_has_all()
@@ -20,4 +20,14 @@ pub fn giving_raises_count()
 /// Where all words but those of some ranges are free, there is at most one hole more than there are ranges.
 pub fn one_hole_more_than_ranges()
     ensures { OneHoleMoreThanRanges }
+{}
+
+/// The number of holes is that of the greatest ranges of free words.
+pub fn holes_are_counted()
+    ensures { HolesAreCounted }
+{}
+
+/// The widest hole is as long as the longest of the greatest ranges of free words.
+pub fn widest_is_greatest()
+    ensures { WidestIsGreatest }
 {}

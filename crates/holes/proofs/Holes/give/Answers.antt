@@ -1,11 +1,10 @@
-use Rattle.std.proofs.Common.{rules, ◌≡◌, ◌+◌, ◌-◌, ◌≤◌, ◌<◌, ◌^◌, ℕ, Bool, true, false, ltb, length, arith, sym, ap, ◌∙◌, subst, List}
+use Rattle.std.proofs.Common.{rules, ◌≡◌, ◌+◌, ◌≤◌, ◌<◌, ◌^◌, true, false, ltb, length, arith, sym, ap, ◌∙◌, subst, List}
 use Rattle.std.specs.List.Sorted.{IsPartitionedBy, IsPartitionPoint}
 use Rattle.std.specs.Vec.{vec_len, vec_capacity}
 use Rattle.holes.specs.declared.hole.Hole.{Hole}
 use Rattle.holes.specs.FreeWords.{Region, set_range, hole_count}
-use Rattle.holes.specs.Layout.{words_from, hole_at, IsLayout}
+use Rattle.holes.specs.Layout.{words_from, IsLayout}
 use Rattle.holes.proofs.Layouts.{hole_count-words_from}
-use Rattle.holes.proofs.Changes.{Gives}
 use Rattle.holes.proofs.Facts.{places_partitioned, end_small, gives_range, layout_given, same_region}
 use Rattle.holes.proofs.Holes.give.Goals as goal
 

@@ -1,4 +1,4 @@
-use Rattle.std.proofs.Common.{◌≡◌, ◌≤◌, ◌-◌, ◌++◌, ◌∷◌, [], length, arith, sym, ap, ◌∙◌, List}
+use Rattle.std.proofs.Common.{◌≡◌, ◌-◌, ◌++◌, ◌∷◌, [], length, arith, sym, ap, ◌∙◌, List}
 use Rattle.holes.specs.declared.hole.Hole.{Hole}
 use Rattle.holes.specs.FreeWords.{Region, free_from}
 use Rattle.holes.specs.Layout.{words_from}

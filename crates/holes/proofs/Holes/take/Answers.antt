@@ -1,13 +1,13 @@
-use Rattle.std.proofs.Common.{rules, ◌≡◌, ◌+◌, ◌-◌, ◌≤◌, ◌<◌, ◌^◌, ℕ, Some, None, Bool, true, false, leb, length, arith, sym, ap, ◌∙◌, subst, List}
+use Rattle.std.proofs.Common.{rules, ◌≡◌, ◌-◌, ◌<◌, ◌^◌, false, leb, length, arith, sym, ap, ◌∙◌, subst, List}
 use Rattle.std.specs.Prelude.{position}
 use Rattle.std.specs.Vec.{vec_capacity}
 use Rattle.std.proofs.lemmas.Bool.{true≢false}
 use Rattle.std.proofs.lemmas.List.{get_or_default}
 use Rattle.holes.specs.declared.hole.Hole.{Hole}
 use Rattle.holes.specs.FreeWords.{Region, set_range, IsLowestFit, widest}
-use Rattle.holes.specs.Layout.{words_from, hole_at, cut_front, IsLayout}
+use Rattle.holes.specs.Layout.{words_from, hole_at, IsLayout}
 use Rattle.holes.proofs.Layouts.{most_len, widest-words_from}
-use Rattle.holes.proofs.Changes.{Takes, takes_at}
+use Rattle.holes.proofs.Changes.{takes_at}
 use Rattle.holes.proofs.Facts.{length_words, lowest_at, most_len-lt, len-le-most_len, end_small, none_fits, first_fits, taken_len, layout_taken, same_region}
 use Rattle.holes.proofs.Holes.take.Goals as goal
 

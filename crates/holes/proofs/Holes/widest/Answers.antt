@@ -1,4 +1,4 @@
-use Rattle.std.proofs.Common.{rules, ◌≡◌, arith, sym, ap, ◌∙◌, fold, max}
+use Rattle.std.proofs.Common.{◌≡◌, arith, sym, ap, ◌∙◌, fold, max}
 use Rattle.holes.specs.FreeWords.{Region, widest}
 use Rattle.holes.proofs.Layouts.{most_len, widest-words_from}
 use Rattle.holes.proofs.Facts.{most_len-fold}

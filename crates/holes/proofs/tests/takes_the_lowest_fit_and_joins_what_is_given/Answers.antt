@@ -1,4 +1,4 @@
-use Rattle.std.proofs.Common.{rules, ◌≡◌, ◌+◌, ◌≤◌, Bool, true, false, length, arith, ap, ◌∙◌, List}
+use Rattle.std.proofs.Common.{rules, ◌≡◌, ◌+◌, ◌≤◌, true, false, length, arith, ap, ◌∙◌}
 use Rattle.holes.specs.FreeWords.{Region, is_free, taken_from}
 use Rattle.holes.proofs.Ranges.{set_range_inside, set_range_behind}
 use Rattle.holes.proofs.tests.takes_the_lowest_fit_and_joins_what_is_given.Goals as goal

@@ -1,0 +1,10 @@
+pub mod Lists
+pub mod ContentLemmas
+pub mod TableLemmas
+pub mod PlainLemmas
+pub mod LayoutLemmas
+pub mod BlocksLemmas
+pub mod FreeLemmas
+pub mod PackLemmas
+pub mod BesideLemmas
+pub mod RegionLemmas

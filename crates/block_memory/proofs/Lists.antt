@@ -1,0 +1,52 @@
+-- Lemmas on values that may be missing, and on lists of them.
+use Rattle.std.proofs.Common.{◌≡◌, ℕ, ◌+◌, ◌<◌, List, Bool, length, slice_set, Option, Some, None, is_some, IsSome, true, false, cond, ap, arith}
+use Rattle.std.proofs.lemmas.List.{get_or_past}
+use Rattle.std.proofs.lemmas.List.Sums.{sum_by-set}
+use Rattle.block_memory.specs.Table.{value_at, value_count}
+
+module _ {X : Type 0} where
+  -- a value that is there is one value
+  pub same_some : (x y : X) → Some x ≡ Some y → x ≡ y
+  same_some x y e = cc
+
+  -- nothing is no value
+  pub None≢Some : (x : X) → None ≡ Some x → ⊥
+  None≢Some x e = cc
+
+  pub None-not_some : (o : Option X) → o ≡ None → IsSome o → ⊥
+  None-not_some o e h = cc
+
+-- a test has one answer
+pub true-not_false : (b : Bool) → b ≡ true → b ≡ false → ⊥
+true-not_false b t f = cc
+
+module _ {T : Type 0} where
+  -- a number with a value is in range
+  pub IsSome-in_range : (slots : List (Option T)) (n : ℕ) → IsSome (value_at slots n) → n < length slots
+  IsSome-in_range slots n h = grind (arith, get_or_past)
+
+  -- a value goes to an empty number
+  pub value_count-insert : (slots : List (Option T)) (n : ℕ) (v : T) → n < length slots → value_at slots n ≡ None → value_count (slice_set slots n (Some v)) ≡ value_count slots + 1
+  value_count-insert slots n v h e =
+      let one_if_value : Option T → ℕ = λ o. cond (is_some o) 1 0 in
+      let change = sum_by-set one_if_value slots n (Some v) None h in
+      let was : one_if_value (value_at slots n) ≡ 0 = ap one_if_value e in
+      omega (arith, change, was)
+
+  -- the value of a number goes
+  pub value_count-remove : (slots : List (Option T)) (n : ℕ) → IsSome (value_at slots n) → value_count (slice_set slots n None) + 1 ≡ value_count slots
+  value_count-remove slots n h =
+      let one_if_value : Option T → ℕ = λ o. cond (is_some o) 1 0 in
+      let one_if : Bool → ℕ = λ b. cond b 1 0 in
+      let change = sum_by-set one_if_value slots n None None (IsSome-in_range slots n h) in
+      let was : one_if_value (value_at slots n) ≡ 1 = ap one_if h in
+      omega (arith, change, was)
+
+  -- another value comes in the place of one
+  pub value_count-set : (slots : List (Option T)) (n : ℕ) (v : T) → IsSome (value_at slots n) → value_count (slice_set slots n (Some v)) ≡ value_count slots
+  value_count-set slots n v h =
+      let one_if_value : Option T → ℕ = λ o. cond (is_some o) 1 0 in
+      let one_if : Bool → ℕ = λ b. cond b 1 0 in
+      let change = sum_by-set one_if_value slots n (Some v) None (IsSome-in_range slots n h) in
+      let was : one_if_value (value_at slots n) ≡ 1 = ap one_if h in
+      omega (arith, change, was)

@@ -1,0 +1,194 @@
+//! Blocks that lie in one region of words, each at a place of its own.
+ghost use Rattle.std.specs.Prelude.{◌≡◌, ◌+◌, ◌^◌, ◌<◌, ◌≤◌, ℕ, length, take, drop, replicate, None, Some, IsSome, is_some, IfOk, IfSome, IfNone};
+ghost use Rattle.block_memory.specs.Table.{value_at, value_count};
+ghost use Rattle.block_memory.specs.Layout.{IsBare, IsClear, Begins, owner_at, place_at, words_at, with_placed, moved};
+ghost use Rattle.block_memory.specs.BlocksWritten.{IsWritten, IsMarked};
+
+use crate::table::Table;
+use std::alloc::{AllocError, Allocator};
+use std::marker::Model;
+
+/// Where a block lies and whose it is.
+#[derive(Clone, Copy, Debug)]
+pub(crate) struct Span {
+    pub(crate) owner: usize,
+    pub(crate) place: usize,
+    pub(crate) len: usize,
+}
+
+/// Numbered blocks in one region of words. All memory is taken when it is made.
+#[derive(Drop)]
+pub(crate) struct Blocks<A: Allocator> {
+    words: Vec<i64, A>,
+    // At the first word of each block that has words, the block's number. Elsewhere any number, which tells nothing:
+    // whether a block begins at a word is seen by its span.
+    starts: Vec<usize, A>,
+    spans: Table<Span, A>,
+}
+
+impl<A: Allocator> Model for Blocks<A> {
+    ghost use Rattle.std.specs.Prelude.{length};
+    ghost use Rattle.block_memory.specs.Layout.{Layout};
+
+    ghost Value = { Layout };
+
+    ghost use Rattle.block_memory.specs.BlocksInside.{placed_from, AreSpans};
+
+    ghost view = { λ b. record { size = length b.words.items; placed = placed_from b.words.items b.spans } };
+
+    ghost invariant = { λ b. AreSpans b.words.items b.starts.items b.spans };
+}
+
+// Copies the new words to a place of the region.
+fn write_words(region: &mut [i64], place: usize, words: &[i64])
+    requires { place + length words.now ≤ length region.old }
+    ensures { IsWritten region.old region.new place words.now }
+{
+    region[place..place + words.len()].copy_from_slice(words);
+}
+
+// Moves so many words from one place of the region to another, each at most once.
+fn move_words(region: &mut [i64], from: usize, len: usize, to: usize)
+    requires from { from + len ≤ length region.old }
+    requires to { to + len ≤ length region.old }
+    ensures { IsWritten region.old region.new to (take len (drop from region.old)) }
+{
+    if from != to {
+        region.copy_within(from..from + len, to);
+    }
+}
+
+// Writes a block's number at its first word, if it has words.
+fn mark_start(starts: &mut [usize], place: usize, len: usize, number: usize)
+    requires { place + len ≤ length starts.old }
+    ensures { IsMarked starts.old starts.new place len number }
+{
+    if len > 0 {
+        starts[place] = number;
+    }
+}
+
+impl<A: Allocator> Blocks<A> {
+    /// A region of `size` words with numbers for `most` blocks, and no block.
+    pub(crate) fn new(alloc: A, size: usize, most: usize) -> Result<Self, AllocError>
+    where
+        A: Clone,
+        ensures { IfOk result (λ blocks. blocks ≡ record { size = size; placed = replicate most None }) }
+    {
+        let spans = Table::new(alloc.clone()?, most)?;
+        let starts = vec![in alloc.clone()?; 0; size]?;
+        let words = vec![in alloc; 0; size]?;
+        Ok(Blocks {
+            words,
+            starts,
+            spans,
+        })
+    }
+
+    /// How many words the region has.
+    pub(crate) fn size(&self) -> usize
+        ensures { result ≡ self.now.size }
+    {
+        self.words.len()
+    }
+
+    /// How many numbers there are.
+    pub(crate) fn numbers(&self) -> usize
+        ensures { result ≡ length self.now.placed }
+    {
+        self.spans.len()
+    }
+
+    /// How many blocks there are.
+    pub(crate) fn count(&self) -> usize
+        ensures { result ≡ value_count self.now.placed }
+    {
+        self.spans.values()
+    }
+
+    /// Whether a number has a block.
+    pub(crate) fn is_there(&self, number: usize) -> bool
+        ensures { result ≡ is_some (value_at self.now.placed number) }
+    {
+        self.spans.find(number).is_some()
+    }
+
+    /// Whose the block of a number is.
+    pub(crate) fn owner(&self, number: usize) -> usize
+        requires { IsSome (value_at self.now.placed number) }
+        ensures { result ≡ owner_at self.now.placed number }
+    {
+        self.spans.value(number).owner
+    }
+
+    /// The words of the block of a number.
+    pub(crate) fn words(&self, number: usize) -> &[i64]
+        requires { IsSome (value_at self.now.placed number) }
+        ensures { result.now ≡ words_at self.now.placed number }
+    {
+        let span = self.spans.value(number);
+        &self.words[span.place..span.place + span.len]
+    }
+
+    /// The number of the block that has words and begins at a place, if one does.
+    pub(crate) fn beginning_at(&self, place: usize) -> Option<usize>
+        requires { place < self.now.size }
+        ensures found { IfSome result (λ number. Begins self.now.placed number place) }
+        ensures none { IfNone result ((number : ℕ) → Begins self.now.placed number place → ⊥) }
+        ensures in_memory { self.now.size < 2 ^ 64 }
+    {
+        let number = self.starts[place];
+        let span = self.spans.find(number)?;
+        if span.place != place {
+            return None;
+        }
+        if span.len == 0 {
+            return None;
+        }
+        Some(number)
+    }
+
+    /// Puts a block of the words at a place where no block covers a word, and answers its number, which had none.
+    pub(crate) fn put(&mut self, owner: usize, place: usize, words: &[i64]) -> usize
+        requires number { value_count self.old.placed < length self.old.placed }
+        requires within { place + length words.now ≤ self.old.size }
+        requires bare { IsBare self.old.placed place (length words.now) }
+        ensures in_range { result < length self.old.placed }
+        ensures vacant { value_at self.old.placed result ≡ None }
+        ensures put { self.new ≡ with_placed self.old result (Some (record { owner = owner; place = place; words = words.now })) }
+    {
+        let len = words.len();
+        write_words(&mut self.words, place, words);
+        let number = self.spans.insert(Span { owner, place, len });
+        mark_start(&mut self.starts, place, len, number);
+        number
+    }
+
+    /// Takes the block of a number away, and answers where it lay.
+    pub(crate) fn remove(&mut self, number: usize) -> Span
+        requires { IsSome (value_at self.old.placed number) }
+        ensures place { result.place ≡ place_at self.old.placed number }
+        ensures len { result.len ≡ length (words_at self.old.placed number) }
+        ensures removed { self.new ≡ with_placed self.old number None }
+    {
+        self.spans.remove(number)
+    }
+
+    /// Moves the block of a number to a place from which on no other block covers one of its words.
+    pub(crate) fn slide(&mut self, number: usize, to: usize)
+        requires there { IsSome (value_at self.old.placed number) }
+        requires within { to + length (words_at self.old.placed number) ≤ self.old.size }
+        requires clear { IsClear self.old.placed number to (length (words_at self.old.placed number)) }
+        ensures { self.new ≡ moved self.old number to }
+    {
+        let Span { owner, place, len } = *self.spans.value(number);
+        move_words(&mut self.words, place, len, to);
+        mark_start(&mut self.starts, to, len, number);
+        let span = Span {
+            owner,
+            place: to,
+            len,
+        };
+        self.spans.set(number, span);
+    }
+}

@@ -1,0 +1,126 @@
+//! A vector memory with a list of its own for each block.
+ghost use Rattle.std.specs.Prelude.{◌≡◌, ◌≢◌, IfOk};
+ghost use Rattle.block_memory.specs.Content.{no_blocks};
+
+use crate::memory::{BlockId, NoRoom, VectorMemory};
+use crate::table::Table;
+use std::alloc::{AllocError, Allocator};
+use std::marker::Model;
+
+// A block: whose it is, and its words.
+#[derive(Drop)]
+struct Held<A: Allocator> {
+    owner: usize,
+    words: Vec<i64, A>,
+}
+
+/// A vector memory that keeps each block in a list of its own, and takes memory for it when it is placed.
+#[derive(Drop)]
+pub struct PlainMemory<A: Allocator> {
+    alloc: A,
+    size: usize,
+    used: usize,
+    held: Table<Held<A>, A>,
+}
+
+impl<A: Allocator> Model for PlainMemory<A> {
+    ghost use Rattle.block_memory.specs.Content.{Memory};
+
+    ghost Value = { Memory };
+
+    ghost use Rattle.block_memory.specs.Plain.{held_content, IsPlain};
+
+    ghost view = { λ m. record { room = m.size; content = held_content m.held } };
+
+    ghost invariant = { λ m. IsPlain m.size m.used (held_content m.held) };
+}
+
+impl<A: Allocator + Clone> PlainMemory<A> {
+    /// A memory for `size` words in at most `most_blocks` blocks, with no block yet.
+    ///
+    /// An error means that the allocator refused the room for the numbers of the blocks.
+    pub fn new(alloc: A, size: usize, most_blocks: usize) -> Result<Self, AllocError>
+        ensures empty { IfOk result (λ m. m.content ≡ no_blocks most_blocks) }
+        ensures size { IfOk result (λ m. m.room ≡ size) }
+    {
+        let held = Table::new(alloc.clone()?, most_blocks)?;
+        Ok(PlainMemory {
+            alloc,
+            size,
+            used: 0,
+            held,
+        })
+    }
+
+    // A list with these words.
+    fn copied(&self, words: &[i64]) -> Result<Vec<i64, A>, NoRoom>
+        ensures ok { IfOk result (λ list. list.items ≡ words.now) }
+        ensures err { result ≢ Err NoRoom.Full }
+    {
+        let alloc = self.alloc.clone().map_err(|_| NoRoom::Memory)?;
+        Vec::from_slice(alloc, words).map_err(|_| NoRoom::Memory)
+    }
+}
+
+impl<A: Allocator + Clone> VectorMemory for PlainMemory<A> {
+    ghost use Rattle.std.specs.Prelude.{true};
+
+    ghost content = { λ m. m.content };
+
+    ghost room = { λ m. m.room };
+
+    ghost may_refuse = { true };
+
+    fn place(&mut self, owner: usize, words: &[i64]) -> Result<BlockId, NoRoom> {
+        if words.len() > self.size - self.used {
+            return Err(NoRoom::Full);
+        }
+        let copy = self.copied(words)?;
+        self.used += words.len();
+        let number = self.held.insert(Held { owner, words: copy });
+        Ok(BlockId::new(number))
+    }
+
+    fn free(&mut self, id: BlockId) {
+        let held = self.held.remove(id.number());
+        self.used -= held.words.len();
+    }
+
+    fn is_live(&self, id: BlockId) -> bool {
+        self.held.find(id.number()).is_some()
+    }
+
+    fn len(&self, id: BlockId) -> usize {
+        self.held.value(id.number()).words.len()
+    }
+
+    fn owner(&self, id: BlockId) -> usize {
+        self.held.value(id.number()).owner
+    }
+
+    fn word(&self, id: BlockId, i: usize) -> i64 {
+        self.held.value(id.number()).words[i]
+    }
+
+    fn read_into(&self, id: BlockId, buf: &mut [i64]) {
+        buf.copy_from_slice(&self.held.value(id.number()).words);
+    }
+
+    fn pack(&mut self) {}
+
+    fn used(&self) -> usize {
+        self.used
+    }
+
+    fn size(&self) -> usize {
+        self.size
+    }
+
+    fn blocks(&self) -> usize {
+        self.held.values()
+    }
+
+    fn ids(&self) -> usize {
+        self.held.len()
+    }
+}

@@ -1,0 +1,9 @@
+pub mod Ahead
+pub mod DeskLemmas
+pub mod FirstLines
+pub mod KindLemmas
+pub mod MachineLemmas
+pub mod RunLaws
+pub mod SeatLemmas
+pub mod StepLemmas
+pub mod TicketLemmas

@@ -1,0 +1,3 @@
+mod Slots
+pub mod Puts
+pub mod Changes

@@ -1,0 +1,177 @@
+//! Counted references to the blocks of a vector memory.
+//!
+//! A [`SharedMemory`] keeps, over any [`VectorMemory`], how many references name each block. A block lives while its
+//! count is above 0: [`make`](SharedMemory::make) places it with the first reference, [`share`](SharedMemory::share)
+//! adds one, and the last [`release`](SharedMemory::release) frees it. Contracts see a slot for each block number, with
+//! the block's owner, count and words, and one empty slot for a number that has no block.
+#![tactic(auto)]
+
+ghost use Rattle.std.specs.Prelude.{◌≡◌, ◌+◌, ◌-◌, ◌^◌, ◌<◌, ◌≤◌, ◌↔◌, length, replicate, slice_get, Some, IsTrue, IfOk, OnErr};
+ghost use Rattle.block_memory.specs.Content.{block_count as block_count_of};
+ghost use Rattle.refcounts.specs.Shared.{none, slot_at, IsLive, IsTidy, used_words, block_count, put, new_slot, shared_at, released_at};
+
+#[cfg(test)]
+mod tests;
+
+use block_memory::{BlockId, NoRoom, VectorMemory};
+use std::alloc::{AllocError, Allocator};
+use std::marker::Model;
+
+/// A vector memory whose blocks are counted.
+///
+/// The counts are reserved once, when it is made. Its other calls take no memory of their own.
+#[derive(Drop)]
+pub struct SharedMemory<M: VectorMemory, A: Allocator> {
+    memory: M,
+    /// By block number, 0 where there is no block.
+    counts: Vec<u64, A>,
+}
+
+impl<M: VectorMemory, A: Allocator> Model for SharedMemory<M, A> {
+    ghost use Rattle.refcounts.specs.Shared.{Shared};
+
+    ghost Value = { Shared };
+
+    ghost use Rattle.refcounts.specs.Inside.{slots_of, IsCounted};
+
+    ghost view = { λ a. record { room = M.room a.memory; slots = slots_of (M.content a.memory) a.counts.items } };
+
+    ghost invariant = { λ a. IsCounted (M.content a.memory) a.counts.items };
+}
+
+impl<M: VectorMemory, A: Allocator> SharedMemory<M, A> {
+    /// Counts the blocks of a memory, which holds none yet.
+    ///
+    /// The counts take memory of `alloc` once, for as many blocks as the memory has numbers. An error means that the
+    /// allocator refused it; the memory is dropped then.
+    pub fn new(alloc: A, memory: M) -> Result<Self, AllocError>
+    where
+        M: Drop,
+        requires { block_count_of (M.content memory) ≡ 0 }
+        ensures { IfOk result (λ shared. shared ≡ record { room = M.room memory; slots = replicate (length (M.content memory)) none }) }
+    {
+        let counts = vec![in alloc; 0; memory.ids()]?;
+        Ok(Self { memory, counts })
+    }
+
+    /// A new block of the words for an owner, with one reference. There has to be a number without a block.
+    ///
+    /// `Full` exactly where the words in use and these together are more than fit; `Memory` only where they would fit,
+    /// and only over a memory that may refuse. Nothing changes at either.
+    pub fn make(&mut self, owner: usize, words: &[i64]) -> Result<BlockId, NoRoom>
+        requires { block_count self.old < length self.old.slots }
+        ensures fresh { IfOk result (λ id. (id < length self.old.slots) × (slot_at self.old id ≡ none)) }
+        ensures made { IfOk result (λ id. self.new ≡ put self.old id (new_slot owner words.now)) }
+
+        ensures full { (result ≡ Err NoRoom.Full) ↔ (self.old.room < used_words self.old + length words.now) }
+        ensures memory { result ≡ Err NoRoom.Memory → IsTrue M.may_refuse × (used_words self.old + length words.now ≤ self.old.room) }
+        ensures err { OnErr result (self.new ≡ self.old) }
+    {
+        let id = self.memory.place(owner, words)?;
+        self.counts[id.number()] = 1;
+        Ok(id)
+    }
+
+    /// One reference more to a block.
+    pub fn share(&mut self, id: BlockId)
+        requires live { IsLive self.old id }
+        requires few { (slot_at self.old id).count < u64.MAX }
+        ensures { self.new ≡ shared_at self.old id }
+    {
+        self.counts[id.number()] += 1;
+    }
+
+    /// One reference less to a block. True exactly where it was the last one, and then the block is freed.
+    pub fn release(&mut self, id: BlockId) -> bool
+        requires { IsLive self.old id }
+        ensures last { IsTrue result ↔ ((slot_at self.old id).count ≡ 1) }
+        ensures released { self.new ≡ released_at self.old id }
+    {
+        let number = id.number();
+        self.counts[number] -= 1;
+        let last = self.counts[number] == 0;
+        if last {
+            self.memory.free(id);
+        }
+        last
+    }
+
+    /// The number of references to a block, 0 where the number has no block.
+    pub fn count(&self, id: BlockId) -> u64
+        ensures value { result ≡ (slot_at self.now id).count }
+        ensures tidy { IsTidy self.now }
+    {
+        self.counts.get(id.number()).copied().unwrap_or(0)
+    }
+
+    /// The number of words of a block.
+    pub fn len(&self, id: BlockId) -> usize
+        requires { IsLive self.now id }
+        ensures { result ≡ length (slot_at self.now id).words }
+    {
+        self.memory.len(id)
+    }
+
+    /// Whose a block is.
+    pub fn owner(&self, id: BlockId) -> usize
+        requires { IsLive self.now id }
+        ensures { result ≡ (slot_at self.now id).owner }
+    {
+        self.memory.owner(id)
+    }
+
+    /// A word of a block, counted from 0.
+    pub fn word(&self, id: BlockId, i: usize) -> i64
+        requires live { IsLive self.now id }
+        requires within { i < length (slot_at self.now id).words }
+        ensures { slice_get (slot_at self.now id).words i ≡ Some result }
+    {
+        self.memory.word(id, i)
+    }
+
+    /// Copies the words of a block to `buf`, which has its length.
+    pub fn read_into(&self, id: BlockId, buf: &mut [i64])
+        requires live { IsLive self.now id }
+        requires same_length { length buf.old ≡ length (slot_at self.now id).words }
+        ensures { buf.new ≡ (slot_at self.now id).words }
+    {
+        self.memory.read_into(id, buf);
+    }
+
+    /// Moves blocks together where the memory keeps them in one region. No block and no count changes.
+    pub fn pack(&mut self)
+        ensures { self.new ≡ self.old }
+    {
+        self.memory.pack();
+    }
+
+    /// The number of words of all blocks, at most `size()`. A block counts once, however many references name it.
+    pub fn used(&self) -> usize
+        ensures value { result ≡ used_words self.now }
+        ensures within { result ≤ self.now.room }
+    {
+        self.memory.used()
+    }
+
+    /// The number of words that fit.
+    pub fn size(&self) -> usize
+        ensures { result ≡ self.now.room }
+    {
+        self.memory.size()
+    }
+
+    /// The number of blocks.
+    pub fn blocks(&self) -> usize
+        ensures value { result ≡ block_count self.now }
+        ensures within { result ≤ length self.now.slots }
+    {
+        self.memory.blocks()
+    }
+
+    /// The number of block numbers, each of which is below it.
+    pub fn ids(&self) -> usize
+        ensures { result ≡ length self.now.slots }
+    {
+        self.memory.ids()
+    }
+}

@@ -1,0 +1,10 @@
+pub mod Answers
+pub mod Digits
+pub mod Enums
+pub mod Equal
+pub mod Fed
+pub mod Fresh
+pub mod Good
+pub mod Lines
+pub mod Runs
+pub mod Sound

@@ -1,0 +1,14 @@
+-- What a byte does in a text.
+use Rattle.std.specs.Prelude.{ℕ, if◌then◌else◌, ◌==◌, ◌||◌, nat_lt}
+use Rattle.vcode_reader.specs.declared.class.Class.{Class}
+use Rattle.vcode_reader.specs.declared.class.Class.TheVariants.{LineFeed, Blank, OpenBrace, CloseBrace, Parenthesis, Plain, Refused}
+
+unfoldable pub class_of : ℕ → Class
+class_of b =
+    if b == 10 then LineFeed
+    else if (b == 32) || (b == 9) || (b == 13) then Blank
+    else if b == 123 then OpenBrace
+    else if b == 125 then CloseBrace
+    else if (b == 40) || (b == 41) then Parenthesis
+    else if nat_lt b 33 || nat_lt 126 b then Refused
+    else Plain

@@ -1,0 +1,13 @@
+pub mod Classes
+pub mod Decode
+pub mod First
+pub mod Firsts
+pub mod Gram
+pub mod Heads
+pub mod Numbers
+pub mod ParseCode
+pub mod Parsing
+pub mod Reading
+pub mod Refusals
+pub mod Scan
+pub mod Trees

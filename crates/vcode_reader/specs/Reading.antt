@@ -1,0 +1,66 @@
+-- What a text comes to: its program, or its first fault with the line.
+use Rattle.std.specs.Prelude.{◌≡◌, ℕ, Bool, false, List, Option, Some, None, Result, Ok, Err, Vec}
+use Rattle.vcode_reader.specs.declared.fault.Refusal.TheVariants.{Unfinished}
+use Rattle.vcode_reader.specs.declared.fault.ReadFault.{ReadFault}
+use Rattle.vcode_reader.specs.declared.fault.ReadFault.TheVariants.{Memory, At}
+use Rattle.vcode_reader.specs.declared.place.Place.{Place}
+use Rattle.vcode_reader.specs.declared.place.Place.TheVariants.{Outside, Name, Inside, Words, Elements}
+use Rattle.vcode_reader.specs.Parsing.{Parse, start, take}
+use Rattle.vcode_reader.specs.Refusals.{Fault}
+use Rattle.vcode_reader.specs.Scan.{Scan, beginning, end_word, scan_all}
+use Rattle.vcode_reader.specs.Trees.{Function, Program}
+
+-- the innermost open thing that isn't a comment began at this line
+abbrev pub at_end : Place → Parse → Result (List Function) Fault
+at_end Outside p = Ok p.functions
+at_end Name p = Err (Unfinished, p.line)
+at_end Inside p = Err (Unfinished, p.line)
+at_end (Words k s begun) p = Err (Unfinished, begun)
+at_end (Elements k begun opened) p = Err (Unfinished, opened)
+
+-- what the words come to where the text ends behind them: in a comment that began at this line, or in none
+abbrev pub ended : Option Fault → Option ℕ → Parse → Result (List Function) Fault
+ended (Some fault) comment p = Err fault
+ended None (Some l) p = Err (Unfinished, l)
+ended None None p = at_end p.place p
+
+-- what the bytes so far come to, if the text ends behind them
+unfoldable pub outcome : Scan Parse → Result (List Function) Fault
+outcome s = let e = end_word take s in ended e.found.fault e.comment e.found
+
+abbrev pub program_at : ℕ → Result (List Function) Fault → Result Program Fault
+program_at first (Ok fs) = Ok (record { first_line = first; functions = fs })
+program_at first (Err fault) = Err fault
+
+-- what a text comes to whose first line has this number
+unfoldable pub reading : ℕ → List ℕ → Result Program Fault
+reading first bytes = program_at first (outcome (scan_all take (beginning start first) bytes))
+
+-- what was answered is what is wanted, unless there was no memory
+abbrev pub Fails : {B : Type 0} → ReadFault → Result B Fault → Type 0
+Fails Memory wanted = Unit {0}
+Fails (At refusal line) wanted = wanted ≡ Err (refusal, line)
+
+abbrev pub Answers : {B : Type 0} → Result B ReadFault → Result B Fault → Type 0
+Answers (Ok found) wanted = wanted ≡ Ok found
+Answers (Err fault) wanted = Fails fault wanted
+
+-- the same of functions in a Vec
+abbrev pub Gives : {A : Type 0} → Result (Vec Function A) ReadFault → Result (List Function) Fault → Type 0
+Gives (Ok found) wanted = wanted ≡ Ok found.items
+Gives (Err fault) wanted = Fails fault wanted
+
+-- these bytes have come, from this line on
+abbrev pub HasScanned : Scan Parse → ℕ → List ℕ → Type 0
+HasScanned s first bytes = s ≡ scan_all take (beginning start first) bytes
+
+-- a reader of pieces: where its text stands, the number of the first line, and whether it failed for want of memory
+pub record Fed : Type 0 where
+  pub scan : Scan Parse
+  pub first_line : ℕ
+  pub failed : Bool
+
+-- the pieces so far are these bytes, and the reader hasn't failed
+pub record HasCome (r : Fed) (bytes : List ℕ) : Type 0 where
+  pub going : r.failed ≡ false
+  pub scanned : HasScanned r.scan r.first_line bytes

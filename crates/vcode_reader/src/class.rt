@@ -1,0 +1,39 @@
+//! The bytes of a text.
+
+ghost use Rattle.std.specs.Prelude.{◌≡◌};
+ghost use Rattle.vcode_reader.specs.Classes.{class_of};
+
+/// What a byte does in a text.
+#[derive(Clone, Copy, PartialEq, Eq, Debug)]
+pub enum Class {
+    /// It ends a word and a line.
+    LineFeed,
+    /// It ends a word.
+    Blank,
+    /// It begins a comment.
+    OpenBrace,
+    /// It ends a comment, and is refused outside one.
+    CloseBrace,
+    /// It is a word by itself.
+    Parenthesis,
+    /// It is a part of a word.
+    Plain,
+    /// It stands in no text outside a comment.
+    Refused,
+}
+
+/// What a byte does.
+#[tactic(auto, unfolding(crate::specs::Classes::class_of))]
+pub fn class_of(byte: u8) -> Class
+    ensures { result ≡ class_of byte }
+{
+    match byte {
+        b'\n' => Class::LineFeed,
+        b' ' | b'\t' | b'\r' => Class::Blank,
+        b'{' => Class::OpenBrace,
+        b'}' => Class::CloseBrace,
+        b'(' | b')' => Class::Parenthesis,
+        33..=126 => Class::Plain,
+        _ => Class::Refused,
+    }
+}

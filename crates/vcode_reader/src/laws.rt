@@ -1,0 +1,31 @@
+//! Laws of the definitions that the contracts cite, and of `==`: each is the contract of a function.
+
+ghost use Rattle.std.specs.Prelude.{◌≡◌, ◌↔◌, IsTrue};
+ghost use Rattle.vcode_reader.specs.First.{EveryTextIsRead, WholeTextsAreRead, OneProgram};
+
+use crate::program::Program;
+use std::alloc::Allocator;
+
+/// Whatever the text, its reading is by the grammar: the program that the grammar relates to its
+/// words, or else its first fault with the line.
+pub fn every_text_is_read()
+    ensures { EveryTextIsRead }
+{}
+
+/// A text that the grammar relates to a program, and that leaves no comment open, is read as that
+/// program.
+pub fn whole_texts_are_read()
+    ensures { WholeTextsAreRead }
+{}
+
+/// The grammar relates words to one program at most.
+pub fn one_program()
+    ensures { OneProgram }
+{}
+
+/// Two programs are `==` exactly where all that they hold is equal.
+pub fn equal_programs<A: Allocator>(left: &Program<A>, right: &Program<A>) -> bool
+    ensures { IsTrue result ↔ (left.now ≡ right.now) }
+{
+    *left == *right
+}

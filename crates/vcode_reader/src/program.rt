@@ -1,0 +1,152 @@
+ghost use Rattle.std.specs.Prelude.{◌≡◌, IfOk, position, option_copied};
+ghost use Rattle.std.specs.List.{slice_get};
+ghost use Rattle.std.specs.Str.{bytes_eq};
+ghost use Rattle.vcode_reader.specs.Trees.{lines_of};
+ghost use Rattle.vcode_reader.specs.Decode.{tree_of};
+
+use crate::line::{CodeLine, Line};
+use crate::sequence::Sequence;
+use std::alloc::{AllocError, Allocator};
+use std::marker::Model;
+use vcode_base::{FunctionName, Instr};
+
+/// A function of a program: its name, the line of its `FUNC`, and its items up to its `RET`, each
+/// with its line.
+#[derive(Drop)]
+#[derive_where(PartialEq, Eq)]
+pub struct Function<A: Allocator> {
+    name: FunctionName<A>,
+    begun: u64,
+    lines: Sequence<CodeLine<A>, A>,
+}
+
+impl<A: Allocator> Model for Function<A> {
+    ghost use Rattle.vcode_reader.specs.Trees.{Function as FunctionTree};
+
+    ghost Value = { FunctionTree };
+
+    ghost use Rattle.std.specs.Prelude.{List};
+    ghost use Rattle.std.specs.Coded.{codes};
+    ghost use Rattle.std.proofs.Common.{ap};
+    ghost use Rattle.vcode_reader.specs.declared.line.Line.{Line};
+    ghost use Rattle.vcode_reader.specs.Trees.{Item, lines_of};
+    ghost use Rattle.vcode_reader.specs.Decode.{function_of, function_code, AreLines};
+
+    ghost coded = { function_code (Prim.hlevel codes) };
+
+    ghost view = { λ f. function_of f.name f.begun f.lines };
+
+    ghost invariant = { λ f. AreLines f.name f.begun f.lines };
+
+    ghost inverse = { λ f. record { name = f.name; begun = f.line; lines = lines_of f } };
+
+    ghost inverse_ok = { λ f h. ap (λ (ls : List (Line Item)). record f { lines = ls }) h };
+}
+
+impl<A: Allocator> Function<A> {
+    /// The function of these lines and a `RET` at line `ret` behind them.
+    pub(crate) fn new(
+        name: FunctionName<A>,
+        line: u64,
+        mut lines: Vec<CodeLine<A>, A>,
+        ret: u64,
+    ) -> Result<Function<A>, AllocError>
+        ensures { IfOk result (λ f. f ≡ record { name = name; line = line; body = tree_of lines.items; ret = ret }) }
+    {
+        lines.push(Line {
+            item: Instr::Return,
+            number: ret,
+        })?;
+        Ok(Function {
+            name,
+            begun: line,
+            lines: Sequence::from_vec(lines),
+        })
+    }
+
+    /// The bytes of its name.
+    pub fn name(&self) -> &[u8]
+        ensures { result.now ≡ self.now.name }
+    {
+        self.name.as_bytes()
+    }
+
+    /// The line of its `FUNC`.
+    pub fn line(&self) -> u64
+        ensures { result ≡ self.now.line }
+    {
+        self.begun
+    }
+
+    /// Its items in the order of the text, the last of which is its `RET`.
+    pub fn lines(&self) -> &[CodeLine<A>]
+        ensures { result.now ≡ lines_of self.now }
+    {
+        self.lines.as_slice()
+    }
+
+    /// The item at a place, counted from 0, where there is one.
+    pub fn item(&self, place: usize) -> Option<&CodeLine<A>>
+        ensures { option_copied result ≡ slice_get (lines_of self.now) place }
+    {
+        self.lines().get(place)
+    }
+}
+
+/// A program: the number of its first line, and its functions in the order of the text.
+#[derive(Drop)]
+#[derive_where(PartialEq, Eq)]
+pub struct Program<A: Allocator> {
+    first_line: u64,
+    functions: Sequence<Function<A>, A>,
+}
+
+impl<A: Allocator> Model for Program<A> {
+    ghost use Rattle.vcode_reader.specs.Trees.{Program as ProgramTree};
+
+    ghost Value = { ProgramTree };
+
+    ghost use Rattle.std.specs.Coded.{codes};
+    ghost use Rattle.vcode_reader.specs.Decode.{program_code};
+
+    ghost coded = { program_code (Prim.hlevel codes) };
+
+    ghost view = { λ p. record { first_line = p.first_line; functions = p.functions } };
+
+    ghost inverse = { λ p. record { first_line = p.first_line; functions = p.functions } };
+}
+
+impl<A: Allocator> Program<A> {
+    pub(crate) fn new(first_line: u64, functions: Vec<Function<A>, A>) -> Program<A>
+        ensures { result ≡ record { first_line = first_line; functions = functions.items } }
+    {
+        Program {
+            first_line,
+            functions: Sequence::from_vec(functions),
+        }
+    }
+
+    /// The number of its first line.
+    pub fn first_line(&self) -> u64
+        ensures { result ≡ self.now.first_line }
+    {
+        self.first_line
+    }
+
+    /// Its functions in the order of the text.
+    pub fn functions(&self) -> &[Function<A>]
+        ensures { result.now ≡ self.now.functions }
+    {
+        self.functions.as_slice()
+    }
+
+    /// The place of the first function of this name, counted from 0.
+    pub fn position(&self, name: &[u8]) -> Option<usize>
+        ensures { result ≡ position (λ f. bytes_eq f.name name.now) self.now.functions }
+    {
+        self.functions
+            .as_slice()
+            .iter()
+            .position(|f| f.name() == name)
+    }
+}

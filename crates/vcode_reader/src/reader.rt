@@ -1,0 +1,230 @@
+//! A text, byte by byte.
+
+ghost use Rattle.std.specs.Prelude.{◌≡◌, ◌+◌, ◌<◌, ◌^◌, OnOk, OnErr, IsErr, IsErrOf, IfOk, IsTrue, false, ℕ, List, [], ◌++◌};
+ghost use Rattle.vcode_reader.specs.declared.class.Class.TheVariants.{LineFeed};
+ghost use Rattle.vcode_reader.specs.declared.fault.ReadFault.TheVariants.{Memory};
+ghost use Rattle.vcode_reader.specs.Classes.{class_of};
+ghost use Rattle.vcode_reader.specs.First.{IsAnswer};
+ghost use Rattle.vcode_reader.specs.Parsing.{start, take};
+ghost use Rattle.vcode_reader.specs.Reading.{outcome, reading, Answers, Gives, HasCome};
+ghost use Rattle.vcode_reader.specs.Scan.{beginning, end_word, lone, in_text, in_comment, scan_byte, scan_all, line_feeds};
+
+use crate::class::{Class, class_of};
+use crate::fault::ReadFault;
+use crate::parser::Parser;
+use crate::program::{Function, Program};
+use std::alloc::{AllocError, Allocator};
+use std::marker::Model;
+
+/// Where a text stands that comes byte by byte.
+#[derive(Drop)]
+struct Scanner<A: Allocator> {
+    parser: Parser<A>,
+    line: u64,
+    word: Vec<u8, A>,
+    comment: Option<u64>,
+}
+
+impl<A: Allocator> Model for Scanner<A> {
+    ghost use Rattle.vcode_reader.specs.Parsing.{Parse};
+    ghost use Rattle.vcode_reader.specs.Scan.{Scan};
+
+    ghost Value = { Scan Parse };
+
+    ghost use Rattle.std.specs.Coded.{codes};
+    ghost use Rattle.vcode_reader.specs.ParseCode.{parse_code, scan_code};
+
+    ghost coded = { scan_code (parse_code (Prim.hlevel codes) (Prim.hlevel codes) (Prim.hlevel codes) (Prim.hlevel codes)) (Prim.hlevel codes) };
+
+    ghost view = { λ s. record { found = s.parser; line = s.line; word = s.word.items; comment = s.comment } };
+}
+
+impl<A: Allocator + Clone> Scanner<A> {
+    fn new(alloc: A, first_line: u64) -> Result<Scanner<A>, AllocError>
+        ensures { IfOk result (λ s. s ≡ beginning start first_line) }
+    {
+        Ok(Scanner {
+            word: Vec::new(alloc.clone()?),
+            parser: Parser::new(alloc)?,
+            line: first_line,
+            comment: None,
+        })
+    }
+
+    #[tactic(auto, unfolding(crate::specs::Scan::end_word))]
+    fn end_word(&mut self) -> Result<(), AllocError>
+        ensures ok { OnOk result (self.new ≡ end_word take self.old) }
+        ensures line { OnOk result (self.new.line ≡ self.old.line) }
+    {
+        if !self.word.is_empty() {
+            self.parser.take(self.word.as_slice(), self.line)?;
+            self.word.clear();
+        }
+        Ok(())
+    }
+
+    #[tactic(auto, unfolding(crate::specs::Scan::lone))]
+    fn lone(&mut self, byte: u8) -> Result<(), AllocError>
+        ensures { OnOk result (self.new ≡ lone take byte self.old) }
+    {
+        self.parser.take(&[byte], self.line)?;
+        Ok(())
+    }
+
+    fn in_text(&mut self, class: Class, byte: u8) -> Result<(), AllocError>
+        requires { class ≡ LineFeed → self.old.line + 1 < 2 ^ 64 }
+        ensures { OnOk result (self.new ≡ in_text take class byte self.old) }
+    {
+        match class {
+            Class::LineFeed => {
+                self.end_word()?;
+                self.line += 1;
+            }
+            Class::Blank => self.end_word()?,
+            Class::OpenBrace => {
+                self.end_word()?;
+                self.comment = Some(self.line);
+            }
+            Class::CloseBrace | Class::Parenthesis | Class::Refused => {
+                self.end_word()?;
+                self.lone(byte)?;
+            }
+            Class::Plain => self.word.push(byte)?,
+        }
+        Ok(())
+    }
+
+    fn in_comment(&mut self, class: Class)
+        requires { class ≡ LineFeed → self.old.line + 1 < 2 ^ 64 }
+        ensures { self.new ≡ in_comment class self.old }
+    {
+        match class {
+            Class::LineFeed => self.line += 1,
+            Class::CloseBrace => self.comment = None,
+            _ => {}
+        }
+    }
+
+    #[tactic(auto, unfolding(crate::specs::Scan::scan_byte))]
+    fn byte(&mut self, byte: u8) -> Result<(), AllocError>
+        requires { class_of byte ≡ LineFeed → self.old.line + 1 < 2 ^ 64 }
+        ensures { OnOk result (self.new ≡ scan_byte take self.old byte) }
+    {
+        let class = class_of(byte);
+        match self.comment {
+            None => self.in_text(class, byte)?,
+            Some(_) => self.in_comment(class),
+        }
+        Ok(())
+    }
+
+    #[tactic(auto, unfolding(crate::specs::Scan::scan_all))]
+    fn bytes(&mut self, piece: &[u8]) -> Result<(), AllocError>
+        requires { self.old.line + line_feeds piece.now < 2 ^ 64 }
+        ensures { OnOk result (self.new ≡ scan_all take self.old piece.now) }
+    {
+        for byte in piece {
+            self.byte(*byte)?;
+        }
+        Ok(())
+    }
+
+    #[tactic(auto, unfolding(crate::specs::Reading::outcome))]
+    fn outcome(mut self) -> Result<Vec<Function<A>, A>, ReadFault>
+        ensures { Gives result (outcome self) }
+    {
+        self.end_word()?;
+        self.parser.ended(self.comment)
+    }
+}
+
+/// Reads a text that comes in pieces.
+#[derive(Drop)]
+pub(crate) struct CodeReader<A: Allocator> {
+    scanner: Scanner<A>,
+    first_line: u64,
+    failed: bool,
+}
+
+impl<A: Allocator> Model for CodeReader<A> {
+    ghost use Rattle.vcode_reader.specs.Reading.{Fed};
+
+    ghost Value = { Fed };
+
+    ghost use Rattle.std.specs.Coded.{codes};
+    ghost use Rattle.vcode_reader.specs.ParseCode.{parse_code, scan_code, fed_code};
+
+    ghost coded = { fed_code (scan_code (parse_code (Prim.hlevel codes) (Prim.hlevel codes) (Prim.hlevel codes) (Prim.hlevel codes)) (Prim.hlevel codes)) };
+
+    ghost view = { λ r. record { scan = r.scanner; first_line = r.first_line; failed = r.failed } };
+}
+
+impl<A: Allocator + Clone> CodeReader<A> {
+    /// A reader of the text whose first line has this number.
+    #[tactic(auto, unfolding(crate::specs::Scan::scan_all))]
+    pub(crate) fn new(alloc: A, first_line: u64) -> Result<CodeReader<A>, AllocError>
+        ensures come { IfOk result (λ r. HasCome r []) }
+        ensures first_line { IfOk result (λ r. r.first_line ≡ first_line) }
+        ensures line { IfOk result (λ r. r.scan.line ≡ first_line) }
+    {
+        Ok(CodeReader {
+            scanner: Scanner::new(alloc, first_line)?,
+            first_line,
+            failed: false,
+        })
+    }
+
+    /// Takes the next piece of the text. After an `Err` the reader has failed, and answers it again.
+    pub(crate) fn feed(&mut self, piece: &[u8]) -> Result<(), AllocError>
+        requires { self.old.failed ≡ false → self.old.scan.line + line_feeds piece.now < 2 ^ 64 }
+        // The bytes so far are those before, followed by the piece.
+        ensures fed { OnOk result ((before : List ℕ) → HasCome self.old before → HasCome self.new (before ++ piece.now)) }
+        ensures first_line { self.new.first_line ≡ self.old.first_line }
+        ensures line { OnOk result (self.new.scan.line ≡ self.old.scan.line + line_feeds piece.now) }
+        ensures failed { OnErr result (IsTrue self.new.failed) }
+        ensures again { IsTrue self.old.failed → IsErr result }
+    {
+        if self.failed {
+            return Err(AllocError);
+        }
+        let fed = self.scanner.bytes(piece);
+        if fed.is_err() {
+            self.failed = true;
+        }
+        fed
+    }
+
+    /// What the pieces come to.
+    pub(crate) fn finish(self) -> Result<Program<A>, ReadFault>
+        ensures answer { (bytes : List ℕ) → HasCome self bytes → Answers result (reading self.first_line bytes) }
+        ensures failed { IsTrue self.failed → IsErrOf result Memory }
+    {
+        if self.failed {
+            return Err(ReadFault::Memory);
+        }
+        match self.scanner.outcome() {
+            Ok(functions) => Ok(Program::new(self.first_line, functions)),
+            Err(fault) => Err(fault),
+        }
+    }
+}
+
+/// Reads a program from the bytes of its code, whose first line has the number `first_line`.
+///
+/// The answer is the program that the grammar relates to the words of the text, or else the first fault
+/// of the text with its line, or want of memory. Lines are counted on from `first_line`; the number of
+/// the last must fit.
+pub fn read<A: Allocator + Clone>(
+    alloc: A,
+    text: &[u8],
+    first_line: u64,
+) -> Result<Program<A>, ReadFault>
+    requires { first_line + line_feeds text.now < 2 ^ 64 }
+    ensures answer { Answers result (reading first_line text.now) }
+    // What is answered is by the grammar.
+    ensures grammar { IsAnswer result first_line text.now }
+{
+    let mut reader = CodeReader::new(alloc, first_line)?;
+    reader.feed(text)?;
+    reader.finish()
+}
