@@ -2,13 +2,17 @@
 """Times a fragmenting load of the region memory: releases and makes of blocks of mixed lengths, in no order.
 
 Run it at the top of the repository. It builds crates/bench_memory (proving it and what it stands on, unless that was done) and
-prints its time, and what the same load does by a plain model of first fit with packing: how often it packs, and the words moved.
+prints its time. The words that packing moves are those of the same load by a plain model of first fit with packing, written
+here: the memory itself counts none. The model and the program have to end with as many blocks and words.
 """
+import bisect
 import pathlib
 import subprocess
 
 TOP = pathlib.Path(__file__).resolve().parent.parent
-REGION, BLOCKS, LONGEST, OPERATIONS = 1_048_576, 4_096, 400, 200_000
+# The words of the region, the live blocks, the words of the longest and the operations, as in crates/bench_memory.
+SHORT = (2_048, 64, 48, 2_000)
+LONG = (1_048_576, 4_096, 495, 200_000)
 MASK = (1 << 64) - 1
 
 
@@ -22,39 +26,42 @@ def numbers():
 class Region:
     """Blocks by number, each with its place and length, and the holes in order of place."""
 
-    def __init__(self):
-        self.blocks, self.holes, self.used = {}, [(0, REGION)], 0
-        self.packs = self.moved = 0
+    def __init__(self, size):
+        self.size, self.used = size, 0
+        self.blocks, self.holes = {}, [(0, size)]
+        self.packs = self.moved = self.refused = 0
 
     def free(self, number):
         place, length = self.blocks.pop(number, (0, 0))
         self.used -= length
-        if length:
-            self.holes.append((place, length))
-            self.holes.sort()
-            merged = []
-            for begin, size in self.holes:
-                if merged and sum(merged[-1]) == begin:
-                    merged[-1] = (merged[-1][0], merged[-1][1] + size)
-                else:
-                    merged.append((begin, size))
-            self.holes = merged
+        if not length:
+            return
+        at = bisect.bisect(self.holes, (place, 0))
+        begin, end, first, last = place, place + length, at, at
+        if at > 0 and sum(self.holes[at - 1]) == place:
+            begin, first = self.holes[at - 1][0], at - 1
+        if at < len(self.holes) and self.holes[at][0] == end:
+            end, last = sum(self.holes[at]), at + 1
+        self.holes[first:last] = [(begin, end - begin)]
 
     def make(self, number, length):
-        if self.used + length > REGION:
+        """A block that doesn't fit is not made, and its number stays without one."""
+        if self.used + length > self.size:
+            self.refused += 1
             return
+        self.blocks[number] = (self.take(length) if length else 0, length)
         self.used += length
-        fit = next((i for i, (_, size) in enumerate(self.holes) if size >= length), None)
-        if length and fit is None:
-            self.pack(self.used - length)
-            fit = 0
-        begin = 0
-        if length:
-            begin, size = self.holes[fit]
-            self.holes[fit : fit + 1] = [(begin + length, size - length)] if size > length else []
-        self.blocks[number] = (begin, length)
 
-    def pack(self, used):
+    def take(self, length):
+        fit = next((i for i, hole in enumerate(self.holes) if hole[1] >= length), None)
+        if fit is None:
+            self.pack()
+            fit = 0
+        begin, size = self.holes[fit]
+        self.holes[fit : fit + 1] = [(begin + length, size - length)] if size > length else []
+        return begin
+
+    def pack(self):
         self.packs += 1
         to = 0
         for number, (place, length) in sorted(self.blocks.items(), key=lambda it: it[1][0]):
@@ -62,27 +69,44 @@ class Region:
                 self.moved += length if place != to else 0
                 self.blocks[number] = (to, length)
                 to += length
-        self.holes = [(used, REGION - used)]
+        self.holes = [(to, self.size - to)]
 
 
-def load(region, operations):
+def churn(region, blocks, longest, operations):
     draw = numbers()
     for _ in range(operations):
-        place, length = next(draw) % BLOCKS, next(draw) % (LONGEST + 1)
+        place, length = next(draw) % blocks, next(draw) % (longest + 1)
         region.free(place)
         region.make(place, length)
+
+
+def model(size, blocks, longest, operations):
+    """What stands after the load; it is counted over the second part, which the program times."""
+    region = Region(size)
+    churn(region, blocks, longest, operations // 4)
+    region.packs = region.moved = region.refused = 0
+    churn(region, blocks, longest, operations)
+    return region
+
+
+def lines_of(*words):
+    program = str(TOP / "crates" / "bench_memory" / "out" / "bench_memory")
+    return subprocess.run([program, *words], check=True, capture_output=True, text=True).stdout.splitlines()
 
 
 def main():
     crate = TOP / "crates" / "bench_memory"
     subprocess.run(["rt", "run"], cwd=crate, check=True, stdout=subprocess.DEVNULL)
-    timed = subprocess.run([str(crate / "out" / "bench_memory"), "time"], check=True, capture_output=True, text=True)
-    print(timed.stdout.strip())
-    region = Region()
-    load(region, OPERATIONS // 4)
-    region.packs = region.moved = 0
-    load(region, OPERATIONS)
-    print(f"{region.packs} packs, {region.moved} words moved, {len(region.blocks)} blocks of {region.used} words at the end")
+    for words, load in (([], SHORT), (["time"], LONG)):
+        region = model(*load)
+        lines = lines_of(*words)
+        ends = f"{len(region.blocks)} blocks of {region.used} words"
+        if lines[0] != ends:
+            raise SystemExit(f"the program ends with {lines[0]}, and the model with {ends}")
+        print(f"{load[3]} operations on at most {load[1]} blocks of up to {load[2]} words in {load[0]} words: {ends}")
+        print(f"  {region.packs} packs, {region.moved / load[3]:.1f} words moved an operation, {region.refused} blocks refused")
+        for line in lines[1:]:
+            print(f"  {line}")
 
 
 if __name__ == "__main__":

@@ -110,6 +110,7 @@ static void segment_rows(const char *shape) {
         for (int64_t i = 0; i < words; i++) out[i] = right[i];
         SEGMENTS(for (int64_t i = begin; i < end; i++) out[begin + reversed[i]] = left[i];)
     });
+    SEGMENT_ROW("EXTRACT INT", SEGMENTS(if ((uint64_t)each[s] >= (uint64_t)length) break; out[s] = left[begin + each[s]];));
     SEGMENT_ROW("PACK INT", int64_t kept = 0; SEGMENTS(int64_t first = kept; for (int64_t i = begin; i < end; i++) {
         if (flags[i] != 0) out[kept++] = left[i];
     } counts[s] = kept - first;));

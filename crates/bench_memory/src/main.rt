@@ -1,8 +1,8 @@
 //! Times a fragmenting load of a region: blocks of mixed lengths are released and made in no order.
 //!
 //! With no argument it is a short load over a small region, and what stands at the end is printed. With the argument
-//! `time` it is 4,096 live blocks in a region of 1,048,576 words, and nanoseconds an operation are printed, where an
-//! operation is a release and a make.
+//! `time` it is 4,096 live blocks that nearly fill a region of 1,048,576 words, and nanoseconds an operation are printed
+//! too, where an operation is a release and a make.
 #![tactic(auto)]
 
 ghost use Rattle.std.specs.Prelude.{◌≤◌, ◌<◌};
@@ -33,7 +33,7 @@ const SHORT: Load = Load {
 const LONG: Load = Load {
     region: 1_048_576,
     blocks: 4_096,
-    longest: 400,
+    longest: 495,
     operations: 200_000,
 };
 
@@ -53,7 +53,7 @@ fn pick(seed: u64, below: usize) -> usize
 
 type Memory = SharedMemory<RegionMemory<Global>, Global>;
 
-/// Makes a block of a length that the seed gives, where there is room.
+/// Makes a block of a length that the seed gives. None where its words don't fit, and then no block is made.
 fn make(memory: &mut Memory, words: &[i64], seed: u64) -> Option<BlockId> {
     if memory.blocks() >= memory.ids() {
         return None;
@@ -64,12 +64,12 @@ fn make(memory: &mut Memory, words: &[i64], seed: u64) -> Option<BlockId> {
 
 /// Releases one block after another and makes another in its place.
 fn churn(memory: &mut Memory, blocks: &mut [Option<BlockId>], words: &[i64], operations: usize) {
+    if blocks.is_empty() {
+        return;
+    }
     let mut seed = 7;
     for _ in 0..operations {
         seed = next(seed);
-        if blocks.is_empty() {
-            return;
-        }
         let place = pick(seed, blocks.len());
         if let Some(id) = blocks[place] {
             if memory.count(id) > 0 {
@@ -81,14 +81,15 @@ fn churn(memory: &mut Memory, blocks: &mut [Option<BlockId>], words: &[i64], ope
     }
 }
 
-/// Prints what stands after the load, or the time that an operation took.
+/// Prints what stands after the load, and the time that an operation took.
 fn show(rt: &impl Runtime, load: Load, memory: &Memory, time: Option<u128>) -> io::Result<()> {
+    println!(rt; "{} blocks of {} words", memory.blocks(), memory.used())?;
     match time {
         Some(nanoseconds) => {
             let each = nanoseconds / (load.operations.max(1) as u128);
             println!(rt; "{each} nanoseconds an operation")
         }
-        None => println!(rt; "{} blocks of {} words", memory.blocks(), memory.used()),
+        None => Ok(()),
     }
 }
 

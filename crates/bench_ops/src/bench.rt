@@ -1,9 +1,9 @@
 ghost use Rattle.std.specs.Prelude.{◌≡◌, ◌≤◌, ◌*◌, None, [], ◌∷◌, length};
-ghost use Rattle.vcode_base.specs.Kinds.{HaveKinds, source_kinds, greatest_total};
+ghost use Rattle.vcode_base.specs.Kinds.{HasKind, HaveKinds, source_kinds, greatest_total};
+ghost use Rattle.vcode_base.specs.declared.kind.Kind.TheVariants.{Bool, Segdes};
 ghost use Rattle.vcode_base.specs.Meaning.{shape, need};
-ghost use Rattle.segment_ops.specs.Operands.{contents as segment_operands};
 ghost use Rattle.segment_ops.specs.Served.{IsServed as IsSegmented};
-ghost use Rattle.vector_ops.specs.Operands.{contents};
+ghost use Rattle.vcode_base.specs.Operands.{contents};
 ghost use Rattle.vector_ops.specs.Served.{IsServed as IsElementwise};
 
 use crate::loads::{descriptor, flags, indices, numbers, shifts};
@@ -100,9 +100,9 @@ fn segment_time(
     second: &mut [i64],
 ) -> io::Result<u128>
     requires served { IsSegmented op }
-    requires kinds { HaveKinds (source_kinds op) (segment_operands ops.now) }
-    requires shape { shape op (segment_operands ops.now) ≡ None }
-    requires room { need op (segment_operands ops.now) ≡ (length first.old, length second.old) }
+    requires kinds { HaveKinds (source_kinds op) (contents ops.now) }
+    requires shape { shape op (contents ops.now) ≡ None }
+    requires room { need op (contents ops.now) ≡ (length first.old, length second.old) }
 {
     let mut best = u128::MAX;
     for _ in 0..ROUNDS {
@@ -121,7 +121,7 @@ fn segment_row(
     op: Segmented,
     ops: &[&[i64]],
 ) -> io::Result<()>
-    requires kinds { HaveKinds (source_kinds (Op.Segmented op)) (segment_operands ops.now) }
+    requires kinds { HaveKinds (source_kinds (Op.Segmented op)) (contents ops.now) }
 {
     let op = Op::Segmented(op);
     if segment_ops::shape(op, ops).is_err() {
@@ -238,70 +238,139 @@ fn segment_of_five<'a>(
     segment_row(rt, load, name, op, &[first, second, third, fourth, fifth])
 }
 
+/// The lines of arithmetic: sums, products, quotients and shifts.
+fn arithmetic_rows<'a>(
+    rt: &impl Runtime,
+    load: Load,
+    left: &'a [i64],
+    bits: &'a [i64],
+) -> io::Result<()> {
+    let add = Elementwise::Arith(Arith::Add);
+    let multiply = Elementwise::Arith(Arith::Multiply);
+    let divide = Elementwise::Arith(Arith::Divide);
+    let shift = Elementwise::Arith(Arith::ShiftLeft);
+    elementwise_of_two(rt, load, "+ INT", add, left, left)?;
+    elementwise_of_two(rt, load, "* INT", multiply, left, left)?;
+    elementwise_of_two(rt, load, "/ INT", divide, left, left)?;
+    elementwise_of_two(rt, load, "LSHIFT INT", shift, left, bits)
+}
+
+/// The lines of the instructions that compare, connect, choose and turn.
+fn choice_rows<'a>(
+    rt: &impl Runtime,
+    load: Load,
+    left: &'a [i64],
+    bits: &'a [i64],
+    truth: &'a [i64],
+) -> io::Result<()>
+    requires { HasKind Bool truth.now }
+{
+    let less = Elementwise::Compare(Comparison::Less);
+    let xor = Elementwise::Logic(Logic::Xor, Scalar::Int);
+    let invert = Elementwise::Not(Scalar::Bool);
+    let select = Elementwise::Select(Scalar::Int);
+    elementwise_of_two(rt, load, "< INT", less, left, bits)?;
+    elementwise_of_two(rt, load, "XOR INT", xor, left, bits)?;
+    elementwise_of_one(rt, load, "NOT BOOL", invert, truth)?;
+    elementwise_of_three(rt, load, "SELECT INT", select, truth, left, bits)?;
+    elementwise_of_one(rt, load, "I_TO_B", Elementwise::IntToBool, left)
+}
+
 /// A line for each family of the elementwise instructions.
 pub fn elementwise_rows<R: Runtime>(rt: &R, load: Load) -> io::Result<()> {
     let left = &numbers(rt.alloc(), load.words)?;
     let bits = &shifts(rt.alloc(), load.words)?;
     let truth = &flags(rt.alloc(), load.words)?;
-    elementwise_of_two(
+    arithmetic_rows(rt, load, left, bits)?;
+    choice_rows(rt, load, left, bits, truth)
+}
+
+/// The lines of scans and reductions.
+fn fold_rows<'a>(
+    rt: &impl Runtime,
+    load: Load,
+    values: &'a [i64],
+    lengths: &'a [i64],
+) -> io::Result<()>
+    requires { HasKind Segdes lengths.now }
+{
+    let scan_sum = Segmented::Scan(Fold::Sum);
+    let scan_max = Segmented::Scan(Fold::Max);
+    let reduce_sum = Segmented::Reduce(Fold::Sum);
+    let reduce_max = Segmented::Reduce(Fold::Max);
+    segment_of_two(rt, load, "+_SCAN INT", scan_sum, values, lengths)?;
+    segment_of_two(rt, load, "MAX_SCAN INT", scan_max, values, lengths)?;
+    segment_of_two(rt, load, "+_REDUCE INT", reduce_sum, values, lengths)?;
+    segment_of_two(rt, load, "MAX_REDUCE INT", reduce_max, values, lengths)
+}
+
+/// The lines of the instructions that make elements of the segments' own.
+fn spread_rows<'a>(
+    rt: &impl Runtime,
+    load: Load,
+    each: &'a [i64],
+    lengths: &'a [i64],
+) -> io::Result<()>
+    requires { HasKind Segdes lengths.now }
+{
+    let distribute = Segmented::Distribute(Scalar::Int);
+    segment_of_two(rt, load, "DIST INT", distribute, each, lengths)?;
+    segment_of_three(rt, load, "INDEX", Segmented::Index, each, each, lengths)
+}
+
+/// The lines of the instructions that move elements by their indices.
+fn move_rows<'a>(
+    rt: &impl Runtime,
+    load: Load,
+    values: &'a [i64],
+    places: &'a [i64],
+    lengths: &'a [i64],
+) -> io::Result<()>
+    requires { HasKind Segdes lengths.now }
+{
+    let permute = Segmented::Permute(Scalar::Int);
+    let back = Segmented::BackPermute(Scalar::Int);
+    let default = Segmented::DefaultPermute(Scalar::Int);
+    segment_of_three(rt, load, "PERMUTE INT", permute, values, places, lengths)?;
+    segment_of_four(
         rt,
         load,
-        "+ INT",
-        Elementwise::Arith(Arith::Add),
-        left,
-        left,
+        "BPERMUTE INT",
+        back,
+        values,
+        places,
+        lengths,
+        lengths,
     )?;
-    elementwise_of_two(
+    segment_of_five(
         rt,
         load,
-        "* INT",
-        Elementwise::Arith(Arith::Multiply),
-        left,
-        left,
-    )?;
-    elementwise_of_two(
-        rt,
-        load,
-        "/ INT",
-        Elementwise::Arith(Arith::Divide),
-        left,
-        left,
-    )?;
-    elementwise_of_two(
-        rt,
-        load,
-        "LSHIFT INT",
-        Elementwise::Arith(Arith::ShiftLeft),
-        left,
-        bits,
-    )?;
-    elementwise_of_two(
-        rt,
-        load,
-        "< INT",
-        Elementwise::Compare(Comparison::Less),
-        left,
-        bits,
-    )?;
-    elementwise_of_two(
-        rt,
-        load,
-        "XOR INT",
-        Elementwise::Logic(Logic::Xor, Scalar::Int),
-        left,
-        bits,
-    )?;
-    elementwise_of_one(rt, load, "NOT BOOL", Elementwise::Not(Scalar::Bool), truth)?;
-    elementwise_of_three(
-        rt,
-        load,
-        "SELECT INT",
-        Elementwise::Select(Scalar::Int),
-        truth,
-        left,
-        bits,
-    )?;
-    elementwise_of_one(rt, load, "I_TO_B", Elementwise::IntToBool, left)
+        "DPERMUTE INT",
+        default,
+        values,
+        places,
+        values,
+        lengths,
+        lengths,
+    )
+}
+
+/// The lines of the instructions that take some of the elements.
+fn part_rows<'a>(
+    rt: &impl Runtime,
+    load: Load,
+    values: &'a [i64],
+    each: &'a [i64],
+    truth: &'a [i64],
+    lengths: &'a [i64],
+) -> io::Result<()>
+    requires lengths { HasKind Segdes lengths.now }
+    requires flags { HasKind Bool truth.now }
+{
+    let extract = Segmented::Extract(Scalar::Int);
+    let pack = Segmented::Pack(Scalar::Int);
+    segment_of_three(rt, load, "EXTRACT INT", extract, values, each, lengths)?;
+    segment_of_three(rt, load, "PACK INT", pack, values, truth, lengths)
 }
 
 /// A line for each family of the segment instructions, over `segments` segments of `size` words each.
@@ -317,93 +386,8 @@ pub fn segment_rows<R: Runtime>(rt: &R, shown: Shown, segments: usize, size: u32
     let places = &indices(rt.alloc(), segments, size)?;
     let truth = &flags(rt.alloc(), load.words)?;
     let lengths = &descriptor(rt.alloc(), segments, size)?;
-    segment_of_two(
-        rt,
-        load,
-        "+_SCAN INT",
-        Segmented::Scan(Fold::Sum),
-        values,
-        lengths,
-    )?;
-    segment_of_two(
-        rt,
-        load,
-        "MAX_SCAN INT",
-        Segmented::Scan(Fold::Max),
-        values,
-        lengths,
-    )?;
-    segment_of_two(
-        rt,
-        load,
-        "+_REDUCE INT",
-        Segmented::Reduce(Fold::Sum),
-        values,
-        lengths,
-    )?;
-    segment_of_two(
-        rt,
-        load,
-        "MAX_REDUCE INT",
-        Segmented::Reduce(Fold::Max),
-        values,
-        lengths,
-    )?;
-    segment_of_two(
-        rt,
-        load,
-        "DIST INT",
-        Segmented::Distribute(Scalar::Int),
-        each,
-        lengths,
-    )?;
-    segment_of_three(rt, load, "INDEX", Segmented::Index, each, each, lengths)?;
-    segment_of_three(
-        rt,
-        load,
-        "PERMUTE INT",
-        Segmented::Permute(Scalar::Int),
-        values,
-        places,
-        lengths,
-    )?;
-    segment_of_four(
-        rt,
-        load,
-        "BPERMUTE INT",
-        Segmented::BackPermute(Scalar::Int),
-        values,
-        places,
-        lengths,
-        lengths,
-    )?;
-    segment_of_five(
-        rt,
-        load,
-        "DPERMUTE INT",
-        Segmented::DefaultPermute(Scalar::Int),
-        values,
-        places,
-        values,
-        lengths,
-        lengths,
-    )?;
-    segment_of_three(
-        rt,
-        load,
-        "EXTRACT INT",
-        Segmented::Extract(Scalar::Int),
-        values,
-        each,
-        lengths,
-    )?;
-    segment_of_three(
-        rt,
-        load,
-        "PACK INT",
-        Segmented::Pack(Scalar::Int),
-        values,
-        truth,
-        lengths,
-    )
+    fold_rows(rt, load, values, lengths)?;
+    spread_rows(rt, load, each, lengths)?;
+    move_rows(rt, load, values, places, lengths)?;
+    part_rows(rt, load, values, each, truth, lengths)
 }

@@ -29,14 +29,16 @@ pub fn flags<A: Allocator>(alloc: A, count: usize) -> Result<Vec<i64, A>, AllocE
     Ok(flags)
 }
 
-/// The numbers from 0 on, as many in each segment as it has words, in reverse.
+/// The indices of `segments` segments of `size` words each, in each segment from the last down to 0.
 pub fn indices<A: Allocator>(
     alloc: A,
     segments: usize,
     size: u32,
-) -> Result<Vec<i64, A>, AllocError> {
+) -> Result<Vec<i64, A>, AllocError>
+    ensures { IfOk result (λ i. length i.items ≡ segments * size) }
+{
     let mut indices = Vec::new(alloc);
-    for _ in 0..segments {
+    for _segment in 0..segments {
         for i in 0..size {
             indices.push(i64::from(size - 1 - i))?;
         }
@@ -44,8 +46,10 @@ pub fn indices<A: Allocator>(
     Ok(indices)
 }
 
-/// Numbers that aren't 0, of both signs.
-pub fn numbers<A: Allocator>(alloc: A, count: usize) -> Result<Vec<i64, A>, AllocError> {
+/// So many numbers that aren't 0, of both signs.
+pub fn numbers<A: Allocator>(alloc: A, count: usize) -> Result<Vec<i64, A>, AllocError>
+    ensures { IfOk result (λ n. length n.items ≡ count) }
+{
     let mut numbers = Vec::with_capacity(alloc, count)?;
     for i in 0..count {
         let small = (i % 1000) as i64;
@@ -54,8 +58,10 @@ pub fn numbers<A: Allocator>(alloc: A, count: usize) -> Result<Vec<i64, A>, Allo
     Ok(numbers)
 }
 
-/// Shifts of 0 to 6 places.
-pub fn shifts<A: Allocator>(alloc: A, count: usize) -> Result<Vec<i64, A>, AllocError> {
+/// So many shifts of 0 to 6 places.
+pub fn shifts<A: Allocator>(alloc: A, count: usize) -> Result<Vec<i64, A>, AllocError>
+    ensures { IfOk result (λ s. length s.items ≡ count) }
+{
     let mut shifts = Vec::with_capacity(alloc, count)?;
     for i in 0..count {
         shifts.push((i % 7) as i64)?;

@@ -11,7 +11,8 @@ use holes::laws::one_hole_more_than_ranges;
 use std::alloc::{AllocError, Allocator};
 use std::marker::Model;
 
-/// A vector memory in one region of words, which takes all its memory when it is made.
+/// A vector memory in one region of words. It takes all its memory when it is made, and `place` never answers
+/// [`NoRoom::Memory`].
 ///
 /// A block lies in a row of words, and a block of no words covers none. Where no hole is wide enough for a new block,
 /// `place` first moves the blocks together. Else `place` costs the words of the block and a look for a hole, and `free`

@@ -19,7 +19,8 @@ use std::marker::Model;
 
 /// A vector memory whose blocks are counted.
 ///
-/// The counts are reserved once, when it is made. Its other calls take no memory of their own.
+/// The counts are reserved once, when it is made. Its other calls take no memory of their own. A call that names a block
+/// has the condition that the block lives; [`count`](SharedMemory::count) alone takes any number.
 #[derive(Drop)]
 pub struct SharedMemory<M: VectorMemory, A: Allocator> {
     memory: M,
@@ -72,7 +73,7 @@ impl<M: VectorMemory, A: Allocator> SharedMemory<M, A> {
         Ok(id)
     }
 
-    /// One reference more to a block.
+    /// One reference more to a block, which has fewer than the greatest `u64`. Nothing else changes.
     pub fn share(&mut self, id: BlockId)
         requires live { IsLive self.old id }
         requires few { (slot_at self.old id).count < u64.MAX }
@@ -81,7 +82,8 @@ impl<M: VectorMemory, A: Allocator> SharedMemory<M, A> {
         self.counts[id.number()] += 1;
     }
 
-    /// One reference less to a block. True exactly where it was the last one, and then the block is freed.
+    /// One reference less to a block. True exactly where it was the last one, and then the block is freed. No other block
+    /// changes.
     pub fn release(&mut self, id: BlockId) -> bool
         requires { IsLive self.old id }
         ensures last { IsTrue result ↔ ((slot_at self.old id).count ≡ 1) }

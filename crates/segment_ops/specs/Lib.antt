@@ -1,4 +1,3 @@
 pub mod Folds
 pub mod Indices
-pub mod Operands
 pub mod Served

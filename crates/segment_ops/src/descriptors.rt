@@ -28,7 +28,7 @@ pub fn total_of(descriptor: &[i64]) -> u64
 /// # Errors
 ///
 /// [`BadLength`](DataFault::BadLength) where a length is negative or their total, found without
-/// wrapping, passes the greatest. Then `out` holds no result.
+/// wrapping, is above 4,294,967,295. Then `out` holds no result.
 pub fn make_descriptor(lengths: &[i64], out: &mut [i64]) -> Result<(), DataFault>
     requires room { length out.old ≡ length lengths.now }
     ensures { let operands = lengths.now ∷ []

@@ -2,7 +2,7 @@ ghost use Rattle.std.specs.Prelude.{◌≡◌, length, MatchResult, None, Some};
 ghost use Rattle.vcode_base.specs.Kinds.{HaveKinds, source_kinds, segmented_operands};
 ghost use Rattle.vcode_base.specs.Meaning.{shape, need, value_fault, result_of, second_result_of};
 ghost use Rattle.vcode_base.specs.Meaning.{segmented_shape, segmented_need, segmented_fault, segmented_result, segmented_second};
-ghost use Rattle.segment_ops.specs.Operands.{contents};
+ghost use Rattle.vcode_base.specs.Operands.{contents};
 ghost use Rattle.segment_ops.specs.Served.{IsServed};
 
 use crate::descriptors::make_descriptor;
@@ -27,7 +27,7 @@ use vcode_base::{DataFault, Op, Segmented};
 /// [`BadIndex`](DataFault::BadIndex) where an index is outside its segment, else
 /// [`IndexTwice`](DataFault::IndexTwice) where two elements of a segment go to one index.
 /// [`BadLength`](DataFault::BadLength) where a descriptor is made of a negative length or of lengths
-/// whose total passes the greatest. What the results hold then is not said.
+/// whose total is above 4,294,967,295. What the results hold then is not said.
 #[tactic(auto, unfolding(vcode_base::specs::Meaning::shape, vcode_base::specs::Meaning::need, vcode_base::specs::Meaning::value_fault, vcode_base::specs::Meaning::result_of, vcode_base::specs::Meaning::second_result_of))]
 pub fn fill(op: Op, ops: &[&[i64]], first: &mut [i64], second: &mut [i64]) -> Result<(), DataFault>
     requires served { IsServed op }

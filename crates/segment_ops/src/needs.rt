@@ -1,7 +1,7 @@
 ghost use Rattle.std.specs.Prelude.{◌≡◌, None};
 ghost use Rattle.vcode_base.specs.Kinds.{HaveKinds, source_kinds, segmented_operands};
 ghost use Rattle.vcode_base.specs.Meaning.{shape, need, segmented_need};
-ghost use Rattle.segment_ops.specs.Operands.{contents};
+ghost use Rattle.vcode_base.specs.Operands.{contents};
 ghost use Rattle.segment_ops.specs.Served.{IsServed};
 
 use crate::descriptors::total_of;
@@ -10,8 +10,8 @@ use vcode_base::{Op, Segmented};
 
 /// The lengths of the first and of the second result, in words: 0 where there is none.
 ///
-/// `ops` are the operands from the bottom of the stack up, whose lengths fit one another. Nothing
-/// is made: the length of a result that no memory could hold is found as fast as any.
+/// `op` and `ops` are as for [`shape`](crate::shape), which has answered `Ok`. Nothing is made: the
+/// length of a result that no memory could hold is found as fast as any.
 #[tactic(auto, unfolding(vcode_base::specs::Meaning::need))]
 pub fn need(op: Op, ops: &[&[i64]]) -> (u64, u64)
     requires served { IsServed op }

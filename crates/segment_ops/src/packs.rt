@@ -1,8 +1,8 @@
-ghost use Rattle.std.specs.Prelude.{◌≡◌, ◌≤◌, pos, length, map, count_by, [], ◌∷◌};
+ghost use Rattle.std.specs.Prelude.{◌≡◌, ◌≤◌, pos, length, take, count_by, [], ◌∷◌};
 ghost use Rattle.vcode_base.specs.Elements.{is_set};
 ghost use Rattle.vcode_base.specs.Kinds.{AreLengths, greatest_total};
 ghost use Rattle.vcode_base.specs.Meaning.{packed, segmented_result, segmented_second};
-ghost use Rattle.vcode_base.specs.Segments.{total, segments};
+ghost use Rattle.vcode_base.specs.Segments.{total};
 ghost use Rattle.vcode_base.specs.declared.kind.Scalar.TheVariants.{Int};
 ghost use Rattle.vcode_base.specs.declared.op.Segmented.TheVariants.{Pack};
 
@@ -28,40 +28,33 @@ pub fn pack(
     ensures counted { let operands = elements.now ∷ flags.now ∷ descriptor.now ∷ []
         in counts.new ≡ segmented_second (Pack Int) operands }
 {
-    pack_flagged(elements, flags, out);
-    count_flagged(flags, descriptor, counts);
-}
-
-/// Writes the elements whose flag is T, in order.
-fn pack_flagged(elements: &[i64], flags: &[i64], out: &mut [i64])
-    requires same { length flags.now ≡ length elements.now }
-    requires room { length out.old ≡ count_by is_set flags.now }
-    ensures { out.new ≡ packed elements.now flags.now }
-{
-    let mut next = 0;
-    for place in 0..elements.len() {
-        if flags[place] != 0 {
-            out[next] = elements[place];
-            next += 1;
-        }
-    }
-}
-
-/// Writes how many flags of each segment are T.
-fn count_flagged(flags: &[i64], descriptor: &[i64], counts: &mut [i64])
-    requires lengths { AreLengths descriptor.now }
-    requires bounded { total descriptor.now ≤ greatest_total }
-    requires whole { length flags.now ≡ total descriptor.now }
-    requires room { length counts.old ≡ length descriptor.now }
-    ensures { counts.new
-        ≡ map (λ bs. pos (count_by is_set bs)) (segments descriptor.now flags.now) }
-{
     let mut begin = 0;
+    let mut kept = 0;
     for segment in 0..descriptor.len() {
         let end = begin + descriptor[segment] as usize;
-        counts[segment] = count_set(&flags[begin..end]) as i64;
+        let more = pack_segment(&elements[begin..end], &flags[begin..end], &mut out[kept..]);
+        counts[segment] = more as i64;
+        kept += more;
         begin = end;
     }
+}
+
+/// Writes the elements of a segment whose flag is T to the front of `out`, in order, and answers how
+/// many they are.
+fn pack_segment(elements: &[i64], flags: &[i64], out: &mut [i64]) -> usize
+    requires same { length flags.now ≡ length elements.now }
+    requires room { count_by is_set flags.now ≤ length out.old }
+    ensures counted { result ≡ count_by is_set flags.now }
+    ensures packed { take result out.new ≡ packed elements.now flags.now }
+{
+    let mut kept = 0;
+    for place in 0..elements.len() {
+        if flags[place] != 0 {
+            out[kept] = elements[place];
+            kept += 1;
+        }
+    }
+    kept
 }
 
 /// How many flags are T.

@@ -3,15 +3,16 @@ ghost use Rattle.std.specs.List.{list_any};
 ghost use Rattle.vcode_base.specs.Kinds.{AreLengths, HaveKinds, source_kinds, segmented_operands, greatest_total};
 ghost use Rattle.vcode_base.specs.Meaning.{shape, segmented_shape, shape_in, shape_between};
 ghost use Rattle.vcode_base.specs.Segments.{total};
-ghost use Rattle.segment_ops.specs.Operands.{contents};
+ghost use Rattle.vcode_base.specs.Operands.{contents};
 ghost use Rattle.segment_ops.specs.Served.{IsServed};
 
 use crate::descriptors::total_of;
 use vcode_base::{DataFault, Op, Segmented};
 
-/// Whether the operands' lengths fit one another, as the instruction asks.
+/// Whether the operands' lengths fit one another. It looks at no element but the segment lengths.
 ///
-/// `ops` are the operands from the bottom of the stack up.
+/// `op` is an instruction that makes, reads or takes a descriptor, and `ops` has its operands from
+/// the bottom of the stack up, each of the kind that the instruction takes.
 ///
 /// # Errors
 ///
@@ -24,7 +25,7 @@ pub fn shape(op: Op, ops: &[&[i64]]) -> Result<(), DataFault>
     requires kinds { HaveKinds (source_kinds op) (contents ops.now) }
     ensures { MatchResult result
         (λ _. shape op (contents ops.now) ≡ None)
-        (λ e. shape op (contents ops.now) ≡ Some e) }
+        (λ fault. shape op (contents ops.now) ≡ Some fault) }
 {
     match op {
         Op::Segmented(op) => shape_segmented(op, ops),
@@ -37,7 +38,7 @@ fn shape_segmented(op: Segmented, ops: &[&[i64]]) -> Result<(), DataFault>
     requires kinds { HaveKinds (segmented_operands op) (contents ops.now) }
     ensures { MatchResult result
         (λ _. segmented_shape op (contents ops.now) ≡ None)
-        (λ e. segmented_shape op (contents ops.now) ≡ Some e) }
+        (λ fault. segmented_shape op (contents ops.now) ≡ Some fault) }
 {
     match op {
         Segmented::Scan(_) | Segmented::Reduce(_) => shape_in(ops[1], &[], &[ops[0]]),
@@ -61,7 +62,7 @@ fn shape_in(descriptor: &[i64], each: &[&[i64]], whole: &[&[i64]]) -> Result<(),
     requires small { total descriptor.now ≤ greatest_total }
     ensures { MatchResult result
         (λ _. shape_in descriptor.now (contents each.now) (contents whole.now) ≡ None)
-        (λ e. shape_in descriptor.now (contents each.now) (contents whole.now) ≡ Some e) }
+        (λ fault. shape_in descriptor.now (contents each.now) (contents whole.now) ≡ Some fault) }
 {
     if any_of_other_length(each, descriptor.len() as u64) {
         return Err(DataFault::SegmentCount);
@@ -86,7 +87,7 @@ fn shape_between(
     requires target_small { total target.now ≤ greatest_total }
     ensures { MatchResult result
         (λ _. shape_between source.now target.now (contents of_source.now) (contents of_target.now) ≡ None)
-        (λ e. shape_between source.now target.now (contents of_source.now) (contents of_target.now) ≡ Some e) }
+        (λ fault. shape_between source.now target.now (contents of_source.now) (contents of_target.now) ≡ Some fault) }
 {
     if source.len() != target.len() {
         return Err(DataFault::SegmentCount);

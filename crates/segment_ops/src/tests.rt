@@ -1,6 +1,8 @@
 ghost use Rattle.std.specs.Prelude.{◌≡◌, true};
 ghost use Rattle.vcode_base.specs.Kinds.{HasKind, HaveKinds, segmented_operands};
-ghost use Rattle.segment_ops.specs.Operands.{contents};
+ghost use Rattle.vcode_base.specs.Operands.{contents};
+
+mod edges;
 
 use crate::descriptors::is_bad_descriptor;
 use crate::{fill, need, shape};
@@ -604,7 +606,7 @@ fn packs(rt: HostRuntime) -> Result<(), Fail> {
         Segmented,
         &[&[i64]],
         Result<(&[i64], &[i64]), DataFault>,
-    ); 5] = [
+    ); 8] = [
         (
             "PACK",
             int,
@@ -624,6 +626,19 @@ fn packs(rt: HostRuntime) -> Result<(), Fail> {
             Ok((&[0], &[1])),
         ),
         ("PACK of none", int, &[&[], &[], &[]], Ok((&[], &[]))),
+        ("PACK of no flags", flags, &[&[], &[], &[]], Ok((&[], &[]))),
+        (
+            "PACK of all and of nothing",
+            int,
+            &[&[LEAST, GREATEST, 3, 4], &[1, 1, 0, 0], &[2, 2]],
+            Ok((&[LEAST, GREATEST], &[2, 0])),
+        ),
+        (
+            "PACK of empty segments alone",
+            int,
+            &[&[], &[], &[0, 0]],
+            Ok((&[], &[0, 0])),
+        ),
         (
             "PACK of fewer flags",
             int,

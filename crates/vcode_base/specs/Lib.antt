@@ -5,3 +5,4 @@ pub mod Laws
 pub mod Meaning
 pub mod Segments
 pub mod Texts
+pub mod Operands

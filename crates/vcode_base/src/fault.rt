@@ -12,13 +12,13 @@ pub enum DataFault {
     SegmentCount,
     /// A divisor is 0.
     ZeroDivisor,
-    /// A shift is outside 0..=63.
+    /// A shift is outside `0..=63`.
     BadShift,
     /// An index is outside its segment.
     BadIndex,
     /// Two elements of a segment go to one index.
     IndexTwice,
-    /// A segment length is negative, or their total passes the greatest.
+    /// A segment length is negative, or the total of the lengths is above 4,294,967,295.
     BadLength,
     /// The condition of an IF has not one element.
     NotSingle,

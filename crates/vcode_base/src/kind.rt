@@ -5,7 +5,7 @@ pub enum Kind {
     Int,
     /// Truth values, 1 for T and 0 for F.
     Bool,
-    /// Segment lengths: a segment descriptor.
+    /// Segment lengths, none negative, of a total of at most 4,294,967,295: a segment descriptor.
     Segdes,
 }
 

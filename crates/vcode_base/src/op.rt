@@ -3,12 +3,17 @@ use crate::kind::{Kind, Scalar};
 /// Arithmetic on two numbers, element by element.
 #[derive(Clone, Copy, PartialEq, Eq, Debug)]
 pub enum Arith {
+    /// `+`, modulo 2^64 as are the two below.
     Add,
     Subtract,
     Multiply,
+    /// `/`: the quotient towards zero.
     Divide,
+    /// `%`: the remainder, with the sign of the dividend.
     Remainder,
+    /// `LSHIFT`: the left operand times 2 to the right one, modulo 2^64.
     ShiftLeft,
+    /// `RSHIFT`: the left operand divided by 2 to the right one, rounded down.
     ShiftRight,
 }
 
@@ -34,6 +39,7 @@ pub enum Logic {
 /// How a scan or a reduction takes the elements of a segment together.
 #[derive(Clone, Copy, PartialEq, Eq, Debug)]
 pub enum Fold {
+    /// Modulo 2^64, as are products.
     Sum,
     Product,
     Max,
@@ -47,9 +53,13 @@ pub enum Elementwise {
     Arith(Arith),
     Compare(Comparison),
     Logic(Logic, Scalar),
+    /// `NOT`: each bit turned, and of truth values the other one.
     Not(Scalar),
+    /// `SELECT`: the element of the second operand where the flag is T, else of the third.
     Select(Scalar),
+    /// `I_TO_B`: T exactly where the number is not 0.
     IntToBool,
+    /// `B_TO_I`: 1 for T and 0 for F.
     BoolToInt,
 }
 

@@ -1,2 +1,1 @@
-pub mod Operands
 pub mod Served

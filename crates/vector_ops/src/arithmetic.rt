@@ -18,7 +18,7 @@ pub fn fill_arith(op: Arith, left: &[i64], right: &[i64], out: &mut [i64]) -> Re
     ensures { MatchResult result
         (λ _. (arithmetic_fault op right.now ≡ None)
         × (out.new ≡ two_by_two (arithmetic op) left.now right.now))
-        (λ e. arithmetic_fault op right.now ≡ Some e) }
+        (λ fault. arithmetic_fault op right.now ≡ Some fault) }
 {
     match op {
         Arith::Add => add(left, right, out),
@@ -97,7 +97,7 @@ fn divide(left: &[i64], right: &[i64], out: &mut [i64]) -> Result<(), DataFault>
     ensures { MatchResult result
         (λ _. (arithmetic_fault Divide right.now ≡ None)
         × (out.new ≡ two_by_two (arithmetic Divide) left.now right.now))
-        (λ e. arithmetic_fault Divide right.now ≡ Some e) }
+        (λ fault. arithmetic_fault Divide right.now ≡ Some fault) }
 {
     if any::<IsZero>(right) {
         return Err(DataFault::ZeroDivisor);
@@ -125,7 +125,7 @@ fn remainder(left: &[i64], right: &[i64], out: &mut [i64]) -> Result<(), DataFau
     ensures { MatchResult result
         (λ _. (arithmetic_fault Remainder right.now ≡ None)
         × (out.new ≡ two_by_two (arithmetic Remainder) left.now right.now))
-        (λ e. arithmetic_fault Remainder right.now ≡ Some e) }
+        (λ fault. arithmetic_fault Remainder right.now ≡ Some fault) }
 {
     if any::<IsZero>(right) {
         return Err(DataFault::ZeroDivisor);
@@ -153,7 +153,7 @@ fn shift_left(left: &[i64], right: &[i64], out: &mut [i64]) -> Result<(), DataFa
     ensures { MatchResult result
         (λ _. (arithmetic_fault ShiftLeft right.now ≡ None)
         × (out.new ≡ two_by_two (arithmetic ShiftLeft) left.now right.now))
-        (λ e. arithmetic_fault ShiftLeft right.now ≡ Some e) }
+        (λ fault. arithmetic_fault ShiftLeft right.now ≡ Some fault) }
 {
     if any::<IsBadShift>(right) {
         return Err(DataFault::BadShift);
@@ -182,7 +182,7 @@ fn shift_right(left: &[i64], right: &[i64], out: &mut [i64]) -> Result<(), DataF
     ensures { MatchResult result
         (λ _. (arithmetic_fault ShiftRight right.now ≡ None)
         × (out.new ≡ two_by_two (arithmetic ShiftRight) left.now right.now))
-        (λ e. arithmetic_fault ShiftRight right.now ≡ Some e) }
+        (λ fault. arithmetic_fault ShiftRight right.now ≡ Some fault) }
 {
     if any::<IsBadShift>(right) {
         return Err(DataFault::BadShift);

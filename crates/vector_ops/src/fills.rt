@@ -1,7 +1,7 @@
 ghost use Rattle.std.specs.Prelude.{◌≡◌, length, MatchResult, None, Some};
 ghost use Rattle.vcode_base.specs.Kinds.{HaveKinds, source_kinds, elementwise_operands};
 ghost use Rattle.vcode_base.specs.Meaning.{shape, need, value_fault, result_of, second_result_of, operand, elementwise_shape, elementwise_fault, elementwise_result};
-ghost use Rattle.vector_ops.specs.Operands.{contents};
+ghost use Rattle.vcode_base.specs.Operands.{contents};
 ghost use Rattle.vector_ops.specs.Served.{IsServed};
 
 use crate::arithmetic::fill_arith;
@@ -10,13 +10,16 @@ use crate::logic::{fill_logic, fill_not};
 use crate::selection::{copy, int_to_bool, select};
 use vcode_base::{DataFault, Elementwise, Op};
 
-/// Writes the results of the instruction.
+/// Writes the result of the instruction to `first`.
 ///
-/// `op` and `ops` are as for [`shape`](crate::shape), which has answered `Ok`, and `first` and
-/// `second` have the lengths that [`need`](crate::need) answers.
+/// `op` and `ops` are as for [`shape`](crate::shape), which has answered `Ok`. `first` and `second`
+/// have the lengths that [`need`](crate::need) answers, so `second` is empty.
 ///
-/// The fault is `ZeroDivisor` for a quotient or a remainder where a divisor is 0, and `BadShift` for
-/// a shift where one is outside 0..=63. What the results hold then is not said.
+/// # Errors
+///
+/// [`ZeroDivisor`](DataFault::ZeroDivisor) for a quotient or a remainder where a divisor is 0, and
+/// [`BadShift`](DataFault::BadShift) for a shift where one is outside `0..=63`. What `first` holds
+/// then is not said.
 #[tactic(auto, unfolding(vcode_base::specs::Meaning::shape, vcode_base::specs::Meaning::need, vcode_base::specs::Meaning::value_fault, vcode_base::specs::Meaning::result_of, vcode_base::specs::Meaning::second_result_of))]
 pub fn fill(op: Op, ops: &[&[i64]], first: &mut [i64], second: &mut [i64]) -> Result<(), DataFault>
     requires served { IsServed op }
@@ -27,7 +30,7 @@ pub fn fill(op: Op, ops: &[&[i64]], first: &mut [i64], second: &mut [i64]) -> Re
         (λ _. (value_fault op (contents ops.now) ≡ None)
         × (first.new ≡ result_of op (contents ops.now))
         × (second.new ≡ second_result_of op (contents ops.now)))
-        (λ e. value_fault op (contents ops.now) ≡ Some e) }
+        (λ fault. value_fault op (contents ops.now) ≡ Some fault) }
 {
     match op {
         Op::Const(_) => {
@@ -47,7 +50,7 @@ fn fill_elementwise(op: Elementwise, ops: &[&[i64]], first: &mut [i64]) -> Resul
     ensures { MatchResult result
         (λ _. (elementwise_fault op (contents ops.now) ≡ None)
         × (first.new ≡ elementwise_result op (contents ops.now)))
-        (λ e. elementwise_fault op (contents ops.now) ≡ Some e) }
+        (λ fault. elementwise_fault op (contents ops.now) ≡ Some fault) }
 {
     match op {
         Elementwise::Arith(op) => fill_arith(op, ops[0], ops[1], first)?,

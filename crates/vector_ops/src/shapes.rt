@@ -2,23 +2,26 @@ ghost use Rattle.std.specs.Prelude.{◌≡◌, ◌<◌, length, MatchResult, Non
 ghost use Rattle.std.specs.List.{list_any};
 ghost use Rattle.vcode_base.specs.Kinds.{HaveKinds, source_kinds};
 ghost use Rattle.vcode_base.specs.Meaning.{shape, need, operand, wrong_length};
-ghost use Rattle.vector_ops.specs.Operands.{contents};
+ghost use Rattle.vcode_base.specs.Operands.{contents};
 ghost use Rattle.vector_ops.specs.Served.{IsServed};
 
 use vcode_base::{DataFault, Op};
 
-/// Whether the operands' lengths fit the instruction: `LengthsDiffer` where they are not all one
-/// length. It looks at no element.
+/// Whether the operands' lengths fit one another. It looks at no element.
 ///
 /// `op` is `CONST` or an elementwise instruction, and `ops` has its operands from the bottom of the
 /// stack up, each of the kind that the instruction takes. For `CONST` it has the list alone.
+///
+/// # Errors
+///
+/// [`LengthsDiffer`](DataFault::LengthsDiffer) where the operands are not all of one length.
 #[tactic(auto, unfolding(vcode_base::specs::Meaning::shape))]
 pub fn shape(op: Op, ops: &[&[i64]]) -> Result<(), DataFault>
     requires served { IsServed op }
     requires kinds { HaveKinds (source_kinds op) (contents ops.now) }
     ensures { MatchResult result
         (λ _. shape op (contents ops.now) ≡ None)
-        (λ e. shape op (contents ops.now) ≡ Some e) }
+        (λ fault. shape op (contents ops.now) ≡ Some fault) }
 {
     match op {
         Op::Elementwise(_) if lengths_differ(ops) => Err(DataFault::LengthsDiffer),
@@ -36,8 +39,8 @@ fn lengths_differ(ops: &[&[i64]]) -> bool
     ops.iter().any(|operand| operand.len() != first)
 }
 
-/// The words of the first and of the second result; no instruction of this crate has a second one,
-/// so that number is 0.
+/// The lengths of the first and of the second result, in words. No instruction of this crate has a
+/// second one, so that number is 0.
 ///
 /// `op` and `ops` are as for [`shape`], which has answered `Ok`.
 #[tactic(auto, unfolding(vcode_base::specs::Meaning::need))]

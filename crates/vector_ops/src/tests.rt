@@ -1,5 +1,5 @@
 ghost use Rattle.vcode_base.specs.Kinds.{HaveKinds, source_kinds};
-ghost use Rattle.vector_ops.specs.Operands.{contents};
+ghost use Rattle.vcode_base.specs.Operands.{contents};
 ghost use Rattle.vector_ops.specs.Served.{IsServed};
 
 use crate::{fill, need, shape};
@@ -36,7 +36,7 @@ fn expect<R: Abort + AllocGlobal>(
 
 #[test]
 fn arithmetic_instructions(rt: HostRuntime) -> Result<(), Fail> {
-    let cases: [(&str, Arith, &[i64], &[i64], Result<&[i64], DataFault>); 26] = [
+    let cases: [(&str, Arith, &[i64], &[i64], Result<&[i64], DataFault>); 27] = [
         (
             "sums wrap",
             Arith::Add,
@@ -87,6 +87,13 @@ fn arithmetic_instructions(rt: HostRuntime) -> Result<(), Fail> {
             Arith::Divide,
             &[1, 2],
             &[1, 0],
+            Err(DataFault::ZeroDivisor),
+        ),
+        (
+            "1 by 0",
+            Arith::Divide,
+            &[1],
+            &[0],
             Err(DataFault::ZeroDivisor),
         ),
         ("no quotients", Arith::Divide, &[], &[], Ok(&[])),
@@ -256,7 +263,13 @@ fn instructions_of_one_operand(rt: HostRuntime) -> Result<(), Fail> {
     expect(&rt, "NOT INT of none", complement, &[&[]], Ok(&[]))?;
     expect(&rt, "NOT BOOL", invert, &[&[1, 0]], Ok(&[0, 1]))?;
     expect(&rt, "NOT BOOL of none", invert, &[&[]], Ok(&[]))?;
-    expect(&rt, "I_TO_B", int_to_bool, &[&[0, 5, -1]], Ok(&[0, 1, 1]))?;
+    expect(
+        &rt,
+        "I_TO_B",
+        int_to_bool,
+        &[&[0, 5, -1, LEAST, GREATEST]],
+        Ok(&[0, 1, 1, 1, 1]),
+    )?;
     expect(&rt, "I_TO_B of none", int_to_bool, &[&[]], Ok(&[]))?;
     expect(&rt, "B_TO_I", bool_to_int, &[&[1, 0]], Ok(&[1, 0]))?;
     expect(&rt, "B_TO_I of none", bool_to_int, &[&[]], Ok(&[]))?;
@@ -275,6 +288,13 @@ fn instructions_of_one_operand(rt: HostRuntime) -> Result<(), Fail> {
         Ok(&[0, 1]),
     )?;
     expect(&rt, "CONST INT ()", Op::Const(Scalar::Int), &[&[]], Ok(&[]))?;
+    expect(
+        &rt,
+        "CONST BOOL ()",
+        Op::Const(Scalar::Bool),
+        &[&[]],
+        Ok(&[]),
+    )?;
     Ok(())
 }
 
@@ -297,7 +317,15 @@ fn selections(rt: HostRuntime) -> Result<(), Fail> {
         &[&[1, 0], &[0, 0], &[1, 1]],
         Ok(&[0, 1]),
     )?;
+    expect(
+        &rt,
+        "SELECT of the least and the greatest",
+        int,
+        &[&[1, 0], &[LEAST, 5], &[6, GREATEST]],
+        Ok(&[LEAST, GREATEST]),
+    )?;
     expect(&rt, "SELECT of none", int, &[&[], &[], &[]], Ok(&[]))?;
+    expect(&rt, "SELECT of no flags", flags, &[&[], &[], &[]], Ok(&[]))?;
     expect(
         &rt,
         "a short second operand",

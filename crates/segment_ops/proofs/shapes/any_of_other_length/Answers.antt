@@ -4,7 +4,7 @@ use Rattle.std.specs.Borrow.{Bor}
 use Rattle.std.specs.List.{list_any}
 use Rattle.std.proofs.lemmas.Iterator.{YieldsList-from_slice}
 use Rattle.std.proofs.lemmas.Iterator.Search.{any_from_yields_List}
-use Rattle.segment_ops.specs.Operands.{contents}
+use Rattle.vcode_base.specs.Operands.{contents}
 use Rattle.segment_ops.proofs.shapes.any_of_other_length.Goals as goal
 
 any_contents : (p : List ℤ → Bool) (refs : List (Bor (List ℤ))) → list_any (λ (r : Bor (List ℤ)). p r.now) refs ≡ list_any p (contents refs)

@@ -4,7 +4,7 @@ use Rattle.std.proofs.lemmas.List.{drop_more, drop_all}
 use Rattle.vcode_base.specs.Kinds.{HasKind, HaveKinds}
 use Rattle.vcode_base.specs.declared.kind.Kind.{Kind}
 use Rattle.vcode_base.specs.declared.kind.Kind.TheVariants.{Int}
-use Rattle.segment_ops.specs.Operands.{contents}
+use Rattle.vcode_base.specs.Operands.{contents}
 use Rattle.segment_ops.proofs.tests.have_kinds.Goals as goal
 
 first_true : (a b : Bool) → (a && b) ≡ true → a ≡ true

@@ -1,6 +1,6 @@
 use Rattle.std.proofs.Common.{◌≡◌, true, drop}
 use Rattle.vcode_base.specs.Kinds.{HaveKinds}
-use Rattle.segment_ops.specs.Operands.{contents}
+use Rattle.vcode_base.specs.Operands.{contents}
 use Rattle.segment_ops.proofs.tests.have_kinds.Given as goal
 
 abbrev pub invariant-loop-i : goal.invariant-loop-i

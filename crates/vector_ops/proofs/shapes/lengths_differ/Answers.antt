@@ -3,7 +3,7 @@ use Rattle.std.proofs.lemmas.Iterator.{YieldsList-from_slice}
 use Rattle.std.proofs.lemmas.Iterator.Search.{any_from_yields_List}
 use Rattle.std.proofs.lemmas.List.{get_or-map}
 use Rattle.vcode_base.specs.Meaning.{operand, wrong_length}
-use Rattle.vector_ops.specs.Operands.{contents}
+use Rattle.vcode_base.specs.Operands.{contents}
 use Rattle.vector_ops.proofs.Lists.{list_any-map}
 use Rattle.vector_ops.proofs.shapes.lengths_differ.Goals as goal
 

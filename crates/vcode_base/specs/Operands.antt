@@ -1,4 +1,4 @@
--- The lists that borrowed operands hold.
+-- The lists that the operands lent to an instruction hold.
 use Rattle.std.specs.Prelude.{ℤ, List, map}
 use Rattle.std.specs.Borrow.{Bor}
 
