@@ -18,6 +18,9 @@ use Rattle.vcode_base.specs.contracts.op.StackMove as motion
 use Rattle.vcode_base.specs.contracts.instr.Instr as instr
 use Rattle.vcode_base.specs.contracts.instr.InstrPartialEq.TheImpl as instr_eq
 use Rattle.vcode_base.specs.declared.instr.Instr.{Instr}
+use Rattle.vcode_reader.specs.contracts.line.Part as parts
+use Rattle.vcode_reader.specs.contracts.line.PartPartialEq.TheImpl as part_eq
+use Rattle.vcode_reader.specs.declared.line.Part.{Part}
 use Rattle.std.specs.Prelude.{nat_eq}
 use Rattle.std.specs.declared.cmp.PartialEq.{Ghosts}
 use denote.RattleType.{RattleType}
@@ -203,3 +206,10 @@ module _ (L N : RattleType) (gl : Ghosts L.Denot) (dl : Dict) (gn : Ghosts N.Den
       ),
     ),
   )
+
+abbrev pub part_each : (I : RattleType) → (I.Denot → I.Denot → Bool) → Each Bool (parts.the_parts I)
+part_each I items = (λ x y. items x.0 y.0, (λ _ _. true, (λ _ _. true, (λ _ _. true, tt))))
+
+module _ (I : RattleType) (g : Ghosts I.Denot) (d : Dict) (items : (a b : I.Denot) → Decides (g.eq a b) (a ≡ b)) where
+  pub same_parts : (p q : Part I.Denot) → Decides ((part_eq.ghosts I g d).eq p q) (p ≡ q)
+  same_parts = same_values (parts.the_parts I) (parts.as_values I) (parts.the_make I) (parts.the_eta I) (part_each I g.eq) (one_field items, (no_field, (no_field, (no_field, tt))))

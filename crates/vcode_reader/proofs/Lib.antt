@@ -1,8 +1,11 @@
 pub mod Answers
+pub mod Codes
 pub mod Digits
+pub mod Drafting
 pub mod Enums
 pub mod Equal
 pub mod Fed
+pub mod Fitting
 pub mod Fresh
 pub mod Good
 pub mod Lines

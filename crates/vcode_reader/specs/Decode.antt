@@ -1,72 +1,147 @@
--- The function that lines stand for: lines whose last is a RET come from one tree.
+-- The function that lines stand for: a body's lines read from the end give its tree, and no other.
 use Rattle.std.specs.Prelude.{◌≡◌, ℕ, List, [], ◌∷◌, ◌++◌, Option, Some, None, refl}
 use Rattle.std.specs.Coded.{Coded, code_by, coded_ℕ, coded×, coded_list}
-use Rattle.std.proofs.Common.{ap, sym, ◌∙◌}
+use Rattle.std.proofs.Common.{ap, sym, ◌∙◌, append_assoc}
 use Rattle.vcode_base.specs.declared.instr.Instr.TheVariants.{Return}
-use Rattle.vcode_reader.specs.declared.line.Line.{Line}
-use Rattle.vcode_reader.specs.Trees.{Item, Body, End, Do, Function, Program, line_of, flat, lines_of}
+use Rattle.vcode_reader.specs.declared.line.Part.{Part}
+use Rattle.vcode_reader.specs.declared.line.Part.TheVariants as part
+use Rattle.vcode_reader.specs.Trees.{Item, Body, End, Do, Choice, CodeLine, Function, Program, line_of, doing, flat, lines_of}
+
+-- what waits for the front of an IF: its second body, or both, with the line of its ENDIF and the body behind it
+pub data Waits : Type 0 where
+  ForElse : (end : ℕ) (rest : Body) → Waits
+  ForIf : (second : Body) (end : ℕ) (rest : Body) → Waits
+
+-- the body that a tail of the code begins with, and what waits for the lines before it
+pub record Tail : Type 0 where
+  pub body : Body
+  pub waits : List Waits
+
+abbrev pub before_else : Body → List Waits → Tail
+before_else b (ForElse e rest ∷ ws) = record { body = End; waits = ForIf b e rest ∷ ws }
+before_else b _ = record { body = b; waits = [] }
+
+abbrev pub before_if : ℕ → Body → List Waits → Tail
+before_if l b (ForIf second e rest ∷ ws) = record { body = Choice l b second e rest; waits = ws }
+before_if l b _ = record { body = b; waits = [] }
+
+-- one line more in front
+abbrev pub before : Part Item → ℕ → Tail → Tail
+before (part.Do i) l t = record { body = Do i l t.body; waits = t.waits }
+before part.If l t = before_if l t.body t.waits
+before part.Else l t = before_else t.body t.waits
+before part.Endif l t = record { body = End; waits = ForElse l t.body ∷ t.waits }
+
+unfoldable pub tail_of : List CodeLine → Tail
+tail_of [] = record { body = End; waits = [] }
+tail_of (x ∷ xs) = before x.item x.number (tail_of xs)
 
 -- the tree of a body's lines
-abbrev pub tree_of : List (Line Item) → Body
-tree_of [] = End
-tree_of (x ∷ xs) = Do x.item x.number (tree_of xs)
+unfoldable pub tree_of : List CodeLine → Body
+tree_of xs = (tail_of xs).body
 
--- a body and the line of the RET behind it, with one more line in front
-abbrev pub in_front : Line Item → Option (Body × ℕ) → Option (Body × ℕ)
-in_front x None = Some (End, x.number)
-in_front x (Some (b, ret)) = Some (Do x.item x.number b, ret)
+-- the lines are those of a body
+abbrev pub IsFlat : List CodeLine → Type 0
+IsFlat xs = flat (tree_of xs) ≡ xs
 
--- the body of a function's lines, and the line of the last
-unfoldable pub split_last : List (Line Item) → Option (Body × ℕ)
+-- one body after another
+unfoldable pub then_body : Body → Body → Body
+then_body End c = c
+then_body (Do i l b) c = Do i l (then_body b c)
+then_body (Choice l x y e b) c = Choice l x y e (then_body b c)
+
+-- the lines before the last, and the number of the last
+abbrev pub in_front : CodeLine → Option (List CodeLine × ℕ) → Option (List CodeLine × ℕ)
+in_front x None = Some ([], x.number)
+in_front x (Some (front, ret)) = Some (x ∷ front, ret)
+
+unfoldable pub split_last : List CodeLine → Option (List CodeLine × ℕ)
 split_last [] = None
 split_last (x ∷ xs) = in_front x (split_last xs)
 
-abbrev pub body_in : Option (Body × ℕ) → Body
+abbrev pub body_in : Option (List CodeLine × ℕ) → Body
 body_in None = End
-body_in (Some (b, ret)) = b
+body_in (Some (front, ret)) = tree_of front
 
-abbrev pub ret_in : Option (Body × ℕ) → ℕ
+abbrev pub ret_in : Option (List CodeLine × ℕ) → ℕ
 ret_in None = 0
-ret_in (Some (b, ret)) = ret
+ret_in (Some (front, ret)) = ret
 
 -- the function of these lines
-abbrev pub function_of : List ℕ → ℕ → List (Line Item) → Function
+abbrev pub function_of : List ℕ → ℕ → List CodeLine → Function
 function_of name line lines =
     record { name = name; line = line; body = body_in (split_last lines); ret = ret_in (split_last lines) }
 
 -- the lines are those of the function that they stand for
-abbrev pub AreLines : List ℕ → ℕ → List (Line Item) → Type 0
+abbrev pub AreLines : List ℕ → ℕ → List CodeLine → Type 0
 AreLines name line lines = lines_of (function_of name line lines) ≡ lines
 
-pub split_last-flat : (b : Body) (ret : ℕ) → split_last (flat b ++ line_of Return ret ∷ []) ≡ Some (b, ret)
+-- ---- the tree of a body's lines is the body
+
+then_tail : Body → Tail → Tail
+then_tail b t = record { body = then_body b t.body; waits = t.waits }
+
+then_end : (b : Body) → then_body b End ≡ b
+unfolding then_body
+then_end End = refl
+then_end (Do i l b) = ap (Do i l) (then_end b)
+then_end (Choice l x y e b) = ap (Choice l x y e) (then_end b)
+
+regroup : (x y b rest : List CodeLine) (i m n : CodeLine) → (i ∷ (x ++ (m ∷ (y ++ (n ∷ b))))) ++ rest ≡ i ∷ (x ++ (m ∷ (y ++ (n ∷ (b ++ rest)))))
+regroup x y b rest i m n = simp append_assoc
+
+choice : ℕ → Body → Body → ℕ → Body → List Waits → Tail
+choice l x y e b ws = record { body = Choice l x y e b; waits = ws }
+
+tail_of-flat : (b : Body) (xs : List CodeLine) → tail_of (flat b ++ xs) ≡ then_tail b (tail_of xs)
+unfolding tail_of then_tail then_body choice
+tail_of-flat End xs = refl
+tail_of-flat (Do i l b) xs = ap (before (part.Do i) l) (tail_of-flat b xs)
+tail_of-flat (Choice l x y e b) xs =
+    ap tail_of (regroup (flat x) (flat y) (flat b) xs (line_of part.If l) (line_of part.Else l) (line_of part.Endif e))
+    ∙ (ap (before part.If l) (tail_of-flat x _ ∙ ap (then_tail x) (ap (before part.Else l) (tail_of-flat y _ ∙ ap (then_tail y) (ap (before part.Endif e) (tail_of-flat b xs)))))
+    ∙ (ap (λ z. choice l z (then_body y End) e (then_body b (tail_of xs).body) (tail_of xs).waits) (then_end x)
+    ∙ ap (λ z. choice l x z e (then_body b (tail_of xs).body) (tail_of xs).waits) (then_end y)))
+
+add_nil : {A : Type 0} (xs : List A) → xs ++ [] ≡ xs
+add_nil [] = refl
+add_nil (x ∷ xs) = ap (λ ys. x ∷ ys) (add_nil xs)
+
+pub tree_of-flat : (b : Body) → tree_of (flat b) ≡ b
+unfolding tree_of tail_of then_tail
+tree_of-flat b = ap tree_of (sym (add_nil (flat b))) ∙ (ap (λ (t : Tail). t.body) (tail_of-flat b []) ∙ then_end b)
+
+-- ---- lines with a RET behind them
+
+pub split_last-then : (xs : List CodeLine) (ret : ℕ) → split_last (xs ++ doing Return ret ∷ []) ≡ Some (xs, ret)
 unfolding split_last
-split_last-flat End ret = refl
-split_last-flat (Do i l b) ret = ap (in_front (line_of i l)) (split_last-flat b ret)
+split_last-then [] ret = refl
+split_last-then (x ∷ xs) ret = ap (in_front x) (split_last-then xs ret)
+
+abbrev made : List ℕ → ℕ → Option (List CodeLine × ℕ) → Function
+made name line o = record { name = name; line = line; body = body_in o; ret = ret_in o }
+
+pub function_of-then : (name : List ℕ) (line : ℕ) (xs : List CodeLine) (ret : ℕ) →
+    function_of name line (xs ++ doing Return ret ∷ []) ≡ record { name = name; line = line; body = tree_of xs; ret = ret }
+function_of-then name line xs ret = ap (made name line) (split_last-then xs ret)
 
 pub function_of-lines_of : (f : Function) → function_of f.name f.line (lines_of f) ≡ f
 function_of-lines_of f =
-    ap (λ (o : Option (Body × ℕ)). let g : Function = record { name = f.name; line = f.line; body = body_in o; ret = ret_in o } in g) (split_last-flat f.body f.ret)
+    function_of-then f.name f.line (flat f.body) f.ret ∙ ap (λ b. let g : Function = record f { body = b } in g) (tree_of-flat f.body)
+
+pub AreLines-then : (name : List ℕ) (line : ℕ) (xs : List CodeLine) (ret : ℕ) → IsFlat xs → AreLines name line (xs ++ doing Return ret ∷ [])
+AreLines-then name line xs ret h =
+    ap lines_of (function_of-then name line xs ret) ∙ ap (λ ys. ys ++ doing Return ret ∷ []) h
+
+-- ---- what tells programs apart
 
 -- a function is told apart by its name, its line and its lines
-abbrev pub function_code : Coded (Line Item) → Coded Function
+abbrev pub function_code : Coded CodeLine → Coded Function
 function_code line =
-    code_by (List ℕ × (ℕ × List (Line Item))) (coded× (coded_list coded_ℕ) (coded× coded_ℕ (coded_list line)))
+    code_by (List ℕ × (ℕ × List CodeLine)) (coded× (coded_list coded_ℕ) (coded× coded_ℕ (coded_list line)))
     (λ f. (f.name, (f.line, lines_of f))) (λ p. function_of p.0 p.1.0 p.1.1) function_of-lines_of
 
-abbrev pub program_code : Coded (Line Item) → Coded Program
+abbrev pub program_code : Coded CodeLine → Coded Program
 program_code line =
     code_by (ℕ × List Function) (coded× coded_ℕ (coded_list (function_code line)))
     (λ p. (p.first_line, p.functions)) (λ p. record { first_line = p.0; functions = p.1 }) (λ _. refl)
-
-pub flat-tree_of : (xs : List (Line Item)) → flat (tree_of xs) ≡ xs
-flat-tree_of [] = refl
-flat-tree_of (x ∷ xs) = ap (λ ys. x ∷ ys) (flat-tree_of xs)
-
-pub function_of-tree_of : (name : List ℕ) (line : ℕ) (xs : List (Line Item)) (ret : ℕ) →
-    function_of name line (xs ++ line_of Return ret ∷ []) ≡ record { name = name; line = line; body = tree_of xs; ret = ret }
-function_of-tree_of name line xs ret =
-    ap (λ ys. function_of name line (ys ++ line_of Return ret ∷ [])) (sym (flat-tree_of xs)) ∙ function_of-lines_of (record { name = name; line = line; body = tree_of xs; ret = ret })
-
-pub AreLines-tree_of : (name : List ℕ) (line : ℕ) (xs : List (Line Item)) (ret : ℕ) → AreLines name line (xs ++ line_of Return ret ∷ [])
-AreLines-tree_of name line xs ret =
-    ap lines_of (function_of-tree_of name line xs ret) ∙ ap (λ ys. ys ++ line_of Return ret ∷ []) (flat-tree_of xs)

@@ -1,48 +1,20 @@
 -- The grammar of the code: which words a program has.
-use Rattle.std.specs.Prelude.{◌≡◌, ◌≢◌, ◌⊎◌, ◌≤◌, ℕ, ℤ, false, List, [], ◌∷◌, ◌++◌, Some, length, codes}
+use Rattle.std.specs.Prelude.{◌≡◌, ◌≢◌, ◌⊎◌, ◌≤◌, ◌<◌, ℕ, suc, ℤ, pos, Bool, true, false, List, [], ◌∷◌, ◌++◌, Some, length, codes}
 use Rattle.std.specs.List.{AllByRecursion}
+use Rattle.vcode_base.specs.declared.kind.Scalar.{Scalar}
+use Rattle.vcode_base.specs.declared.kind.Scalar.TheVariants as scalar
 use Rattle.vcode_reader.specs.declared.head.Head.{Head}
-use Rattle.vcode_reader.specs.declared.head.Head.TheVariants.{Func, Return, Start}
-use Rattle.vcode_reader.specs.declared.head.Keyword.{Keyword}
-use Rattle.vcode_reader.specs.declared.head.Slot.{Slot}
-use Rattle.vcode_reader.specs.declared.head.Slot.TheVariants.{Int, Ints}
-use Rattle.vcode_reader.specs.Heads.{head_of, slots_of, instruction_of}
-use Rattle.vcode_reader.specs.Numbers.{number_of}
-use Rattle.vcode_reader.specs.Parsing.{greatest_name, most_functions, most_elements, is_parenthesis, is_bad}
+use Rattle.vcode_reader.specs.declared.head.Head.TheVariants.{Func, Return, If, Else, Endif, Start}
+use Rattle.vcode_reader.specs.declared.keyword.Keyword.{Keyword}
+use Rattle.vcode_reader.specs.declared.keyword.Slot.{Slot}
+use Rattle.vcode_reader.specs.declared.keyword.Slot.TheVariants.{Int, Kind, Values, Lower, Upper, Callee}
+use Rattle.vcode_reader.specs.declared.language.Language.{Language}
+use Rattle.vcode_reader.specs.Heads.{head_of}
+use Rattle.vcode_reader.specs.Keywords.{Gathered, no_parts, slots_of, takes_int, instruction_of}
+use Rattle.vcode_reader.specs.Numbers.{number_of, value_of}
+use Rattle.vcode_reader.specs.Parsing.{greatest_name, most_functions, most_ifs, most_elements, greatest_count, is_parenthesis, is_bad}
 use Rattle.vcode_reader.specs.Scan.{Word}
-use Rattle.vcode_reader.specs.Trees.{Item, Body, End, Do, Function}
-
--- a word that begins this, on this line
-abbrev pub IsHead : Head → ℕ → Word → Type 0
-IsHead h l w = (head_of w.text ≡ h) × (w.line ≡ l)
-
--- the words are these numbers
-abbrev pub AreNumbers : List ℤ → List Word → Type 0
-AreNumbers [] [] = Unit {0}
-AreNumbers [] (w ∷ ws) = ⊥
-AreNumbers (n ∷ ns) [] = ⊥
-AreNumbers (n ∷ ns) (w ∷ ws) = (number_of w.text ≡ Some n) × AreNumbers ns ws
-
--- a number, or so many numbers in parentheses
-abbrev pub AreInts : List ℤ → List Word → Type 0
-AreInts ns ws =
-    ((w : Word) × (n : ℤ) × (ws ≡ w ∷ []) × (ns ≡ n ∷ []) × (number_of w.text ≡ Some n))
-    ⊎ ((opened closed : Word) × (inner : List Word) × (ws ≡ opened ∷ (inner ++ closed ∷ [])) × (opened.text ≡ codes "(") × (closed.text ≡ codes ")") × (length ns ≤ most_elements) × AreNumbers ns inner)
-
--- words that fill the slots; the numbers of the instruction were these before them, and are those after them
-abbrev pub Fill : List Slot → List ℤ → List ℤ → List Word → Type 0
-Fill [] before after ws = (before ≡ after) × (ws ≡ [])
-Fill (Int ∷ slots) before after ws = (w : Word) × (rest : List Word) × (ws ≡ w ∷ rest) × (w.text ≡ codes "INT") × Fill slots before after rest
-Fill (Ints ∷ slots) before after ws = (ns : List ℤ) × (u rest : List Word) × (ws ≡ u ++ rest) × AreInts ns u × Fill slots ns after rest
-
--- the first word of an instruction, and words that fill its slots
-abbrev pub IsInstruction : Item → ℕ → List Word → Type 0
-IsInstruction i l ws =
-    (k : Keyword) × (first : Word) × (rest : List Word) × (ns : List ℤ) × (ws ≡ first ∷ rest) × IsHead (Start k) l first × (i ≡ instruction_of k ns) × Fill (slots_of k) [] ns rest
-
-abbrev pub IsBody : Body → List Word → Type 0
-IsBody End ws = ws ≡ []
-IsBody (Do i l b) ws = (u v : List Word) × (ws ≡ u ++ v) × IsInstruction i l u × IsBody b v
+use Rattle.vcode_reader.specs.Trees.{Item, Body, End, Do, Choice, Function}
 
 -- a word other than a parenthesis, and not too long
 pub record IsName (t : List ℕ) : Type 0 where
@@ -50,14 +22,76 @@ pub record IsName (t : List ℕ) : Type 0 where
   pub good : is_bad t ≡ false
   pub short : length t ≤ greatest_name
 
-abbrev pub IsFunction : Function → List Word → Type 0
-IsFunction f ws =
-    (func name ret : Word) × (u : List Word) × (ws ≡ func ∷ name ∷ (u ++ ret ∷ [])) × IsHead Func f.line func × (name.text ≡ f.name) × IsName f.name × IsBody f.body u × IsHead Return f.ret ret
+-- the word is a number within 0 to 4,096
+abbrev pub IsCount : List ℕ → ℕ → Type 0
+IsCount t n = (number_of t ≡ Some (pos n)) × (n ≤ greatest_count)
 
--- functions one after another
-abbrev pub AreFunctions : List Function → List Word → Type 0
-AreFunctions [] ws = ws ≡ []
-AreFunctions (f ∷ fs) ws = (u v : List Word) × (ws ≡ u ++ v) × IsFunction f u × AreFunctions fs v
+-- one word that fills a slot; what the words before it gave, and what they gave with it
+abbrev pub Fits : Slot → List ℕ → Gathered → Gathered → Type 0
+Fits Int t before after = (t ≡ codes "INT") × (after ≡ record before { kind = scalar.Int })
+Fits Kind t before after =
+    ((t ≡ codes "INT") × (after ≡ record before { kind = scalar.Int })) ⊎ ((t ≡ codes "BOOL") × (after ≡ record before { kind = scalar.Bool }))
+Fits Values t before after = (n : ℤ) × (value_of before.kind t ≡ Some n) × (after ≡ record before { numbers = n ∷ [] })
+Fits Lower t before after = (n : ℕ) × IsCount t n × (after ≡ record before { lower = n })
+Fits Upper t before after = (n : ℕ) × IsCount t n × (after ≡ record before { upper = n })
+Fits Callee t before after = IsName t × (after ≡ record before { callee = t })
+
+-- the words are these values of a kind
+abbrev pub AreValues : Scalar → List ℤ → List Word → Type 0
+AreValues k [] [] = Unit {0}
+AreValues k [] (w ∷ ws) = ⊥
+AreValues k (n ∷ ns) [] = ⊥
+AreValues k (n ∷ ns) (w ∷ ws) = (value_of k w.text ≡ Some n) × AreValues k ns ws
+
+-- so many values in parentheses
+abbrev pub AreListed : Gathered → Gathered → List Word → Type 0
+AreListed before after ws =
+    (opened closed : Word) × (inner : List Word) × (ns : List ℤ) × (ws ≡ opened ∷ (inner ++ closed ∷ [])) × (opened.text ≡ codes "(") × (closed.text ≡ codes ")") × (length ns ≤ most_elements) × AreValues before.kind ns inner × (after ≡ record before { numbers = ns })
+
+-- words that fill one slot
+abbrev pub FillOne : Slot → Gathered → Gathered → List Word → Type 0
+FillOne s before after ws =
+    ((w : Word) × (ws ≡ w ∷ []) × Fits s w.text before after) ⊎ ((s ≡ Values) × AreListed before after ws)
+
+-- words that fill the slots
+abbrev pub Fill : List Slot → Gathered → Gathered → List Word → Type 0
+Fill [] before after ws = (before ≡ after) × (ws ≡ [])
+Fill (s ∷ slots) before after ws = (next : Gathered) × (u rest : List Word) × (ws ≡ u ++ rest) × FillOne s before next u × Fill slots next after rest
+
+-- nothing, or where it may stand one word INT
+abbrev pub MayBeInt : Bool → List Word → Type 0
+MayBeInt may ws = (ws ≡ []) ⊎ ((may ≡ true) × (w : Word) × (ws ≡ w ∷ []) × (w.text ≡ codes "INT"))
+
+module _ (language : Language) where
+  -- a word that begins this, on this line
+  abbrev pub IsHead : Head → ℕ → Word → Type 0
+  IsHead h l w = (head_of language w.text ≡ h) × (w.line ≡ l)
+
+  -- the first word of an instruction, words that fill its slots, and those that mean nothing
+  abbrev pub IsInstruction : Item → ℕ → List Word → Type 0
+  IsInstruction i l ws =
+      (k : Keyword) × (first : Word) × (rest last : List Word) × (parts : Gathered) × (ws ≡ first ∷ (rest ++ last)) × IsHead (Start k) l first × (i ≡ instruction_of k parts) × Fill (slots_of language k) no_parts parts rest × MayBeInt (takes_int k) last
+
+  -- no words, or ELSE and a part
+  abbrev pub IsElse : (List Word → Type 0) → Body → List Word → Type 0
+  IsElse is_part second ws =
+      ((ws ≡ []) × (second ≡ End)) ⊎ ((w : Word) × (u : List Word) × (ws ≡ w ∷ u) × (head_of language w.text ≡ Else) × is_part u)
+
+  -- the items of a body, round which so many IFs are open
+  abbrev pub IsBody : ℕ → Body → List Word → Type 0
+  IsBody n End ws = ws ≡ []
+  IsBody n (Do i l b) ws = (u v : List Word) × (ws ≡ u ++ v) × IsInstruction i l u × IsBody n b v
+  IsBody n (Choice l first second e b) ws =
+      (begun end : Word) × (u m v : List Word) × (ws ≡ begun ∷ (u ++ (m ++ (end ∷ v)))) × (n < most_ifs) × IsHead If l begun × IsHead Endif e end × IsBody (suc n) first u × IsElse (IsBody (suc n) second) second m × IsBody n b v
+
+  abbrev pub IsFunction : Function → List Word → Type 0
+  IsFunction f ws =
+      (func name ret : Word) × (u : List Word) × (ws ≡ func ∷ name ∷ (u ++ ret ∷ [])) × IsHead Func f.line func × (name.text ≡ f.name) × IsName f.name × IsBody 0 f.body u × IsHead Return f.ret ret
+
+  -- functions one after another
+  abbrev pub AreFunctions : List Function → List Word → Type 0
+  AreFunctions [] ws = ws ≡ []
+  AreFunctions (f ∷ fs) ws = (u v : List Word) × (ws ≡ u ++ v) × IsFunction f u × AreFunctions fs v
 
 -- no two functions have one name
 abbrev pub NamesDiffer : List Function → Type 0
@@ -65,7 +99,7 @@ NamesDiffer [] = Unit {0}
 NamesDiffer (f ∷ fs) = AllByRecursion (λ g. f.name ≢ g.name) fs × NamesDiffer fs
 
 -- these words are these functions
-pub record Gram (fs : List Function) (ws : List Word) : Type 0 where
-  pub spelled : AreFunctions fs ws
+pub record Gram (language : Language) (fs : List Function) (ws : List Word) : Type 0 where
+  pub spelled : AreFunctions language fs ws
   pub differ : NamesDiffer fs
   pub few : length fs ≤ most_functions

@@ -1,13 +1,16 @@
 pub mod Classes
 pub mod Decode
+pub mod Drafts
 pub mod First
 pub mod Firsts
 pub mod Gram
 pub mod Heads
+pub mod Keywords
 pub mod Numbers
 pub mod ParseCode
 pub mod Parsing
 pub mod Reading
 pub mod Refusals
 pub mod Scan
+pub mod Targets
 pub mod Trees

@@ -3,8 +3,11 @@ use Rattle.std.specs.Prelude.{◌≡◌, ℕ, Bool, false, List, Option, Some, N
 use Rattle.vcode_reader.specs.declared.fault.Refusal.TheVariants.{Unfinished}
 use Rattle.vcode_reader.specs.declared.fault.ReadFault.{ReadFault}
 use Rattle.vcode_reader.specs.declared.fault.ReadFault.TheVariants.{Memory, At}
+use Rattle.vcode_reader.specs.declared.language.Language.{Language}
+use Rattle.vcode_reader.specs.declared.language.Language.TheVariants.{First}
 use Rattle.vcode_reader.specs.declared.place.Place.{Place}
-use Rattle.vcode_reader.specs.declared.place.Place.TheVariants.{Outside, Name, Inside, Words, Elements}
+use Rattle.vcode_reader.specs.declared.place.Place.TheVariants.{Outside, Name, Inside, InsideOrInt, Words, Elements}
+use Rattle.vcode_reader.specs.Drafts.{innermost}
 use Rattle.vcode_reader.specs.Parsing.{Parse, start, take}
 use Rattle.vcode_reader.specs.Refusals.{Fault}
 use Rattle.vcode_reader.specs.Scan.{Scan, beginning, end_word, scan_all}
@@ -14,7 +17,8 @@ use Rattle.vcode_reader.specs.Trees.{Function, Program}
 abbrev pub at_end : Place → Parse → Result (List Function) Fault
 at_end Outside p = Ok p.functions
 at_end Name p = Err (Unfinished, p.line)
-at_end Inside p = Err (Unfinished, p.line)
+at_end Inside p = Err (Unfinished, innermost p.draft.ifs p.line)
+at_end InsideOrInt p = Err (Unfinished, innermost p.draft.ifs p.line)
 at_end (Words k s begun) p = Err (Unfinished, begun)
 at_end (Elements k begun opened) p = Err (Unfinished, opened)
 
@@ -32,9 +36,13 @@ abbrev pub program_at : ℕ → Result (List Function) Fault → Result Program 
 program_at first (Ok fs) = Ok (record { first_line = first; functions = fs })
 program_at first (Err fault) = Err fault
 
--- what a text comes to whose first line has this number
-unfoldable pub reading : ℕ → List ℕ → Result Program Fault
-reading first bytes = program_at first (outcome (scan_all take (beginning start first) bytes))
+-- what a text comes to in a language whose first line has this number
+unfoldable pub reading : Language → ℕ → List ℕ → Result Program Fault
+reading language first bytes = program_at first (outcome (scan_all take (beginning (start language) first) bytes))
+
+-- what it comes to in the first language
+abbrev pub first_reading : ℕ → List ℕ → Result Program Fault
+first_reading first bytes = reading First first bytes
 
 -- what was answered is what is wanted, unless there was no memory
 abbrev pub Fails : {B : Type 0} → ReadFault → Result B Fault → Type 0
@@ -51,16 +59,17 @@ Gives (Ok found) wanted = wanted ≡ Ok found.items
 Gives (Err fault) wanted = Fails fault wanted
 
 -- these bytes have come, from this line on
-abbrev pub HasScanned : Scan Parse → ℕ → List ℕ → Type 0
-HasScanned s first bytes = s ≡ scan_all take (beginning start first) bytes
+abbrev pub HasScanned : Scan Parse → Language → ℕ → List ℕ → Type 0
+HasScanned s language first bytes = s ≡ scan_all take (beginning (start language) first) bytes
 
--- a reader of pieces: where its text stands, the number of the first line, and whether it failed for want of memory
+-- a reader of pieces: where its text stands, its language, the number of the first line, and whether it failed for want of memory
 pub record Fed : Type 0 where
   pub scan : Scan Parse
+  pub language : Language
   pub first_line : ℕ
   pub failed : Bool
 
 -- the pieces so far are these bytes, and the reader hasn't failed
 pub record HasCome (r : Fed) (bytes : List ℕ) : Type 0 where
   pub going : r.failed ≡ false
-  pub scanned : HasScanned r.scan r.first_line bytes
+  pub scanned : HasScanned r.scan r.language r.first_line bytes

@@ -1,25 +1,18 @@
-//! The words that begin something, and what must follow them.
+//! What a word begins.
 
-ghost use Rattle.std.specs.Prelude.{◌≡◌, []};
-ghost use Rattle.vcode_reader.specs.Heads.{head_of, slots_of, instruction_of};
-ghost use Rattle.vcode_reader.specs.Firsts.{TakesOff};
+ghost use Rattle.std.specs.Prelude.{◌≡◌};
+ghost use Rattle.vcode_reader.specs.Heads.{first_head, of_one, of_two, of_three, of_four, of_five, of_six, of_seven, of_eight, of_more, whole_head, head_of};
 
-use std::alloc::Allocator;
-use std::marker::Model;
-use vcode_base::{Arith, Elementwise, Instr, Instruction, Scalar, Words};
-
-/// The first word of an instruction.
-#[derive(Clone, Copy, PartialEq, Eq, Debug)]
-pub enum Keyword {
-    Const,
-    Plus,
-}
+use crate::keyword::{Folding, Keyword};
+use crate::language::Language;
+use vcode_base::{Arith, Comparison, Logic, StackMove};
 
 /// What a word begins, where an item of a function or a function must stand.
 #[derive(Clone, Copy, PartialEq, Eq, Debug)]
 pub enum Head {
     Func,
     Return,
+    If,
     Else,
     Endif,
     Start(Keyword),
@@ -27,19 +20,9 @@ pub enum Head {
     Other,
 }
 
-/// What some words of an instruction must be.
-#[derive(Clone, Copy, PartialEq, Eq, Debug)]
-pub enum Slot {
-    /// The kind `INT`.
-    Int,
-    /// A number, or numbers in parentheses.
-    Ints,
-}
-
-/// What a word begins.
-#[tactic(auto, unfolding(crate::specs::Heads::head_of))]
-pub fn head_of(word: &[u8]) -> Head
-    ensures { result ≡ head_of word.now }
+#[tactic(auto, unfolding(crate::specs::Heads::first_head))]
+fn first_head(word: &[u8]) -> Head
+    ensures { result ≡ first_head word.now }
 {
     match word {
         b"FUNC" => Head::Func,
@@ -47,63 +30,205 @@ pub fn head_of(word: &[u8]) -> Head
         b"ELSE" => Head::Else,
         b"ENDIF" => Head::Endif,
         b"CONST" => Head::Start(Keyword::Const),
-        b"+" => Head::Start(Keyword::Plus),
+        b"+" => Head::Start(Keyword::Arith(Arith::Add)),
         _ => Head::Other,
     }
 }
 
-impl Keyword {
-    /// What the words behind it must be.
-    pub fn slots(self) -> Slots
-        ensures { result ≡ slots_of self }
-    {
-        let left: &'static [Slot] = match self {
-            Keyword::Const => &[Slot::Int, Slot::Ints],
-            Keyword::Plus => &[Slot::Int],
-        };
-        Slots { left }
-    }
-
-    /// The instruction of this first word and of the numbers behind it.
-    pub fn instruction<A: Allocator>(self, numbers: Vec<i64, A>) -> Instruction<A>
-        ensures { result ≡ instruction_of self numbers.items }
-    {
-        match self {
-            Keyword::Const => Instr::Const(Scalar::Int, Words::from_vec(numbers)),
-            Keyword::Plus => Instr::Elementwise(Elementwise::Arith(Arith::Add)),
-        }
+/// Words of one byte.
+#[tactic(auto, unfolding(crate::specs::Heads::of_one))]
+fn of_one(word: &[u8]) -> Head
+    ensures { result ≡ of_one word.now }
+{
+    match word {
+        b"+" => Head::Start(Keyword::Arith(Arith::Add)),
+        b"-" => Head::Start(Keyword::Arith(Arith::Subtract)),
+        b"*" => Head::Start(Keyword::Arith(Arith::Multiply)),
+        b"/" => Head::Start(Keyword::Arith(Arith::Divide)),
+        b"%" => Head::Start(Keyword::Arith(Arith::Remainder)),
+        b"<" => Head::Start(Keyword::Compare(Comparison::Less)),
+        b">" => Head::Start(Keyword::Compare(Comparison::Greater)),
+        b"=" => Head::Start(Keyword::Compare(Comparison::Equal)),
+        _ => Head::Other,
     }
 }
 
-/// What the next words of an instruction must be, in order.
-#[derive(Drop)]
-pub struct Slots {
-    left: &'static [Slot],
-}
-
-impl Model for Slots {
-    ghost use Rattle.std.specs.Prelude.{List};
-    ghost use Rattle.vcode_reader.specs.declared.head.Slot.{Slot};
-
-    ghost Value = { List Slot };
-
-    ghost view = { λ s. s.left.now };
-}
-
-impl Slots {
-    /// Nothing is left.
-    pub fn none() -> Slots
-        ensures { result ≡ [] }
-    {
-        Slots { left: &[] }
+/// Words of two bytes.
+#[tactic(auto, unfolding(crate::specs::Heads::of_two))]
+fn of_two(word: &[u8]) -> Head
+    ensures { result ≡ of_two word.now }
+{
+    match word {
+        b"<=" => Head::Start(Keyword::Compare(Comparison::LessOrEqual)),
+        b">=" => Head::Start(Keyword::Compare(Comparison::GreaterOrEqual)),
+        b"!=" => Head::Start(Keyword::Compare(Comparison::NotEqual)),
+        b"OR" => Head::Start(Keyword::Logic(Logic::Or)),
+        b"IF" => Head::If,
+        _ => Head::Other,
     }
+}
 
-    /// Takes the next one off the front.
-    pub fn next(&mut self) -> Option<Slot>
-        ensures { TakesOff result self.old self.new }
-    {
-        let (next, left) = self.left.split_first()?;
-        self.left = left;
-        Some(*next)
+/// Words of three bytes.
+#[tactic(auto, unfolding(crate::specs::Heads::of_three))]
+fn of_three(word: &[u8]) -> Head
+    ensures { result ≡ of_three word.now }
+{
+    match word {
+        b"RET" => Head::Return,
+        b"POP" => Head::Start(Keyword::Move(StackMove::Pop)),
+        b"AND" => Head::Start(Keyword::Logic(Logic::And)),
+        b"XOR" => Head::Start(Keyword::Logic(Logic::Xor)),
+        b"NOT" => Head::Start(Keyword::Not),
+        _ => Head::Other,
+    }
+}
+
+/// Words of four bytes.
+#[tactic(auto, unfolding(crate::specs::Heads::of_four))]
+fn of_four(word: &[u8]) -> Head
+    ensures { result ≡ of_four word.now }
+{
+    match word {
+        b"FUNC" => Head::Func,
+        b"ELSE" => Head::Else,
+        b"CALL" => Head::Start(Keyword::Call),
+        b"COPY" => Head::Start(Keyword::Move(StackMove::Copy)),
+        b"CPOP" => Head::Start(Keyword::Move(StackMove::MoveToTop)),
+        b"DIST" => Head::Start(Keyword::Distribute),
+        b"PACK" => Head::Start(Keyword::Pack),
+        _ => Head::Other,
+    }
+}
+
+/// Words of five bytes.
+#[tactic(auto, unfolding(crate::specs::Heads::of_five))]
+fn of_five(word: &[u8]) -> Head
+    ensures { result ≡ of_five word.now }
+{
+    match word {
+        b"CONST" => Head::Start(Keyword::Const),
+        b"ENDIF" => Head::Endif,
+        b"INDEX" => Head::Start(Keyword::Index),
+        _ => Head::Other,
+    }
+}
+
+/// Words of six bytes.
+#[tactic(auto, unfolding(crate::specs::Heads::of_six))]
+fn of_six(word: &[u8]) -> Head
+    ensures { result ≡ of_six word.now }
+{
+    if word == b"LSHIFT".as_slice() {
+        Head::Start(Keyword::Arith(Arith::ShiftLeft))
+    } else if word == b"RSHIFT".as_slice() {
+        Head::Start(Keyword::Arith(Arith::ShiftRight))
+    } else if word == b"SELECT".as_slice() {
+        Head::Start(Keyword::Select)
+    } else if word == b"I_TO_B".as_slice() {
+        Head::Start(Keyword::IntToBool)
+    } else if word == b"B_TO_I".as_slice() {
+        Head::Start(Keyword::BoolToInt)
+    } else if word == b"+_SCAN".as_slice() {
+        Head::Start(Keyword::Scan(Folding::Sum))
+    } else if word == b"*_SCAN".as_slice() {
+        Head::Start(Keyword::Scan(Folding::Product))
+    } else {
+        Head::Other
+    }
+}
+
+/// Words of seven bytes.
+#[tactic(auto, unfolding(crate::specs::Heads::of_seven))]
+fn of_seven(word: &[u8]) -> Head
+    ensures { result ≡ of_seven word.now }
+{
+    if word == b"PERMUTE".as_slice() {
+        Head::Start(Keyword::Permute)
+    } else if word == b"EXTRACT".as_slice() {
+        Head::Start(Keyword::Extract)
+    } else if word == b"REPLACE".as_slice() {
+        Head::Start(Keyword::Replace)
+    } else if word == b"LENGTHS".as_slice() {
+        Head::Start(Keyword::Lengths)
+    } else if word == b"OR_SCAN".as_slice() {
+        Head::Start(Keyword::Scan(Folding::Logic(Logic::Or)))
+    } else {
+        Head::Other
+    }
+}
+
+/// Words of eight bytes.
+#[tactic(auto, unfolding(crate::specs::Heads::of_eight))]
+fn of_eight(word: &[u8]) -> Head
+    ensures { result ≡ of_eight word.now }
+{
+    if word == b"BPERMUTE".as_slice() {
+        Head::Start(Keyword::BackPermute)
+    } else if word == b"DPERMUTE".as_slice() {
+        Head::Start(Keyword::DefaultPermute)
+    } else if word == b"MAX_SCAN".as_slice() {
+        Head::Start(Keyword::Scan(Folding::Max))
+    } else if word == b"MIN_SCAN".as_slice() {
+        Head::Start(Keyword::Scan(Folding::Min))
+    } else if word == b"AND_SCAN".as_slice() {
+        Head::Start(Keyword::Scan(Folding::Logic(Logic::And)))
+    } else if word == b"XOR_SCAN".as_slice() {
+        Head::Start(Keyword::Scan(Folding::Logic(Logic::Xor)))
+    } else if word == b"+_REDUCE".as_slice() {
+        Head::Start(Keyword::Reduce(Folding::Sum))
+    } else if word == b"*_REDUCE".as_slice() {
+        Head::Start(Keyword::Reduce(Folding::Product))
+    } else {
+        Head::Other
+    }
+}
+
+/// Words of nine to eleven bytes.
+#[tactic(auto, unfolding(crate::specs::Heads::of_more))]
+fn of_more(word: &[u8]) -> Head
+    ensures { result ≡ of_more word.now }
+{
+    if word == b"OR_REDUCE".as_slice() {
+        Head::Start(Keyword::Reduce(Folding::Logic(Logic::Or)))
+    } else if word == b"MAX_REDUCE".as_slice() {
+        Head::Start(Keyword::Reduce(Folding::Max))
+    } else if word == b"MIN_REDUCE".as_slice() {
+        Head::Start(Keyword::Reduce(Folding::Min))
+    } else if word == b"AND_REDUCE".as_slice() {
+        Head::Start(Keyword::Reduce(Folding::Logic(Logic::And)))
+    } else if word == b"XOR_REDUCE".as_slice() {
+        Head::Start(Keyword::Reduce(Folding::Logic(Logic::Xor)))
+    } else if word == b"MAKE_SEGDES".as_slice() {
+        Head::Start(Keyword::MakeSegdes)
+    } else {
+        Head::Other
+    }
+}
+
+#[tactic(auto, unfolding(crate::specs::Heads::whole_head))]
+fn whole_head(word: &[u8]) -> Head
+    ensures { result ≡ whole_head word.now }
+{
+    match word.len() {
+        1 => of_one(word),
+        2 => of_two(word),
+        3 => of_three(word),
+        4 => of_four(word),
+        5 => of_five(word),
+        6 => of_six(word),
+        7 => of_seven(word),
+        8 => of_eight(word),
+        _ => of_more(word),
+    }
+}
+
+/// What a word begins in a language.
+#[tactic(auto, unfolding(crate::specs::Heads::head_of))]
+pub fn head_of(language: Language, word: &[u8]) -> Head
+    ensures { result ≡ head_of language word.now }
+{
+    match language {
+        Language::First => first_head(word),
+        Language::Whole => whole_head(word),
     }
 }

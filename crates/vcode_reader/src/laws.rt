@@ -1,12 +1,13 @@
 //! Laws of the definitions that the contracts cite, and of `==`: each is the contract of a function.
 
 ghost use Rattle.std.specs.Prelude.{◌≡◌, ◌↔◌, IsTrue};
+ghost use Rattle.vcode_reader.specs.Targets.{EachPartIsPassed};
 ghost use Rattle.vcode_reader.specs.First.{EveryTextIsRead, WholeTextsAreRead, OneProgram};
 
 use crate::program::Program;
 use std::alloc::Allocator;
 
-/// Whatever the text, its reading is by the grammar: the program that the grammar relates to its
+/// Whatever the text, its reading in a language is by the grammar of that language: the program that the grammar relates to its
 /// words, or else its first fault with the line.
 pub fn every_text_is_read()
     ensures { EveryTextIsRead }
@@ -21,6 +22,12 @@ pub fn whole_texts_are_read()
 /// The grammar relates words to one program at most.
 pub fn one_program()
     ensures { OneProgram }
+{}
+
+/// In any code, the target of an IF whose first part is a body is the place behind its ELSE, and that
+/// of an ELSE whose part is a body the place behind its ENDIF.
+pub fn each_part_is_passed()
+    ensures { EachPartIsPassed }
 {}
 
 /// Two programs are `==` exactly where all that they hold is equal.

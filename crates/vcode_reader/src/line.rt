@@ -1,5 +1,16 @@
 use vcode_base::Instruction;
 
+/// A line of the code: an instruction, or where an IF stands, its `ELSE` or its `ENDIF`.
+///
+/// An `ELSE` stands in the code of every IF, between its two parts, and has the line of its `IF`.
+#[derive(PartialEq, Eq, Debug, Drop)]
+pub enum Part<I> {
+    Do(I),
+    If,
+    Else,
+    Endif,
+}
+
 /// An item of the code and the number of its line: that of its first word.
 #[derive(PartialEq, Eq, Debug, Drop)]
 pub struct Line<I> {
@@ -8,4 +19,4 @@ pub struct Line<I> {
 }
 
 /// A line that owns the list or the name of its instruction.
-pub type CodeLine<A> = Line<Instruction<A>>;
+pub type CodeLine<A> = Line<Part<Instruction<A>>>;

@@ -1,7 +1,9 @@
-//! Numbers.
+//! Numbers and truth values.
 
 ghost use Rattle.std.specs.Prelude.{◌≡◌, ◌^◌};
-ghost use Rattle.vcode_reader.specs.Numbers.{below, decimal, number_of};
+ghost use Rattle.vcode_reader.specs.Numbers.{below, decimal, natural_of, number_of, truth_of, value_of};
+
+use vcode_base::Scalar;
 
 /// The value of one decimal digit or more, where it fits.
 fn decimal(digits: &[u8]) -> Option<u64>
@@ -32,5 +34,39 @@ pub fn number_of(word: &[u8]) -> Option<i64>
     match word {
         [b'-', digits @ ..] => 0i64.checked_sub_unsigned(decimal(digits)?),
         _ => 0i64.checked_add_unsigned(decimal(word)?),
+    }
+}
+
+/// The number that a word is, where it isn't negative.
+#[tactic(auto, unfolding(crate::specs::Numbers::natural_of))]
+pub fn natural_of(word: &[u8]) -> Option<u64>
+    ensures { result ≡ natural_of word.now }
+{
+    let number = number_of(word)?;
+    if number < 0 {
+        return None;
+    }
+    Some(number.unsigned_abs())
+}
+
+/// 1 for `T`, 0 for `F`.
+#[tactic(auto, unfolding(crate::specs::Numbers::truth_of))]
+fn truth_of(word: &[u8]) -> Option<i64>
+    ensures { result ≡ truth_of word.now }
+{
+    match word {
+        b"T" => Some(1),
+        b"F" => Some(0),
+        _ => None,
+    }
+}
+
+/// The value of this kind that a word is.
+pub fn value_of(kind: Scalar, word: &[u8]) -> Option<i64>
+    ensures { result ≡ value_of kind word.now }
+{
+    match kind {
+        Scalar::Int => number_of(word),
+        Scalar::Bool => truth_of(word),
     }
 }

@@ -1,26 +1,33 @@
 //! A text, word by word.
 
-ghost use Rattle.std.specs.Prelude.{◌≡◌, OnOk, IfOk};
-ghost use Rattle.vcode_reader.specs.Parsing.{start, refused, goes_on, one_number, in_slot, one_element, in_list, outside, is_parenthesis, is_no_name, has_name, naming, returned, inside, is_bad_byte, is_bad, no_number, take};
-ghost use Rattle.vcode_reader.specs.Numbers.{number_of};
+ghost use Rattle.std.specs.Prelude.{◌≡◌, false, OnOk, IfOk};
+ghost use Rattle.vcode_reader.specs.declared.head.Head.TheVariants.{Return, If, Else, Endif};
+ghost use Rattle.vcode_reader.specs.Drafts.{is_open};
+ghost use Rattle.vcode_reader.specs.Parsing.{start, refused, goes_on, item_place, settled, with_kind, with_value, with_lower, with_upper, with_callee, in_slot, one_element, in_list, outside, has_name, naming, returned, inside, take};
+ghost use Rattle.vcode_reader.specs.Parsing.{is_no_name, no_value, int_of, kind_of, count_in};
+ghost use Rattle.vcode_reader.specs.Numbers.{natural_of, value_of};
 ghost use Rattle.vcode_reader.specs.Reading.{ended, Gives};
 
+use crate::code::Draft;
 use crate::fault::{ReadFault, Refusal};
-use crate::head::{Head, Keyword, Slot, Slots, head_of};
-use crate::line::{CodeLine, Line};
-use crate::number::number_of;
+use crate::head::{Head, head_of};
+use crate::keyword::{Keyword, Slot, Slots};
+use crate::language::Language;
+use crate::number::value_of;
+use crate::parts::{Gathered, no_parts};
 use crate::place::Place;
 use crate::program::Function;
+use crate::word::{GREATEST_NAME, count_in, int_of, is_no_name, kind_of, no_value};
 use std::alloc::{AllocError, Allocator};
 use std::marker::Model;
 use std::mem;
-use vcode_base::FunctionName;
-
-/// The most bytes of a name.
-const GREATEST_NAME: usize = 64;
+use vcode_base::{FunctionName, Scalar};
 
 /// The most functions of a program.
 const MOST_FUNCTIONS: usize = 512;
+
+/// The most IFs that are open at a time.
+const MOST_IFS: usize = 64;
 
 /// The most elements of a constant.
 const MOST_ELEMENTS: usize = 65_536;
@@ -28,13 +35,14 @@ const MOST_ELEMENTS: usize = 65_536;
 /// What the words so far come to, and what stands open behind them.
 #[derive(Drop)]
 pub struct Parser<A: Allocator> {
+    language: Language,
     functions: Vec<Function<A>, A>,
     place: Place,
     name: FunctionName<A>,
     line: u64,
-    code: Vec<CodeLine<A>, A>,
+    draft: Draft<A>,
     slots: Slots,
-    numbers: Vec<i64, A>,
+    parts: Gathered<A>,
     fault: Option<(Refusal, u64)>,
     alloc: A,
 }
@@ -47,16 +55,17 @@ impl<A: Allocator> Model for Parser<A> {
     ghost use Rattle.std.specs.Coded.{codes};
     ghost use Rattle.vcode_reader.specs.ParseCode.{parse_code};
 
-    ghost coded = { parse_code (Prim.hlevel codes) (Prim.hlevel codes) (Prim.hlevel codes) (Prim.hlevel codes) };
+    ghost coded = { parse_code (Prim.hlevel codes) (Prim.hlevel codes) (Prim.hlevel codes) (Prim.hlevel codes) (Prim.hlevel codes) (Prim.hlevel codes) (Prim.hlevel codes) };
 
     ghost view = { λ p. record {
+      language = p.language;
       functions = p.functions.items;
       place = p.place;
       name = p.name;
       line = p.line;
-      code = p.code.items;
+      draft = p.draft;
       slots = p.slots;
-      numbers = p.numbers.items;
+      parts = p.parts;
       fault = p.fault;
     } };
 }
@@ -72,19 +81,14 @@ fn has_name<A: Allocator>(word: &[u8], functions: &[Function<A>]) -> bool
     false
 }
 
-fn is_bad_byte(byte: u8) -> bool
-    ensures { result ≡ is_bad_byte byte }
+/// Where an item may stand, or where `int` also a word `INT`.
+fn item_place(int: bool) -> Place
+    ensures { result ≡ item_place int }
 {
-    byte < 33 || byte > 126 || byte == b'{' || byte == b'}'
-}
-
-/// Is the word a byte that stands in no text?
-fn is_bad(word: &[u8]) -> bool
-    ensures { result ≡ is_bad word.now }
-{
-    match word {
-        [byte] => is_bad_byte(*byte),
-        _ => false,
+    if int {
+        Place::InsideOrInt
+    } else {
+        Place::Inside
     }
 }
 
@@ -94,42 +98,20 @@ fn name_of<A: Allocator>(alloc: A, word: &[u8]) -> Result<FunctionName<A>, Alloc
     Ok(FunctionName::from_vec(word.to_vec(alloc)?))
 }
 
-fn is_parenthesis(word: &[u8]) -> bool
-    ensures { result ≡ is_parenthesis word.now }
-{
-    word == b"(".as_slice() || word == b")".as_slice()
-}
-
-fn is_no_name(word: &[u8]) -> bool
-    ensures { result ≡ is_no_name word.now }
-{
-    is_parenthesis(word) || is_bad(word)
-}
-
-/// What is wrong with a word that is not the number that must stand.
-fn no_number(word: &[u8]) -> Refusal
-    ensures { result ≡ no_number word.now }
-{
-    if is_bad(word) {
-        Refusal::BadWord
-    } else {
-        Refusal::BadNumber
-    }
-}
-
 impl<A: Allocator + Clone> Parser<A> {
-    /// Before the first word.
-    pub fn new(alloc: A) -> Result<Parser<A>, AllocError>
-        ensures { IfOk result (λ p. p ≡ start) }
+    /// Before the first word of a text in this language.
+    pub fn new(alloc: A, language: Language) -> Result<Parser<A>, AllocError>
+        ensures { IfOk result (λ p. p ≡ start language) }
     {
         Ok(Parser {
+            language,
             functions: Vec::new(alloc.clone()?),
             place: Place::Outside,
             name: FunctionName::from_vec(Vec::new(alloc.clone()?)),
             line: 0,
-            code: Vec::new(alloc.clone()?),
+            draft: Draft::new(alloc.clone()?)?,
             slots: Slots::none(),
-            numbers: Vec::new(alloc.clone()?),
+            parts: no_parts(&alloc)?,
             fault: None,
             alloc,
         })
@@ -147,35 +129,110 @@ impl<A: Allocator + Clone> Parser<A> {
         match self.slots.next() {
             Some(slot) => self.place = Place::Words(keyword, slot, begun),
             None => {
-                let rest = Vec::new(self.alloc.clone()?);
-                let item = keyword.instruction(mem::replace(&mut self.numbers, rest));
-                self.code.push(Line {
-                    item,
-                    number: begun,
-                })?;
-                self.place = Place::Inside;
+                let rest = no_parts(&self.alloc)?;
+                let item = keyword.instruction(mem::replace(&mut self.parts, rest));
+                self.draft.push(item, begun)?;
+                self.place = item_place(keyword.takes_int());
             }
         }
         Ok(())
     }
 
-    /// Takes the one number of a constant that has no parentheses.
-    fn one_number(
+    /// Takes the word that gives the kind, where it is one.
+    fn kind(
+        &mut self,
+        kind: Option<Scalar>,
+        keyword: Keyword,
+        begun: u64,
+        line: u64,
+    ) -> Result<(), AllocError>
+        ensures { OnOk result (self.new ≡ settled (with_kind kind self.old.parts) keyword begun line self.old) }
+    {
+        match kind {
+            None => self.refuse(Refusal::BadWord, line),
+            Some(kind) => {
+                self.parts.kind = kind;
+                self.go_on(keyword, begun)?;
+            }
+        }
+        Ok(())
+    }
+
+    /// Takes the one value of a constant that has no parentheses.
+    fn one_value(
         &mut self,
         keyword: Keyword,
         begun: u64,
         word: &[u8],
         line: u64,
     ) -> Result<(), AllocError>
-        ensures { OnOk result (self.new ≡ one_number (number_of word.now) keyword begun word.now line self.old) }
+        ensures { OnOk result (self.new ≡ settled (with_value (value_of self.old.parts.kind word.now) word.now self.old.parts) keyword begun line self.old) }
     {
-        match number_of(word) {
-            None => self.refuse(no_number(word), line),
+        match value_of(self.parts.kind, word) {
+            None => self.refuse(no_value(self.parts.kind, word), line),
             Some(n) => {
-                self.numbers.clear();
-                self.numbers.push(n)?;
+                self.parts.numbers.clear();
+                self.parts.numbers.push(n)?;
                 self.go_on(keyword, begun)?;
             }
+        }
+        Ok(())
+    }
+
+    fn lower(
+        &mut self,
+        keyword: Keyword,
+        begun: u64,
+        word: &[u8],
+        line: u64,
+    ) -> Result<(), AllocError>
+        ensures { OnOk result (self.new ≡ settled (with_lower (count_in (natural_of word.now) word.now) self.old.parts) keyword begun line self.old) }
+    {
+        match count_in(word) {
+            Err(refusal) => self.refuse(refusal, line),
+            Ok(count) => {
+                self.parts.lower = count;
+                self.go_on(keyword, begun)?;
+            }
+        }
+        Ok(())
+    }
+
+    fn upper(
+        &mut self,
+        keyword: Keyword,
+        begun: u64,
+        word: &[u8],
+        line: u64,
+    ) -> Result<(), AllocError>
+        ensures { OnOk result (self.new ≡ settled (with_upper (count_in (natural_of word.now) word.now) self.old.parts) keyword begun line self.old) }
+    {
+        match count_in(word) {
+            Err(refusal) => self.refuse(refusal, line),
+            Ok(count) => {
+                self.parts.upper = count;
+                self.go_on(keyword, begun)?;
+            }
+        }
+        Ok(())
+    }
+
+    fn callee(
+        &mut self,
+        keyword: Keyword,
+        begun: u64,
+        word: &[u8],
+        line: u64,
+    ) -> Result<(), AllocError>
+        ensures { OnOk result (self.new ≡ settled (with_callee word.now self.old.parts) keyword begun line self.old) }
+    {
+        if is_no_name(word) {
+            self.refuse(Refusal::BadWord, line);
+        } else if word.len() > GREATEST_NAME {
+            self.refuse(Refusal::TooLarge, line);
+        } else {
+            self.parts.callee = name_of(self.alloc.clone()?, word)?;
+            self.go_on(keyword, begun)?;
         }
         Ok(())
     }
@@ -191,33 +248,31 @@ impl<A: Allocator + Clone> Parser<A> {
         ensures { OnOk result (self.new ≡ in_slot slot keyword begun word.now line self.old) }
     {
         match slot {
-            Slot::Int => {
-                if word == b"INT".as_slice() {
-                    self.go_on(keyword, begun)?;
-                } else {
-                    self.refuse(Refusal::BadWord, line);
-                }
-            }
-            Slot::Ints => {
+            Slot::Int => self.kind(int_of(word), keyword, begun, line),
+            Slot::Kind => self.kind(kind_of(word), keyword, begun, line),
+            Slot::Values => {
                 if word == b"(".as_slice() {
-                    self.numbers.clear();
+                    self.parts.numbers.clear();
                     self.place = Place::Elements(keyword, begun, line);
+                    Ok(())
                 } else {
-                    self.one_number(keyword, begun, word, line)?;
+                    self.one_value(keyword, begun, word, line)
                 }
             }
+            Slot::Lower => self.lower(keyword, begun, word, line),
+            Slot::Upper => self.upper(keyword, begun, word, line),
+            Slot::Callee => self.callee(keyword, begun, word, line),
         }
-        Ok(())
     }
 
     fn one_element(&mut self, word: &[u8], line: u64) -> Result<(), AllocError>
-        ensures { OnOk result (self.new ≡ one_element (number_of word.now) word.now line self.old) }
+        ensures { OnOk result (self.new ≡ one_element (value_of self.old.parts.kind word.now) word.now line self.old) }
     {
-        match number_of(word) {
-            None => self.refuse(no_number(word), line),
+        match value_of(self.parts.kind, word) {
+            None => self.refuse(no_value(self.parts.kind, word), line),
             Some(n) => {
-                if self.numbers.len() < MOST_ELEMENTS {
-                    self.numbers.push(n)?;
+                if self.parts.numbers.len() < MOST_ELEMENTS {
+                    self.parts.numbers.push(n)?;
                 } else {
                     self.refuse(Refusal::TooLarge, line);
                 }
@@ -276,16 +331,63 @@ impl<A: Allocator + Clone> Parser<A> {
     }
 
     fn returned(&mut self, line: u64) -> Result<(), AllocError>
+        requires { is_open self.old.draft.ifs ≡ false }
         ensures { OnOk result (self.new ≡ returned line self.old) }
     {
         let no_name = FunctionName::from_vec(Vec::new(self.alloc.clone()?));
-        let no_code = Vec::new(self.alloc.clone()?);
+        let no_lines = Draft::new(self.alloc.clone()?)?;
         let name = mem::replace(&mut self.name, no_name);
-        let code = mem::replace(&mut self.code, no_code);
+        let draft = mem::replace(&mut self.draft, no_lines);
         self.functions
-            .push(Function::new(name, self.line, code, line)?)?;
+            .push(Function::new(name, self.line, draft, line)?)?;
         self.line = 0;
         self.place = Place::Outside;
+        Ok(())
+    }
+
+    fn at_return(&mut self, line: u64) -> Result<(), AllocError>
+        ensures { OnOk result (self.new ≡ inside Return line self.old) }
+    {
+        if self.draft.is_open() {
+            self.refuse(Refusal::Misplaced, line);
+            return Ok(());
+        }
+        self.returned(line)
+    }
+
+    fn at_if(&mut self, line: u64) -> Result<(), AllocError>
+        ensures { OnOk result (self.new ≡ inside If line self.old) }
+    {
+        if self.draft.depth() < MOST_IFS {
+            self.draft.begin_if(line)?;
+            self.place = Place::Inside;
+        } else {
+            self.refuse(Refusal::TooLarge, line);
+        }
+        Ok(())
+    }
+
+    fn at_else(&mut self, line: u64) -> Result<(), AllocError>
+        ensures { OnOk result (self.new ≡ inside Else line self.old) }
+    {
+        if self.draft.takes_else() {
+            self.draft.begin_else()?;
+            self.place = Place::Inside;
+        } else {
+            self.refuse(Refusal::Misplaced, line);
+        }
+        Ok(())
+    }
+
+    fn at_endif(&mut self, line: u64) -> Result<(), AllocError>
+        ensures { OnOk result (self.new ≡ inside Endif line self.old) }
+    {
+        if self.draft.is_open() {
+            self.draft.end_if(line)?;
+            self.place = Place::Inside;
+        } else {
+            self.refuse(Refusal::Misplaced, line);
+        }
         Ok(())
     }
 
@@ -293,13 +395,16 @@ impl<A: Allocator + Clone> Parser<A> {
         ensures { OnOk result (self.new ≡ inside head line self.old) }
     {
         match head {
-            Head::Return => self.returned(line)?,
+            Head::Return => self.at_return(line)?,
+            Head::If => self.at_if(line)?,
+            Head::Else => self.at_else(line)?,
+            Head::Endif => self.at_endif(line)?,
             Head::Start(keyword) => {
-                self.slots = keyword.slots();
+                self.slots = keyword.slots(self.language);
                 self.go_on(keyword, line)?;
             }
             Head::Other => self.refuse(Refusal::BadWord, line),
-            _ => self.refuse(Refusal::Misplaced, line),
+            Head::Func => self.refuse(Refusal::Misplaced, line),
         }
         Ok(())
     }
@@ -313,9 +418,16 @@ impl<A: Allocator + Clone> Parser<A> {
             return Ok(());
         }
         match self.place {
-            Place::Outside => self.outside(head_of(word), line),
+            Place::Outside => self.outside(head_of(self.language, word), line),
             Place::Name => self.naming(word, line)?,
-            Place::Inside => self.inside(head_of(word), line)?,
+            Place::Inside => self.inside(head_of(self.language, word), line)?,
+            Place::InsideOrInt => {
+                if word == b"INT".as_slice() {
+                    self.place = Place::Inside;
+                } else {
+                    self.inside(head_of(self.language, word), line)?;
+                }
+            }
             Place::Words(keyword, slot, begun) => {
                 self.in_slot(slot, keyword, begun, word, line)?
             }
@@ -336,9 +448,11 @@ impl<A: Allocator + Clone> Parser<A> {
         }
         let line = match self.place {
             Place::Outside => return Ok(self.functions),
-            Place::Name | Place::Inside => self.line,
             Place::Words(_, _, begun) => begun,
             Place::Elements(_, _, opened) => opened,
+            Place::Name => self.line,
+            Place::Inside => self.draft.innermost(self.line),
+            Place::InsideOrInt => self.draft.innermost(self.line),
         };
         Err(ReadFault::At(Refusal::Unfinished, line))
     }

@@ -1,6 +1,15 @@
 //! Where the next word stands.
 
-use crate::head::{Keyword, Slot};
+use crate::keyword::{Keyword, Slot};
+
+/// An IF that waits for its `ENDIF`.
+#[derive(Clone, Copy, PartialEq, Eq, Debug)]
+pub struct OpenIf {
+    /// The line of the IF.
+    pub line: u64,
+    /// Its `ELSE` has come.
+    pub has_else: bool,
+}
 
 /// What the next word may be.
 #[derive(Clone, Copy, PartialEq, Eq, Debug)]
@@ -11,6 +20,8 @@ pub enum Place {
     Name,
     /// An item of a function.
     Inside,
+    /// An item of a function, or the word `INT`, which means nothing here.
+    InsideOrInt,
     /// A word of the instruction that begins with this keyword at this line.
     Words(Keyword, Slot, u64),
     /// An element or the end of a list of this instruction: the line where the instruction begins,

@@ -1,10 +1,13 @@
-ghost use Rattle.std.specs.Prelude.{◌≡◌, IfOk, position, option_copied};
+ghost use Rattle.std.specs.Prelude.{◌≡◌, false, IfOk, position, option_copied};
 ghost use Rattle.std.specs.List.{slice_get};
 ghost use Rattle.std.specs.Str.{bytes_eq};
+ghost use Rattle.vcode_reader.specs.Targets.{target_at};
 ghost use Rattle.vcode_reader.specs.Trees.{lines_of};
 ghost use Rattle.vcode_reader.specs.Decode.{tree_of};
+ghost use Rattle.vcode_reader.specs.Drafts.{is_open};
 
-use crate::line::{CodeLine, Line};
+use crate::code::{Draft, targets_of};
+use crate::line::{CodeLine, Line, Part};
 use crate::sequence::Sequence;
 use std::alloc::{AllocError, Allocator};
 use std::marker::Model;
@@ -18,6 +21,7 @@ pub struct Function<A: Allocator> {
     name: FunctionName<A>,
     begun: u64,
     lines: Sequence<CodeLine<A>, A>,
+    targets: Sequence<Option<usize>, A>,
 }
 
 impl<A: Allocator> Model for Function<A> {
@@ -25,22 +29,22 @@ impl<A: Allocator> Model for Function<A> {
 
     ghost Value = { FunctionTree };
 
-    ghost use Rattle.std.specs.Prelude.{List};
+    ghost use Rattle.std.specs.Prelude.{ℕ, List, Option, ◌≡◌};
     ghost use Rattle.std.specs.Coded.{codes};
-    ghost use Rattle.std.proofs.Common.{ap};
-    ghost use Rattle.vcode_reader.specs.declared.line.Line.{Line};
-    ghost use Rattle.vcode_reader.specs.Trees.{Item, lines_of};
+    ghost use Rattle.std.proofs.Common.{ap, sym, ◌∙◌};
+    ghost use Rattle.vcode_reader.specs.Trees.{CodeLine, lines_of};
     ghost use Rattle.vcode_reader.specs.Decode.{function_of, function_code, AreLines};
+    ghost use Rattle.vcode_reader.specs.Targets.{targets_of};
 
     ghost coded = { function_code (Prim.hlevel codes) };
 
     ghost view = { λ f. function_of f.name f.begun f.lines };
 
-    ghost invariant = { λ f. AreLines f.name f.begun f.lines };
+    ghost invariant = { λ f. AreLines f.name f.begun f.lines × (f.targets ≡ targets_of f.lines) };
 
-    ghost inverse = { λ f. record { name = f.name; begun = f.line; lines = lines_of f } };
+    ghost inverse = { λ f. record { name = f.name; begun = f.line; lines = lines_of f; targets = targets_of (lines_of f) } };
 
-    ghost inverse_ok = { λ f h. ap (λ (ls : List (Line Item)). record f { lines = ls }) h };
+    ghost inverse_ok = { λ f h. ap (λ (ls : List CodeLine). record f { lines = ls; targets = targets_of ls }) h.0 ∙ ap (λ (ts : List (Option ℕ)). record f { targets = ts }) (sym h.1) };
 }
 
 impl<A: Allocator> Function<A> {
@@ -48,18 +52,24 @@ impl<A: Allocator> Function<A> {
     pub(crate) fn new(
         name: FunctionName<A>,
         line: u64,
-        mut lines: Vec<CodeLine<A>, A>,
+        draft: Draft<A>,
         ret: u64,
     ) -> Result<Function<A>, AllocError>
-        ensures { IfOk result (λ f. f ≡ record { name = name; line = line; body = tree_of lines.items; ret = ret }) }
+    where
+        A: Clone,
+        requires { is_open draft.ifs ≡ false }
+        ensures { IfOk result (λ f. f ≡ record { name = name; line = line; body = tree_of draft.lines; ret = ret }) }
     {
+        let mut lines = draft.into_vec();
         lines.push(Line {
-            item: Instr::Return,
+            item: Part::Do(Instr::Return),
             number: ret,
         })?;
+        let targets = targets_of(lines.allocator().clone()?, lines.as_slice())?;
         Ok(Function {
             name,
             begun: line,
+            targets: Sequence::from_vec(targets),
             lines: Sequence::from_vec(lines),
         })
     }
@@ -78,18 +88,26 @@ impl<A: Allocator> Function<A> {
         self.begun
     }
 
-    /// Its items in the order of the text, the last of which is its `RET`.
+    /// Its lines in the order of the text, the last of which is its `RET`.
     pub fn lines(&self) -> &[CodeLine<A>]
         ensures { result.now ≡ lines_of self.now }
     {
         self.lines.as_slice()
     }
 
-    /// The item at a place, counted from 0, where there is one.
+    /// The line at a place, counted from 0, where there is one.
     pub fn item(&self, place: usize) -> Option<&CodeLine<A>>
         ensures { option_copied result ≡ slice_get (lines_of self.now) place }
     {
         self.lines().get(place)
+    }
+
+    /// Where the line at a place goes on, where that isn't the next: an IF without its first part
+    /// behind its ELSE, and an ELSE behind its ENDIF. None at any other place.
+    pub fn target(&self, place: usize) -> Option<usize>
+        ensures { result ≡ target_at (lines_of self.now) place }
+    {
+        *self.targets.as_slice().get(place)?
     }
 }
 

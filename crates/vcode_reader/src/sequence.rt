@@ -1,8 +1,8 @@
 //! Lists that contracts see as lists.
 
-ghost use Rattle.std.specs.Prelude.{◌≡◌};
+ghost use Rattle.std.specs.Prelude.{◌≡◌, [], ◌∷◌, ◌++◌, length, OnOk};
 
-use std::alloc::Allocator;
+use std::alloc::{AllocError, Allocator};
 use std::marker::Model;
 
 /// The elements of a `Vec`, in order.
@@ -26,10 +26,42 @@ impl<T, A: Allocator> Sequence<T, A> {
         Sequence { elements }
     }
 
+    /// The elements again.
+    pub fn into_vec(self) -> Vec<T, A>
+        ensures { result.items ≡ self }
+    {
+        let Sequence { elements } = self;
+        elements
+    }
+
     pub fn as_slice(&self) -> &[T]
         ensures { result.now ≡ self.now }
     {
         self.elements.as_slice()
+    }
+
+    /// How many elements there are.
+    pub fn len(&self) -> usize
+        ensures { result ≡ length self.now }
+    {
+        self.elements.len()
+    }
+}
+
+impl<T: Drop, A: Allocator> Sequence<T, A> {
+    /// One element more.
+    pub fn push(&mut self, element: T) -> Result<(), AllocError>
+        ensures { OnOk result (self.new ≡ self.old ++ element ∷ []) }
+    {
+        self.elements.push(element)?;
+        Ok(())
+    }
+
+    /// No element more.
+    pub fn clear(&mut self)
+        ensures { self.new ≡ [] }
+    {
+        self.elements.clear();
     }
 }
 

@@ -5,7 +5,7 @@ use Rattle.vcode_reader.proofs.reader.CodeReader.feed.Goals as goal
 
 pub returns-else-is_err-clause-fed : goal.returns-else-is_err-clause-fed
 returns-else-is_err-clause-fed g c =
-    fed_all c.bytes-fed.result c.args.self.now c.self.inside.scanner _ c.self.inside.first_line c.self.inside.failed c.args.piece.now (sym c.self.view_is) c.if-self.false c.bytes-fed.ensures
+    fed_all c.bytes-fed.result c.args.self.now c.self.inside.scanner _ c.self.inside.language c.self.inside.first_line c.self.inside.failed c.args.piece.now (sym c.self.view_is) c.if-self.false c.bytes-fed.ensures
 
 pub returns-else-is_err-clause-line : goal.returns-else-is_err-clause-line
 returns-else-is_err-clause-line g c =

@@ -1,0 +1,5 @@
+use Rattle.vcode_reader.proofs.Drafting.{empty_draft}
+use Rattle.vcode_reader.proofs.code.Draft.new.Goals as goal
+
+pub invariant_of-result : goal.invariant_of-result
+invariant_of-result g c = empty_draft c.new.result.items c.new-2.result c.new.ensures.items c.new-2.ensures

@@ -1,0 +1,49 @@
+-- Where the code goes on, where that isn't the next line: an IF behind its ELSE, and an ELSE behind its ENDIF.
+use Rattle.std.specs.Prelude.{◌≡◌, ℕ, ◌+◌, List, [], ◌∷◌, ◌++◌, length, drop, Option, Some, None, slice_get}
+use Rattle.vcode_reader.specs.declared.line.Part.{Part}
+use Rattle.vcode_reader.specs.declared.line.Part.TheVariants as part
+use Rattle.vcode_reader.specs.Trees.{Item, Body, CodeLine, line_of, flat}
+
+-- the targets of a tail of the code, and the places behind its lines that an earlier IF or ELSE goes on at
+pub record Jumps : Type 0 where
+  pub list : List (Option ℕ)
+  pub waits : List ℕ
+
+abbrev pub first_of : {A : Type 0} → List A → Option A
+first_of [] = None
+first_of (x ∷ xs) = Some x
+
+abbrev pub others_of : {A : Type 0} → List A → List A
+others_of [] = []
+others_of (x ∷ xs) = xs
+
+-- one line more in front, at this place
+abbrev pub jumps_before : Part Item → ℕ → Jumps → Jumps
+jumps_before (part.Do i) place j = record { list = None ∷ j.list; waits = j.waits }
+jumps_before part.If place j = record { list = first_of j.waits ∷ j.list; waits = others_of j.waits }
+jumps_before part.Else place j = record { list = first_of j.waits ∷ j.list; waits = (place + 1) ∷ others_of j.waits }
+jumps_before part.Endif place j = record { list = None ∷ j.list; waits = (place + 1) ∷ j.waits }
+
+-- the lines from this place on
+unfoldable pub jumps_from : ℕ → List CodeLine → Jumps
+jumps_from place [] = record { list = []; waits = [] }
+jumps_from place (x ∷ xs) = jumps_before x.item place (jumps_from (place + 1) xs)
+
+unfoldable pub targets_of : List CodeLine → List (Option ℕ)
+targets_of lines = (jumps_from 0 lines).list
+
+-- where the line at a place goes on, where that isn't the next
+abbrev pub target_in : Option (Option ℕ) → Option ℕ
+target_in None = None
+target_in (Some target) = target
+
+abbrev pub target_at : List CodeLine → ℕ → Option ℕ
+target_at lines place = target_in (slice_get (targets_of lines) place)
+
+-- The target at the place of a line that begins a part of an IF is the place behind the line that ends the part: for an
+-- IF the first line behind its ELSE, for an ELSE the first line behind its ENDIF.
+abbrev pub EachPartIsPassed : Type 0
+EachPartIsPassed =
+    (lines : List CodeLine) (place line number : ℕ) (inner : Body) (rest : List CodeLine) →
+    (drop place lines ≡ line_of part.If line ∷ (flat inner ++ line_of part.Else number ∷ rest) → target_at lines place ≡ Some (place + length (flat inner) + 2))
+    × (drop place lines ≡ line_of part.Else line ∷ (flat inner ++ line_of part.Endif number ∷ rest) → target_at lines place ≡ Some (place + length (flat inner) + 2))

@@ -1,0 +1,337 @@
+//! The lines of a function, and where they go on.
+
+ghost use Rattle.std.specs.Prelude.{◌≡◌, ◌+◌, ◌<◌, ◌^◌, ◌++◌, [], ◌∷◌, true, false, length, IfOk, OnOk, OnErr, IsErr, option_copied};
+ghost use Rattle.vcode_reader.specs.Trees.{line_of};
+ghost use Rattle.vcode_reader.specs.Drafts.{no_lines, with_item, with_if, with_else, closed, with_endif, takes_else, is_open, innermost};
+ghost use Rattle.vcode_reader.specs.Targets.{first_of, others_of, jumps_before, jumps_from, targets_of};
+ghost use Rattle.vcode_reader.specs.Decode.{IsFlat};
+
+use crate::line::{CodeLine, Line, Part};
+use crate::place::OpenIf;
+use std::alloc::{AllocError, Allocator};
+use std::marker::Model;
+use vcode_base::Instruction;
+
+/// The lines of a body that is being read, with its open IFs.
+#[derive(Drop)]
+pub struct Draft<A: Allocator> {
+    lines: Vec<CodeLine<A>, A>,
+    ifs: Stack<OpenIf, A>,
+}
+
+impl<A: Allocator> Model for Draft<A> {
+    ghost use Rattle.vcode_reader.specs.Drafts.{Drafted, draft_code, IsDraft};
+    ghost use Rattle.std.specs.Coded.{codes};
+
+    ghost Value = { Drafted };
+
+    ghost coded = { draft_code (Prim.hlevel codes) (Prim.hlevel codes) };
+
+    ghost view = { λ d. record { lines = d.lines.items; ifs = d.ifs } };
+
+    ghost invariant = { λ d. IsDraft d.ifs d.lines.items };
+}
+
+impl<A: Allocator + Clone> Draft<A> {
+    /// No line.
+    pub fn new(alloc: A) -> Result<Draft<A>, AllocError>
+        ensures { IfOk result (λ d. d ≡ no_lines) }
+    {
+        Ok(Draft {
+            lines: Vec::new(alloc.clone()?),
+            ifs: Stack::new(alloc),
+        })
+    }
+}
+
+impl<A: Allocator> Draft<A> {
+    /// One instruction more, which stands on this line.
+    pub fn push(&mut self, instruction: Instruction<A>, line: u64) -> Result<(), AllocError>
+        ensures { OnOk result (self.new ≡ with_item instruction line self.old) }
+    {
+        self.lines.push(Line {
+            item: Part::Do(instruction),
+            number: line,
+        })?;
+        Ok(())
+    }
+
+    /// An IF begins on this line.
+    pub fn begin_if(&mut self, line: u64) -> Result<(), AllocError>
+        ensures { OnOk result (self.new ≡ with_if line self.old) }
+    {
+        let open = OpenIf {
+            line,
+            has_else: false,
+        };
+        add_open(&mut self.lines, &mut self.ifs, Part::If, open)?;
+        Ok(())
+    }
+
+    /// Has the innermost IF no `ELSE` yet?
+    pub fn takes_else(&self) -> bool
+        ensures { result ≡ takes_else self.now.ifs }
+    {
+        match self.ifs.first() {
+            None => false,
+            Some(open) => !open.has_else,
+        }
+    }
+
+    /// How many IFs are open.
+    pub fn depth(&self) -> usize
+        ensures { result ≡ length self.now.ifs }
+    {
+        self.ifs.len()
+    }
+
+    /// Is an IF open?
+    pub fn is_open(&self) -> bool
+        ensures { result ≡ is_open self.now.ifs }
+    {
+        self.ifs.first().is_some()
+    }
+
+    /// The line of the innermost open IF, or else this one.
+    pub fn innermost(&self, line: u64) -> u64
+        ensures { result ≡ innermost self.now.ifs line }
+    {
+        match self.ifs.first() {
+            None => line,
+            Some(open) => open.line,
+        }
+    }
+
+    /// The `ELSE` of the innermost IF.
+    pub fn begin_else(&mut self) -> Result<(), AllocError>
+        requires { takes_else self.old.ifs ≡ true }
+        ensures { OnOk result (self.new ≡ with_else self.old) }
+    {
+        if let Some(opened) = self.ifs.pop() {
+            let passed = OpenIf {
+                line: opened.line,
+                has_else: true,
+            };
+            add_open(&mut self.lines, &mut self.ifs, Part::Else, passed)?;
+        }
+        Ok(())
+    }
+
+    /// The `ENDIF` of the innermost IF stands on this line. An IF that has no `ELSE` gets one.
+    pub fn end_if(&mut self, line: u64) -> Result<(), AllocError>
+        ensures { OnOk result (self.new ≡ with_endif line self.old) }
+    {
+        if let Some(opened) = self.ifs.pop() {
+            close(&mut self.lines, &mut self.ifs, opened, line)?;
+        }
+        Ok(())
+    }
+
+    /// The lines.
+    pub fn into_vec(self) -> Vec<CodeLine<A>, A>
+        ensures same { result.items ≡ self.lines }
+        ensures flat { is_open self.ifs ≡ false → IsFlat result.items }
+    {
+        let Draft { lines, ifs: _ } = self;
+        lines
+    }
+}
+
+/// After want of memory: no line and no open IF.
+fn give_up<A: Allocator>(
+    lines: &mut Vec<CodeLine<A>, A>,
+    ifs: &mut Stack<OpenIf, A>,
+) -> Result<(), AllocError>
+    ensures err { IsErr result }
+    ensures lines { lines.new.items ≡ [] }
+    ensures ifs { ifs.new ≡ [] }
+{
+    lines.clear();
+    ifs.clear();
+    Err(AllocError)
+}
+
+/// One open IF more, and this item on its line.
+fn add_open<A: Allocator>(
+    lines: &mut Vec<CodeLine<A>, A>,
+    ifs: &mut Stack<OpenIf, A>,
+    item: Part<Instruction<A>>,
+    opened: OpenIf,
+) -> Result<(), AllocError>
+    ensures lines { OnOk result (lines.new.items ≡ lines.old.items ++ line_of item opened.line ∷ []) }
+    ensures ifs { OnOk result (ifs.new ≡ opened ∷ ifs.old) }
+    ensures no_lines { OnErr result (lines.new.items ≡ []) }
+    ensures no_ifs { OnErr result (ifs.new ≡ []) }
+{
+    let line = Line {
+        item,
+        number: opened.line,
+    };
+    if ifs.push(opened).is_err() || lines.push(line).is_err() {
+        return give_up(lines, ifs);
+    }
+    Ok(())
+}
+
+/// The `ENDIF` of an IF that was taken off, behind an `ELSE` where the IF has none.
+fn close<A: Allocator>(
+    lines: &mut Vec<CodeLine<A>, A>,
+    ifs: &mut Stack<OpenIf, A>,
+    opened: OpenIf,
+    line: u64,
+) -> Result<(), AllocError>
+    ensures lines { OnOk result (lines.new.items ≡ closed opened line lines.old.items) }
+    ensures ifs { OnOk result (ifs.new ≡ ifs.old) }
+    ensures no_lines { OnErr result (lines.new.items ≡ []) }
+    ensures no_ifs { OnErr result (ifs.new ≡ []) }
+{
+    let between = Line {
+        item: Part::Else,
+        number: opened.line,
+    };
+    let last = Line {
+        item: Part::Endif,
+        number: line,
+    };
+    if !opened.has_else && lines.push(between).is_err() {
+        return give_up(lines, ifs);
+    }
+    if lines.push(last).is_err() {
+        return give_up(lines, ifs);
+    }
+    Ok(())
+}
+
+/// A list that grows and shrinks at its front.
+#[derive(Drop)]
+struct Stack<T, A: Allocator> {
+    elements: Vec<T, A>,
+}
+
+impl<T, A: Allocator> Model for Stack<T, A> {
+    ghost use Rattle.std.specs.Prelude.{List, reverse};
+
+    ghost Value = { List T };
+
+    ghost view = { λ s. reverse s.elements.items };
+}
+
+impl<T: Drop, A: Allocator> Stack<T, A> {
+    fn new(alloc: A) -> Stack<T, A>
+        ensures { result ≡ [] }
+    {
+        Stack {
+            elements: Vec::new(alloc),
+        }
+    }
+
+    fn push(&mut self, element: T) -> Result<(), AllocError>
+        ensures { OnOk result (self.new ≡ element ∷ self.old) }
+    {
+        self.elements.push(element)?;
+        Ok(())
+    }
+
+    fn pop(&mut self) -> Option<T>
+        ensures first { result ≡ first_of self.old }
+        ensures others { self.new ≡ others_of self.old }
+    {
+        self.elements.pop()
+    }
+
+    fn clear(&mut self)
+        ensures { self.new ≡ [] }
+    {
+        self.elements.clear();
+    }
+
+    fn len(&self) -> usize
+        ensures { result ≡ length self.now }
+    {
+        self.elements.len()
+    }
+
+    fn first(&self) -> Option<&T>
+        ensures { option_copied result ≡ first_of self.now }
+    {
+        self.elements.last()
+    }
+
+    fn into_vec(self) -> Vec<T, A>
+        ensures { result.items ≡ self }
+    {
+        let Stack { mut elements } = self;
+        elements.reverse();
+        elements
+    }
+}
+
+/// The targets from a place on, and the places that wait for an earlier IF or ELSE.
+#[derive(Drop)]
+struct Finder<A: Allocator> {
+    targets: Stack<Option<usize>, A>,
+    waits: Stack<usize, A>,
+}
+
+impl<A: Allocator> Model for Finder<A> {
+    ghost use Rattle.vcode_reader.specs.Targets.{Jumps};
+
+    ghost Value = { Jumps };
+
+    ghost view = { λ f. record { list = f.targets; waits = f.waits } };
+}
+
+impl<A: Allocator> Finder<A> {
+    fn before(&mut self, item: &Part<Instruction<A>>, place: usize) -> Result<(), AllocError>
+        requires { place + 1 < 2 ^ 64 }
+        ensures { OnOk result (self.new ≡ jumps_before item.now place self.old) }
+    {
+        match item {
+            Part::Do(_) => self.targets.push(None)?,
+            Part::If => {
+                let target = self.waits.pop();
+                self.targets.push(target)?;
+            }
+            Part::Else => {
+                let target = self.waits.pop();
+                self.targets.push(target)?;
+                self.waits.push(place + 1)?;
+            }
+            Part::Endif => {
+                self.targets.push(None)?;
+                self.waits.push(place + 1)?;
+            }
+        }
+        Ok(())
+    }
+
+    #[tactic(auto, unfolding(crate::specs::Targets::jumps_from))]
+    fn find(&mut self, lines: &[CodeLine<A>]) -> Result<(), AllocError>
+        requires { self.old ≡ record { list = []; waits = [] } }
+        ensures { OnOk result (self.new ≡ jumps_from 0 lines.now) }
+    {
+        let mut place = lines.len();
+        while place > 0 {
+            place -= 1;
+            self.before(&lines[place].item, place)?;
+        }
+        Ok(())
+    }
+}
+
+/// Where each line goes on, where that isn't the next.
+#[tactic(auto, unfolding(crate::specs::Targets::targets_of))]
+pub fn targets_of<A: Allocator + Clone>(
+    alloc: A,
+    lines: &[CodeLine<A>],
+) -> Result<Vec<Option<usize>, A>, AllocError>
+    ensures { IfOk result (λ found. found.items ≡ targets_of lines.now) }
+{
+    let mut finder = Finder {
+        targets: Stack::new(alloc.clone()?),
+        waits: Stack::new(alloc),
+    };
+    finder.find(lines)?;
+    let Finder { targets, waits: _ } = finder;
+    Ok(targets.into_vec())
+}

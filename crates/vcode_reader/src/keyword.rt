@@ -1,0 +1,202 @@
+//! The first words of instructions, and what must follow each.
+
+ghost use Rattle.std.specs.Prelude.{◌≡◌, []};
+ghost use Rattle.vcode_reader.specs.Firsts.{TakesOff};
+ghost use Rattle.vcode_reader.specs.Keywords.{fold_of, folding_slots, slots_of, takes_int, instruction_of};
+
+use crate::language::Language;
+use crate::parts::Gathered;
+use std::alloc::Allocator;
+use std::marker::Model;
+use vcode_base::{
+    Arith, Comparison, Elementwise, Fold, Instr, Instruction, Logic, Scalar, Segmented, StackMove,
+    Words,
+};
+
+/// How a scan or a reduction takes elements together, as its first word says.
+#[derive(Clone, Copy, PartialEq, Eq, Debug)]
+pub enum Folding {
+    Sum,
+    Product,
+    Max,
+    Min,
+    Logic(Logic),
+}
+
+/// The first word of an instruction.
+#[derive(Clone, Copy, PartialEq, Eq, Debug)]
+pub enum Keyword {
+    Const,
+    Arith(Arith),
+    Compare(Comparison),
+    Logic(Logic),
+    Not,
+    Select,
+    IntToBool,
+    BoolToInt,
+    Scan(Folding),
+    Reduce(Folding),
+    Distribute,
+    Index,
+    Permute,
+    BackPermute,
+    DefaultPermute,
+    Extract,
+    Replace,
+    Pack,
+    MakeSegdes,
+    Lengths,
+    Move(StackMove),
+    Call,
+}
+
+/// What some words of an instruction must be.
+#[derive(Clone, Copy, PartialEq, Eq, Debug)]
+pub enum Slot {
+    /// The kind `INT`.
+    Int,
+    /// A kind, `INT` or `BOOL`.
+    Kind,
+    /// A value of the instruction's kind, or such values in parentheses.
+    Values,
+    /// The count `i` of a motion of the stack.
+    Lower,
+    /// The count `j` of a motion of the stack.
+    Upper,
+    /// The name of the function that is called.
+    Callee,
+}
+
+impl Folding {
+    fn fold(self, kind: Scalar) -> Fold
+        ensures { result ≡ fold_of self kind }
+    {
+        match self {
+            Folding::Sum => Fold::Sum,
+            Folding::Product => Fold::Product,
+            Folding::Max => Fold::Max,
+            Folding::Min => Fold::Min,
+            Folding::Logic(logic) => Fold::Logic(logic, kind),
+        }
+    }
+
+    fn slots(self) -> &'static [Slot]
+        ensures { result.now ≡ folding_slots self }
+    {
+        match self {
+            Folding::Logic(_) => &[Slot::Kind],
+            _ => &[Slot::Int],
+        }
+    }
+}
+
+impl Keyword {
+    /// What the words behind it must be.
+    pub fn slots(self, language: Language) -> Slots
+        ensures { result ≡ slots_of language self }
+    {
+        let left: &'static [Slot] = match self {
+            Keyword::Const => match language {
+                Language::First => &[Slot::Int, Slot::Values],
+                Language::Whole => &[Slot::Kind, Slot::Values],
+            },
+            Keyword::Arith(_) | Keyword::Compare(_) => &[Slot::Int],
+            Keyword::Scan(folding) | Keyword::Reduce(folding) => folding.slots(),
+            Keyword::IntToBool
+            | Keyword::BoolToInt
+            | Keyword::Index
+            | Keyword::MakeSegdes
+            | Keyword::Lengths => &[],
+            Keyword::Move(_) => &[Slot::Lower, Slot::Upper],
+            Keyword::Call => &[Slot::Callee],
+            Keyword::Logic(_)
+            | Keyword::Not
+            | Keyword::Select
+            | Keyword::Distribute
+            | Keyword::Permute
+            | Keyword::BackPermute
+            | Keyword::DefaultPermute
+            | Keyword::Extract
+            | Keyword::Replace
+            | Keyword::Pack => &[Slot::Kind],
+        };
+        Slots { left }
+    }
+
+    /// Does a word `INT` behind it mean nothing?
+    pub fn takes_int(self) -> bool
+        ensures { result ≡ takes_int self }
+    {
+        matches!(
+            self,
+            Keyword::Index | Keyword::MakeSegdes | Keyword::Lengths
+        )
+    }
+
+    /// The instruction of this first word and of what the words behind it gave.
+    pub fn instruction<A: Allocator>(self, parts: Gathered<A>) -> Instruction<A>
+        ensures { result ≡ instruction_of self parts }
+    {
+        let kind = parts.kind;
+        let segmented = match self {
+            Keyword::Const => {
+                return Instr::Const(kind, Words::from_vec(parts.numbers.into_vec()));
+            }
+            Keyword::Arith(op) => return Instr::Elementwise(Elementwise::Arith(op)),
+            Keyword::Compare(op) => return Instr::Elementwise(Elementwise::Compare(op)),
+            Keyword::Logic(op) => return Instr::Elementwise(Elementwise::Logic(op, kind)),
+            Keyword::Not => return Instr::Elementwise(Elementwise::Not(kind)),
+            Keyword::Select => return Instr::Elementwise(Elementwise::Select(kind)),
+            Keyword::IntToBool => return Instr::Elementwise(Elementwise::IntToBool),
+            Keyword::BoolToInt => return Instr::Elementwise(Elementwise::BoolToInt),
+            Keyword::Move(motion) => return Instr::Move(motion, parts.lower, parts.upper),
+            Keyword::Call => return Instr::Call(parts.callee),
+            Keyword::Scan(folding) => Segmented::Scan(folding.fold(kind)),
+            Keyword::Reduce(folding) => Segmented::Reduce(folding.fold(kind)),
+            Keyword::Distribute => Segmented::Distribute(kind),
+            Keyword::Index => Segmented::Index,
+            Keyword::Permute => Segmented::Permute(kind),
+            Keyword::BackPermute => Segmented::BackPermute(kind),
+            Keyword::DefaultPermute => Segmented::DefaultPermute(kind),
+            Keyword::Extract => Segmented::Extract(kind),
+            Keyword::Replace => Segmented::Replace(kind),
+            Keyword::Pack => Segmented::Pack(kind),
+            Keyword::MakeSegdes => Segmented::MakeSegdes,
+            Keyword::Lengths => Segmented::Lengths,
+        };
+        Instr::Segmented(segmented)
+    }
+}
+
+/// What the next words of an instruction must be, in order.
+#[derive(Drop)]
+pub struct Slots {
+    left: &'static [Slot],
+}
+
+impl Model for Slots {
+    ghost use Rattle.std.specs.Prelude.{List};
+    ghost use Rattle.vcode_reader.specs.declared.keyword.Slot.{Slot};
+
+    ghost Value = { List Slot };
+
+    ghost view = { λ s. s.left.now };
+}
+
+impl Slots {
+    /// Nothing is left.
+    pub fn none() -> Slots
+        ensures { result ≡ [] }
+    {
+        Slots { left: &[] }
+    }
+
+    /// Takes the next one off the front.
+    pub fn next(&mut self) -> Option<Slot>
+        ensures { TakesOff result self.old self.new }
+    {
+        let (next, left) = self.left.split_first()?;
+        self.left = left;
+        Some(*next)
+    }
+}

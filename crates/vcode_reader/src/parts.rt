@@ -1,0 +1,39 @@
+//! What the words of an instruction give, behind its first.
+
+ghost use Rattle.std.specs.Prelude.{◌≡◌, IfOk};
+ghost use Rattle.vcode_reader.specs.Keywords.{no_parts};
+
+use crate::sequence::Sequence;
+use std::alloc::{AllocError, Allocator};
+use vcode_base::{FunctionName, Scalar};
+
+/// What the words so far gave, over the types of a list and of a name.
+#[derive(Debug, Drop)]
+pub struct Parts<L, N> {
+    /// The kind that is written behind the first word.
+    pub kind: Scalar,
+    /// The count `i` of a motion of the stack.
+    pub lower: u16,
+    /// The count `j` of a motion of the stack.
+    pub upper: u16,
+    /// The list of a constant.
+    pub numbers: L,
+    /// The name of the function that is called.
+    pub callee: N,
+}
+
+/// Parts that own their list and their name.
+pub type Gathered<A> = Parts<Sequence<i64, A>, FunctionName<A>>;
+
+/// Before the first of the words.
+pub fn no_parts<A: Allocator + Clone>(alloc: &A) -> Result<Gathered<A>, AllocError>
+    ensures { IfOk result (λ parts. parts ≡ no_parts) }
+{
+    Ok(Parts {
+        kind: Scalar::Int,
+        lower: 0,
+        upper: 0,
+        numbers: Sequence::from_vec(Vec::new(alloc.clone()?)),
+        callee: FunctionName::from_vec(Vec::new(alloc.clone()?)),
+    })
+}

@@ -1,0 +1,101 @@
+//! What one word is, where a number, a kind or a name must stand.
+
+ghost use Rattle.std.specs.Prelude.{◌≡◌};
+ghost use Rattle.vcode_reader.specs.Numbers.{natural_of};
+ghost use Rattle.vcode_reader.specs.Parsing.{is_bad_byte, is_bad, is_parenthesis, is_no_name, no_number, no_value, int_of, kind_of, count_in};
+
+use crate::fault::Refusal;
+use crate::number::natural_of;
+use vcode_base::Scalar;
+
+/// The most bytes of a name.
+pub const GREATEST_NAME: usize = 64;
+
+/// The greatest count of a motion of the stack.
+const GREATEST_COUNT: u64 = 4_096;
+
+fn is_bad_byte(byte: u8) -> bool
+    ensures { result ≡ is_bad_byte byte }
+{
+    byte < 33 || byte > 126 || byte == b'{' || byte == b'}'
+}
+
+/// Is the word a byte that stands in no text?
+fn is_bad(word: &[u8]) -> bool
+    ensures { result ≡ is_bad word.now }
+{
+    match word {
+        [byte] => is_bad_byte(*byte),
+        _ => false,
+    }
+}
+
+fn is_parenthesis(word: &[u8]) -> bool
+    ensures { result ≡ is_parenthesis word.now }
+{
+    word == b"(".as_slice() || word == b")".as_slice()
+}
+
+pub fn is_no_name(word: &[u8]) -> bool
+    ensures { result ≡ is_no_name word.now }
+{
+    is_parenthesis(word) || is_bad(word)
+}
+
+/// What is wrong with a word that is not the number that must stand.
+fn no_number(word: &[u8]) -> Refusal
+    ensures { result ≡ no_number word.now }
+{
+    if is_bad(word) {
+        Refusal::BadWord
+    } else {
+        Refusal::BadNumber
+    }
+}
+
+/// What is wrong with a word that is no value of this kind where one must stand.
+pub fn no_value(kind: Scalar, word: &[u8]) -> Refusal
+    ensures { result ≡ no_value kind word.now }
+{
+    match kind {
+        Scalar::Int => no_number(word),
+        Scalar::Bool => Refusal::BadWord,
+    }
+}
+
+/// The kind `INT`, where the word is that.
+pub fn int_of(word: &[u8]) -> Option<Scalar>
+    ensures { result ≡ int_of word.now }
+{
+    if word == b"INT".as_slice() {
+        Some(Scalar::Int)
+    } else {
+        None
+    }
+}
+
+/// The kind that a word is.
+pub fn kind_of(word: &[u8]) -> Option<Scalar>
+    ensures { result ≡ kind_of word.now }
+{
+    match word {
+        b"INT" => Some(Scalar::Int),
+        b"BOOL" => Some(Scalar::Bool),
+        _ => None,
+    }
+}
+
+/// The count of a motion of the stack that a word is, or what is wrong with it.
+pub fn count_in(word: &[u8]) -> Result<u16, Refusal>
+    ensures { result ≡ count_in (natural_of word.now) word.now }
+{
+    match natural_of(word) {
+        None => Err(no_number(word)),
+        Some(count) => {
+            if count > GREATEST_COUNT {
+                return Err(Refusal::TooLarge);
+            }
+            Ok(count as u16)
+        }
+    }
+}
