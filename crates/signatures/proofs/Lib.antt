@@ -1,0 +1,8 @@
+pub mod Bytes
+pub mod Lines
+pub mod Parts
+pub mod Readings
+pub mod Said
+pub mod Spelled
+pub mod TableLemmas
+pub mod WordLemmas

@@ -1,0 +1,15 @@
+use Rattle.std.proofs.Common.{Some, sym, ap, ◌∙◌}
+use Rattle.std.specs.Prelude.{option_copied}
+use Rattle.signatures.specs.Signatures.{kinds_of}
+use Rattle.signatures.proofs.TableLemmas.{kinds_of-signatures_in}
+use Rattle.signatures.proofs.table.Signatures.get.Goals as goal
+
+pub returns-in_err-arrow : goal.returns-in_err-arrow
+returns-in_err-arrow g c =
+    rw c.from_residual.ensures
+    (ap (λ ss. kinds_of ss c.args.name.now) (sym c.self.view_is) ∙ kinds_of-signatures_in _ c.args.name.now ∙ sym c.get.ensures.value ∙ ap option_copied c.in_err-arrow.was)
+
+pub returns : goal.returns
+returns g c =
+    ap (λ ss. kinds_of ss c.args.name.now) (sym c.self.view_is) ∙ kinds_of-signatures_in _ c.args.name.now ∙ sym c.get.ensures.value ∙ ap option_copied c.in_ok-arrow.was
+    ∙ ap Some (sym c.arrow.view_is) ∙ (λ i. Some (sym c.as_slice.ensures.value i, sym c.as_slice-2.ensures.value i))

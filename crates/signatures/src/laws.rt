@@ -1,0 +1,20 @@
+//! Laws of the definitions that the contracts cite: each is the contract of a function.
+
+ghost use Rattle.signatures.specs.First.{EveryTextIsRead, OneReading};
+ghost use Rattle.signatures.specs.Spelling.{GoodLinesHaveGoodBytes};
+
+/// Whatever the text, its reading is what its lines say, or else its first fault.
+pub fn every_text_is_read()
+    ensures { EveryTextIsRead }
+{}
+
+/// A text has one reading: it doesn't say two lists of signatures, has no second first fault, and
+/// doesn't say signatures where it has a fault.
+pub fn one_reading()
+    ensures { OneReading }
+{}
+
+/// A line that says a signature has no bytes but blank, tab, CR and those from 33 to 126, and no brace.
+pub fn good_lines_have_good_bytes()
+    ensures { GoodLinesHaveGoodBytes }
+{}

@@ -1,0 +1,30 @@
+//! The reader of signatures: bytes in, the signatures of functions or the first fault with its line out.
+//!
+//! One line a function: `NAME (kinds) -> (kinds)`, the kinds that it takes and those that it gives, from
+//! the bottom of the stack to its top. A line ends at its LF, which the last may lack. Blank, tab and CR
+//! separate words; `(` and `)` are words by themselves. A name is any other word of the bytes 33 to 126
+//! without braces, also `->` or `INT`. The kinds are `INT`, `BOOL` and `SEGDES`. Lines without words are
+//! passed over.
+//!
+//! The first line with a fault is answered: [`SignatureError::BadLine`] where it is no such line, also
+//! for a byte that no word has; [`SignatureError::TooLarge`] for a name above 64 bytes, a list above 256
+//! kinds, or a 513th signature; [`SignatureError::NameTwice`] for a name that an earlier line has; in
+//! this order where two could be.
+//!
+//! `specs/Lines` has the lines of a text and the words of a line, `specs/Spelling` the words of a
+//! signature, `specs/First` what a text says and its first fault, as relations. That each text is read
+//! so stands in [`laws`] and on [`read`].
+#![tactic(auto)]
+
+mod fault;
+pub mod laws;
+mod line;
+mod reader;
+mod table;
+#[cfg(test)]
+mod tests;
+mod words;
+
+pub use fault::{SigFault, SignatureError};
+pub use reader::read;
+pub use table::Signatures;

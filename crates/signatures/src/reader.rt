@@ -1,0 +1,199 @@
+//! A text, byte by byte.
+
+ghost use Rattle.std.specs.Prelude.{◌≡◌, ◌+◌, ◌<◌, ◌^◌, OnOk, OnErr, IsErr, IsErrOf, IfOk, IsTrue, MatchResult, Ok, false, ℕ, List, [], ◌++◌};
+ghost use Rattle.signatures.specs.declared.fault.SigFault.TheVariants.{Memory};
+ghost use Rattle.signatures.specs.First.{IsAnswer};
+ghost use Rattle.signatures.specs.Lines.{is_line_feed, line_feeds};
+ghost use Rattle.signatures.specs.Reading.{after_line, reading, Answers, OnWrong};
+ghost use Rattle.signatures.specs.Scan.{beginning, end_line, outcome, scan_all, scan_byte, HasCome};
+
+use crate::fault::{LineError, SigFault, SignatureError};
+use crate::line::{LineFault, arrow, is_name};
+use crate::table::Signatures;
+use crate::words::Words;
+use std::alloc::{AllocError, Allocator};
+use std::marker::Model;
+
+/// Adds what a line says to the signatures of the lines before it. At an `Err` they are as before.
+fn add_line<A: Allocator + Copy>(
+    signatures: &mut Signatures<A>,
+    line: &[u8],
+) -> Result<(), LineError>
+    ensures added { MatchResult result (λ _. after_line signatures.old line.now ≡ Ok signatures.new) (λ error. OnWrong error (after_line signatures.old line.now)) }
+    ensures err { OnErr result (signatures.new ≡ signatures.old) }
+{
+    let mut words = Words::of(line);
+    let Some(name) = words.next() else {
+        return Ok(());
+    };
+    if !is_name(name) {
+        return Err(LineError::Wrong(SignatureError::BadLine));
+    }
+    match arrow(signatures.allocator(), words) {
+        Ok(kinds) => signatures.add(name, kinds),
+        Err(LineFault::Memory) => Err(LineError::Memory),
+        Err(LineFault::Bad) => Err(LineError::Wrong(SignatureError::BadLine)),
+    }
+}
+
+/// Where a text stands that comes byte by byte.
+#[derive(Drop)]
+struct Scanner<A: Allocator> {
+    signatures: Signatures<A>,
+    fault: Option<(SignatureError, u64)>,
+    line: Vec<u8, A>,
+    number: u64,
+}
+
+impl<A: Allocator> Model for Scanner<A> {
+    ghost use Rattle.signatures.specs.Scan.{Scan};
+
+    ghost Value = { Scan };
+
+    ghost view = { λ s. record { known = s.signatures; fault = s.fault; line = s.line.items; number = s.number } };
+}
+
+impl<A: Allocator + Copy> Scanner<A> {
+    fn new(alloc: A, first_line: u64) -> Scanner<A>
+        ensures { result ≡ beginning first_line }
+    {
+        Scanner {
+            signatures: Signatures::new(alloc),
+            fault: None,
+            line: Vec::new(alloc),
+            number: first_line,
+        }
+    }
+
+    /// The open line is whole.
+    #[tactic(auto, unfolding(crate::specs::Scan::end_line))]
+    fn end_line(&mut self) -> Result<(), AllocError>
+        ensures ended { OnOk result (self.new ≡ end_line self.old) }
+        ensures number { self.new.number ≡ self.old.number }
+    {
+        if self.fault.is_some() {
+            return Ok(());
+        }
+        match add_line(&mut self.signatures, self.line.as_slice()) {
+            Ok(()) => {}
+            Err(LineError::Wrong(error)) => self.fault = Some((error, self.number)),
+            Err(LineError::Memory) => return Err(AllocError),
+        }
+        Ok(())
+    }
+
+    #[tactic(auto, unfolding(crate::specs::Scan::scan_byte))]
+    fn byte(&mut self, byte: u8) -> Result<(), AllocError>
+        requires { IsTrue (is_line_feed byte) → self.old.number + 1 < 2 ^ 64 }
+        ensures { OnOk result (self.new ≡ scan_byte self.old byte) }
+    {
+        if byte == b'\n' {
+            self.end_line()?;
+            self.line.clear();
+            self.number += 1;
+        } else {
+            self.line.push(byte)?;
+        }
+        Ok(())
+    }
+
+    #[tactic(auto, unfolding(crate::specs::Scan::scan_all))]
+    fn bytes(&mut self, piece: &[u8]) -> Result<(), AllocError>
+        requires { self.old.number + line_feeds piece.now < 2 ^ 64 }
+        ensures { OnOk result (self.new ≡ scan_all self.old piece.now) }
+    {
+        for byte in piece {
+            self.byte(*byte)?;
+        }
+        Ok(())
+    }
+
+    #[tactic(auto, unfolding(crate::specs::Scan::outcome))]
+    fn outcome(mut self) -> Result<Signatures<A>, SigFault>
+        ensures { Answers result (outcome self) }
+    {
+        self.end_line()?;
+        match self.fault {
+            None => Ok(self.signatures),
+            Some((error, number)) => Err(SigFault::At(error, number)),
+        }
+    }
+}
+
+/// Reads a text that comes in pieces.
+#[derive(Drop)]
+pub(crate) struct SigReader<A: Allocator> {
+    scanner: Scanner<A>,
+    failed: bool,
+}
+
+impl<A: Allocator> Model for SigReader<A> {
+    ghost use Rattle.signatures.specs.Scan.{Fed};
+
+    ghost Value = { Fed };
+
+    ghost view = { λ r. record { scan = r.scanner; failed = r.failed } };
+}
+
+impl<A: Allocator + Copy> SigReader<A> {
+    /// A reader of the text whose first line has this number. It takes no memory.
+    #[tactic(auto, unfolding(crate::specs::Scan::scan_all))]
+    pub(crate) fn new(alloc: A, first_line: u64) -> SigReader<A>
+        ensures come { HasCome result first_line [] }
+        ensures line { result.scan.number ≡ first_line }
+    {
+        SigReader {
+            scanner: Scanner::new(alloc, first_line),
+            failed: false,
+        }
+    }
+
+    /// Takes the next piece of the text. After an `Err` the reader has failed, and answers it again.
+    pub(crate) fn feed(&mut self, piece: &[u8]) -> Result<(), AllocError>
+        requires { self.old.failed ≡ false → self.old.scan.number + line_feeds piece.now < 2 ^ 64 }
+        // The bytes so far are those before, followed by the piece.
+        ensures fed { OnOk result ((first : ℕ) (before : List ℕ) → HasCome self.old first before → HasCome self.new first (before ++ piece.now)) }
+        ensures line { OnOk result (self.new.scan.number ≡ self.old.scan.number + line_feeds piece.now) }
+        ensures failed { OnErr result (IsTrue self.new.failed) }
+        ensures again { IsTrue self.old.failed → IsErr result }
+    {
+        if self.failed {
+            return Err(AllocError);
+        }
+        let fed = self.scanner.bytes(piece);
+        if fed.is_err() {
+            self.failed = true;
+        }
+        fed
+    }
+
+    /// What the pieces come to.
+    pub(crate) fn finish(self) -> Result<Signatures<A>, SigFault>
+        ensures answer { (first : ℕ) (bytes : List ℕ) → HasCome self first bytes → Answers result (reading first bytes) }
+        ensures failed { IsTrue self.failed → IsErrOf result Memory }
+    {
+        if self.failed {
+            return Err(SigFault::Memory);
+        }
+        self.scanner.outcome()
+    }
+}
+
+/// Reads signatures from the bytes of their text, whose first line has the number `first_line`.
+///
+/// The answer is what the lines say, or else the first fault with its line, or want of memory. Lines are
+/// counted on from `first_line`; the number of the last must fit.
+pub fn read<A: Allocator + Copy>(
+    alloc: A,
+    text: &[u8],
+    first_line: u64,
+) -> Result<Signatures<A>, SigFault>
+    requires { first_line + line_feeds text.now < 2 ^ 64 }
+    ensures answer { Answers result (reading first_line text.now) }
+    // What is answered is what the lines say, or the first fault.
+    ensures says { IsAnswer result first_line text.now }
+{
+    let mut reader = SigReader::new(alloc, first_line);
+    reader.feed(text)?;
+    reader.finish()
+}

@@ -1,0 +1,139 @@
+//! Signatures by name.
+
+ghost use Rattle.std.specs.Prelude.{◌≡◌, ◌↔◌, IsTrue, length, MatchOption, MatchResult, OnErr, None, Some, Ok, []};
+ghost use Rattle.std.specs.List.{slice_get};
+ghost use Rattle.signatures.specs.Reading.{add, is_too_large, OnWrong};
+ghost use Rattle.signatures.specs.Signatures.{kinds_of, signature, NamesDiffer};
+
+use crate::fault::{LineError, SignatureError};
+use indexmap::IndexMap;
+use std::alloc::Allocator;
+use std::hash::{BuildHasherDefault, FoldHasher};
+use std::marker::Model;
+use vcode_base::Kind;
+
+/// The bytes of a name, the kinds of a list and the signatures of a text are at most these.
+const GREATEST_NAME: usize = 64;
+
+const MOST_KINDS: usize = 256;
+
+const MOST_SIGNATURES: usize = 512;
+
+/// The kinds that a function takes and those that it gives, from bottom to top.
+#[derive(Drop)]
+pub(crate) struct Arrow<A: Allocator> {
+    pub(crate) operands: Vec<Kind, A>,
+    pub(crate) results: Vec<Kind, A>,
+}
+
+impl<A: Allocator> Model for Arrow<A> {
+    ghost use Rattle.std.specs.Prelude.{List};
+    ghost use Rattle.vcode_base.specs.declared.kind.Kind.{Kind as KindOf};
+
+    ghost Value = { List KindOf × List KindOf };
+
+    ghost view = { λ a. (a.operands.items, a.results.items) };
+}
+
+/// The signatures of a text, in the order of its lines. No name comes twice.
+#[derive(Drop)]
+pub struct Signatures<A: Allocator> {
+    arrows: IndexMap<Vec<u8, A>, Arrow<A>, BuildHasherDefault<FoldHasher>, A>,
+}
+
+impl<A: Allocator> Model for Signatures<A> {
+    ghost use Rattle.std.specs.Prelude.{List};
+    ghost use Rattle.signatures.specs.Signatures.{Signature};
+    ghost use Rattle.signatures.specs.Table.{signatures_in};
+
+    ghost Value = { List Signature };
+
+    ghost view = { λ s. signatures_in s.arrows.entries };
+}
+
+impl<A: Allocator + Copy> Signatures<A> {
+    /// No signatures. It takes no memory.
+    pub(crate) fn new(alloc: A) -> Signatures<A>
+        ensures { result ≡ [] }
+    {
+        Signatures {
+            arrows: IndexMap::new(alloc),
+        }
+    }
+
+    /// Adds a signature behind the others, where it fits the limits and its name is new. At an `Err`
+    /// they are as before.
+    pub(crate) fn add(&mut self, name: &[u8], arrow: Arrow<A>) -> Result<(), LineError>
+        ensures added { MatchResult result (λ _. add self.old (signature name.now arrow) ≡ Ok self.new) (λ error. OnWrong error (add self.old (signature name.now arrow))) }
+        ensures err { OnErr result (self.new ≡ self.old) }
+    {
+        if self.is_too_large(name, &arrow) {
+            return Err(LineError::Wrong(SignatureError::TooLarge));
+        }
+        if self.arrows.contains_key(name) {
+            return Err(LineError::Wrong(SignatureError::NameTwice));
+        }
+        let owned = Vec::from_slice(*self.arrows.allocator(), name)?;
+        self.arrows.insert(owned, arrow)?;
+        Ok(())
+    }
+}
+
+impl<A: Allocator> Signatures<A> {
+    /// The allocator that they are kept by.
+    pub(crate) fn allocator(&self) -> A
+    where
+        A: Copy,
+    {
+        *self.arrows.allocator()
+    }
+
+    /// The kinds that the function of this name takes and those that it gives, from bottom to top;
+    /// `None` where it has no signature.
+    pub fn get(&self, name: &[u8]) -> Option<(&[Kind], &[Kind])>
+        ensures { MatchOption result (kinds_of self.now name.now ≡ None)
+            (λ kinds. kinds_of self.now name.now ≡ Some (kinds.0.now, kinds.1.now)) }
+    {
+        let arrow = self.arrows.get(name)?;
+        Some((arrow.operands.as_slice(), arrow.results.as_slice()))
+    }
+
+    /// Whether one signature more would pass a limit.
+    fn is_too_large(&self, name: &[u8], arrow: &Arrow<A>) -> bool
+        ensures { result ≡ is_too_large self.now (signature name.now arrow.now) }
+    {
+        name.len() > GREATEST_NAME
+            || arrow.operands.len() > MOST_KINDS
+            || arrow.results.len() > MOST_KINDS
+            || self.len() >= MOST_SIGNATURES
+    }
+
+    /// The signature at a place, counted from 0: its name, the kinds that it takes and those that it
+    /// gives; `None` past the last.
+    pub fn at(&self, place: usize) -> Option<(&[u8], &[Kind], &[Kind])>
+        ensures { MatchOption result (slice_get self.now place ≡ None)
+            (λ parts. slice_get self.now place ≡ Some (record { name = parts.0.now; operands = parts.1.now; results = parts.2.now })) }
+    {
+        let (name, arrow) = self.arrows.get_index(place)?;
+        Some((
+            name.as_slice(),
+            arrow.operands.as_slice(),
+            arrow.results.as_slice(),
+        ))
+    }
+
+    /// How many there are.
+    pub fn len(&self) -> usize
+        ensures len { result ≡ length self.now }
+        ensures distinct { NamesDiffer self.now }
+    {
+        self.arrows.len()
+    }
+
+    /// Whether there is none.
+    pub fn is_empty(&self) -> bool
+        ensures { IsTrue result ↔ (self.now ≡ []) }
+    {
+        self.arrows.is_empty()
+    }
+}
