@@ -1,0 +1,5 @@
+pub mod Functions
+pub mod Keeping
+pub mod Law
+pub mod SameKinds
+pub mod Walks

@@ -1,0 +1,12 @@
+use Rattle.std.proofs.Common.{◌∙◌, ap}
+use Rattle.verifier.specs.First.{same_kinds}
+use Rattle.verifier.specs.Walk.{State}
+use Rattle.verifier.proofs.Keeping.{forgotten, tail_all}
+use Rattle.verifier.proofs.stack.Stack.forget.Goals as goal
+
+pub returns-clause-same : goal.returns-clause-same
+returns-clause-same g c =
+    c.same_kinds.ensures
+    ∙ (ap (same_kinds c.as_slice.result.now) (tail_all c.deref.result.now c.shared-shared.result)
+    ∙ forgotten c.args.self.now c.pop_kept.new.self c.in-Some.kept c.deref.result.now c.as_slice.result.now c.shared-shared.result c.in-Some.ensures
+    (c.deref.ensures.value ∙ ap (λ (s : State). s.kinds) c.self.view_is) (c.as_slice.ensures.value ∙ c.into_above-above.ensures) c.shared-shared.ensures)

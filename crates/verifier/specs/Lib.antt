@@ -1,0 +1,6 @@
+pub mod Faults
+pub mod First
+pub mod Kept
+pub mod Kinded
+pub mod Laws
+pub mod Walk

@@ -1,0 +1,30 @@
+//! The verifier: a program and its signatures in, a well kinded program or its first kind fault with the
+//! line out.
+//!
+//! **Kinds.** A function begins with the operands of its signature on its stack, and each instruction
+//! takes the entries at the top that it has as operands and leaves its results in their place; what lies
+//! below stays. `COPY`, `POP` and `CPOP` take entries of any kinds. An `IF` takes one `BOOL`, and both its
+//! parts go from what lies below to the same entries; a missing part changes nothing. A `CALL` takes the
+//! operands of the signature of its function and leaves its results. At `RET` the entries are exactly the
+//! signature's results. `MAIN` takes nothing. A signature without a function is no fault.
+//!
+//! **Faults.** [`KindFault`] has them. That there is no `MAIN` goes before all others and stands at the
+//! program's first line; after it the first in the order of the text is answered. At one `FUNC` a missing
+//! signature goes before operands of `MAIN`; at one `CALL` an unknown function before a missing signature,
+//! before missing entries, before entries of other kinds.
+//!
+//! `specs/Kinded` says when a program is well kinded, as a relation by cases on its tree; `specs/First`
+//! what its first fault is. That there is none exactly where the program is well kinded stands in
+//! [`laws`].
+#![tactic(auto)]
+
+mod check;
+mod fault;
+pub mod laws;
+mod stack;
+#[cfg(test)]
+mod tests;
+mod verified;
+
+pub use fault::{KindFault, VerifyFault};
+pub use verified::{Verified, verify};

@@ -1,0 +1,225 @@
+//! The kinds of a function's entries, and those that are kept for its open IFs.
+
+ghost use Rattle.std.specs.Prelude.{◌≡◌, ◌-◌, ◌<◌, ◌≤◌, ◌++◌, [], ◌∷◌, IfOk, OnOk, OnErr, MatchOption, length, map, take};
+ghost use Rattle.verifier.specs.First.{same_kinds};
+ghost use Rattle.verifier.specs.Kept.{whole, ShareAtMost, Released};
+ghost use Rattle.verifier.specs.Walk.{swapped, is_kept, others_of};
+
+use std::alloc::{AllocError, Allocator};
+use std::marker::Model;
+use vcode_base::Kind;
+
+/// Whether two lists of kinds are one.
+pub fn same_kinds(left: &[Kind], right: &[Kind]) -> bool
+    ensures { result ≡ same_kinds left.now right.now }
+{
+    left == right
+}
+
+/// A list of entries that is kept for an open IF: how many of the stack's lowest entries it begins
+/// with, and its entries above them, from the top down.
+#[derive(Drop)]
+struct Kept<A: Allocator> {
+    shared: usize,
+    above: Vec<Kind, A>,
+}
+
+impl<A: Allocator> Model for Kept<A> {
+    ghost use Rattle.std.specs.Prelude.{reverse};
+    ghost use Rattle.verifier.specs.Kept.{Memo};
+
+    ghost Value = { Memo };
+
+    ghost view = { λ k. record { shared = k.shared; above = reverse k.above.items } };
+}
+
+impl<A: Allocator> Kept<A> {
+    /// The list of so many of the stack's entries and of these above them, from the bottom up.
+    fn new(shared: usize, mut above: Vec<Kind, A>) -> Kept<A>
+        ensures { result ≡ record { shared = shared; above = above.items } }
+    {
+        above.reverse();
+        Kept { shared, above }
+    }
+
+    /// How many of the stack's entries the list begins with.
+    fn shared(&self) -> usize
+        ensures { result ≡ self.now.shared }
+    {
+        self.shared
+    }
+
+    /// Its entries above those, from the bottom up.
+    fn into_above(self) -> Vec<Kind, A>
+        ensures { result.items ≡ self.above }
+    {
+        let Kept {
+            shared: _,
+            mut above,
+        } = self;
+        above.reverse();
+        above
+    }
+
+    /// Takes over the stack's entry that is the last shared.
+    fn take_over(&mut self, kind: Kind) -> Result<(), AllocError>
+        requires { 0 < self.old.shared }
+        ensures ok { OnOk result (self.new ≡ record { shared = self.old.shared - 1; above = kind ∷ self.old.above }) }
+        ensures err { OnErr result (self.new ≡ self.old) }
+    {
+        self.above.push(kind)?;
+        self.shared -= 1;
+        Ok(())
+    }
+
+    /// Takes over the stack's entries above the first `len`, which are to go.
+    fn part(&mut self, len: usize, kinds: &[Kind]) -> Result<(), AllocError>
+        requires { self.old.shared ≤ length kinds.now }
+        ensures same { whole kinds.now self.new ≡ whole kinds.now self.old }
+        ensures fewer { self.new.shared ≤ self.old.shared }
+        ensures below { OnOk result (self.new.shared ≤ len) }
+    {
+        while self.shared() > len {
+            let last = self.shared() - 1;
+            self.take_over(kinds[last])?;
+        }
+        Ok(())
+    }
+}
+
+/// Takes over the stack's entries above the first `len` into each list.
+fn part_all<A: Allocator>(
+    kept: &mut [Kept<A>],
+    len: usize,
+    kinds: &[Kind],
+) -> Result<(), AllocError>
+    requires { ShareAtMost (length kinds.now) kept.old }
+    ensures same { map (whole kinds.now) kept.new ≡ map (whole kinds.now) kept.old }
+    ensures within { ShareAtMost (length kinds.now) kept.new }
+    ensures below { OnOk result (ShareAtMost len kept.new) }
+{
+    for list in kept.iter_mut() {
+        list.part(len, kinds)?;
+    }
+    Ok(())
+}
+
+/// The entries of a function from the bottom of its stack up, and a list that is kept for each open IF.
+///
+/// A kept list shares the entries at the bottom with the stack: those that are taken off while an IF is
+/// open go over into it, so that nothing is copied where an IF begins.
+#[derive(Drop)]
+pub struct Stack<A: Allocator> {
+    kinds: Vec<Kind, A>,
+    kept: Vec<Kept<A>, A>,
+}
+
+impl<A: Allocator> Model for Stack<A> {
+    ghost use Rattle.std.specs.Prelude.{length, map, reverse};
+    ghost use Rattle.verifier.specs.Kept.{whole, ShareAtMost};
+    ghost use Rattle.verifier.specs.Kept.{whole, ShareAtMost, Released};
+    ghost use Rattle.verifier.specs.Walk.{State};
+
+    ghost Value = { State };
+
+    ghost view = { λ s. record { kinds = s.kinds.items; kept = map (whole s.kinds.items) (reverse s.kept.items) } };
+
+    ghost invariant = { λ s. ShareAtMost (length s.kinds.items) s.kept.items };
+}
+
+impl<A: Allocator + Clone> Stack<A> {
+    /// These entries, and no open IF.
+    pub fn new(alloc: A, kinds: &[Kind]) -> Result<Stack<A>, AllocError>
+        ensures { IfOk result (λ s. s ≡ record { kinds = kinds.now; kept = [] }) }
+    {
+        Ok(Stack {
+            kinds: kinds.to_vec(alloc.clone()?)?,
+            kept: Vec::new(alloc),
+        })
+    }
+
+    /// The entries.
+    pub fn as_slice(&self) -> &[Kind]
+        ensures { result.now ≡ self.now.kinds }
+    {
+        self.kinds.as_slice()
+    }
+
+    /// Copies of these entries.
+    pub fn copy(&self, kinds: &[Kind]) -> Result<Vec<Kind, A>, AllocError>
+        ensures { IfOk result (λ copy. copy.items ≡ kinds.now) }
+    {
+        kinds.to_vec(self.kinds.allocator().clone()?)
+    }
+
+    /// Takes off the entries above the first `len`.
+    pub fn truncate(&mut self, len: usize) -> Result<(), AllocError>
+        ensures { OnOk result (self.new ≡ record self.old { kinds = take len self.old.kinds }) }
+    {
+        part_all(self.kept.as_mut_slice(), len, self.kinds.as_slice())?;
+        self.kinds.truncate(len);
+        Ok(())
+    }
+
+    /// Puts entries on top.
+    pub fn extend(&mut self, kinds: &[Kind]) -> Result<(), AllocError>
+        ensures { OnOk result (self.new ≡ record self.old { kinds = self.old.kinds ++ kinds.now }) }
+    {
+        self.kinds.extend_from_slice(kinds)?;
+        Ok(())
+    }
+
+    /// Keeps the list of the first `shared` entries and of these above them.
+    fn push_kept(&mut self, shared: usize, above: Vec<Kind, A>) -> Result<(), AllocError>
+        requires { shared ≤ length self.old.kinds }
+        ensures { OnOk result (self.new ≡ record self.old { kept = (take shared self.old.kinds ++ above.items) ∷ self.old.kept }) }
+    {
+        self.kept.push(Kept::new(shared, above))?;
+        Ok(())
+    }
+
+    /// Takes the list that was kept last.
+    fn pop_kept(&mut self) -> Option<Kept<A>>
+        ensures { MatchOption result ((self.old.kept ≡ []) × (self.new ≡ self.old)) (λ memo. Released self.old self.new memo) }
+    {
+        self.kept.pop()
+    }
+
+    /// Keeps the entries for an IF that begins.
+    pub fn keep(&mut self) -> Result<(), AllocError>
+        ensures { OnOk result (self.new ≡ record self.old { kept = self.old.kinds ∷ self.old.kept }) }
+    {
+        let above = Vec::new(self.kinds.allocator().clone()?);
+        let shared = self.kinds.len();
+        self.push_kept(shared, above)
+    }
+
+    /// The entries, and those that were kept last, change places.
+    pub fn swap(&mut self) -> Result<(), AllocError>
+        ensures { OnOk result (self.new ≡ swapped self.old.kinds self.old.kept) }
+    {
+        let Some(kept) = self.pop_kept() else {
+            return Ok(());
+        };
+        let shared = kept.shared();
+        let above = kept.into_above();
+        let alloc = self.kinds.allocator().clone()?;
+        let taken = self.kinds[shared..].to_vec(alloc)?;
+        self.truncate(shared)?;
+        self.extend(above.as_slice())?;
+        self.push_kept(shared, taken)
+    }
+
+    /// Forgets the entries that were kept last, and tells whether they are those that there are.
+    pub fn forget(&mut self) -> bool
+        ensures same { result ≡ is_kept self.old.kinds self.old.kept }
+        ensures rest { self.new ≡ record self.old { kept = others_of self.old.kept } }
+    {
+        let Some(kept) = self.pop_kept() else {
+            return true;
+        };
+        let shared = kept.shared();
+        let above = kept.into_above();
+        same_kinds(above.as_slice(), &self.kinds[shared..])
+    }
+}
