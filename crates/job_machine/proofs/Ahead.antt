@@ -16,14 +16,14 @@ use Rattle.vcode_base.specs.declared.fault.DataFault.{DataFault}
 use Rattle.vcode_base.specs.declared.fault.DataFault.TheVariants.{LengthsDiffer}
 use Rattle.vcode_base.specs.declared.limits.Limits.{Limits}
 use Rattle.vcode_base.specs.declared.outcome.Outcome.{Outcome}
-use Rattle.vcode_base.specs.declared.outcome.Outcome.TheVariants.{Returned, Fault}
+use Rattle.vcode_base.specs.declared.outcome.Outcome.TheVariants.{Returned, Fault, Budget}
 use Rattle.vcode_base.specs.Instructions.{op_of}
 use Rattle.vcode_base.specs.Elements.{arithmetic}
 use Rattle.vcode_base.specs.Meaning.{shape, need, value_fault, result_of, first_fault}
-use Rattle.vcode_reader.specs.Trees.{Body, End, Do, Program}
+use Rattle.vcode_reader.specs.Trees.{Body, End, Do, Choice, Program}
 use Rattle.job_machine.specs.Motions.{entries_after}
 use Rattle.job_machine.specs.States.{Vector, Task, Entry, Active, State, next_of, values_of, has_tag, held}
-use Rattle.job_machine.specs.Steps.{Running, Over, step, stopped, stopped_at, refused, faulted, or_else, ends_or, executed_with, calls_after, can_run, sources, need_words}
+use Rattle.job_machine.specs.Steps.{Running, Over, step, stopped, stopped_at, refused, faulted, or_else, ends_or, executed_with, calls_after, step_of, step_in, step_at, can_run, sources, need_words}
 use Rattle.job_machine.specs.Kinded.{Goes, taken}
 use Rattle.job_machine.specs.Reached.{IsApart}
 
@@ -35,16 +35,20 @@ steps_spent : (task : Task) (s : State) (c : Active) → eqb s.executed task.lim
 unfolding step stopped
 steps_spent task s c b = rw b refl
 
-steps_left : (task : Task) (s : State) (c : Active) → s.calls ≡ c ∷ [] → can_run task.program (next_of c.rest c.ret).item s.stack ≡ true → value_fault (op_of (next_of c.rest c.ret).item) (sources (next_of c.rest c.ret).item s.stack) ≡ None → eqb s.executed task.limits.budget ≡ false → Steps task s c
+steps_left : (task : Task) (s : State) (c : Active) → s.calls ≡ c ∷ [] → step_of task s c.rest c.ret [] ≡ step_at task (next_of c.rest c.ret) s (calls_after task.program c.rest c.ret []) → can_run task.program (next_of c.rest c.ret).item s.stack ≡ true → value_fault (op_of (next_of c.rest c.ret).item) (sources (next_of c.rest c.ret).item s.stack) ≡ None → eqb s.executed task.limits.budget ≡ false → Steps task s c
 unfolding step
-steps_left task s c calls can fault b = rw (b, calls, can, fault) refl
+steps_left task s c calls at can fault b =
+    let line = next_of c.rest c.ret in
+    let after = calls_after task.program c.rest c.ret [] in
+    let inner : step_at task line s after ≡ ends_or (stopped_at task.limits line s) s (executed_with line s (sources line.item s.stack) after) = rw (can, fault) refl in
+    ap (λ z. cond z (Over Budget s.executed s.peak) (step_in task s s.calls)) b ∙ (ap (step_in task s) calls ∙ (at ∙ inner))
 
-steps_by : (task : Task) (s : State) (c : Active) → s.calls ≡ c ∷ [] → can_run task.program (next_of c.rest c.ret).item s.stack ≡ true → value_fault (op_of (next_of c.rest c.ret).item) (sources (next_of c.rest c.ret).item s.stack) ≡ None → (b : Bool) → eqb s.executed task.limits.budget ≡ b → Steps task s c
-steps_by task s c calls can fault true b = steps_spent task s c b
-steps_by task s c calls can fault false b = steps_left task s c calls can fault b
+steps_by : (task : Task) (s : State) (c : Active) → s.calls ≡ c ∷ [] → step_of task s c.rest c.ret [] ≡ step_at task (next_of c.rest c.ret) s (calls_after task.program c.rest c.ret []) → can_run task.program (next_of c.rest c.ret).item s.stack ≡ true → value_fault (op_of (next_of c.rest c.ret).item) (sources (next_of c.rest c.ret).item s.stack) ≡ None → (b : Bool) → eqb s.executed task.limits.budget ≡ b → Steps task s c
+steps_by task s c calls at can fault true b = steps_spent task s c b
+steps_by task s c calls at can fault false b = steps_left task s c calls at can fault b
 
-steps : (task : Task) (s : State) (c : Active) → s.calls ≡ c ∷ [] → can_run task.program (next_of c.rest c.ret).item s.stack ≡ true → value_fault (op_of (next_of c.rest c.ret).item) (sources (next_of c.rest c.ret).item s.stack) ≡ None → Steps task s c
-steps task s c calls can fault = steps_by task s c calls can fault _ refl
+steps : (task : Task) (s : State) (c : Active) → s.calls ≡ c ∷ [] → step_of task s c.rest c.ret [] ≡ step_at task (next_of c.rest c.ret) s (calls_after task.program c.rest c.ret []) → can_run task.program (next_of c.rest c.ret).item s.stack ≡ true → value_fault (op_of (next_of c.rest c.ret).item) (sources (next_of c.rest c.ret).item s.stack) ≡ None → Steps task s c
+steps task s c calls at can fault = steps_by task s c calls at can fault _ refl
 
 -- the instructions of this language can run
 can_return : (program : Program) (stack : List Entry) → can_run program Return stack ≡ true
@@ -185,7 +189,7 @@ ahead_at : (task : Task) (s : State) (rest : Body) (ret : ℕ) → s.calls ≡ r
 ahead_at task s End ret calls goes ints apart = Last (record {
   body = refl;
   single = goes;
-  steps = steps task s (record { rest = End; ret = ret }) calls (can_return task.program s.stack) (no_fault_return []) ∙
+  steps = steps task s (record { rest = End; ret = ret }) calls refl (can_return task.program s.stack) (no_fault_return []) ∙
       ap (λ k. ends_or (stopped_at task.limits (next_of End ret) s) s (Over (Returned (reverse (values_of s.stack))) (s.executed + 1) (max s.peak (held s.stack + k)))) (need_return []);
 })
 ahead_at task s (Do (Const Numbers list) line later) ret calls goes ints apart = More (record {
@@ -198,7 +202,7 @@ ahead_at task s (Do (Const Numbers list) line later) ret calls goes ints apart =
   entries = refl;
   long = λ e. const_long list;
   released = λ e. omega arith;
-  steps = steps task s (record { rest = Do (Const Numbers list) line later; ret = ret }) calls (can_const task.program list s.stack) (no_fault_const (list ∷ []));
+  steps = steps task s (record { rest = Do (Const Numbers list) line later; ret = ret }) calls refl (can_const task.program list s.stack) (no_fault_const (list ∷ []));
 })
 ahead_at task s (Do (Elementwise (Arith Add)) line later) ret calls goes ints apart = More (record {
   count = 2;
@@ -210,9 +214,10 @@ ahead_at task s (Do (Elementwise (Arith Add)) line later) ret calls goes ints ap
   entries = refl;
   long = add_long_at s.stack goes.1.0;
   released = add_released s.stack goes.1.0 apart;
-  steps = steps task s (record { rest = Do (Elementwise (Arith Add)) line later; ret = ret }) calls (can_add task.program s.stack goes.1.0 ints) (no_fault_add _);
+  steps = steps task s (record { rest = Do (Elementwise (Arith Add)) line later; ret = ret }) calls refl (can_add task.program s.stack goes.1.0 ints) (no_fault_add _);
 })
 ahead_at task s (Do _ line later) ret calls goes ints apart = absurd goes.1
+ahead_at task s (Choice line first second end later) ret calls goes ints apart = absurd goes
 
 pub ahead : (task : Task) (s : State) (c : Active) → s.calls ≡ c ∷ [] → Goes c.rest (length s.stack) 1 → All (λ e. e.value.kind ≡ Int) s.stack → IsApart s.stack → Ahead task s c
 ahead task s c calls goes ints apart = ahead_at task s c.rest c.ret calls goes ints apart

@@ -1,5 +1,6 @@
 pub mod Ahead
 pub mod DeskLemmas
+pub mod EqualJobs
 pub mod FirstLines
 pub mod KindLemmas
 pub mod MachineLemmas

@@ -20,7 +20,9 @@ use Rattle.vcode_base.specs.declared.outcome.Outcome.TheVariants.{Returned, Faul
 use Rattle.vcode_base.specs.Instructions.{op_of}
 use Rattle.vcode_base.specs.Meaning.{shape, need, result_of}
 use Rattle.vcode_reader.specs.declared.line.Line.{Line}
-use Rattle.vcode_reader.specs.Trees.{Item, Body, End, Do, line_of, flat}
+use Rattle.vcode_reader.specs.declared.line.Part.{Part}
+use Rattle.vcode_reader.specs.declared.line.Part.TheVariants.{Do as Doing}
+use Rattle.vcode_reader.specs.Trees.{Item, Body, End, Do, Choice, CodeLine, line_of, doing, flat}
 use Rattle.job_machine.specs.declared.desk.FirstOp.{FirstOp}
 use Rattle.job_machine.specs.declared.desk.FirstOp.TheVariants.{Constant, Add, Return as Back}
 use Rattle.job_machine.specs.declared.seat.Status.{Status}
@@ -28,7 +30,7 @@ use Rattle.job_machine.specs.declared.seat.Status.TheVariants as status
 use Rattle.job_machine.specs.States.{Vector, Task, Entry, Active, State, first, main_lines, next_of, values_of, held}
 use Rattle.job_machine.specs.Steps.{Progress, Running, Over, step, stopped, stopped_at, refused, faulted, or_else, ends_or, sources, need_words}
 use Rattle.job_machine.specs.Runs.{alone, onward, held_in, peak_in, outcome, executed}
-use Rattle.job_machine.specs.Kinded.{IsWellKinded, taken, taken_by_elementwise}
+use Rattle.job_machine.specs.Kinded.{Goes, IsWellKinded, taken, taken_by_elementwise}
 use Rattle.job_machine.specs.Reached.{IsReached, lines_left}
 use Rattle.job_machine.specs.Standings.{Live, Ended, Question, question_of, question_in, question_at, stop_of, stop_in, stop_at, begun, finished, stands_in, left_by, held_by, executed_by, peak_by, grant_by}
 use Rattle.job_machine.specs.Tickets.{op_in, sources_by}
@@ -53,17 +55,31 @@ head_of_drop [] (suc n) y ys e = absurd (let h : [] ≡ y ∷ ys = e in cc)
 head_of_drop (x ∷ xs) zero y ys e = let h : x ∷ xs ≡ y ∷ ys = e in let k : x ≡ y = cc in ap (λ z. Some z) k
 head_of_drop (x ∷ xs) (suc n) y ys e = head_of_drop xs n y ys e
 
-left_head : (rest : Body) (ret : ℕ) → (ys : List (Line Item)) × (lines_left (record { rest = rest; ret = ret }) ≡ next_of rest ret ∷ ys)
-left_head End ret = ([], refl)
-left_head (Do item line rest) ret = (flat rest ++ line_of Return ret ∷ [], refl)
+-- the line of the code where an instruction stands
+abbrev pub in_code : Line Item → CodeLine
+in_code line = doing line.item line.number
 
-pub line_there : (task : Task) (n : ℕ) (s : State) (r : IsReached task n s) → slice_get (main_lines task.program) n ≡ Some (next_of r.call.rest r.call.ret)
+left_head : (rest : Body) (ret entries : ℕ) → Goes rest entries 1 → (ys : List CodeLine) × (lines_left (record { rest = rest; ret = ret }) ≡ in_code (next_of rest ret) ∷ ys)
+left_head End ret entries goes = ([], refl)
+left_head (Do item line rest) ret entries goes = (flat rest ++ doing Return ret ∷ [], refl)
+left_head (Choice line first second end rest) ret entries goes = absurd goes
+
+pub line_there : (task : Task) (n : ℕ) (s : State) (r : IsReached task n s) → slice_get (main_lines task.program) n ≡ Some (in_code (next_of r.call.rest r.call.ret))
 line_there task n s r =
-    let h = left_head r.call.rest r.call.ret in
-    head_of_drop (main_lines task.program) n (next_of r.call.rest r.call.ret) h.0 (r.left ∙ h.1)
+    let h = left_head r.call.rest r.call.ret (length s.stack) r.goes in
+    head_of_drop (main_lines task.program) n (in_code (next_of r.call.rest r.call.ret)) h.0 (r.left ∙ h.1)
 
-line_is : (task : Task) (n : ℕ) (s : State) (r : IsReached task n s) (line : Line Item) → slice_get (main_lines task.program) n ≡ Some line → next_of r.call.rest r.call.ret ≡ line
-line_is task n s r line e = same_Some (next_of r.call.rest r.call.ret) line (sym (line_there task n s r) ∙ e)
+instruction_at : Part Item → Item
+instruction_at (Doing item) = item
+instruction_at _ = Return
+
+same_line : (x y : Line Item) → in_code x ≡ in_code y → x ≡ y
+unfolding instruction_at
+same_line x y h = ap (λ (l : CodeLine). line_of (instruction_at l.item) l.number) h
+
+line_is : (task : Task) (n : ℕ) (s : State) (r : IsReached task n s) (line : Line Item) → slice_get (main_lines task.program) n ≡ Some (in_code line) → next_of r.call.rest r.call.ret ≡ line
+line_is task n s r line e =
+    same_line (next_of r.call.rest r.call.ret) line (same_Some (in_code (next_of r.call.rest r.call.ret)) (in_code line) (sym (line_there task n s r) ∙ e))
 
 asked_at : (task : Task) (t : Trace) (a : IsAt task t) (r : IsReached task t.executed a.state) → question_of task t.executed ≡ Some (record { op = op_of (next_of r.call.rest r.call.ret).item; sources = sources (next_of r.call.rest r.call.ret).item a.state.stack })
 unfolding question_of
@@ -80,7 +96,7 @@ stop_shown task t a r =
     stop_is task t a r ∙ (λ i. stopped task.limits (op_of line.item) (sources line.item a.state.stack) line.number (r.count i) (a.held_is i) (depth_is task t a i) (one i))
 
 -- the parts of what stands next, where the line is known
-next_by : (task : Task) → IsWellKinded true task.program → (t : Trace) (a : IsAt task t) (line : Line Item) → slice_get (main_lines task.program) t.executed ≡ Some line →
+next_by : (task : Task) → IsWellKinded true task.program → (t : Trace) (a : IsAt task t) (line : Line Item) → slice_get (main_lines task.program) t.executed ≡ Some (in_code line) →
     (o : FirstOp) (left right : List ℤ) → op_of line.item ≡ op_in o → sources line.item a.state.stack ≡ sources_by o left right →
     (shape (op_in o) (sources_by o left right) ≡ None → length left + length right ≤ 2 * need_words (op_in o) (sources_by o left right)) → NextIs task t o left right line.number
 next_by task w t a line e o left right same_op same_sources small =
@@ -118,11 +134,11 @@ weaker_count : (item : Item) (n : ℕ) → ((item ≡ Return) ⊎ ((count : ℕ)
 weaker_count item n (inl e) = inl e
 weaker_count item n (inr h) = inr (h.0, h.1, tt)
 
-next_const_by : (task : Task) → IsWellKinded true task.program → (t : Trace) (a : IsAt task t) (k : Scalar) (list : List ℤ) (number : ℕ) → k ≡ Numbers → slice_get (main_lines task.program) t.executed ≡ Some (line_of (Const k list) number) → NextIs task t Constant list [] number
+next_const_by : (task : Task) → IsWellKinded true task.program → (t : Trace) (a : IsAt task t) (k : Scalar) (list : List ℤ) (number : ℕ) → k ≡ Numbers → slice_get (main_lines task.program) t.executed ≡ Some (doing (Const k list) number) → NextIs task t Constant list [] number
 next_const_by task w t a k list number is e =
     next_by task w t a (line_of (Const k list) number) e Constant list [] (ap op.Const is) refl (λ h. const_small list)
 
-pub next_const : (task : Task) → IsWellKinded true task.program → (t : Trace) → IsAt task t → (k : Scalar) (list : List ℤ) (number : ℕ) → slice_get (main_lines task.program) t.executed ≡ Some (line_of (Const k list) number) → NextIs task t Constant list [] number
+pub next_const : (task : Task) → IsWellKinded true task.program → (t : Trace) → IsAt task t → (k : Scalar) (list : List ℤ) (number : ℕ) → slice_get (main_lines task.program) t.executed ≡ Some (doing (Const k list) number) → NextIs task t Constant list [] number
 next_const task w t a k list number e =
     let r = reached_at task w t a in
     let h = taken_next task a.state r.call (ahead_of task t.executed a.state r) (line_of (Const k list) number) (line_is task t.executed a.state r (line_of (Const k list) number) e) in
@@ -143,13 +159,13 @@ sources_two (x ∷ []) many = absurd (omega arith)
 sources_two (y ∷ x ∷ below) many = refl
 
 -- two entries are there for a sum
-pub two_there : (task : Task) → IsWellKinded true task.program → (t : Trace) → IsAt task t → (e : ElementwiseOp) (number : ℕ) → slice_get (main_lines task.program) t.executed ≡ Some (line_of (Elementwise e) number) → (e ≡ Arith Plus) × (2 ≤ length t.stack)
+pub two_there : (task : Task) → IsWellKinded true task.program → (t : Trace) → IsAt task t → (e : ElementwiseOp) (number : ℕ) → slice_get (main_lines task.program) t.executed ≡ Some (doing (Elementwise e) number) → (e ≡ Arith Plus) × (2 ≤ length t.stack)
 two_there task w t a e number is =
     let r = reached_at task w t a in
     let h = sum_there e (length a.state.stack) (taken_next task a.state r.call (ahead_of task t.executed a.state r) (line_of (Elementwise e) number) (line_is task t.executed a.state r (line_of (Elementwise e) number) is)) in
     (h.0, subst (λ n. 2 ≤ n) (depth_is task t a) h.1)
 
-pub next_add : (task : Task) → IsWellKinded true task.program → (t : Trace) → IsAt task t → (e : ElementwiseOp) (number : ℕ) → slice_get (main_lines task.program) t.executed ≡ Some (line_of (Elementwise e) number) → NextIs task t Add (words_at t.stack 1) (words_at t.stack 0) number
+pub next_add : (task : Task) → IsWellKinded true task.program → (t : Trace) → IsAt task t → (e : ElementwiseOp) (number : ℕ) → slice_get (main_lines task.program) t.executed ≡ Some (doing (Elementwise e) number) → NextIs task t Add (words_at t.stack 1) (words_at t.stack 0) number
 next_add task w t a e number is =
     let two = two_there task w t a e number is in
     let many : 2 ≤ length a.state.stack = subst (λ n. 2 ≤ n) (sym (depth_is task t a)) two.1 in
@@ -166,7 +182,7 @@ return_there : (item : Item) (n : ℕ) → ((item ≡ Return) ⊎ ((count : ℕ)
 return_there item n (inl e) no_const no_sum = e
 return_there item n (inr h) no_const no_sum = absurd (other_item item h.0 h.1 no_const no_sum)
 
-pub next_return : (task : Task) → IsWellKinded true task.program → (t : Trace) → IsAt task t → (line : Line Item) → slice_get (main_lines task.program) t.executed ≡ Some line → ((k : Scalar) (list : List ℤ) → line.item ≡ Const k list → ⊥) → ((e : ElementwiseOp) → line.item ≡ Elementwise e → ⊥) → NextIs task t Back [] [] line.number
+pub next_return : (task : Task) → IsWellKinded true task.program → (t : Trace) → IsAt task t → (line : Line Item) → slice_get (main_lines task.program) t.executed ≡ Some (in_code line) → ((k : Scalar) (list : List ℤ) → line.item ≡ Const k list → ⊥) → ((e : ElementwiseOp) → line.item ≡ Elementwise e → ⊥) → NextIs task t Back [] [] line.number
 next_return task w t a line is no_const no_sum =
     let r = reached_at task w t a in
     let e = return_there line.item (length a.state.stack) (taken_next task a.state r.call (ahead_of task t.executed a.state r) line (line_is task t.executed a.state r line is)) no_const no_sum in
@@ -380,11 +396,18 @@ few_taken Constant count e = let h : count ≡ 0 = same_Some count 0 e in omega 
 few_taken Add count e = let h : count ≡ 2 = same_Some count 2 e in omega arith
 few_taken Back count e = absurd (let h : ◌≡◌ {A = Option ℕ} (Some count) None = e in cc)
 
+-- what stands there is an instruction
+pub no_part_there : (task : Task) → IsWellKinded true task.program → (t : Trace) → IsAt task t → (line : CodeLine) → slice_get (main_lines task.program) t.executed ≡ Some line → ((item : Item) → line.item ≡ Doing item → ⊥) → ⊥
+no_part_there task w t a line is no_item =
+    let r = reached_at task w t a in
+    let next = next_of r.call.rest r.call.ret in
+    no_item next.item (ap (λ (l : CodeLine). l.item) (sym (same_Some (in_code next) line (sym (line_there task t.executed a.state r) ∙ is))))
+
 -- MAIN has an item where a job runs
 pub item_there : (task : Task) → IsWellKinded true task.program → (t : Trace) → IsAt task t → slice_get (main_lines task.program) t.executed ≡ None → ⊥
 item_there task w t a e =
     let r = reached_at task w t a in
-    none_some (next_of r.call.rest r.call.ret) (sym e ∙ line_there task t.executed a.state r)
+    none_some (in_code (next_of r.call.rest r.call.ret)) (sym e ∙ line_there task t.executed a.state r)
   where
-    none_some : (l : Line Item) → ◌≡◌ {A = Option (Line Item)} None (Some l) → ⊥
+    none_some : (l : CodeLine) → ◌≡◌ {A = Option CodeLine} None (Some l) → ⊥
     none_some l h = cc

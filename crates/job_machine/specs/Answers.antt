@@ -38,9 +38,10 @@ FinishesAs f o Done = (h : Fits o f) × (finished h.0.task f.step ≡ Live (f.st
 FinishesAs f o FinishEnded = (h : Fits o f) × (finished h.0.task f.step ≡ Ended)
 FinishesAs f o Stale = Fits o f → ⊥
 
+-- memory is wanting only where there is a result to store
 abbrev pub Finishes : {A : Type 0} → Asked → Option Seated → Early A → Type 0
 Finishes f o (Answered answer desk) = FinishesAs f o answer × (desk ≡ f.words)
-Finishes f o (NoMemory filled) = Fits o f × (filled ≡ f)
+Finishes f o (NoMemory filled) = FinishesAs f o Done × (filled ≡ f)
 
 -- nothing changes where the step is stale, or memory is wanting
 abbrev pub finished_as : {T : Type 0} → Finished → T → T → T

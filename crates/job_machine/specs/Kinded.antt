@@ -11,7 +11,9 @@ use Rattle.vcode_base.specs.declared.op.Elementwise.TheVariants.{Arith as Arithm
 use Rattle.vcode_base.specs.declared.op.Op.{Op}
 use Rattle.vcode_base.specs.declared.op.Op.TheVariants.{Const, Elementwise}
 use Rattle.vcode_base.specs.Instructions.{op_of}
-use Rattle.vcode_reader.specs.Trees.{Body, End, Do, Function, Program}
+use Rattle.vcode_reader.specs.declared.line.Part.{Part}
+use Rattle.vcode_reader.specs.declared.line.Part.TheVariants.{Do as Doing}
+use Rattle.vcode_reader.specs.Trees.{Item, Body, End, Do, Choice, Function, Program}
 use Rattle.job_machine.specs.declared.first.KindFault.{KindFault}
 use Rattle.job_machine.specs.declared.first.KindFault.TheVariants.{MissingOperand, ResultDiffers, NoSignature, NoMain}
 use Rattle.job_machine.specs.declared.first.VerifyFault.{VerifyFault}
@@ -37,6 +39,11 @@ taken (Const k) = taken_by_const k
 taken (Elementwise e) = taken_by_elementwise e
 taken _ = None
 
+-- the same of a line of the code, where an IF is no instruction of this language
+abbrev pub taken_at : Part Item → Option ℕ
+taken_at (Doing item) = taken (op_of item)
+taken_at _ = None
+
 -- there are so many entries before, and so many after; an instruction of no such language has neither
 abbrev pub Takes : Option ℕ → ℕ → ℕ → Type 0
 Takes None before after = ⊥
@@ -46,6 +53,7 @@ Takes (Some count) before after = (count ≤ before) × (after ≡ (before - cou
 abbrev pub Goes : Body → ℕ → ℕ → Type 0
 Goes End before after = before ≡ after
 Goes (Do item line rest) before after = (next : ℕ) × Takes (taken (op_of item)) before next × Goes rest next after
+Goes (Choice line first second end rest) before after = ⊥
 
 abbrev pub is_main : Function → Bool
 is_main f = bytes_eq f.name main_name
@@ -69,6 +77,7 @@ item_fault (Some count) entries line later = if nat_lt entries count then Some (
 abbrev pub body_fault : Body → ℕ → ℕ → Option (KindFault × ℕ)
 body_fault End entries ret = if entries == 1 then None else Some (ResultDiffers, ret)
 body_fault (Do item line rest) entries ret = item_fault (taken (op_of item)) entries line (λ next. body_fault rest next ret)
+body_fault (Choice line first second end rest) entries ret = Some (MissingOperand, line)
 
 -- what the verifier answers at a fault
 abbrev pub FaultIs : VerifyFault → Option (KindFault × ℕ) → Type 0

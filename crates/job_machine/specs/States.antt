@@ -4,10 +4,10 @@ use Rattle.std.specs.List.{list_any}
 use Rattle.std.specs.Str.{bytes_eq}
 use Rattle.std.specs.Coded.{Coded, code_by, coded_ℕ, coded×, coded_list}
 use Rattle.vcode_base.specs.declared.value.Value.{Value}
-use Rattle.vcode_base.specs.declared.instr.Instr.TheVariants.{Return}
+use Rattle.vcode_base.specs.declared.instr.Instr.TheVariants.{If, Return}
 use Rattle.vcode_base.specs.declared.limits.Limits.{Limits}
 use Rattle.vcode_reader.specs.declared.line.Line.{Line}
-use Rattle.vcode_reader.specs.Trees.{Item, Body, End, Do, Function, Program, line_of, lines_of}
+use Rattle.vcode_reader.specs.Trees.{Item, Body, End, Do, Choice, CodeLine, Function, Program, line_of, lines_of}
 use Rattle.vcode_reader.specs.Decode.{program_code}
 
 -- a vector: its kind and its words
@@ -21,7 +21,7 @@ pub record Task : Type 0 where
   pub limits : Limits
 
 -- a task is told apart by its name, its program and its limits
-abbrev pub task_code : Coded (Line Item) → Coded Limits → Coded Task
+abbrev pub task_code : Coded CodeLine → Coded Limits → Coded Task
 task_code line limits =
     code_by (List ℕ × (Program × Limits)) (coded× (coded_list coded_ℕ) (coded× (program_code line) limits))
     (λ t. (t.name, (t.program, t.limits))) (λ p. record { name = p.0; program = p.1.0; limits = p.1.1 }) (λ _. refl)
@@ -61,12 +61,12 @@ abbrev pub first_calls : Option Function → List Active
 first_calls None = []
 first_calls (Some f) = record { rest = f.body; ret = f.ret } ∷ []
 
-abbrev pub lines_at : Option Function → List (Line Item)
+abbrev pub lines_at : Option Function → List CodeLine
 lines_at None = []
 lines_at (Some f) = lines_of f
 
 -- the lines of MAIN
-abbrev pub main_lines : Program → List (Line Item)
+abbrev pub main_lines : Program → List CodeLine
 main_lines program = lines_at (function_of main_name program.functions)
 
 -- the state before the first instruction
@@ -83,6 +83,7 @@ first task = record {
 abbrev pub next_of : Body → ℕ → Line Item
 next_of End ret = line_of Return ret
 next_of (Do item line rest) ret = line_of item line
+next_of (Choice line first second end rest) ret = line_of If line
 
 -- the words of the vectors
 abbrev pub words_of : List Entry → List (List ℤ)

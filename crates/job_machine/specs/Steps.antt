@@ -14,7 +14,7 @@ use Rattle.vcode_base.specs.Instructions.{op_of}
 use Rattle.vcode_base.specs.Kinds.{operand_kinds, result_kinds}
 use Rattle.vcode_base.specs.Meaning.{shape, need, value_fault, result_of, second_result_of}
 use Rattle.vcode_reader.specs.declared.line.Line.{Line}
-use Rattle.vcode_reader.specs.Trees.{Item, Body, End as Done, Do, Function, Program}
+use Rattle.vcode_reader.specs.Trees.{Item, Body, End as Done, Do, Choice, Function, Program}
 use Rattle.job_machine.specs.Motions.{operand_count, reach, stack_after, entries_after}
 use Rattle.job_machine.specs.States.{Vector, Task, Entry, Active, State, function_of, next_of, words_of, values_of, held, fresh}
 
@@ -119,8 +119,8 @@ calls_past program item calls = calls
 
 -- the calls after the next item of the innermost, of which this remains, with its RET
 abbrev pub calls_after : Program → Body → ℕ → List Active → List Active
-calls_after program Done ret calls = calls
 calls_after program (Do item line rest) ret calls = calls_past program item (record { rest = rest; ret = ret } ∷ calls)
+calls_after program _ ret calls = calls
 
 -- the instruction is executed, with these calls after it; without any the job has returned
 abbrev pub executed_with : Line Item → State → List (List ℤ) → List Active → Progress
@@ -148,9 +148,14 @@ step_at task line s calls =
     ends_or (stopped_at task.limits line s) s (committed (value_fault (op_of line.item) (sources line.item s.stack)) line s (sources line.item s.stack) calls)
     else Stuck
 
+-- at what remains of the innermost call; an IF is not of this language
+abbrev pub step_of : Task → State → Body → ℕ → List Active → Progress
+step_of task s (Choice line first second end rest) ret calls = Stuck
+step_of task s rest ret calls = step_at task (next_of rest ret) s (calls_after task.program rest ret calls)
+
 abbrev pub step_in : Task → State → List Active → Progress
 step_in task s [] = Stuck
-step_in task s (c ∷ cs) = step_at task (next_of c.rest c.ret) s (calls_after task.program c.rest c.ret cs)
+step_in task s (c ∷ cs) = step_of task s c.rest c.ret cs
 
 -- The first case that fits: the budget is spent; the job can't go on; a shape or a limit stops it; a value has no
 -- result; the instruction is executed.

@@ -218,7 +218,7 @@ impl<A: Allocator> Ticket<A> {
 /// A step with its result, which is what its instruction means.
 #[derive(Drop)]
 pub struct Filled<A: Allocator> {
-    begun: Step<A>,
+    computed: Step<A>,
 }
 
 impl<A: Allocator> Model for Filled<A> {
@@ -227,9 +227,9 @@ impl<A: Allocator> Model for Filled<A> {
 
     ghost Value = { Asked };
 
-    ghost view = { λ f. asked_by f.begun.job f.begun.number f.begun.op (take f.begun.split f.begun.sheets.operands.items) (drop f.begun.split f.begun.sheets.operands.items) f.begun.sheets.words };
+    ghost view = { λ f. asked_by f.computed.job f.computed.number f.computed.op (take f.computed.split f.computed.sheets.operands.items) (drop f.computed.split f.computed.sheets.operands.items) f.computed.sheets.words };
 
-    ghost invariant = { λ f. IsAnswered f.begun.sheets.words (question_by f.begun.op (take f.begun.split f.begun.sheets.operands.items) (drop f.begun.split f.begun.sheets.operands.items)) f.begun.sheets.results.items };
+    ghost invariant = { λ f. IsAnswered f.computed.sheets.words (question_by f.computed.op (take f.computed.split f.computed.sheets.operands.items) (drop f.computed.split f.computed.sheets.operands.items)) f.computed.sheets.results.items };
 }
 
 impl<A: Allocator> Filled<A> {
@@ -237,21 +237,21 @@ impl<A: Allocator> Filled<A> {
     pub fn job(&self) -> usize
         ensures { result ≡ self.now.job }
     {
-        self.begun.job
+        self.computed.job
     }
 
     /// How many instructions the job executed before.
     pub fn step(&self) -> u64
         ensures { result ≡ self.now.step }
     {
-        self.begun.number
+        self.computed.number
     }
 
     /// The instruction without its list.
     pub fn op(&self) -> Op
         ensures { result ≡ self.now.question.op }
     {
-        self.begun.op.op()
+        self.computed.op.op()
     }
 
     /// The result, which is empty at `RET`: what the instruction means at its operands.
@@ -260,35 +260,35 @@ impl<A: Allocator> Filled<A> {
         ensures no_fault { value_fault self.now.question.op self.now.question.sources ≡ None }
     {
         let (left, _) = self
-            .begun
+            .computed
             .sheets
             .operands
             .as_slice()
-            .split_at(self.begun.split);
-        let need = self.begun.op.need(left);
-        &self.begun.sheets.results[..need]
+            .split_at(self.computed.split);
+        let need = self.computed.op.need(left);
+        &self.computed.sheets.results[..need]
     }
 
     /// The instruction.
     pub(crate) fn first_op(&self) -> FirstOp
         ensures { op_in result ≡ self.now.question.op }
     {
-        self.begun.op
+        self.computed.op
     }
 
     /// The step asks this of these operands.
     pub(crate) fn asks(&self, op: FirstOp, left: &[i64], right: &[i64]) -> bool
         ensures { IsTrue result ↔ (self.now.question ≡ question_by op left.now right.now) }
     {
-        if self.begun.op != op {
+        if self.computed.op != op {
             return false;
         }
         let (first, second) = self
-            .begun
+            .computed
             .sheets
             .operands
             .as_slice()
-            .split_at(self.begun.split);
+            .split_at(self.computed.split);
         match op {
             FirstOp::Constant => same_words(first, left),
             FirstOp::Add => same_words(first, left) && same_words(second, right),
@@ -300,9 +300,9 @@ impl<A: Allocator> Filled<A> {
     pub fn into_desk(self) -> Desk<A>
         ensures { result ≡ self.words }
     {
-        let Filled { begun } = self;
+        let Filled { computed } = self;
         Desk {
-            sheets: begun.sheets,
+            sheets: computed.sheets,
         }
     }
 }
@@ -327,7 +327,7 @@ pub fn compute<A: Allocator>(ticket: Ticket<A>) -> Filled<A>
     let (left, right) = operands.as_slice().split_at(split);
     fill(op, left, right, results.as_mut_slice());
     Filled {
-        begun: Step {
+        computed: Step {
             job,
             number,
             op,

@@ -4,14 +4,14 @@ pub mod signatures;
 
 ghost use Rattle.std.specs.Prelude.{◌≡◌, true, Some, None, slice_get, option_copied, MatchResult};
 ghost use Rattle.job_machine.specs.Texts.{kind_fault_text};
-ghost use Rattle.job_machine.specs.Kinded.{IsWellKinded, taken, body_fault, function_fault, kind_fault, FaultIs};
+ghost use Rattle.job_machine.specs.Kinded.{IsWellKinded, taken, taken_at, body_fault, function_fault, kind_fault, FaultIs};
 ghost use Rattle.job_machine.specs.States.{main_lines};
 
 pub use signatures::{SigFault, Signatures};
 use std::alloc::Allocator;
 use std::marker::Model;
-use vcode_base::{Arith, Elementwise, Op, Scalar};
-use vcode_reader::{CodeLine, Function, Program};
+use vcode_base::{Arith, Elementwise, Instruction, Op, Scalar};
+use vcode_reader::{CodeLine, Function, Part, Program};
 
 /// Why a program is not well kinded.
 #[derive(Clone, Copy, PartialEq, Eq, Debug)]
@@ -93,15 +93,15 @@ impl<A: Allocator> Verified<A> {
     }
 }
 
-/// The program, where it is well kinded; else its first fault: that it has no `MAIN`, at its first
-/// line, and after that the first in the order of its text. The program is spent in both cases. No
-/// memory is taken.
+/// The program, where it is well kinded, which is exactly where it has no fault; else its first fault:
+/// that it has no `MAIN`, at its first line, and after that the first in the order of its text. The
+/// program is spent in both cases. No memory is taken.
 pub fn verify<A: Allocator>(
     program: Program<A>,
     signatures: &Signatures,
 ) -> Result<Verified<A>, VerifyFault>
     ensures { MatchResult result
-        (λ v. IsWellKinded signatures.now program × (v ≡ program))
+        (λ v. IsWellKinded signatures.now program × (v ≡ program) × (kind_fault signatures.now program ≡ None))
         (λ e. FaultIs e (kind_fault signatures.now program)) }
 {
     match first_fault(&program, signatures) {
@@ -149,7 +149,7 @@ fn fault_in<A: Allocator>(function: &Function<A>) -> Option<(KindFault, u64)>
     let mut entries = 0;
     for place in 0..lines.len() - 1 {
         let line = &lines[place];
-        match taken_by(line.item.op()) {
+        match taken_at(&line.item) {
             None => return Some((KindFault::MissingOperand, line.number)),
             Some(count) => {
                 if entries < count {
@@ -163,6 +163,16 @@ fn fault_in<A: Allocator>(function: &Function<A>) -> Option<(KindFault, u64)>
         None
     } else {
         Some((KindFault::ResultDiffers, lines[lines.len() - 1].number))
+    }
+}
+
+/// How many entries a line of this language takes: an instruction of it.
+fn taken_at<A: Allocator>(item: &Part<Instruction<A>>) -> Option<usize>
+    ensures { result ≡ taken_at item.now }
+{
+    match item {
+        Part::Do(instruction) => taken_by(instruction.op()),
+        Part::If | Part::Else | Part::Endif => None,
     }
 }
 

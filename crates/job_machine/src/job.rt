@@ -49,7 +49,7 @@ impl<A: Allocator> PartialEq for JobName<A> {
     ghost laws = { Prim.search (comparing, rules) };
 
     fn eq(&self, other: &JobName<A>) -> bool {
-        self.bytes.as_slice() == other.bytes.as_slice()
+        self.as_bytes() == other.as_bytes()
     }
 }
 

@@ -1,6 +1,10 @@
-//! Laws over the definitions alone: each is the contract of a function that does nothing.
+//! Laws of the definitions that the contracts cite, and of `==`: each is the contract of a function.
 
+ghost use Rattle.std.specs.Prelude.{◌≡◌, ◌↔◌, IsTrue};
 ghost use Rattle.job_machine.specs.Reached.{Reaches, NeverStuck, EndsOnce, EachEnds, EndIsOwn};
+
+use crate::job::Job;
+use std::alloc::Allocator;
 
 /// What holds of each state that a verified job reaches: its count is within the budget, its words
 /// and entries are within the limits, no two entries share a vector, and what remains of `MAIN`
@@ -28,3 +32,10 @@ pub fn each_ends()
 pub fn end_is_own()
     ensures { EndIsOwn }
 {}
+
+/// Two jobs are `==` exactly where their names, programs and limits are equal.
+pub fn equal_jobs<A: Allocator>(left: &Job<A>, right: &Job<A>) -> bool
+    ensures { IsTrue result ↔ (left.now ≡ right.now) }
+{
+    *left == *right
+}

@@ -1,6 +1,6 @@
 //! Jobs over one region of words.
 
-ghost use Rattle.std.specs.Prelude.{◌≡◌, ◌<◌, ◌≤◌, ◌^◌, false, length, map, All, IfOk, OnOk, OnErr, IfSome, option_map, option_copied, position};
+ghost use Rattle.std.specs.Prelude.{◌≡◌, ◌<◌, ◌≤◌, ◌^◌, true, false, length, map, All, IfOk, OnOk, OnErr, IfSome, option_map, option_copied, position};
 ghost use Rattle.job_machine.specs.Standings.{Collected, Admit, Begin, Finish, Recall, Collect, happens, admission, seat_of, status_by, executed_by, peak_by, outcome_of, is_flying, is_over, is_in_flight, is_waiting, granted_words, used_words, task_of, waiting};
 ghost use Rattle.job_machine.specs.Answers.{Begins, begun_of, Finishes, finished_of};
 
@@ -81,10 +81,11 @@ impl<A: Allocator + Clone> Machine<A> {
     }
 
     /// Stores the outcome of a job that is over and gives its words back; true where there was such a
-    /// job. Nothing changes where memory is wanting.
+    /// job. Nothing changes where memory is wanting, which comes at such a job alone.
     pub fn collect(&mut self, job: usize) -> Result<bool, AllocError>
         ensures ok { IfOk result (λ yes. (yes ≡ is_over (seat_of job self.old.seats)) × (self.new ≡ happens (Collect job) self.old)) }
         ensures err { OnErr result (self.new ≡ self.old) }
+        ensures only_over { OnErr result (is_over (seat_of job self.old.seats) ≡ true) }
     {
         if job == 0 || job > self.seats.len() {
             return Ok(false);

@@ -16,6 +16,7 @@ use crate::track::Track;
 use std::alloc::{AllocError, Allocator};
 use std::marker::Model;
 use vcode_base::{DataFault, Instr, Limits, MemoryFault, Outcome, Values};
+use vcode_reader::Part;
 
 /// Where a job stands.
 #[derive(Clone, Copy, PartialEq, Eq, Debug)]
@@ -61,7 +62,8 @@ pub enum Finished {
 pub enum Early<A: Allocator> {
     /// The answer, with the desk.
     Answered(Finished, Desk<A>),
-    /// There was no memory for the result. Nothing changed, and the step is in flight still.
+    /// There was no memory for the result. Nothing changed, and the step is in flight still. A step
+    /// with no result, as `RET`, never comes to this.
     NoMemory(Filled<A>),
 }
 
@@ -274,6 +276,7 @@ impl<A: Allocator + Clone> Seat<A> {
     pub(crate) fn collect(&mut self) -> Result<bool, AllocError>
         ensures ok { IfOk result (λ yes. (yes ≡ is_ended self.old.standing) × (self.new ≡ stood after_collect self.old)) }
         ensures err { OnErr result (self.new ≡ self.old) }
+        ensures only_ended { OnErr result (is_ended self.old.standing ≡ true) }
     {
         match self.status {
             Status::Ended => {}
@@ -354,7 +357,10 @@ fn next_of<'a, A: Allocator>(job: &'a Job<A>, track: &'a Track<A>) -> Next<'a>
     let Some(line) = job.item(track.executed() as usize) else {
         unreachable!()
     };
-    match &line.item {
+    let Part::Do(instruction) = &line.item else {
+        unreachable!()
+    };
+    match instruction {
         Instr::Const(_kind, list) => Next {
             op: FirstOp::Constant,
             line: line.number,

@@ -154,6 +154,16 @@ returns-in-Ok-clause-state g c =
 pub returns-in-Err-clause-answer : goal.returns-in-Err-clause-answer
 returns-in-Err-clause-answer g c =
     let i = c.self.inside in
+    let t = i.track in
+    let f = c.args.filled in
     let yes : c.is_asked.result ≡ true = grind arith in
     let hit = c.is_asked.ensures.0 yes in
-    (fits_here i.job i.status i.track.executed c.args.self.now c.args.filled c.self.view_is c.in-InFlight.is hit.0 hit.1, refl)
+    let flight = subst (ShowsAs i.job t i.outcome) c.in-InFlight.is c.self.invariant.shows in
+    let asked : question_of i.job t.executed ≡ Some f.question = ap (question_of i.job) hit.0 ∙ hit.1 in
+    let k = goes i.job c.self.invariant.kinded t flight.0 f.question asked c.in-Some.taken (ap taken (sym c.first_op.ensures) ∙ sym c.in-Some.ensures) flight.1 in (
+      (
+        fits_here i.job i.status t.executed c.args.self.now f c.self.view_is c.in-InFlight.is hit.0 hit.1,
+        finished_here i.job i.status t.executed c.args.self.now f.step (Live (f.step + 1)) c.self.view_is hit.0 (k.stands ∙ ap (λ n. Live (n + 1)) hit.0),
+      ),
+      refl,
+    )
