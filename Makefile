@@ -1,13 +1,26 @@
+# make         the program, proved, at bin/vjobs
+# make run     runs examples/sum_of_two.vcode
 # make test    the gate: every proof from nothing, the wrong bodies that the prover must refuse, all tests
-# make bench   times the instructions beside plain C; no test
+# make bench   times the reading of a batch, the instructions beside plain C, and the memory; no test
 
-.PHONY: test bench clean
+.PHONY: all run test bench clean
+
+all:
+	cd crates/vjobs && rt run -- --help > /dev/null
+	mkdir -p bin
+	cp crates/vjobs/out/vjobs bin/vjobs
+
+run: all
+	bin/vjobs examples/sum_of_two.vcode
 
 test:
+	python3 examples/agree.py
 	rt ci
 
-bench:
+bench: all
+	python3 bench/reading.py
 	python3 bench/ops.py
+	python3 bench/memory.py
 
 clean:
 	rm -rf bin crates/*/out

@@ -1,0 +1,10 @@
+pub mod AnswerLemmas
+pub mod BatchLemmas
+pub mod Bytes
+pub mod CursorLemmas
+pub mod FateLemmas
+pub mod FeedLemmas
+pub mod JobLineLemmas
+pub mod LineLemmas
+pub mod ReportLemmas
+pub mod RunLemmas

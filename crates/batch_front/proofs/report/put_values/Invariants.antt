@@ -1,0 +1,7 @@
+use Rattle.std.proofs.Common.{◌≡◌, ◌++◌, take}
+use Rattle.std.specs.List.{flat_map}
+use Rattle.batch_front.specs.Reports.{value_text}
+use Rattle.batch_front.proofs.report.put_values.Given as goal
+
+abbrev pub invariant-loop-value : goal.invariant-loop-value
+invariant-loop-value g l = l.report.items ≡ l.fn.report.items ++ flat_map value_text (take l.value-index l.values)

@@ -1,0 +1,16 @@
+pub mod BatchTexts
+pub mod Batches
+pub mod Blocks
+pub mod Cursors
+pub mod Devices
+pub mod Ends
+pub mod Exits
+pub mod Fates
+pub mod Headings
+pub mod Inputs
+pub mod JobLines
+pub mod JobTexts
+pub mod Lines
+pub mod Refusing
+pub mod Reports
+pub mod Shown

@@ -1,0 +1,131 @@
+//! A reader or a writer of std that keeps count of its interruptions.
+ghost use Rattle.std.specs.Prelude.{◌≡◌, ◌<◌, ◌≤◌, length, IfOk, MatchResult};
+ghost use Rattle.std.specs.Io.KnownBytes.{Keeps, ReadConsumes, WriteAppends};
+
+use std::io::{ErrorKind, Read, Write};
+
+/// Why a call of a device gave nothing.
+#[derive(Clone, Copy, PartialEq, Eq, Debug)]
+pub(crate) enum Trouble {
+    /// It was interrupted, and may be tried again.
+    Interrupted,
+    /// It failed, or took none of some bytes.
+    Failed,
+}
+
+/// A reader or a writer, whether it has failed, and how often it was interrupted.
+#[derive(Drop)]
+pub struct Device<D> {
+    inner: D,
+    failed: bool,
+    interrupts: u64,
+}
+
+impl<D> Device<D> {
+    ghost use Rattle.batch_front.specs.Devices.{inner_of, has_failed, interrupts_of, IsFresh, IsTroubled};
+
+    /// A device that was not used, over a reader or a writer.
+    pub fn new(inner: D) -> Device<D>
+        ensures inner { inner_of result ≡ inner }
+        ensures fresh { IsFresh result }
+    {
+        Device {
+            inner,
+            failed: false,
+            interrupts: 0,
+        }
+    }
+
+    /// Whether it gave an error other than an interruption, or took none of some bytes.
+    pub fn failed(&self) -> bool
+        ensures { result ≡ has_failed self.now }
+    {
+        self.failed
+    }
+
+    /// How often it answered that it was interrupted; the greatest `u64` stands for that many or more.
+    pub fn interrupts(&self) -> u64
+        ensures { result ≡ interrupts_of self.now }
+    {
+        self.interrupts
+    }
+
+    /// The reader or the writer.
+    pub fn into_inner(self) -> D
+        ensures { result ≡ inner_of self }
+    {
+        let Device {
+            inner,
+            failed: _,
+            interrupts: _,
+        } = self;
+        inner
+    }
+
+    /// Keeps in mind that it failed.
+    fn fail(&mut self) -> Trouble
+        ensures inner { inner_of self.new ≡ inner_of self.old }
+        ensures state { IsTroubled self.old self.new result }
+    {
+        self.failed = true;
+        Trouble::Failed
+    }
+
+    /// Keeps in mind that it gave an error of this kind.
+    fn note(&mut self, kind: ErrorKind) -> Trouble
+        ensures inner { inner_of self.new ≡ inner_of self.old }
+        ensures state { IsTroubled self.old self.new result }
+    {
+        if kind == ErrorKind::Interrupted {
+            self.interrupts = self.interrupts.saturating_add(1);
+            Trouble::Interrupted
+        } else {
+            self.fail()
+        }
+    }
+}
+
+impl<R: Read> Device<R> {
+    ghost use Rattle.batch_front.specs.Devices.{inner_of, IsSteady, IsTroubled};
+
+    /// One read.
+    pub(crate) fn read(&mut self, buf: &mut [u8]) -> Result<usize, Trouble>
+        ensures bytes { ReadConsumes (R.remaining (inner_of self.old)) (R.remaining (inner_of self.new)) result buf.new }
+        ensures within { IfOk result (λ n. n ≤ length buf.new) }
+        ensures state { MatchResult result (λ _. IsSteady self.old self.new) (λ t. IsTroubled self.old self.new t) }
+    {
+        match self.inner.read(buf) {
+            Ok(n) => Ok(n),
+            Err(error) => Err(self.note(error.kind())),
+        }
+    }
+}
+
+impl<W: Write> Device<W> {
+    ghost use Rattle.batch_front.specs.Devices.{inner_of, IsSteady, IsTroubled};
+
+    /// One write of some bytes.
+    pub(crate) fn write(&mut self, buf: &[u8]) -> Result<usize, Trouble>
+        requires { 0 < length buf.now }
+        ensures bytes { WriteAppends (W.contents (inner_of self.old)) (W.contents (inner_of self.new)) result buf.now }
+        ensures within { IfOk result (λ n. (0 < n) × (n ≤ length buf.now)) }
+        ensures state { MatchResult result (λ _. IsSteady self.old self.new) (λ t. IsTroubled self.old self.new t) }
+    {
+        match self.inner.write(buf) {
+            Ok(0) => Err(self.fail()),
+            Ok(n) => Ok(n),
+            Err(error) => Err(self.note(error.kind())),
+        }
+    }
+
+    /// One flush.
+    pub(crate) fn flush(&mut self) -> Result<(), Trouble>
+        ensures bytes { Keeps (W.contents (inner_of self.old)) (W.contents (inner_of self.new)) }
+        ensures state { MatchResult result (λ _. IsSteady self.old self.new) (λ t. IsTroubled self.old self.new t) }
+    {
+        match self.inner.flush() {
+            Ok(()) => Ok(()),
+            Err(error) => Err(self.note(error.kind())),
+        }
+    }
+}

@@ -1,0 +1,72 @@
+//! What a line of a batch is by itself.
+
+ghost use Rattle.std.specs.Prelude.{◌≡◌};
+ghost use Rattle.batch_front.specs.Headings.{heading_of, is_blank, is_signatures, is_too_large, marker_of};
+ghost use Rattle.batch_front.specs.Lines.{words};
+
+use crate::line::first_word;
+
+/// What a line of a batch is by itself.
+#[derive(Clone, Copy, PartialEq, Eq, Debug)]
+pub(crate) enum Heading {
+    /// It holds the first byte past the limit of a batch.
+    TooLarge,
+    /// It has no word.
+    Blank,
+    /// Its only word is `SIGNATURES`.
+    Signatures,
+    /// Its only word is `CODE`.
+    Code,
+    /// Its only word is `END`.
+    End,
+    /// It is none of these.
+    Other,
+}
+
+impl Heading {
+    pub(crate) fn is_too_large(self) -> bool
+        ensures { result ≡ is_too_large self }
+    {
+        matches!(self, Heading::TooLarge)
+    }
+
+    pub(crate) fn is_blank(self) -> bool
+        ensures { result ≡ is_blank self }
+    {
+        matches!(self, Heading::Blank)
+    }
+
+    pub(crate) fn is_signatures(self) -> bool
+        ensures { result ≡ is_signatures self }
+    {
+        matches!(self, Heading::Signatures)
+    }
+}
+
+/// What a line within the limit is.
+pub(crate) fn heading_of(line: &[u8]) -> Heading
+    ensures { result ≡ heading_of (words line.now) }
+{
+    match first_word(line) {
+        None => Heading::Blank,
+        Some((word, rest)) => match first_word(rest) {
+            None => marker(word),
+            Some(_) => Heading::Other,
+        },
+    }
+}
+
+/// What a line of this only word is.
+fn marker(word: &[u8]) -> Heading
+    ensures { result ≡ marker_of word.now }
+{
+    if word == b"SIGNATURES".as_slice() {
+        Heading::Signatures
+    } else if word == b"CODE".as_slice() {
+        Heading::Code
+    } else if word == b"END".as_slice() {
+        Heading::End
+    } else {
+        Heading::Other
+    }
+}

@@ -1,0 +1,70 @@
+//! Runs a batch of VCODE jobs and prints the report on it.
+#![tactic(auto)]
+
+use batch_front::{
+    Device, FrontFault, Line, LineFault, Options, Status, exit_status, read_line, run_alone,
+};
+use std::env;
+use std::fs::File;
+use std::io::Read;
+use std::process::ExitCode;
+
+/// Reads the command line.
+fn line_of(rt: &HostRuntime) -> Result<Line, LineFault> {
+    let words = env::args(rt).map_err(|_| LineFault::Memory)?;
+    let words: Vec<String> = words.collect(rt.alloc()).map_err(|_| LineFault::Memory)?;
+    let mut texts = Vec::new(rt.alloc());
+    for word in &words {
+        texts.push(word.as_str()).map_err(|_| LineFault::Memory)?;
+    }
+    read_line(rt.alloc(), texts.as_slice())
+}
+
+/// Runs the batch that a reader gives, with the report on standard output.
+fn run_over<R: Read + Drop>(
+    rt: &HostRuntime,
+    reader: R,
+    options: &Options,
+) -> Result<Status, FrontFault> {
+    let mut reader = Device::new(reader);
+    let mut writer = Device::new(rt.stdout());
+    run_alone(rt.alloc(), &mut reader, &mut writer, options)
+}
+
+/// Runs the batch in the file of this name; `-` is standard input.
+fn run(rt: &HostRuntime, options: &Options, file: &str) -> Result<Status, FrontFault> {
+    if file == "-" {
+        return run_over(rt, rt.stdin(), options);
+    }
+    let file = File::open(rt, file).map_err(|_| FrontFault::Read)?;
+    run_over(rt, file, options)
+}
+
+fn main(rt: HostRuntime) -> ExitCode {
+    let status = match line_of(&rt) {
+        Ok(Line::Run(options, file)) => {
+            let outcome = run(&rt, &options, file.as_str());
+            if let Err(fault) = &outcome {
+                let _ = eprintln!(rt; "{fault}");
+            }
+            exit_status(&outcome)
+        }
+        Ok(Line::Help(text)) => match print!(rt; "{text}") {
+            Ok(()) => 0,
+            Err(_) => {
+                let fault = FrontFault::Write;
+                let _ = eprintln!(rt; "{fault}");
+                exit_status(&Err(fault))
+            }
+        },
+        Err(LineFault::Usage(text)) => {
+            let _ = eprint!(rt; "{text}");
+            2
+        }
+        Err(fault) => {
+            let _ = eprintln!(rt; "{fault}");
+            fault.exit_status()
+        }
+    };
+    ExitCode::from(status)
+}

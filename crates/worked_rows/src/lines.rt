@@ -1,0 +1,42 @@
+//! Command lines.
+use batch_front::{Line, LineFault, read_line};
+use std::test::Fail;
+
+#[test]
+fn reads_a_region_and_standard_input(rt: HostRuntime) {
+    let line = read_line(rt.alloc(), &["vjobs", "--region", "64", "-"]);
+    assert!(rt;
+        matches!(&line, Ok(Line::Run(options, file)) if options.region == 64 && file.as_str() == "-")
+    );
+}
+
+#[test]
+fn reads_a_file_alone(rt: HostRuntime) {
+    let line = read_line(rt.alloc(), &["vjobs", "batch.vcode"]);
+    assert!(rt;
+        matches!(&line, Ok(Line::Run(options, file))
+        if options.region == 1_048_576 && file.as_str() == "batch.vcode")
+    );
+}
+
+#[test]
+fn refuses_lines_that_it_does_not_know(rt: HostRuntime) {
+    for words in [
+        ["vjobs", "--workers", "17", "FILE"],
+        ["vjobs", "--region", "0", "FILE"],
+        ["vjobs", "--region", "1048577", "FILE"],
+        ["vjobs", "--region", "64", "--region"],
+        ["vjobs", "--region", "6x", "FILE"],
+        ["vjobs", "FILE", "FILE", "FILE"],
+    ] {
+        let line = read_line(rt.alloc(), &words);
+        assert!(rt; matches!(&line, Err(LineFault::Usage(_))));
+        assert_eq!(rt; line.err().map(|fault| fault.exit_status()), Some(2));
+    }
+}
+
+#[test]
+fn helps(rt: HostRuntime) {
+    let line = read_line(rt.alloc(), &["vjobs", "--help"]);
+    assert!(rt; matches!(&line, Ok(Line::Help(text)) if text.contains("--region <N>")));
+}
