@@ -1,7 +1,7 @@
 # make         the program, proved, at bin/vjobs
 # make run     runs examples/sum_of_two.vcode
 # make test    the gate: every proof from nothing, the wrong bodies that the prover must refuse, all tests
-# make bench   times the reading of a batch, the instructions beside plain C, and the memory; no test
+# make bench   times the reading of a batch, the instructions beside plain C, the memory, and the verifier; no test
 
 .PHONY: all run test bench clean
 
@@ -21,6 +21,7 @@ bench: all
 	python3 bench/reading.py
 	python3 bench/ops.py
 	python3 bench/memory.py
+	python3 bench/kinds.py
 
 clean:
 	rm -rf bin crates/*/out

@@ -12,8 +12,6 @@ mod pack;
 mod plain;
 mod region;
 mod table;
-#[cfg(test)]
-mod tests;
 
 pub use memory::{BlockId, NoRoom, VectorMemory};
 pub use plain::PlainMemory;

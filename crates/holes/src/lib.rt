@@ -10,8 +10,6 @@ ghost use Rattle.holes.specs.FreeWords.{NoneFree, IsLowestFit, taken_from, given
 
 mod hole;
 pub mod laws;
-#[cfg(test)]
-mod tests;
 
 use hole::{Hole, cut_front, first_fit, index_from, join};
 use std::alloc::{AllocError, Allocator};

@@ -17,6 +17,3 @@ pub use desk::{Desk, Filled, Ticket, compute};
 pub use job::{Job, JobName};
 pub use machine::{Admission, Machine};
 pub use seat::{Begun, Early, Finished, Status};
-
-#[cfg(test)]
-mod tests;

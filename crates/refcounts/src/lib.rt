@@ -10,9 +10,6 @@ ghost use Rattle.std.specs.Prelude.{◌≡◌, ◌+◌, ◌-◌, ◌^◌, ◌<�
 ghost use Rattle.block_memory.specs.Content.{block_count as block_count_of};
 ghost use Rattle.refcounts.specs.Shared.{none, slot_at, IsLive, IsTidy, used_words, block_count, put, new_slot, shared_at, released_at};
 
-#[cfg(test)]
-mod tests;
-
 use block_memory::{BlockId, NoRoom, VectorMemory};
 use std::alloc::{AllocError, Allocator};
 use std::marker::Model;

@@ -45,7 +45,7 @@ pub fn make_descriptor(lengths: &[i64], out: &mut [i64]) -> Result<(), DataFault
 }
 
 /// Whether a length is negative, or their total passes the greatest.
-pub fn is_bad_descriptor(lengths: &[i64]) -> bool
+fn is_bad_descriptor(lengths: &[i64]) -> bool
     ensures { result
         ≡ (list_any (λ n. int_lt n (pos 0)) lengths.now
         || nat_lt greatest_total (total lengths.now)) }

@@ -28,8 +28,6 @@ mod scans;
 mod scatters;
 mod shapes;
 mod steps;
-#[cfg(test)]
-mod tests;
 
 pub use fills::fill;
 pub use needs::need;

@@ -21,8 +21,6 @@ pub mod laws;
 mod line;
 mod reader;
 mod table;
-#[cfg(test)]
-mod tests;
 mod words;
 
 pub use fault::{SigFault, SignatureError};

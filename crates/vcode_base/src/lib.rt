@@ -11,8 +11,6 @@ pub mod laws;
 mod limits;
 mod op;
 mod outcome;
-#[cfg(test)]
-mod tests;
 mod value;
 mod words;
 

@@ -8,6 +8,7 @@ use Rattle.std.proofs.lemmas.Bool.Decides.{Decides-and, Decides-like, Decides-eq
 use Rattle.std.proofs.lemmas.Slice.Eq.{slice_eq-Decides}
 use Rattle.vcode_reader.specs.declared.line.Part.{Part}
 use Rattle.vcode_reader.specs.Trees.{Item, CodeLine, Function, Program, lines_of}
+use Rattle.vcode_reader.specs.Callees.{callees_of}
 use Rattle.vcode_reader.specs.Targets.{targets_of}
 use Rattle.vcode_reader.specs.Decode.{function_of, function_of-lines_of}
 
@@ -32,8 +33,8 @@ module _ {F : Part Item → Part Item → Bool} {T : Option ℕ → Option ℕ �
       (Decides-and _ _ (slice_eq-Decides Decides-eqb f.name g.name _ refl) (Decides-and _ _ (Decides-eqb f.line g.line) (Decides-and _ _ (slice_eq-Decides same_lines (lines_of f) (lines_of g) _ refl) (slice_eq-Decides exact_targets (targets_of (lines_of f)) (targets_of (lines_of g)) _ refl))))
 
   pub same_programs : (p q : Program) →
-      Decides (nat_eq p.first_line q.first_line && pointwise (λ f g. pointwise nat_eq f.name g.name && (nat_eq f.line g.line && (pointwise (λ a b. F a.item b.item && nat_eq a.number b.number) (lines_of f) (lines_of g) && pointwise T (targets_of (lines_of f)) (targets_of (lines_of g))))) p.functions q.functions) (p ≡ q)
+      Decides (nat_eq p.first_line q.first_line && (pointwise (λ f g. pointwise nat_eq f.name g.name && (nat_eq f.line g.line && (pointwise (λ a b. F a.item b.item && nat_eq a.number b.number) (lines_of f) (lines_of g) && pointwise T (targets_of (lines_of f)) (targets_of (lines_of g))))) p.functions q.functions && pointwise (pointwise T) (callees_of p.functions) (callees_of q.functions))) (p ≡ q)
   same_programs p q =
-      Decides-like _ (λ (n, fs). ap (λ z. let r : Program = record { first_line = z; functions = p.functions } in r) n ∙ ap (λ z. let r : Program = record { first_line = q.first_line; functions = z } in r) fs)
-      (λ e. (ap (λ (x : Program). x.first_line) e, ap (λ (x : Program). x.functions) e))
-      (Decides-and _ _ (Decides-eqb p.first_line q.first_line) (slice_eq-Decides same_functions p.functions q.functions _ refl))
+      Decides-like _ (λ (n, (fs, _)). ap (λ z. let r : Program = record { first_line = z; functions = p.functions } in r) n ∙ ap (λ z. let r : Program = record { first_line = q.first_line; functions = z } in r) fs)
+      (λ e. (ap (λ (x : Program). x.first_line) e, (ap (λ (x : Program). x.functions) e, ap (λ (x : Program). callees_of x.functions) e)))
+      (Decides-and _ _ (Decides-eqb p.first_line q.first_line) (Decides-and _ _ (slice_eq-Decides same_functions p.functions q.functions _ refl) (slice_eq-Decides (λ a b. slice_eq-Decides exact_targets a b _ refl) (callees_of p.functions) (callees_of q.functions) _ refl)))

@@ -1,4 +1,5 @@
 pub mod Answers
+pub mod Callees
 pub mod Codes
 pub mod Digits
 pub mod Drafting

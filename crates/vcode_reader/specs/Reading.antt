@@ -28,6 +28,11 @@ ended (Some fault) comment p = Err fault
 ended None (Some l) p = Err (Unfinished, l)
 ended None None p = at_end p.place p
 
+-- these functions, unless something is refused
+abbrev pub unless : Option Fault → List Function → Result (List Function) Fault
+unless None fs = Ok fs
+unless (Some fault) fs = Err fault
+
 -- what the bytes so far come to, if the text ends behind them
 unfoldable pub outcome : Scan Parse → Result (List Function) Fault
 outcome s = let e = end_word take s in ended e.found.fault e.comment e.found

@@ -8,7 +8,7 @@ use crate::language::Language;
 use vcode_base::{Arith, Comparison, Logic, StackMove};
 
 /// What a word begins, where an item of a function or a function must stand.
-#[derive(Clone, Copy, PartialEq, Eq, Debug)]
+#[derive(Clone, Copy)]
 pub enum Head {
     Func,
     Return,
@@ -24,14 +24,20 @@ pub enum Head {
 fn first_head(word: &[u8]) -> Head
     ensures { result ≡ first_head word.now }
 {
-    match word {
-        b"FUNC" => Head::Func,
-        b"RET" => Head::Return,
-        b"ELSE" => Head::Else,
-        b"ENDIF" => Head::Endif,
-        b"CONST" => Head::Start(Keyword::Const),
-        b"+" => Head::Start(Keyword::Arith(Arith::Add)),
-        _ => Head::Other,
+    if word == b"FUNC".as_slice() {
+        Head::Func
+    } else if word == b"RET".as_slice() {
+        Head::Return
+    } else if word == b"ELSE".as_slice() {
+        Head::Else
+    } else if word == b"ENDIF".as_slice() {
+        Head::Endif
+    } else if word == b"CONST".as_slice() {
+        Head::Start(Keyword::Const)
+    } else if word == b"+".as_slice() {
+        Head::Start(Keyword::Arith(Arith::Add))
+    } else {
+        Head::Other
     }
 }
 
@@ -88,15 +94,22 @@ fn of_three(word: &[u8]) -> Head
 fn of_four(word: &[u8]) -> Head
     ensures { result ≡ of_four word.now }
 {
-    match word {
-        b"FUNC" => Head::Func,
-        b"ELSE" => Head::Else,
-        b"CALL" => Head::Start(Keyword::Call),
-        b"COPY" => Head::Start(Keyword::Move(StackMove::Copy)),
-        b"CPOP" => Head::Start(Keyword::Move(StackMove::MoveToTop)),
-        b"DIST" => Head::Start(Keyword::Distribute),
-        b"PACK" => Head::Start(Keyword::Pack),
-        _ => Head::Other,
+    if word == b"FUNC".as_slice() {
+        Head::Func
+    } else if word == b"ELSE".as_slice() {
+        Head::Else
+    } else if word == b"CALL".as_slice() {
+        Head::Start(Keyword::Call)
+    } else if word == b"COPY".as_slice() {
+        Head::Start(Keyword::Move(StackMove::Copy))
+    } else if word == b"CPOP".as_slice() {
+        Head::Start(Keyword::Move(StackMove::MoveToTop))
+    } else if word == b"DIST".as_slice() {
+        Head::Start(Keyword::Distribute)
+    } else if word == b"PACK".as_slice() {
+        Head::Start(Keyword::Pack)
+    } else {
+        Head::Other
     }
 }
 
@@ -105,11 +118,14 @@ fn of_four(word: &[u8]) -> Head
 fn of_five(word: &[u8]) -> Head
     ensures { result ≡ of_five word.now }
 {
-    match word {
-        b"CONST" => Head::Start(Keyword::Const),
-        b"ENDIF" => Head::Endif,
-        b"INDEX" => Head::Start(Keyword::Index),
-        _ => Head::Other,
+    if word == b"CONST".as_slice() {
+        Head::Start(Keyword::Const)
+    } else if word == b"ENDIF".as_slice() {
+        Head::Endif
+    } else if word == b"INDEX".as_slice() {
+        Head::Start(Keyword::Index)
+    } else {
+        Head::Other
     }
 }
 

@@ -14,7 +14,7 @@ use vcode_base::{
 };
 
 /// How a scan or a reduction takes elements together, as its first word says.
-#[derive(Clone, Copy, PartialEq, Eq, Debug)]
+#[derive(Clone, Copy)]
 pub enum Folding {
     Sum,
     Product,
@@ -24,7 +24,7 @@ pub enum Folding {
 }
 
 /// The first word of an instruction.
-#[derive(Clone, Copy, PartialEq, Eq, Debug)]
+#[derive(Clone, Copy)]
 pub enum Keyword {
     Const,
     Arith(Arith),
@@ -51,7 +51,7 @@ pub enum Keyword {
 }
 
 /// What some words of an instruction must be.
-#[derive(Clone, Copy, PartialEq, Eq, Debug)]
+#[derive(Clone, Copy)]
 pub enum Slot {
     /// The kind `INT`.
     Int,

@@ -1,6 +1,7 @@
 //! Laws of the definitions that the contracts cite, and of `==`: each is the contract of a function.
 
 ghost use Rattle.std.specs.Prelude.{◌≡◌, ◌↔◌, IsTrue};
+ghost use Rattle.vcode_reader.specs.Callees.{EachCallIsFound};
 ghost use Rattle.vcode_reader.specs.Targets.{EachPartIsPassed};
 ghost use Rattle.vcode_reader.specs.First.{EveryTextIsRead, WholeTextsAreRead, OneProgram};
 
@@ -28,6 +29,11 @@ pub fn one_program()
 /// of an ELSE whose part is a body the place behind its ENDIF.
 pub fn each_part_is_passed()
     ensures { EachPartIsPassed }
+{}
+
+/// In any program, the callee of a CALL that names a function is the first function of that name.
+pub fn each_call_is_found()
+    ensures { EachCallIsFound }
 {}
 
 /// Two programs are `==` exactly where all that they hold is equal.

@@ -58,6 +58,7 @@ mod keyword;
 mod language;
 pub mod laws;
 mod line;
+mod link;
 mod number;
 mod parser;
 mod parts;
@@ -65,8 +66,6 @@ mod place;
 mod program;
 mod reader;
 mod sequence;
-#[cfg(test)]
-mod tests;
 mod word;
 
 pub use fault::{ReadFault, Refusal};

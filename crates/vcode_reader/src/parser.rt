@@ -6,7 +6,7 @@ ghost use Rattle.vcode_reader.specs.Drafts.{is_open};
 ghost use Rattle.vcode_reader.specs.Parsing.{start, refused, goes_on, item_place, settled, with_kind, with_value, with_lower, with_upper, with_callee, in_slot, one_element, in_list, outside, has_name, naming, returned, inside, take};
 ghost use Rattle.vcode_reader.specs.Parsing.{is_no_name, no_value, int_of, kind_of, count_in};
 ghost use Rattle.vcode_reader.specs.Numbers.{natural_of, value_of};
-ghost use Rattle.vcode_reader.specs.Reading.{ended, Gives};
+ghost use Rattle.vcode_reader.specs.Reading.{ended, unless, Gives};
 
 use crate::code::Draft;
 use crate::fault::{ReadFault, Refusal};
@@ -436,24 +436,31 @@ impl<A: Allocator + Clone> Parser<A> {
         Ok(())
     }
 
+    /// What is refused where the text ends here: in a comment that begins at this line, or in none.
+    fn refused_at_end(&self, comment: Option<u64>) -> Option<(Refusal, u64)>
+        ensures { ended self.now.fault comment self.now ≡ unless result self.now.functions }
+    {
+        if let Some(fault) = self.fault {
+            return Some(fault);
+        }
+        let line = match (comment, self.place) {
+            (Some(line), _) => line,
+            (None, Place::Outside) => return None,
+            (None, Place::Name) => self.line,
+            (None, Place::Inside | Place::InsideOrInt) => self.draft.innermost(self.line),
+            (None, Place::Words(_, _, begun)) => begun,
+            (None, Place::Elements(_, _, opened)) => opened,
+        };
+        Some((Refusal::Unfinished, line))
+    }
+
     /// What the text comes to, where it ends here: in a comment that begins at this line, or in none.
     pub fn ended(self, comment: Option<u64>) -> Result<Vec<Function<A>, A>, ReadFault>
         ensures { Gives result (ended self.fault comment self) }
     {
-        if let Some((refusal, line)) = self.fault {
-            return Err(ReadFault::At(refusal, line));
+        match self.refused_at_end(comment) {
+            Some((refusal, line)) => Err(ReadFault::At(refusal, line)),
+            None => Ok(self.functions),
         }
-        if let Some(line) = comment {
-            return Err(ReadFault::At(Refusal::Unfinished, line));
-        }
-        let line = match self.place {
-            Place::Outside => return Ok(self.functions),
-            Place::Words(_, _, begun) => begun,
-            Place::Elements(_, _, opened) => opened,
-            Place::Name => self.line,
-            Place::Inside => self.draft.innermost(self.line),
-            Place::InsideOrInt => self.draft.innermost(self.line),
-        };
-        Err(ReadFault::At(Refusal::Unfinished, line))
     }
 }

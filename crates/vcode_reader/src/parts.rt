@@ -8,7 +8,7 @@ use std::alloc::{AllocError, Allocator};
 use vcode_base::{FunctionName, Scalar};
 
 /// What the words so far gave, over the types of a list and of a name.
-#[derive(Debug, Drop)]
+#[derive(Drop)]
 pub struct Parts<L, N> {
     /// The kind that is written behind the first word.
     pub kind: Scalar,

@@ -3,7 +3,7 @@
 use crate::keyword::{Keyword, Slot};
 
 /// An IF that waits for its `ENDIF`.
-#[derive(Clone, Copy, PartialEq, Eq, Debug)]
+#[derive(Clone, Copy)]
 pub struct OpenIf {
     /// The line of the IF.
     pub line: u64,
@@ -12,7 +12,7 @@ pub struct OpenIf {
 }
 
 /// What the next word may be.
-#[derive(Clone, Copy, PartialEq, Eq, Debug)]
+#[derive(Clone, Copy)]
 pub enum Place {
     /// `FUNC`.
     Outside,

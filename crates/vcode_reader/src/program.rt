@@ -1,6 +1,7 @@
 ghost use Rattle.std.specs.Prelude.{◌≡◌, false, IfOk, position, option_copied};
 ghost use Rattle.std.specs.List.{slice_get};
 ghost use Rattle.std.specs.Str.{bytes_eq};
+ghost use Rattle.vcode_reader.specs.Callees.{callee_at};
 ghost use Rattle.vcode_reader.specs.Targets.{target_at};
 ghost use Rattle.vcode_reader.specs.Trees.{lines_of};
 ghost use Rattle.vcode_reader.specs.Decode.{tree_of};
@@ -8,6 +9,7 @@ ghost use Rattle.vcode_reader.specs.Drafts.{is_open};
 
 use crate::code::{Draft, targets_of};
 use crate::line::{CodeLine, Line, Part};
+use crate::link::callees_of;
 use crate::sequence::Sequence;
 use std::alloc::{AllocError, Allocator};
 use std::marker::Model;
@@ -117,6 +119,7 @@ impl<A: Allocator> Function<A> {
 pub struct Program<A: Allocator> {
     first_line: u64,
     functions: Sequence<Function<A>, A>,
+    callees: Sequence<Sequence<Option<usize>, A>, A>,
 }
 
 impl<A: Allocator> Model for Program<A> {
@@ -125,23 +128,38 @@ impl<A: Allocator> Model for Program<A> {
     ghost Value = { ProgramTree };
 
     ghost use Rattle.std.specs.Coded.{codes};
+    ghost use Rattle.std.specs.Prelude.{ℕ, List, Option, ◌≡◌};
+    ghost use Rattle.std.proofs.Common.{ap, sym};
+    ghost use Rattle.vcode_reader.specs.Callees.{callees_of};
     ghost use Rattle.vcode_reader.specs.Decode.{program_code};
 
     ghost coded = { program_code (Prim.hlevel codes) };
 
     ghost view = { λ p. record { first_line = p.first_line; functions = p.functions } };
 
-    ghost inverse = { λ p. record { first_line = p.first_line; functions = p.functions } };
+    ghost invariant = { λ p. p.callees ≡ callees_of p.functions };
+
+    ghost inverse = { λ p. record { first_line = p.first_line; functions = p.functions; callees = callees_of p.functions } };
+
+    ghost inverse_ok = { λ p h. ap (λ (cs : List (List (Option ℕ))). record p { callees = cs }) (sym h) };
 }
 
 impl<A: Allocator> Program<A> {
-    pub(crate) fn new(first_line: u64, functions: Vec<Function<A>, A>) -> Program<A>
-        ensures { result ≡ record { first_line = first_line; functions = functions.items } }
+    /// The program of these functions. Each CALL is found here.
+    pub(crate) fn new(
+        first_line: u64,
+        functions: Vec<Function<A>, A>,
+    ) -> Result<Program<A>, AllocError>
+    where
+        A: Clone,
+        ensures { IfOk result (λ p. p ≡ record { first_line = first_line; functions = functions.items }) }
     {
-        Program {
+        let callees = callees_of(functions.allocator().clone()?, functions.as_slice())?;
+        Ok(Program {
             first_line,
             functions: Sequence::from_vec(functions),
-        }
+            callees: Sequence::from_vec(callees),
+        })
     }
 
     /// The number of its first line.
@@ -166,5 +184,15 @@ impl<A: Allocator> Program<A> {
             .as_slice()
             .iter()
             .position(|f| f.name() == name)
+    }
+
+    /// The place, among the program's functions, of the function that the CALL at this place of that
+    /// function names: of the first, where several have the name. None where no function has the name,
+    /// at any line but a CALL, and where there is no such line.
+    pub fn callee(&self, function: usize, place: usize) -> Option<usize>
+        ensures { result ≡ callee_at self.now.functions function place }
+    {
+        let callees = self.callees.as_slice().get(function)?;
+        *callees.as_slice().get(place)?
     }
 }

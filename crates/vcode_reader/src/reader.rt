@@ -213,7 +213,7 @@ impl<A: Allocator + Clone> CodeReader<A> {
             return Err(ReadFault::Memory);
         }
         match self.scanner.outcome() {
-            Ok(functions) => Ok(Program::new(self.first_line, functions)),
+            Ok(functions) => Ok(Program::new(self.first_line, functions)?),
             Err(fault) => Err(fault),
         }
     }

@@ -15,8 +15,6 @@ mod logic;
 mod selection;
 mod shapes;
 mod steps;
-#[cfg(test)]
-mod tests;
 
 pub use fills::fill;
 pub use shapes::{need, shape};

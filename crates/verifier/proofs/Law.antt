@@ -12,8 +12,8 @@ use Rattle.vcode_base.specs.declared.kind.Kind.{Kind}
 use Rattle.vcode_base.specs.declared.kind.Kind.TheVariants as kind
 use Rattle.vcode_base.specs.declared.op.StackMove.{StackMove}
 use Rattle.vcode_base.specs.declared.instr.Instr.TheVariants.{Const, Elementwise, Segmented, If, Move, Call, Return}
-use Rattle.vcode_reader.specs.Trees.{Item, Body, End, Do, Choice, Function}
-use Rattle.signatures.specs.Signatures.{kinds_of}
+use Rattle.vcode_reader.specs.Trees.{Item, Body, End, Do, Choice, Function, Program}
+use Rattle.signatures.specs.Signatures.{Signature, kinds_of}
 use Rattle.verifier.specs.declared.fault.KindFault.{KindFault}
 use Rattle.verifier.specs.declared.fault.KindFault.TheVariants.{MissingOperand, UnknownFunction, ResultDiffers, NoSignature, NoMain, MainTakes}
 use Rattle.verifier.specs.Faults.{Fault}
@@ -330,3 +330,20 @@ no_fault_where_well_kinded signatures program = (λ h. without (has_function mai
     within h =
         ap (λ b. cond b (functions_fault (scope_of signatures program) program.functions) (Some (NoMain, program.first_line))) h.main
         ∙ of_all_free (scope_of signatures program) program.functions (fit_free (scope_of signatures program) program.functions h.takes_nothing h.functions)
+
+-- ---- the signature of MAIN
+
+main_fits : (scope : Scope) (fs : List Function) (o : Option ℕ) → position (λ (f : Function). bytes_eq f.name main_name) fs ≡ o → is_some o ≡ true → All (λ f. FitsSignature scope f) fs →
+    (takes gives : List Kind) × (kinds_of scope.signatures main_name ≡ Some (takes, gives))
+main_fits scope fs None e h all = absurd (let z : false ≡ true = h in cc)
+main_fits scope [] (Some i) e h all = absurd (let found : i < 0 = (position-Some (λ (f : Function). bytes_eq f.name main_name) [] i (record { name = []; line = 0; body = End; ret = 0 }) e).0 in omega arith)
+main_fits scope (f ∷ fs) (Some i) e h all =
+    let found = position-Some (λ (f : Function). bytes_eq f.name main_name) (f ∷ fs) i f e in
+    let (takes, gives, signature, body) = All-get_or (λ f. FitsSignature scope f) (f ∷ fs) i f found.0 all in
+    (takes, gives, ap (kinds_of scope.signatures) (sym (main_is (get_or (f ∷ fs) i f) found.1)) ∙ signature)
+
+-- the MAIN of a well kinded program has a signature, by which it takes nothing
+pub main_signed : (signatures : List Signature) (program : Program) → IsWellKinded signatures program → (gives : List Kind) × (kinds_of signatures main_name ≡ Some ([], gives))
+main_signed signatures program h =
+    let (takes, gives, signature) = main_fits (scope_of signatures program) program.functions _ refl h.main h.functions in
+    (gives, signature ∙ ap (λ z. Some (z, gives)) (h.takes_nothing takes gives signature))

@@ -56,7 +56,3 @@ pub record IsWellKinded (signatures : List Signature) (program : Program) : Type
   pub main : IsTrue (has_function main_name program.functions)
   pub takes_nothing : (takes gives : List Kind) → kinds_of signatures main_name ≡ Some (takes, gives) → takes ≡ []
   pub functions : All (λ f. FitsSignature (scope_of signatures program) f) program.functions
-
--- some signatures make the program well kinded
-abbrev pub IsVerified : Program → Type 0
-IsVerified program = (signatures : List Signature) × IsWellKinded signatures program

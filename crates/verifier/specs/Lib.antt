@@ -1,3 +1,4 @@
+pub mod Checked
 pub mod Faults
 pub mod First
 pub mod Kept

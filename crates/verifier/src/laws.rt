@@ -1,8 +1,19 @@
-//! A law of the definitions that the contracts cite: it is the contract of a function.
+//! Laws of the definitions that the contracts cite, and of `==`: each is the contract of a function.
 
+ghost use Rattle.std.specs.Prelude.{◌≡◌, ◌↔◌, IsTrue};
 ghost use Rattle.verifier.specs.Laws.{NoFaultWhereWellKinded};
+
+use crate::verified::Verified;
+use std::alloc::Allocator;
 
 /// Whatever the signatures, a program has no kind fault exactly where it is well kinded.
 pub fn no_fault_where_well_kinded()
     ensures { NoFaultWhereWellKinded }
 {}
+
+/// What was verified is `==` exactly where the programs and the kinds of what `MAIN` leaves are equal.
+pub fn equal_verified<A: Allocator>(left: &Verified<A>, right: &Verified<A>) -> bool
+    ensures { IsTrue result ↔ (left.now ≡ right.now) }
+{
+    *left == *right
+}

@@ -1,5 +1,5 @@
-//! The verifier: a program and its signatures in, a well kinded program or its first kind fault with the
-//! line out.
+//! The verifier: a program and its signatures in; a well kinded program with the kinds of what its `MAIN`
+//! leaves, or its first kind fault with the line, out.
 //!
 //! **Kinds.** A function begins with the operands of its signature on its stack, and each instruction
 //! takes the entries at the top that it has as operands and leaves its results in their place; what lies
@@ -20,10 +20,9 @@
 
 mod check;
 mod fault;
+mod kinds;
 pub mod laws;
 mod stack;
-#[cfg(test)]
-mod tests;
 mod verified;
 
 pub use fault::{KindFault, VerifyFault};

@@ -1,69 +1,96 @@
 //! A whole program.
 
-ghost use Rattle.std.specs.Prelude.{◌≡◌, Ok, MatchResult};
+ghost use Rattle.std.specs.Prelude.{◌≡◌, List, [], Ok, Some, IfOk, MatchResult};
+ghost use Rattle.vcode_base.specs.declared.kind.Kind.{Kind as KindOf};
+ghost use Rattle.signatures.specs.Signatures.{kinds_of};
+ghost use Rattle.verifier.specs.Checked.{IsVerified, IsVerifiedBy};
 ghost use Rattle.verifier.specs.First.{check, returned, main_takes, function_fault, functions_fault, kind_fault, FaultIs, Finds};
-ghost use Rattle.verifier.specs.Kinded.{IsWellKinded, IsVerified, scope_of};
+ghost use Rattle.verifier.specs.Kinded.{main_name, scope_of};
 
 use crate::check::walk;
 use crate::fault::{KindFault, VerifyFault};
+use crate::kinds::Kinds;
 use crate::stack::{Stack, same_kinds};
 use signatures::Signatures;
-use std::alloc::Allocator;
+use std::alloc::{AllocError, Allocator};
 use std::marker::Model;
 use vcode_base::Kind;
 use vcode_reader::{Function, Program};
 
-/// A program that is well kinded by some signatures.
+/// A program that is well kinded by some signatures, with the kinds of what its `MAIN` leaves by them.
 #[derive(Drop)]
 #[derive_where(PartialEq, Eq)]
 pub struct Verified<A: Allocator> {
     program: Program<A>,
+    results: Kinds<A>,
 }
 
 impl<A: Allocator> Model for Verified<A> {
     ghost use Rattle.std.specs.Coded.{codes};
-    ghost use Rattle.vcode_reader.specs.Trees.{Program as ProgramTree};
-    ghost use Rattle.vcode_reader.specs.Decode.{program_code};
+    ghost use Rattle.verifier.specs.Checked.{Checked, checked_code};
 
-    ghost Value = { ProgramTree };
+    ghost Value = { Checked };
 
-    ghost coded = { program_code (Prim.hlevel codes) };
+    ghost coded = { checked_code (Prim.hlevel codes) (Prim.hlevel codes) };
 
-    ghost use Rattle.verifier.specs.Kinded.{IsVerified};
+    ghost use Rattle.verifier.specs.Checked.{IsVerified};
 
-    ghost view = { λ v. v.program };
+    ghost view = { λ v. record { program = v.program; results = v.results } };
 
-    ghost invariant = { λ v. IsVerified v.program };
+    ghost invariant = { λ v. IsVerified (record { program = v.program; results = v.results }) };
 
-    ghost inverse = { λ p. record { program = p } };
+    ghost inverse = { λ c. record { program = c.program; results = c.results } };
 }
 
 impl<A: Allocator> Verified<A> {
     /// The program.
     pub fn program(&self) -> &Program<A>
-        ensures same { result.now ≡ self.now }
-        ensures kinded { IsVerified self.now }
+        ensures same { result.now ≡ self.now.program }
+        ensures verified { IsVerified self.now }
     {
         &self.program
     }
+
+    /// The kinds of what `MAIN` leaves, from the bottom of the stack up.
+    pub fn results(&self) -> &[Kind]
+        ensures same { result.now ≡ self.now.results }
+        ensures verified { IsVerified self.now }
+    {
+        self.results.as_slice()
+    }
 }
 
-/// The program, where it is well kinded by the signatures; else its first fault, or want of memory:
-/// that it has no `MAIN`, at its first line, and after that the first in the order of its text. The
-/// program is spent in both cases.
+/// The program, where it is well kinded by the signatures, with the kinds of what they let `MAIN`
+/// leave; else its first fault, or want of memory: that it has no `MAIN`, at its first line, and after
+/// that the first in the order of its text. The program is spent in both cases.
 pub fn verify<A: Allocator + Clone>(
     alloc: A,
     program: Program<A>,
     signatures: &Signatures<A>,
 ) -> Result<Verified<A>, VerifyFault>
     ensures { MatchResult result
-        (λ v. IsWellKinded signatures.now program × (v ≡ program))
+        (λ v. IsVerifiedBy signatures.now v × (v.program ≡ program))
         (λ e. FaultIs e (kind_fault signatures.now program)) }
 {
-    match check_program(alloc, &program, signatures) {
-        Ok(()) => Ok(Verified { program }),
+    match check_program(alloc.clone()?, &program, signatures) {
+        Ok(()) => {
+            let results = results_of_main(alloc, signatures)?;
+            Ok(Verified { program, results })
+        }
         Err(fault) => Err(fault),
     }
+}
+
+/// The kinds of what `MAIN` leaves, which takes nothing.
+fn results_of_main<A: Allocator>(
+    alloc: A,
+    signatures: &Signatures<A>,
+) -> Result<Kinds<A>, AllocError>
+    requires { (results : List KindOf) × (kinds_of signatures.now main_name ≡ Some ([], results)) }
+    ensures { IfOk result (λ results. kinds_of signatures.now main_name ≡ Some ([], results)) }
+{
+    let (_, results) = signatures.get(b"MAIN").unwrap();
+    Ok(Kinds::from_vec(results.to_vec(alloc)?))
 }
 
 #[tactic(auto, unfolding(crate::specs::First::kind_fault))]

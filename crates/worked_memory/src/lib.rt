@@ -1,0 +1,11 @@
+//! Worked runs over holes, vector memories and counted references.
+//!
+//! This crate has tests alone.
+#![tactic(auto)]
+
+#[cfg(test)]
+mod counted_blocks;
+#[cfg(test)]
+mod free_words;
+#[cfg(test)]
+mod placed_blocks;

@@ -1,0 +1,113 @@
+//! What a case comes to.
+
+use crate::escape::bytes_of;
+use crate::fault::CaseFault;
+use crate::show::{kinds_text, program_text, shortened, signatures_text, verified_text};
+use signatures::Signatures;
+use std::alloc::Global;
+use vcode_reader::laws::equal_programs;
+use vcode_reader::{Language, Program, read, read_first};
+use verifier::laws::equal_verified;
+use verifier::{Verified, verify};
+
+/// The answer to a line of the table.
+pub fn answer(alloc: Global, line: &str) -> Result<String, CaseFault> {
+    let (word, text) = line.split_once(' ').unwrap_or((line, ""));
+    match word {
+        "code" => code(alloc, Language::Whole, text),
+        "first" => code(alloc, Language::First, text),
+        "equal" => equal(alloc, text),
+        "position" => position(alloc, text),
+        "signatures" => signatures(alloc, text),
+        "get" => get(alloc, text),
+        "kinds" => kinds(alloc, text),
+        "same" => same(alloc, text),
+        _ => Err(CaseFault::NoCase),
+    }
+}
+
+fn code(alloc: Global, language: Language, text: &str) -> Result<String, CaseFault> {
+    let program = program_of(alloc, language, text)?;
+    let text = program_text(alloc, &program)?;
+    Ok(shortened(alloc, text, program.functions().len(), "functions")?)
+}
+
+fn equal(alloc: Global, text: &str) -> Result<String, CaseFault> {
+    let (left, right) = halves(text)?;
+    let left = program_of(alloc, Language::Whole, left)?;
+    let is_equal = is_read_as(alloc, right, &left)?;
+    Ok(format!(in alloc; "{is_equal}")?)
+}
+
+fn position(alloc: Global, text: &str) -> Result<String, CaseFault> {
+    let (name, code) = halves(text)?;
+    let place = program_of(alloc, Language::Whole, code)?.position(name.as_bytes());
+    Ok(format!(in alloc; "{place:?}")?)
+}
+
+fn signatures(alloc: Global, text: &str) -> Result<String, CaseFault> {
+    let found = signatures_of(alloc, text)?;
+    let text = signatures_text(alloc, &found)?;
+    Ok(shortened(alloc, text, found.len(), "signatures")?)
+}
+
+fn get(alloc: Global, text: &str) -> Result<String, CaseFault> {
+    let (name, text) = halves(text)?;
+    Ok(kinds_text(alloc, signatures_of(alloc, text)?.get(name.as_bytes()))?)
+}
+
+/// What is verified must be the program that was read.
+fn kinds(alloc: Global, text: &str) -> Result<String, CaseFault> {
+    let (known, code) = halves(text)?;
+    let verified = verified_of(alloc, known, code)?;
+    if !is_read_as(alloc, code, verified.program())? {
+        return Err(CaseFault::OtherProgram);
+    }
+    Ok(verified_text(alloc, &verified)?)
+}
+
+fn same(alloc: Global, text: &str) -> Result<String, CaseFault> {
+    let (left, text) = halves(text)?;
+    let (right, code) = halves(text)?;
+    let left = verified_of(alloc, left, code)?;
+    let right = verified_of(alloc, right, code)?;
+    let is_equal = equal_verified(&left, &right);
+    Ok(format!(in alloc; "{is_equal}")?)
+}
+
+/// What stands before the first `|` and behind it, without blanks at their ends.
+fn halves(text: &str) -> Result<(&str, &str), CaseFault> {
+    let (left, right) = text.split_once('|').ok_or(CaseFault::NoCase)?;
+    Ok((left.trim(), right.trim()))
+}
+
+/// Whether a code is read as this program.
+fn is_read_as(alloc: Global, code: &str, program: &Program<Global>) -> Result<bool, CaseFault> {
+    let read = program_of(alloc, Language::Whole, code)?;
+    Ok(equal_programs(&read, program))
+}
+
+/// The program of a code whose first line is line 5.
+#[tactic(auto, using(vcode_reader::proofs::Lines::line_feeds_at_most))]
+fn program_of(alloc: Global, language: Language, text: &str) -> Result<Program<Global>, CaseFault> {
+    let bytes = bytes_of(alloc, text)?;
+    let program = match language {
+        Language::Whole => read(alloc, bytes.as_slice(), 5),
+        Language::First => read_first(alloc, bytes.as_slice(), 5),
+    };
+    Ok(program?)
+}
+
+/// The signatures of a text whose first line is line 3.
+#[tactic(auto, using(signatures::proofs::Lines::line_feeds_at_most))]
+fn signatures_of(alloc: Global, text: &str) -> Result<Signatures<Global>, CaseFault> {
+    let bytes = bytes_of(alloc, text)?;
+    Ok(signatures::read(alloc, bytes.as_slice(), 3)?)
+}
+
+/// The program of a code, well kinded by signatures.
+fn verified_of(alloc: Global, known: &str, code: &str) -> Result<Verified<Global>, CaseFault> {
+    let known = signatures_of(alloc, known)?;
+    let program = program_of(alloc, Language::Whole, code)?;
+    Ok(verify(alloc, program, &known)?)
+}

@@ -1,0 +1,43 @@
+//! Prints a table of texts with what each comes to.
+//!
+//! Each line of standard input is a case: a word that says what is tried, and a text with escapes. It is
+//! printed as it stands, and behind it ` = ` and the answer: what was read, or the fault with its line.
+//! Blank lines and those that begin with `#` are printed alone.
+//!
+//! | Word | Text | Answer |
+//! |---|---|---|
+//! | `code`, `first` | code, in the whole language or in the first | its functions, line by line |
+//! | `equal` | code, `\|`, code | whether they are read as equal programs |
+//! | `position` | a name, `\|`, code | the place of the first function of this name |
+//! | `signatures` | signatures | names and kinds |
+//! | `get` | a name, `\|`, signatures | its kinds |
+//! | `kinds` | signatures, `\|`, code | whether the code is well kinded, and the kinds of what its `MAIN` leaves |
+//! | `same` | signatures, `\|`, signatures, `\|`, code | whether the code is verified alike by both |
+//!
+//! The first line of a code is line 5, and that of signatures line 3. Of what is long only the number of
+//! its functions or signatures is told.
+#![tactic(auto)]
+
+mod case;
+mod escape;
+mod fault;
+mod show;
+
+use case::answer;
+use std::io;
+
+fn main(rt: HostRuntime) -> io::Result<()> {
+    for line in rt.lines(rt.alloc()) {
+        let line = line?;
+        let line = line.as_str();
+        if line.is_empty() || line.starts_with('#') {
+            println!(rt; "{line}")?;
+            continue;
+        }
+        match answer(rt.alloc(), line) {
+            Ok(value) => println!(rt; "{line} = {value}")?,
+            Err(fault) => println!(rt; "{line} = {fault}")?,
+        }
+    }
+    Ok(())
+}

@@ -1,0 +1,72 @@
+//! Runs worked cases of the vector and segment instructions, and prints what each comes to.
+//!
+//! A line of standard input is a case in VCODE: a comment that names it, its operands as CONSTs from the bottom of the
+//! stack up, and the instruction. A segment descriptor stands as the CONST INT of its lengths, and a CONST alone is a
+//! case of itself. The line is printed as it stands, with ` = ` and the answer behind it: the results, the text of the
+//! fault, or the words that a result needs where they are too many to be made.
+#![tactic(auto)]
+
+mod answer;
+mod kinds;
+mod runs;
+
+use crate::answer::Answer;
+use crate::runs::run;
+use std::alloc::{AllocError, Global};
+use std::io;
+use vcode_base::Instr;
+use vcode_reader::{CodeLine, Part, ReadFault, read};
+
+/// The lists of these lines. None where one isn't a CONST.
+fn lists_of(alloc: Global, lines: &[CodeLine<Global>]) -> Result<Option<Vec<&[i64]>>, AllocError> {
+    let mut lists = Vec::new(alloc);
+    for line in lines {
+        let Part::Do(Instr::Const(_, list)) = &line.item else {
+            return Ok(None);
+        };
+        lists.push(list.as_slice())?;
+    }
+    Ok(Some(lists))
+}
+
+/// The answer to the case that these lines are, the last of them the instruction.
+fn answer_of(alloc: Global, lines: &[CodeLine<Global>]) -> Result<Answer, AllocError> {
+    let Some((last, operands)) = lines.split_last() else {
+        return Ok(Answer::NoCase);
+    };
+    let (Part::Do(instr), Some(mut ops)) = (&last.item, lists_of(alloc, operands)?) else {
+        return Ok(Answer::NoCase);
+    };
+    if let Instr::Const(_, list) = instr {
+        ops.push(list.as_slice())?;
+    }
+    run(alloc, instr.op(), &ops)
+}
+
+/// The answer to the case of this text.
+#[tactic(auto, using(vcode_reader::proofs::Lines::line_feeds_at_most))]
+fn read_case(alloc: Global, line: &str) -> Result<Answer, AllocError> {
+    let text = format!(in alloc; "FUNC f {line} RET")?;
+    let program = match read(alloc, text.as_bytes(), 1) {
+        Ok(program) => program,
+        Err(ReadFault::At(refusal, _)) => return Ok(Answer::Refused(refusal)),
+        Err(ReadFault::Memory) => return Err(AllocError),
+    };
+    let [function] = program.functions() else {
+        return Ok(Answer::NoCase);
+    };
+    match function.lines().split_last() {
+        Some((_, lines)) => answer_of(alloc, lines),
+        None => Ok(Answer::NoCase),
+    }
+}
+
+fn main(rt: HostRuntime) -> io::Result<()> {
+    let alloc = rt.alloc();
+    for line in rt.lines(alloc) {
+        let line = line?;
+        let answer = read_case(alloc, line.as_str())?;
+        println!(rt; "{line} = {answer}")?;
+    }
+    Ok(())
+}
