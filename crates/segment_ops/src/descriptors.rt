@@ -1,14 +1,10 @@
-ghost use Rattle.std.specs.Prelude.{◌≡◌, ◌||◌, ◌≤◌, pos, int_lt, length, nat_lt, ◌∷◌, [], MatchResult, None, Some};
-ghost use Rattle.std.specs.List.{list_any};
+ghost use Rattle.std.specs.Prelude.{◌≡◌, ◌≤◌, length, ◌∷◌, [], MatchResult, None, Some};
 ghost use Rattle.vcode_base.specs.Kinds.{AreLengths, greatest_total};
 ghost use Rattle.vcode_base.specs.Meaning.{segmented_fault, segmented_result};
 ghost use Rattle.vcode_base.specs.Segments.{total};
-ghost use Rattle.vcode_base.specs.declared.op.Segmented.TheVariants.{MakeSegdes};
+ghost use Rattle.vcode_base.specs.declared.op.Segmented.TheVariants.{MakeSegdes, Lengths};
 
-use vcode_base::DataFault;
-
-/// The greatest total of a descriptor.
-const GREATEST_TOTAL: u64 = 4_294_967_295;
+use vcode_base::{DataFault, Kind};
 
 /// The total of a descriptor.
 pub fn total_of(descriptor: &[i64]) -> u64
@@ -37,24 +33,17 @@ pub fn make_descriptor(lengths: &[i64], out: &mut [i64]) -> Result<(), DataFault
         × (out.new ≡ segmented_result MakeSegdes operands))
         (λ fault. segmented_fault MakeSegdes operands ≡ Some fault) }
 {
-    if is_bad_descriptor(lengths) {
+    if !Kind::Segdes.holds(lengths) {
         return Err(DataFault::BadLength);
     }
     out.copy_from_slice(lengths);
     Ok(())
 }
 
-/// Whether a length is negative, or their total passes the greatest.
-fn is_bad_descriptor(lengths: &[i64]) -> bool
-    ensures { result
-        ≡ (list_any (λ n. int_lt n (pos 0)) lengths.now
-        || nat_lt greatest_total (total lengths.now)) }
+/// `LENGTHS`: writes the segment lengths of a descriptor, which are its words.
+pub fn lengths(descriptor: &[i64], out: &mut [i64])
+    requires room { length out.old ≡ length descriptor.now }
+    ensures { out.new ≡ segmented_result Lengths (descriptor.now ∷ []) }
 {
-    let mut any_negative = false;
-    let mut sum: u64 = 0;
-    for size in lengths {
-        any_negative |= *size < 0;
-        sum = sum.saturating_add(size.unsigned_abs());
-    }
-    any_negative || sum > GREATEST_TOTAL
+    out.copy_from_slice(descriptor);
 }

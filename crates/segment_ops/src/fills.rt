@@ -5,7 +5,7 @@ ghost use Rattle.vcode_base.specs.Meaning.{segmented_shape, segmented_need, segm
 ghost use Rattle.vcode_base.specs.Operands.{contents};
 ghost use Rattle.segment_ops.specs.Served.{IsServed};
 
-use crate::descriptors::make_descriptor;
+use crate::descriptors::{lengths, make_descriptor};
 use crate::distributions::{distribute, index};
 use crate::extractions::extract;
 use crate::gathers::back_permute;
@@ -76,7 +76,7 @@ fn fill_segmented(
         Segmented::Replace(_) => replace(ops[0], ops[1], ops[2], ops[3], first)?,
         Segmented::Pack(_) => pack(ops[0], ops[1], ops[2], first, second),
         Segmented::MakeSegdes => make_descriptor(ops[0], first)?,
-        Segmented::Lengths => first.copy_from_slice(ops[0]),
+        Segmented::Lengths => lengths(ops[0], first),
     }
     Ok(())
 }

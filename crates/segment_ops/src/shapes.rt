@@ -12,7 +12,8 @@ use vcode_base::{DataFault, Op, Segmented};
 /// Whether the operands' lengths fit one another. It looks at no element but the segment lengths.
 ///
 /// `op` is an instruction that makes, reads or takes a descriptor, and `ops` has its operands from
-/// the bottom of the stack up, each of the kind that the instruction takes.
+/// the bottom of the stack up, each of the kind that the instruction takes, which
+/// [`have_kinds`](vcode_base::have_kinds) tests.
 ///
 /// # Errors
 ///

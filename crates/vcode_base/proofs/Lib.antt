@@ -1,3 +1,4 @@
+pub mod KindTests
 mod Lengths
 mod Needs
 mod Permuted

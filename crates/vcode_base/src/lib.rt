@@ -16,7 +16,7 @@ mod words;
 
 pub use fault::{DataFault, MemoryFault};
 pub use instr::{FunctionName, Instr, Instruction};
-pub use kind::{Kind, Scalar};
+pub use kind::{Kind, Scalar, have_kinds};
 pub use limits::Limits;
 pub use op::{Arith, Comparison, Elementwise, Fold, Logic, Op, Segmented, StackMove};
 pub use outcome::Outcome;

@@ -119,7 +119,7 @@ pub enum Op {
 
 impl Op {
     ghost use Rattle.std.specs.Prelude.{◌≡◌};
-    ghost use Rattle.vcode_base.specs.Kinds.{operand_kinds, result_kinds};
+    ghost use Rattle.vcode_base.specs.Kinds.{operand_kinds, result_kinds, source_kinds};
 
     /// The kinds of the operands from the bottom of the stack up, where they are the same wherever
     /// the instruction stands: none for `CONST`, a motion of the stack, `CALL` and `RET`.
@@ -131,6 +131,17 @@ impl Op {
             Op::Segmented(op) => op.operand_kinds(),
             Op::If => &[Kind::Bool],
             Op::Const(_) | Op::Move(..) | Op::Call | Op::Return => &[],
+        }
+    }
+
+    /// The kinds of what its results are computed from, from the bottom of the stack up: the same as
+    /// [`operand_kinds`](Op::operand_kinds), but of `CONST` the kind of its list.
+    pub fn source_kinds(self) -> &'static [Kind]
+        ensures { result.now ≡ source_kinds self }
+    {
+        match self {
+            Op::Const(scalar) => scalar.kinds(),
+            _ => self.operand_kinds(),
         }
     }
 

@@ -10,7 +10,8 @@ use vcode_base::{DataFault, Op};
 /// Whether the operands' lengths fit one another. It looks at no element.
 ///
 /// `op` is `CONST` or an elementwise instruction, and `ops` has its operands from the bottom of the
-/// stack up, each of the kind that the instruction takes. For `CONST` it has the list alone.
+/// stack up, each of the kind that the instruction takes, which
+/// [`have_kinds`](vcode_base::have_kinds) tests. For `CONST` it has the list alone.
 ///
 /// # Errors
 ///

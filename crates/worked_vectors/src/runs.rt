@@ -4,9 +4,8 @@ ghost use Rattle.segment_ops.specs.Served.{IsServed as IsSegmented};
 ghost use Rattle.vector_ops.specs.Served.{IsServed as IsElementwise};
 
 use crate::answer::{Answer, Vector};
-use crate::kinds::are_of_its_kinds;
 use std::alloc::{AllocError, Global};
-use vcode_base::Op;
+use vcode_base::{Op, have_kinds};
 
 /// The most words that are made for the results of a case.
 const GREATEST_ROOM: u64 = 1_000_000;
@@ -16,7 +15,7 @@ const UNWRITTEN: i64 = 77;
 
 /// Runs an instruction over its operands, or over the list of a CONST.
 pub fn run(alloc: Global, op: Op, ops: &[&[i64]]) -> Result<Answer, AllocError> {
-    if !are_of_its_kinds(op, ops) {
+    if !have_kinds(op.source_kinds(), ops) {
         return Ok(Answer::NotOfItsKinds);
     }
     match op {

@@ -2,7 +2,7 @@ use Rattle.std.proofs.Common.{◌≡◌, ◌-◌, ◌^◌, pos, take, min}
 use Rattle.std.specs.List.{list_any}
 use Rattle.std.specs.Prelude.{int_lt}
 use Rattle.vcode_base.specs.Segments.{total}
-use Rattle.worked_vectors.proofs.kinds.is_bad_descriptor.Given as goal
+use Rattle.vcode_base.proofs.kind.is_bad_descriptor.Given as goal
 
 abbrev pub invariant-loop-size : goal.invariant-loop-size
 invariant-loop-size l = record {
