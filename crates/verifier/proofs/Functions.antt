@@ -1,5 +1,5 @@
 -- The body and the RET among a function's lines, and what the walk over the body says of the function.
-use Rattle.std.proofs.Common.{◌≡◌, ℕ, ◌-◌, ◌≤◌, false, cond, refl, sym, subst, ap, ◌∙◌, List, [], ◌∷◌, ◌++◌, length, take, get_or, Option, Some, Result, Ok, arith, length-append}
+use Rattle.std.proofs.Common.{◌≡◌, ℕ, suc, ◌-◌, ◌<◌, ◌≤◌, false, cond, refl, sym, subst, ap, ◌∙◌, List, [], ◌∷◌, ◌++◌, length, take, drop, drop-cons, get_or, Option, Some, Result, Ok, arith, length-append}
 use Rattle.std.proofs.Math.Seq.{take-append_seam}
 use Rattle.vcode_base.specs.declared.kind.Kind.{Kind}
 use Rattle.vcode_base.specs.declared.instr.Instr.TheVariants.{Return}
@@ -56,10 +56,15 @@ pub returned_err : (v : VerifyFault) (gives : List Kind) (ret : ℕ) (r : Result
 returned_err Memory gives ret r h = tt
 returned_err (At fault line) gives ret r h = ap (returned gives ret) h
 
--- the fault of the first of some functions is theirs
-pub first_fails : (v : VerifyFault) (scope : Scope) (all : Option Fault) (fs rest : List Function) (f : Function) → all ≡ functions_fault scope fs → fs ≡ f ∷ rest → FaultIs v (function_fault scope f) → FaultIs v all
-first_fails Memory scope all fs rest f e h k = tt
-first_fails (At fault line) scope all fs rest f e h k = e ∙ (ap (functions_fault scope) h ∙ ap (λ o. or_else o (functions_fault scope rest)) k)
+next_is : (fs items : List Function) (i : ℕ) (f : Function) → items ≡ fs → i < length items → f ≡ get_or items i f → drop i fs ≡ f ∷ drop (suc i) items
+next_is fs items i f same lt is = ap (drop i) (sym same) ∙ (drop-cons items i f lt ∙ ap (λ g. g ∷ drop (suc i) items) (sym is))
+
+-- where the functions before the one at a place have no fault, its fault is the first of all
+pub first_fails : (v : VerifyFault) (scope : Scope) (all : Option Fault) (fs items : List Function) (i : ℕ) (f : Function) → all ≡ functions_fault scope (drop i fs) →
+    items ≡ fs → i < length items → f ≡ get_or items i f → FaultIs v (function_fault scope f) → FaultIs v all
+first_fails Memory scope all fs items i f e same lt is k = tt
+first_fails (At fault line) scope all fs items i f e same lt is k =
+    e ∙ (ap (functions_fault scope) (next_is fs items i f same lt is) ∙ ap (λ o. or_else o (functions_fault scope (drop (suc i) items))) k)
 
 -- the walk over a function's lines before the last, and the test of what stands at the last
 pub body_ok : {A : Type 0} (scope : Scope) (f : Function) (takes gives : List Kind) (lines : List CodeLine) (start end : State) (entries : List Kind) (d : CodeLine) (r : Result A VerifyFault) →

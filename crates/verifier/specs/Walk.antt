@@ -1,12 +1,12 @@
 -- The lines of a body one after another: the entries of the stack, and for each open IF the list of entries that its other part goes from or has come to.
-use Rattle.std.specs.Prelude.{◌≡◌, ℕ, Bool, true, List, [], ◌∷◌, ◌++◌, take, Result, Ok, Err}
+use Rattle.std.specs.Prelude.{◌≡◌, ℕ, Bool, true, List, [], ◌∷◌, ◌++◌, take, Some, Result, Ok, Err, slice_get}
 use Rattle.vcode_base.specs.declared.kind.Kind.{Kind}
 use Rattle.vcode_base.specs.declared.kind.Kind.TheVariants as kind
 use Rattle.vcode_base.specs.declared.op.StackMove.{StackMove}
 use Rattle.vcode_base.specs.declared.op.StackMove.TheVariants.{Copy, Pop, MoveToTop}
 use Rattle.vcode_reader.specs.declared.line.Part.{Part}
 use Rattle.vcode_reader.specs.declared.line.Part.TheVariants as part
-use Rattle.vcode_reader.specs.Trees.{Item, CodeLine}
+use Rattle.vcode_reader.specs.Trees.{Item, CodeLine, Function, lines_of}
 use Rattle.verifier.specs.declared.fault.VerifyFault.{VerifyFault}
 use Rattle.verifier.specs.declared.fault.VerifyFault.TheVariants.{Memory, At}
 use Rattle.verifier.specs.Faults.{Fault}
@@ -53,6 +53,10 @@ step scope part.Endif line s = at_endif s.kept line s.kinds
 abbrev pub walk : Scope → Result State Fault → List CodeLine → Result State Fault
 walk scope r [] = r
 walk scope r (x ∷ xs) = walk scope (r >>= step scope x.item x.number) xs
+
+-- these are lines of the function at this place, from its first line on
+abbrev pub BeginsWith : List Function → ℕ → List CodeLine → Type 0
+BeginsWith fs place lines = (f : Function) × (rest : List CodeLine) × (slice_get fs place ≡ Some f) × (lines_of f ≡ lines ++ rest)
 
 abbrev pub Fails : {A : Type 0} → VerifyFault → Result A Fault → Type 0
 Fails Memory wanted = Unit {0}

@@ -1,18 +1,19 @@
 //! The kinds of a body, line by line.
 
 ghost use Rattle.std.specs.Prelude.{◌≡◌, Ok, Err, OnOk, MatchResult, [], ◌∷◌};
+ghost use Rattle.vcode_base.specs.declared.instr.Instr.TheVariants.{Call};
 ghost use Rattle.vcode_base.specs.declared.kind.Kind.TheVariants as kind;
-ghost use Rattle.vcode_reader.specs.Trees.{Body, flat};
+ghost use Rattle.vcode_reader.specs.declared.line.Part.TheVariants.{Do};
+ghost use Rattle.vcode_reader.specs.Callees.{callee_of};
 ghost use Rattle.verifier.specs.First.{replaced, shifted, arrow_of, called, done};
-ghost use Rattle.verifier.specs.Kinded.{scope_of};
-ghost use Rattle.verifier.specs.Walk.{with_kept, at_if, swapped, at_endif, placed, step, walk, Goes};
+ghost use Rattle.verifier.specs.Walk.{with_kept, at_if, swapped, at_endif, placed, step, walk, Goes, BeginsWith};
 
 use crate::fault::{KindFault, VerifyFault};
+use crate::scope::Scope;
 use crate::stack::{Stack, same_kinds};
-use signatures::Signatures;
 use std::alloc::{AllocError, Allocator};
 use vcode_base::{Instr, Instruction, Kind, StackMove};
-use vcode_reader::{CodeLine, Part, Program};
+use vcode_reader::{CodeLine, Part};
 
 /// An instruction that takes and gives these entries.
 #[tactic(auto, unfolding(crate::specs::First::replaced))]
@@ -85,21 +86,23 @@ fn shift<A: Allocator + Clone>(
     Ok(())
 }
 
-/// What a `CALL` of this name takes and gives.
+/// What a `CALL` of this name takes and gives. Its callee is the place of the function that has the
+/// name, where there is one.
 #[tactic(auto, unfolding(crate::specs::First::arrow_of))]
 fn arrow_of<'a, A: Allocator>(
-    program: &Program<A>,
-    signatures: &'a Signatures<A>,
+    scope: &Scope<'a, A>,
+    callee: Option<usize>,
     name: &[u8],
 ) -> Result<(&'a [Kind], &'a [Kind]), KindFault>
+    requires { callee ≡ callee_of scope.now.functions (Do (Call name.now)) }
     ensures { MatchResult result
-        (λ kinds. arrow_of (scope_of signatures.now program.now) name.now ≡ Ok (kinds.0.now, kinds.1.now))
-        (λ fault. arrow_of (scope_of signatures.now program.now) name.now ≡ Err fault) }
+        (λ kinds. arrow_of scope.now name.now ≡ Ok (kinds.0.now, kinds.1.now))
+        (λ fault. arrow_of scope.now name.now ≡ Err fault) }
 {
-    if program.position(name).is_none() {
+    if callee.is_none() {
         return Err(KindFault::UnknownFunction);
     }
-    match signatures.get(name) {
+    match scope.signature(name) {
         None => Err(KindFault::NoSignature),
         Some(arrow) => Ok(arrow),
     }
@@ -107,14 +110,15 @@ fn arrow_of<'a, A: Allocator>(
 
 fn call<A: Allocator + Clone>(
     stack: &mut Stack<A>,
-    program: &Program<A>,
-    signatures: &Signatures<A>,
+    scope: &Scope<A>,
+    callee: Option<usize>,
     name: &[u8],
     line: u64,
 ) -> Result<(), VerifyFault>
-    ensures { Goes result stack.new (with_kept stack.old.kept (called (arrow_of (scope_of signatures.now program.now) name.now) line stack.old.kinds)) }
+    requires { callee ≡ callee_of scope.now.functions (Do (Call name.now)) }
+    ensures { Goes result stack.new (with_kept stack.old.kept (called (arrow_of scope.now name.now) line stack.old.kinds)) }
 {
-    match arrow_of(program, signatures, name) {
+    match arrow_of(scope, callee, name) {
         Ok((takes, gives)) => replace(stack, takes, gives, line),
         Err(fault) => Err(VerifyFault::At(fault, line)),
     }
@@ -122,16 +126,17 @@ fn call<A: Allocator + Clone>(
 
 fn instruction<A: Allocator + Clone>(
     stack: &mut Stack<A>,
-    program: &Program<A>,
-    signatures: &Signatures<A>,
+    scope: &Scope<A>,
+    callee: Option<usize>,
     item: &Instruction<A>,
     line: u64,
 ) -> Result<(), VerifyFault>
-    ensures { Goes result stack.new (with_kept stack.old.kept (done (scope_of signatures.now program.now) item.now line stack.old.kinds)) }
+    requires { callee ≡ callee_of scope.now.functions (Do item.now) }
+    ensures { Goes result stack.new (with_kept stack.old.kept (done scope.now item.now line stack.old.kinds)) }
 {
     match item {
         Instr::Move(motion, lower, upper) => shift(stack, *motion, *lower, *upper, line),
-        Instr::Call(name) => call(stack, program, signatures, name.as_bytes(), line),
+        Instr::Call(name) => call(stack, scope, callee, name.as_bytes(), line),
         _ => {
             let op = item.op();
             replace(stack, op.operand_kinds(), op.result_kinds(), line)
@@ -158,16 +163,18 @@ fn end_if<A: Allocator + Clone>(stack: &mut Stack<A>, line: u64) -> Result<(), V
     }
 }
 
+/// A line, with the place of the function that it calls, where it calls one.
 fn step<A: Allocator + Clone>(
     stack: &mut Stack<A>,
-    program: &Program<A>,
-    signatures: &Signatures<A>,
+    scope: &Scope<A>,
+    callee: Option<usize>,
     line: &CodeLine<A>,
 ) -> Result<(), VerifyFault>
-    ensures { Goes result stack.new (step (scope_of signatures.now program.now) line.now.item line.now.number stack.old) }
+    requires { callee ≡ callee_of scope.now.functions line.now.item }
+    ensures { Goes result stack.new (step scope.now line.now.item line.now.number stack.old) }
 {
     match &line.item {
-        Part::Do(item) => instruction(stack, program, signatures, item, line.number),
+        Part::Do(item) => instruction(stack, scope, callee, item, line.number),
         Part::If => begin_if(stack, line.number),
         Part::Else => {
             stack.swap()?;
@@ -177,17 +184,18 @@ fn step<A: Allocator + Clone>(
     }
 }
 
-/// The entries after these lines.
+/// The entries after these lines, with which the function at this place of the program begins.
 pub fn walk<A: Allocator + Clone>(
     stack: &mut Stack<A>,
-    program: &Program<A>,
-    signatures: &Signatures<A>,
+    scope: &Scope<A>,
+    function: usize,
     lines: &[CodeLine<A>],
 ) -> Result<(), VerifyFault>
-    ensures { Goes result stack.new (walk (scope_of signatures.now program.now) (Ok stack.old) lines.now) }
+    requires { BeginsWith scope.now.functions function lines.now }
+    ensures { Goes result stack.new (walk scope.now (Ok stack.old) lines.now) }
 {
-    for line in lines {
-        match step(stack, program, signatures, line) {
+    for (place, line) in lines.iter().enumerate() {
+        match step(stack, scope, scope.callee(function, place), line) {
             Ok(()) => {}
             Err(fault) => return Err(fault),
         }

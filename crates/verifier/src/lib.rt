@@ -22,6 +22,7 @@ mod check;
 mod fault;
 mod kinds;
 pub mod laws;
+mod scope;
 mod stack;
 mod verified;
 

@@ -1,15 +1,17 @@
 //! A whole program.
 
 ghost use Rattle.std.specs.Prelude.{◌≡◌, List, [], Ok, Some, IfOk, MatchResult};
+ghost use Rattle.std.specs.List.{slice_get};
 ghost use Rattle.vcode_base.specs.declared.kind.Kind.{Kind as KindOf};
 ghost use Rattle.signatures.specs.Signatures.{kinds_of};
 ghost use Rattle.verifier.specs.Checked.{IsVerified, IsVerifiedBy};
 ghost use Rattle.verifier.specs.First.{check, returned, main_takes, function_fault, functions_fault, kind_fault, FaultIs, Finds};
-ghost use Rattle.verifier.specs.Kinded.{main_name, scope_of};
+ghost use Rattle.verifier.specs.Kinded.{main_name};
 
 use crate::check::walk;
 use crate::fault::{KindFault, VerifyFault};
 use crate::kinds::Kinds;
+use crate::scope::Scope;
 use crate::stack::{Stack, same_kinds};
 use signatures::Signatures;
 use std::alloc::{AllocError, Allocator};
@@ -102,22 +104,17 @@ fn check_program<A: Allocator + Clone>(
     ensures { Finds result (kind_fault signatures.now program.now) }
 {
     if program.position(b"MAIN").is_some() {
-        check_functions(alloc, program, signatures, program.functions())
+        check_functions(alloc, &Scope::new(program, signatures))
     } else {
         Err(VerifyFault::At(KindFault::NoMain, program.first_line()))
     }
 }
 
-fn check_functions<A: Allocator + Clone>(
-    alloc: A,
-    program: &Program<A>,
-    signatures: &Signatures<A>,
-    functions: &[Function<A>],
-) -> Result<(), VerifyFault>
-    ensures { Finds result (functions_fault (scope_of signatures.now program.now) functions.now) }
+fn check_functions<A: Allocator + Clone>(alloc: A, scope: &Scope<A>) -> Result<(), VerifyFault>
+    ensures { Finds result (functions_fault scope.now scope.now.functions) }
 {
-    for function in functions {
-        match check_function(alloc.clone()?, program, signatures, function) {
+    for (place, function) in scope.functions().iter().enumerate() {
+        match check_function(alloc.clone()?, scope, place, function) {
             Ok(()) => {}
             Err(fault) => return Err(fault),
         }
@@ -125,22 +122,24 @@ fn check_functions<A: Allocator + Clone>(
     Ok(())
 }
 
+/// The function at a place.
 #[tactic(auto, unfolding(crate::specs::First::function_fault))]
 fn check_function<A: Allocator + Clone>(
     alloc: A,
-    program: &Program<A>,
-    signatures: &Signatures<A>,
+    scope: &Scope<A>,
+    place: usize,
     function: &Function<A>,
 ) -> Result<(), VerifyFault>
-    ensures { Finds result (function_fault (scope_of signatures.now program.now) function.now) }
+    requires { slice_get scope.now.functions place ≡ Some function.now }
+    ensures { Finds result (function_fault scope.now function.now) }
 {
-    let Some((takes, gives)) = signatures.get(function.name()) else {
+    let Some((takes, gives)) = scope.signature(function.name()) else {
         return Err(VerifyFault::At(KindFault::NoSignature, function.line()));
     };
     if main_takes(function, takes) {
         Err(VerifyFault::At(KindFault::MainTakes, function.line()))
     } else {
-        check_body(alloc, program, signatures, function, takes, gives)
+        check_body(alloc, scope, place, function, takes, gives)
     }
 }
 
@@ -156,18 +155,19 @@ fn main_takes<A: Allocator>(function: &Function<A>, takes: &[Kind]) -> bool
 /// A body that begins with these entries, and what stands at its `RET`.
 fn check_body<A: Allocator + Clone>(
     alloc: A,
-    program: &Program<A>,
-    signatures: &Signatures<A>,
+    scope: &Scope<A>,
+    place: usize,
     function: &Function<A>,
     takes: &[Kind],
     gives: &[Kind],
 ) -> Result<(), VerifyFault>
-    ensures { Finds result (returned gives.now function.now.ret (check (scope_of signatures.now program.now) function.now.body takes.now)) }
+    requires { slice_get scope.now.functions place ≡ Some function.now }
+    ensures { Finds result (returned gives.now function.now.ret (check scope.now function.now.body takes.now)) }
 {
     let mut stack = Stack::new(alloc, takes)?;
     let lines = function.lines();
     let last = lines.len() - 1;
-    match walk(&mut stack, program, signatures, &lines[..last]) {
+    match walk(&mut stack, scope, place, &lines[..last]) {
         Ok(()) => check_results(stack.as_slice(), gives, lines[last].number),
         Err(fault) => Err(fault),
     }

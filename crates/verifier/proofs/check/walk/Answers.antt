@@ -1,11 +1,15 @@
-use Rattle.std.proofs.Common.{drop-cons, subst}
+use Rattle.std.proofs.Common.{◌∙◌, drop-cons, subst}
 use Rattle.vcode_reader.specs.Trees.{CodeLine}
-use Rattle.verifier.specs.Kinded.{scope_of}
 use Rattle.verifier.specs.Walk.{step, Fails}
+use Rattle.verifier.proofs.Callees.{callee_of_line}
 use Rattle.verifier.proofs.Walks.{walk_fails}
 use Rattle.verifier.proofs.check.walk.Goals as goal
 
+pub step-requires : goal.step-requires
+step-requires g c =
+    c.callee.ensures ∙ callee_of_line c.args.scope.now.functions c.args.function c.loop-place.place c.args.lines.now c.index-lines-place.result c.requires c.loop-place-test.true c.index-lines-place.is
+
 pub returns-in-Err : goal.returns-in-Err
 returns-in-Err g c =
-    walk_fails c.in-Err.fault _ _ _ _ _ c.loop-line.stack c.loop-line.invariant (drop-cons c.args.lines.now c.loop-line.line-index c.line-item.result c.loop-line-test.true)
-    (subst (λ (x : CodeLine). Fails c.in-Err.fault (step (scope_of c.args.signatures.now c.args.program.now) x.item x.number c.loop-line.stack)) c.line-item.is c.in-Err.ensures)
+    walk_fails c.in-Err.fault _ _ _ _ _ c.loop-place.stack c.loop-place.invariant (drop-cons c.args.lines.now c.loop-place.place c.index-lines-place.result c.loop-place-test.true)
+    (subst (λ (x : CodeLine). Fails c.in-Err.fault (step c.args.scope.now x.item x.number c.loop-place.stack)) c.index-lines-place.is c.in-Err.ensures)
