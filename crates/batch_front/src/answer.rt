@@ -2,7 +2,7 @@
 
 ghost use Rattle.std.specs.Prelude.{◌≡◌, ◌∷◌, [], ◌++◌, ◌≤◌, IfOk, OnOk};
 ghost use Rattle.job_machine.specs.Runs.{executed, outcome, peak};
-ghost use Rattle.job_machine.specs.Standings.{Collected};
+ghost use Rattle.job_machine.specs.Standings.{Collected, waiting};
 ghost use Rattle.batch_front.specs.Ends.{end_by, end_of, refused_by, status_by};
 ghost use Rattle.batch_front.specs.Fates.{Ran, batch_of, fate_of};
 ghost use Rattle.batch_front.specs.Reports.{fate_text, report_of, status_of};
@@ -128,6 +128,21 @@ fn end_of_outcome<A: Allocator>(outcome: &Outcome<Values<A>>) -> End
     }
 }
 
+/// A machine over the region, with a job that waits.
+fn machine_of<A: Allocator + Clone>(
+    alloc: A,
+    job: Job<A>,
+    region: u32,
+) -> Result<Machine<A>, AllocError>
+    requires in_region { (1 ≤ region) × (region ≤ 1048576) }
+    requires words { job.limits.words ≤ region }
+    ensures { IfOk result (λ m. m.seats ≡ waiting job ∷ []) }
+{
+    let mut jobs = Vec::with_capacity(alloc.clone()?, 1)?;
+    jobs.push(job)?;
+    Machine::new(alloc, region as usize, jobs)
+}
+
 /// Runs a job of so many words out, alone over the region.
 fn run<A: Allocator + Clone>(
     alloc: A,
@@ -140,9 +155,7 @@ fn run<A: Allocator + Clone>(
     ensures { IfOk result (λ m. m.seats ≡ record { task = job; standing = Collected } ∷ []) }
 {
     let desk = Desk::new(alloc.clone()?, words)?;
-    let mut jobs = Vec::with_capacity(alloc.clone()?, 1)?;
-    jobs.push(job)?;
-    let mut machine = Machine::new(alloc, region as usize, jobs)?;
+    let mut machine = machine_of(alloc, job, region)?;
     let (done, _) = machine.run_out(desk);
     done?;
     Ok(machine)

@@ -93,16 +93,32 @@ fn show(rt: &impl Runtime, load: Load, memory: &Memory, time: Option<u128>) -> i
     }
 }
 
+/// Runs a quarter of the load, and then the load itself, which is timed.
+fn run(
+    rt: &impl Runtime,
+    load: Load,
+    memory: &mut Memory,
+    blocks: &mut [Option<BlockId>],
+    words: &[i64],
+) -> io::Result<u128> {
+    churn(memory, blocks, words, load.operations / 4);
+    let start = Instant::now(rt)?;
+    churn(memory, blocks, words, load.operations);
+    Ok(start.elapsed(rt)?.as_nanos())
+}
+
+/// Runs the load over a memory that was just made.
+fn run_new(rt: &impl Runtime, load: Load, memory: &mut Memory) -> io::Result<u128> {
+    let mut blocks = vec![in rt.alloc(); None; load.blocks]?;
+    let words = vec![in rt.alloc(); 7; load.longest]?;
+    run(rt, load, memory, &mut blocks, &words)
+}
+
 fn main(rt: HostRuntime) -> io::Result<()> {
     let is_timed = env::args(&rt)?.any(|word| word.as_str() == "time");
     let load = if is_timed { LONG } else { SHORT };
     let region = RegionMemory::new(rt.alloc(), load.region, load.blocks)?;
     let mut memory = SharedMemory::new(rt.alloc(), region)?;
-    let mut blocks = vec![in rt.alloc(); None; load.blocks]?;
-    let words = vec![in rt.alloc(); 7; load.longest]?;
-    churn(&mut memory, &mut blocks, &words, load.operations / 4);
-    let start = Instant::now(&rt)?;
-    churn(&mut memory, &mut blocks, &words, load.operations);
-    let took = start.elapsed(&rt)?.as_nanos();
+    let took = run_new(&rt, load, &mut memory)?;
     show(&rt, load, &memory, is_timed.then_some(took))
 }

@@ -305,29 +305,26 @@ fn fold_rows<'a>(
 }
 
 /// The lines of the instructions that make elements of the segments' own.
-fn spread_rows<'a>(
-    rt: &impl Runtime,
-    load: Load,
-    each: &'a [i64],
-    lengths: &'a [i64],
-) -> io::Result<()>
+fn spread_rows<'a, R: Runtime>(rt: &R, load: Load, lengths: &'a [i64]) -> io::Result<()>
     requires { HasKind Segdes lengths.now }
 {
+    let each = &shifts(rt.alloc(), lengths.len())?;
     let distribute = Segmented::Distribute(Scalar::Int);
     segment_of_two(rt, load, "DIST INT", distribute, each, lengths)?;
     segment_of_three(rt, load, "INDEX", Segmented::Index, each, each, lengths)
 }
 
 /// The lines of the instructions that move elements by their indices.
-fn move_rows<'a>(
-    rt: &impl Runtime,
+fn move_rows<'a, R: Runtime>(
+    rt: &R,
     load: Load,
     values: &'a [i64],
-    places: &'a [i64],
     lengths: &'a [i64],
+    size: u32,
 ) -> io::Result<()>
     requires { HasKind Segdes lengths.now }
 {
+    let places = &indices(rt.alloc(), lengths.len(), size)?;
     let permute = Segmented::Permute(Scalar::Int);
     let back = Segmented::BackPermute(Scalar::Int);
     let default = Segmented::DefaultPermute(Scalar::Int);
@@ -356,17 +353,16 @@ fn move_rows<'a>(
 }
 
 /// The lines of the instructions that take some of the elements.
-fn part_rows<'a>(
-    rt: &impl Runtime,
+fn part_rows<'a, R: Runtime>(
+    rt: &R,
     load: Load,
     values: &'a [i64],
-    each: &'a [i64],
-    truth: &'a [i64],
     lengths: &'a [i64],
 ) -> io::Result<()>
-    requires lengths { HasKind Segdes lengths.now }
-    requires flags { HasKind Bool truth.now }
+    requires { HasKind Segdes lengths.now }
 {
+    let each = &shifts(rt.alloc(), lengths.len())?;
+    let truth = &flags(rt.alloc(), load.words)?;
     let extract = Segmented::Extract(Scalar::Int);
     let pack = Segmented::Pack(Scalar::Int);
     segment_of_three(rt, load, "EXTRACT INT", extract, values, each, lengths)?;
@@ -382,12 +378,9 @@ pub fn segment_rows<R: Runtime>(rt: &R, shown: Shown, segments: usize, size: u32
         words: segments * size as usize,
     };
     let values = &numbers(rt.alloc(), load.words)?;
-    let each = &shifts(rt.alloc(), segments)?;
-    let places = &indices(rt.alloc(), segments, size)?;
-    let truth = &flags(rt.alloc(), load.words)?;
     let lengths = &descriptor(rt.alloc(), segments, size)?;
     fold_rows(rt, load, values, lengths)?;
-    spread_rows(rt, load, each, lengths)?;
-    move_rows(rt, load, values, places, lengths)?;
-    part_rows(rt, load, values, each, truth, lengths)
+    spread_rows(rt, load, lengths)?;
+    move_rows(rt, load, values, lengths, size)?;
+    part_rows(rt, load, values, lengths)
 }

@@ -460,7 +460,14 @@ impl<A: Allocator + Clone> Parser<A> {
     {
         match self.refused_at_end(comment) {
             Some((refusal, line)) => Err(ReadFault::At(refusal, line)),
-            None => Ok(self.functions),
+            None => Ok(self.into_functions()),
         }
+    }
+
+    /// The functions that are whole.
+    fn into_functions(self) -> Vec<Function<A>, A>
+        ensures { result.items ≡ self.functions }
+    {
+        self.functions
     }
 }

@@ -34,9 +34,14 @@ fn code(alloc: Global, language: Language, text: &str) -> Result<String, CaseFau
 
 fn equal(alloc: Global, text: &str) -> Result<String, CaseFault> {
     let (left, right) = halves(text)?;
-    let left = program_of(alloc, Language::Whole, left)?;
-    let is_equal = is_read_as(alloc, right, &left)?;
+    let is_equal = are_equal(alloc, left, right)?;
     Ok(format!(in alloc; "{is_equal}")?)
+}
+
+/// Whether two codes are read as equal programs.
+fn are_equal(alloc: Global, left: &str, right: &str) -> Result<bool, CaseFault> {
+    let left = program_of(alloc, Language::Whole, left)?;
+    is_read_as(alloc, right, &left)
 }
 
 fn position(alloc: Global, text: &str) -> Result<String, CaseFault> {
@@ -56,23 +61,46 @@ fn get(alloc: Global, text: &str) -> Result<String, CaseFault> {
     Ok(kinds_text(alloc, signatures_of(alloc, text)?.get(name.as_bytes()))?)
 }
 
-/// What is verified must be the program that was read.
 fn kinds(alloc: Global, text: &str) -> Result<String, CaseFault> {
     let (known, code) = halves(text)?;
     let verified = verified_of(alloc, known, code)?;
+    text_of_same(alloc, code, &verified)
+}
+
+/// What was verified must be the program that this code is read as.
+fn text_of_same(
+    alloc: Global,
+    code: &str,
+    verified: &Verified<Global>,
+) -> Result<String, CaseFault> {
     if !is_read_as(alloc, code, verified.program())? {
         return Err(CaseFault::OtherProgram);
     }
-    Ok(verified_text(alloc, &verified)?)
+    Ok(verified_text(alloc, verified)?)
 }
 
 fn same(alloc: Global, text: &str) -> Result<String, CaseFault> {
     let (left, text) = halves(text)?;
     let (right, code) = halves(text)?;
-    let left = verified_of(alloc, left, code)?;
-    let right = verified_of(alloc, right, code)?;
-    let is_equal = equal_verified(&left, &right);
+    let is_equal = are_alike(alloc, left, right, code)?;
     Ok(format!(in alloc; "{is_equal}")?)
+}
+
+/// Whether a code is verified alike by two signatures.
+fn are_alike(alloc: Global, left: &str, right: &str, code: &str) -> Result<bool, CaseFault> {
+    let left = verified_of(alloc, left, code)?;
+    is_alike(alloc, &left, right, code)
+}
+
+/// Whether a code is verified by signatures as what was verified before.
+fn is_alike(
+    alloc: Global,
+    left: &Verified<Global>,
+    right: &str,
+    code: &str,
+) -> Result<bool, CaseFault> {
+    let right = verified_of(alloc, right, code)?;
+    Ok(equal_verified(left, &right))
 }
 
 /// What stands before the first `|` and behind it, without blanks at their ends.
