@@ -2,8 +2,9 @@
 # make run     runs examples/sum_of_two.vcode
 # make test    the gate: every proof from nothing, the wrong bodies that the prover must refuse, all tests
 # make bench   times the reading of a batch, the instructions beside plain C, the memory, and the verifier; no test
+# make models  compares the programs with a second writing of the rules, in Python, on random cases; not in the gate
 
-.PHONY: all run test bench clean
+.PHONY: all run test bench models clean
 
 all:
 	cd crates/vjobs && rt run -- --help > /dev/null
@@ -22,6 +23,11 @@ bench: all
 	python3 bench/ops.py
 	python3 bench/memory.py
 	python3 bench/kinds.py
+
+models: all
+	cd crates/worked_texts && rt run < stdin > /dev/null
+	cd crates/worked_vectors && rt run < stdin > /dev/null
+	python3 models/compare.py
 
 clean:
 	rm -rf bin crates/*/out

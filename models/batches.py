@@ -1,0 +1,144 @@
+"""A batch of at most one job of the first language: its report, and the exit status."""
+import re
+
+from faults import (BAD_LINE, MISSING_OPERAND, NAME_TWICE, NO_MAIN, NO_SIGNATURE, RESULT_DIFFERS, Fault)
+from kinds import signature
+from reader import FIRST, read
+from vectors import wrap
+
+LIMITS = [range(0, 1_048_577), range(1, 4_097), range(1, 1_025), range(0, 1_000_000_001)]
+
+
+class BatchRefused(Exception):
+    def __init__(self, line, name):
+        super().__init__(f"BATCH line {line} {name}")
+
+
+def words_of(line):
+    return [word for word in re.split(rb"[ \t\r]+", line) if word]
+
+
+def heading(words):
+    """The name and the limits of a good JOB line, or None."""
+    if len(words) != 6 or words[0] != b"JOB" or not re.fullmatch(rb"[!-~]{1,64}", words[1]):
+        return None
+    if not all(re.fullmatch(rb"[0-9]{1,10}", word) and int(word) in limit for word, limit in zip(words[2:], LIMITS)):
+        return None
+    return words[1].decode(), [int(word) for word in words[2:]]
+
+
+def jobs_of(data):
+    """Each job's JOB line, name, limits, and its signatures and code, each with the number of its first line."""
+    lines = data.split(b"\n")
+    lines = lines if lines[-1] else lines[:-1]
+    jobs, place = [], 0
+
+    def until(word, begun, other=None):
+        nonlocal place
+        first = place
+        while place < len(lines) and words_of(lines[place]) not in ([word], [other]):
+            place += 1
+        if place == len(lines) or words_of(lines[place]) == [other]:
+            raise BatchRefused(begun, "B2 UNFINISHED_JOB")
+        place += 1
+        return first + 1, b"".join(line + b"\n" for line in lines[first : place - 1])
+
+    while place < len(lines):
+        words, begun = words_of(lines[place]), place + 1
+        place += 1
+        if not words:
+            continue
+        head = heading(words)
+        if head is None:
+            raise BatchRefused(begun, "B1 BAD_JOB_LINE")
+        if jobs:
+            raise BatchRefused(begun, "B4 TOO_LARGE")
+        if place < len(lines) and words_of(lines[place]) != [b"SIGNATURES"]:
+            raise BatchRefused(place + 1, "B1 BAD_JOB_LINE")
+        until(b"SIGNATURES", begun)
+        jobs.append((begun, *head, until(b"CODE", begun, b"END"), until(b"END", begun)))
+    return jobs
+
+
+def is_main_signed(first_line, text):
+    """Whether MAIN has its one signature of the first language; a Fault at any other line."""
+    found = False
+    for line, bytes_of_line in enumerate(text.split(b"\n"), first_line):
+        words = bytes_of_line.decode("latin1").replace("(", " ( ").replace(")", " ) ")
+        words = [word for word in re.split(r"[ \t\r]+", words) if word]
+        if not words:
+            continue
+        if signature(words) != ("MAIN", [], ["Int"]):
+            raise Fault(line, BAD_LINE)
+        if found:
+            raise Fault(line, NAME_TWICE)
+        found = True
+    return found
+
+
+def verify_first(functions, is_signed, first_line):
+    if "MAIN" not in (f.name for f in functions):
+        raise Fault(first_line, NO_MAIN)
+    for function in functions:
+        if function.name != "MAIN" or not is_signed:
+            raise Fault(function.line, NO_SIGNATURE)
+        entries = 0
+        for item in function.items:
+            if item.what == "Vector" and entries < 2:
+                raise Fault(item.line, MISSING_OPERAND)
+            if item.what == "Return" and entries != 1:
+                raise Fault(item.line, RESULT_DIFFERS)
+            entries += -1 if item.what == "Vector" else 1
+
+
+def run(items, words, cells, budget):
+    """How a MAIN ends, and what it used."""
+    stack, executed, peak = [], 0, 0
+
+    def ended(how):
+        return f"{how}\nUSED {executed} instructions {peak} words"
+
+    for item in items:
+        if executed == budget:
+            return ended("BUDGET")
+        operands = stack[-2:] if item.what == "Vector" else []
+        if len({len(operand) for operand in operands}) > 1:
+            return ended(f"FAULT line {item.line} F1 LENGTHS_DIFFER")
+        made = {"Const": [item.numbers], "Vector": [[wrap(a + b) for a, b in zip(*operands)]] if operands else [], "Return": []}[item.what]
+        held = sum(map(len, stack)) + sum(map(len, made))
+        if held > words:
+            return ended(f"MEMORY line {item.line} M1 WORDS")
+        if len(stack) - len(operands) + len(made) > cells:
+            return ended(f"MEMORY line {item.line} M2 CELLS")
+        executed, peak = executed + 1, max(peak, held)
+        stack = stack[: len(stack) - len(operands)] + made
+    values = [f"INT ({' '.join(map(str, value))})" for value in stack]
+    return ended("\n".join(["RETURNED", *values]))
+
+
+def job_lines(job, region):
+    begun, name, (words, cells, _, budget), (signatures_line, signatures), (code_line, code) = job
+    if words > region:
+        raise Fault(begun, "B3 WORDS_PAST_REGION")
+    is_signed = is_main_signed(signatures_line, signatures)
+    functions = read(code, code_line, FIRST)
+    verify_first(functions, is_signed, code_line)
+    main = next(f for f in functions if f.name == "MAIN")
+    return run(main.items, words, cells, budget)
+
+
+def report(data, region):
+    """The report of a batch over a region of so many words, and the exit status."""
+    try:
+        jobs = jobs_of(data)
+    except BatchRefused as refusal:
+        return f"{refusal}\n", 2
+    lines, refused = [], 0
+    for number, job in enumerate(jobs, 1):
+        try:
+            lines.append(f"JOB {number} {job[1]} {job_lines(job, region)}")
+        except Fault as fault:
+            refused += 1
+            lines.append(f"JOB {number} {job[1]} REFUSED {fault}")
+    is_well = all(re.match(r"JOB \d+ \S+ RETURNED\n", line) for line in lines)
+    return "\n".join([*lines, f"END {len(jobs)} jobs {refused} refused", ""]), 0 if is_well else 1

@@ -1,0 +1,196 @@
+"""The meaning of the vector and segment instructions."""
+from functools import reduce
+
+from instructions import BOOL, ELEMENTWISE, INT, LOGIC
+
+LEAST, GREATEST = -(2**63), 2**63 - 1
+GREATEST_TOTAL = 4_294_967_295
+# `worked_vectors` makes no more words of results.
+MOST_WORDS = 1_000_000
+
+LENGTHS_DIFFER, SEGMENT_TOTAL, SEGMENT_COUNT = "F1 LENGTHS_DIFFER", "F2 SEGMENT_TOTAL", "F3 SEGMENT_COUNT"
+ZERO_DIVISOR, BAD_SHIFT, BAD_INDEX, INDEX_TWICE, BAD_LENGTH = "F4 ZERO_DIVISOR", "F5 BAD_SHIFT", "F6 BAD_INDEX", "F7 INDEX_TWICE", "F8 BAD_LENGTH"
+
+
+class NoResult(Exception):
+    """An instruction has a fault, or a result that is too long to be made."""
+
+
+def wrap(number):
+    return (number - LEAST) % 2**64 + LEAST
+
+
+def quotient(a, b):
+    return abs(a) // abs(b) * (1 if (a < 0) == (b < 0) else -1)
+
+
+ELEMENTS = {
+    "+": lambda k, a, b: wrap(a + b),
+    "-": lambda k, a, b: wrap(a - b),
+    "*": lambda k, a, b: wrap(a * b),
+    "/": lambda k, a, b: wrap(quotient(a, b)),
+    "%": lambda k, a, b: a - b * quotient(a, b),
+    "LSHIFT": lambda k, a, b: wrap(a * 2**b),
+    "RSHIFT": lambda k, a, b: a // 2**b,
+    "<": lambda k, a, b: int(a < b),
+    "<=": lambda k, a, b: int(a <= b),
+    ">": lambda k, a, b: int(a > b),
+    ">=": lambda k, a, b: int(a >= b),
+    "=": lambda k, a, b: int(a == b),
+    "!=": lambda k, a, b: int(a != b),
+    "AND": lambda k, a, b: a & b,
+    "OR": lambda k, a, b: a | b,
+    "XOR": lambda k, a, b: a ^ b,
+    "NOT": lambda k, a: 1 - a if k == BOOL else -1 - a,
+    "SELECT": lambda k, flag, a, b: a if flag else b,
+    "I_TO_B": lambda k, a: int(a != 0),
+    "B_TO_I": lambda k, a: a,
+}
+
+FOLDS = {
+    "+": (0, lambda a, b: wrap(a + b)),
+    "*": (1, lambda a, b: wrap(a * b)),
+    "MAX": (LEAST, max),
+    "MIN": (GREATEST, min),
+    "AND": (None, lambda a, b: a & b),
+    "OR": (0, lambda a, b: a | b),
+    "XOR": (0, lambda a, b: a ^ b),
+}
+
+
+def elementwise(word, k, operands):
+    if len({len(operand) for operand in operands}) > 1:
+        raise NoResult(LENGTHS_DIFFER)
+    if word in ("/", "%") and 0 in operands[1]:
+        raise NoResult(ZERO_DIVISOR)
+    if word in ("LSHIFT", "RSHIFT") and any(not 0 <= shift <= 63 for shift in operands[1]):
+        raise NoResult(BAD_SHIFT)
+    return [ELEMENTS[word](k, *elements) for elements in zip(*operands)]
+
+
+def check(descriptor, each=(), whole=()):
+    if any(len(vector) != len(descriptor) for vector in each):
+        raise NoResult(SEGMENT_COUNT)
+    if any(len(vector) != sum(descriptor) for vector in whole):
+        raise NoResult(SEGMENT_TOTAL)
+
+
+def check_two(source, target, of_source, of_target):
+    if len(source) != len(target):
+        raise NoResult(SEGMENT_COUNT)
+    check(source, whole=of_source)
+    check(target, whole=of_target)
+
+
+def check_room(words):
+    if words > MOST_WORDS:
+        raise NoResult(f"needs {words} words")
+
+
+def segments(descriptor, vector):
+    """The vector cut into segments of these lengths."""
+    ends = [sum(descriptor[: place + 1]) for place in range(len(descriptor))]
+    return [vector[end - length : end] for length, end in zip(descriptor, ends)]
+
+
+def joined(lists):
+    return [element for one in lists for element in one]
+
+
+def fold(name, k, elements):
+    identity, combine = FOLDS[name]
+    if identity is None:
+        identity = 1 if k == BOOL else -1
+    return reduce(combine, elements, identity)
+
+
+def check_indices(indices, lengths):
+    """Each segment's indices lie in a segment of that length."""
+    if any(not 0 <= index < length for some, length in zip(indices, lengths) for index in some):
+        raise NoResult(BAD_INDEX)
+
+
+def scattered(values, indices, into):
+    """Each value at its index, and what is there already at the others."""
+    if any(len(set(some)) < len(some) for some in indices):
+        raise NoResult(INDEX_TWICE)
+    for moving, some, there in zip(values, indices, into):
+        for value, index in zip(moving, some):
+            there[index] = value
+    return joined(into)
+
+
+def permuted(values, indices, s):
+    check(s, whole=(values, indices))
+    cut = segments(s, indices)
+    check_indices(cut, s)
+    return scattered(segments(s, values), cut, [[0] * length for length in s])
+
+
+def gathered(values, indices, s, r):
+    check_two(s, r, (values,), (indices,))
+    cut = segments(r, indices)
+    check_indices(cut, s)
+    return joined([there[index] for index in some] for there, some in zip(segments(s, values), cut))
+
+
+def permuted_over(values, indices, default, s, r):
+    check_two(s, r, (values, indices), (default,))
+    cut = segments(s, indices)
+    check_indices(cut, r)
+    return scattered(segments(s, values), cut, [list(there) for there in segments(r, default)])
+
+
+def extracted(values, indices, s):
+    check(s, (indices,), (values,))
+    check_indices([[index] for index in indices], s)
+    return [there[index] for there, index in zip(segments(s, values), indices)]
+
+
+def replaced(values, indices, new, s):
+    check(s, (indices, new), (values,))
+    check_indices([[index] for index in indices], s)
+    return scattered([[value] for value in new], [[index] for index in indices], [list(there) for there in segments(s, values)])
+
+
+def distributed(values, s):
+    check(s, (values,))
+    check_room(sum(s))
+    return joined([value] * length for value, length in zip(values, s))
+
+
+def indexed(starts, strides, s):
+    check(s, (starts, strides))
+    check_room(sum(s))
+    return joined([wrap(start + i * stride) for i in range(length)] for start, stride, length in zip(starts, strides, s))
+
+
+def packed(values, flags, s):
+    check(s, whole=(values, flags))
+    return [value for value, flag in zip(values, flags) if flag], [sum(some) for some in segments(s, flags)]
+
+
+def descriptor_of(lengths):
+    if any(length < 0 for length in lengths) or sum(lengths) > GREATEST_TOTAL:
+        raise NoResult(BAD_LENGTH)
+    return lengths
+
+
+SEGMENTED = {"PERMUTE": permuted, "BPERMUTE": gathered, "DPERMUTE": permuted_over, "EXTRACT": extracted, "REPLACE": replaced,
+             "DIST": distributed, "INDEX": indexed, "MAKE_SEGDES": descriptor_of, "LENGTHS": list}
+
+
+def results(word, k, operands):
+    """The results of an instruction over lists of numbers, or NoResult."""
+    if word in ELEMENTWISE:
+        return [elementwise(word, k or INT, operands)]
+    if word == "PACK":
+        return list(packed(*operands))
+    if word in SEGMENTED:
+        return [SEGMENTED[word](*operands)]
+    values, s = operands
+    check(s, whole=(values,))
+    name, _, end = word.rpartition("_")
+    if end == "REDUCE":
+        return [[fold(name, k, segment) for segment in segments(s, values)]]
+    return [[fold(name, k, segment[:place]) for segment in segments(s, values) for place in range(len(segment))]]
