@@ -1,10 +1,11 @@
 # make         the program, proved, at bin/vjobs
-# make run     runs examples/sum_of_two.vcode
-# make test    the gate: every proof from nothing, the wrong bodies that the prover must refuse, all tests
+# make run     runs the example sum_of_two
+# make test    the gate: every proof from nothing, the wrong bodies that the prover must refuse, all tests, tables and examples
+# make check CRATE=name   proves one crate and runs its tests
 # make bench   times the reading of a batch, the instructions beside plain C, the memory, and the verifier; no test
 # make models  compares the programs with a second writing of the rules, in Python, on random cases; not in the gate
 
-.PHONY: all run test bench models clean
+.PHONY: all run test check bench models clean
 
 all:
 	cd crates/vjobs && rt run -- --help > /dev/null
@@ -15,8 +16,10 @@ run: all
 	bin/vjobs examples/sum_of_two.vcode
 
 test:
-	python3 examples/agree.py
 	rt ci
+
+check:
+	.ci/check $(CRATE)
 
 bench: all
 	python3 bench/reading.py

@@ -4,7 +4,7 @@ use Rattle.batch_front.specs.declared.heading.Heading.{Heading}
 use Rattle.batch_front.specs.declared.heading.Heading.TheVariants.{TooLarge, Code, End}
 use Rattle.batch_front.specs.declared.block.Part.{Part}
 use Rattle.batch_front.specs.declared.block.Part.TheVariants.{Signatures as SignatureLines, Code as CodeLines}
-use Rattle.batch_front.specs.Headings.{Line}
+use Rattle.batch_front.specs.Headings.{BatchLine}
 
 -- the headings at which the signature lines end: only the first is their own end
 abbrev pub ends_signatures : Heading → Bool
@@ -40,14 +40,15 @@ closes CodeLines h = closes_code h
 pub record Block : Type 0 where
   pub text : List ℕ
   pub end : Option (Heading × ℕ)
-  pub rest : List Line
+  pub rest : List BatchLine
 
-abbrev pub before : List ℕ → Block → Block
-before text b = record { text = text ++ b.text; end = b.end; rest = b.rest }
+-- the block with this text before its own
+abbrev pub longer_block : List ℕ → Block → Block
+longer_block text b = record { text = text ++ b.text; end = b.end; rest = b.rest }
 
 -- the lines before the first at which a part ends
-unfoldable pub block_of : Part → List Line → Block
+unfoldable pub block_of : Part → List BatchLine → Block
 block_of part [] = record { text = []; end = None; rest = [] }
 block_of part (l ∷ ls) =
     if ends part l.heading then record { text = []; end = Some (l.heading, l.number); rest = ls }
-    else before l.text (block_of part ls)
+    else longer_block l.text (block_of part ls)

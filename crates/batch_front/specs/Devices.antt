@@ -18,8 +18,8 @@ interrupts_of device = device.interrupts
 
 -- a device that was not used
 pub record IsFresh {D : Type 0} (device : Device D) : Type 0 where
-  pub whole : has_failed device ≡ false
-  pub calm : interrupts_of device ≡ 0
+  pub not_failed : has_failed device ≡ false
+  pub not_interrupted : interrupts_of device ≡ 0
 
 -- one more, or the greatest number of 64 bits
 abbrev pub saturating_suc : ℕ → ℕ
@@ -31,5 +31,6 @@ IsSteady old new = (has_failed new ≡ has_failed old) × (interrupts_of new ≡
 
 -- a device that had this trouble since
 abbrev pub IsTroubled : {D : Type 0} → Device D → Device D → Trouble → Type 0
-IsTroubled old new Interrupted = (has_failed new ≡ has_failed old) × (interrupts_of new ≡ saturating_suc (interrupts_of old))
+IsTroubled old new Interrupted =
+    (has_failed new ≡ has_failed old) × (interrupts_of new ≡ saturating_suc (interrupts_of old))
 IsTroubled old new Failed = (has_failed new ≡ true) × (interrupts_of new ≡ interrupts_of old)

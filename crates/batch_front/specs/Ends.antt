@@ -9,22 +9,23 @@ use Rattle.batch_front.specs.declared.status.Status.{Status}
 use Rattle.batch_front.specs.declared.status.Status.TheVariants.{AllReturned, SomeNot}
 use Rattle.batch_front.specs.Fates.{Fate, Ran, Refused as Refuse}
 
-abbrev pub end_by : Outcome (List Vector) → End
-end_by (Return results) = Returned
-end_by (Fault fault line) = Otherwise
-end_by (Memory fault line) = Otherwise
-end_by Budget = Otherwise
+abbrev pub end_of_outcome : Outcome (List Vector) → End
+end_of_outcome (Return results) = Returned
+end_of_outcome (Fault fault line) = Otherwise
+end_of_outcome (Memory fault line) = Otherwise
+end_of_outcome Budget = Otherwise
 
-abbrev pub end_of : Fate → End
-end_of (Refuse fault line) = Refused
-end_of (Ran end instructions words) = end_by end
+abbrev pub end_of_fate : Fate → End
+end_of_fate (Refuse fault line) = Refused
+end_of_fate (Ran end instructions words) = end_of_outcome end
 
-abbrev pub refused_by : End → ℕ
-refused_by Refused = 1
-refused_by Returned = 0
-refused_by Otherwise = 0
+-- how many jobs are refused, where this is the end of the only one
+abbrev pub refused_count : End → ℕ
+refused_count Refused = 1
+refused_count Returned = 0
+refused_count Otherwise = 0
 
-abbrev pub status_by : End → Status
-status_by Refused = SomeNot
-status_by Returned = AllReturned
-status_by Otherwise = SomeNot
+abbrev pub status_of_end : End → Status
+status_of_end Refused = SomeNot
+status_of_end Returned = AllReturned
+status_of_end Otherwise = SomeNot

@@ -1,9 +1,10 @@
 -- What a line of a batch is by itself, and the lines of a batch in order.
 use Rattle.std.specs.Prelude.{ℕ, ◌+◌, ◌-◌, nat_lt, Bool, true, false, if◌then◌else◌, List, [], ◌∷◌, codes, length}
 use Rattle.std.specs.Str.{bytes_eq}
+use Rattle.vcode_base.specs.declared.limits.TheConstants.{MOST_BATCH_BYTES}
 use Rattle.batch_front.specs.declared.heading.Heading.{Heading}
 use Rattle.batch_front.specs.declared.heading.Heading.TheVariants.{TooLarge, Blank, Signatures, Code, End, Other}
-use Rattle.batch_front.specs.Lines.{lines, words}
+use Rattle.batch_front.specs.Lines.{batch_words, lines}
 
 -- a line whose only word is this
 abbrev pub marker_of : List ℕ → Heading
@@ -32,29 +33,25 @@ is_signatures Signatures = true
 is_signatures _ = false
 
 -- a line of a batch: its number, its bytes with its LF, and what it is
-pub record Line : Type 0 where
+pub record BatchLine : Type 0 where
   pub number : ℕ
   pub text : List ℕ
   pub heading : Heading
 
-abbrev pub line_of : ℕ → List ℕ → Line
-line_of number text = record { number = number; text = text; heading = heading_of (words text) }
+abbrev pub line_of : ℕ → List ℕ → BatchLine
+line_of number text = record { number = number; text = text; heading = heading_of (batch_words text) }
 
 -- a line that passes the limit, behind which nothing is read
-abbrev pub past_limit : ℕ → List ℕ → Line
-past_limit number text = record { number = number; text = text; heading = TooLarge }
+abbrev pub line_past_limit : ℕ → List ℕ → BatchLine
+line_past_limit number text = record { number = number; text = text; heading = TooLarge }
 
 -- these lines, the first of which has this number, where so many bytes are left of the limit
-unfoldable pub numbered : ℕ → ℕ → List (List ℕ) → List Line
-numbered number left [] = []
-numbered number left (t ∷ ts) =
-    if nat_lt left (length t) then past_limit number t ∷ []
-    else line_of number t ∷ numbered (number + 1) (left - length t) ts
-
--- the bytes that a batch may have
-abbrev pub most_bytes : ℕ
-most_bytes = 16777216
+unfoldable pub numbered_lines : ℕ → ℕ → List (List ℕ) → List BatchLine
+numbered_lines number left [] = []
+numbered_lines number left (t ∷ ts) =
+    if nat_lt left (length t) then line_past_limit number t ∷ []
+    else line_of number t ∷ numbered_lines (number + 1) (left - length t) ts
 
 -- the lines of a batch
-abbrev pub lines_of : List ℕ → List Line
-lines_of input = numbered 1 most_bytes (lines input)
+abbrev pub lines_of : List ℕ → List BatchLine
+lines_of input = numbered_lines 1 MOST_BATCH_BYTES (lines input)

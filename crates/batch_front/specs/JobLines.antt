@@ -1,10 +1,12 @@
 -- What a good JOB line says.
-use Rattle.std.specs.Prelude.{◌≡◌, ℕ, ◌+◌, ◌-◌, ◌*◌, ◌≤◌, nat_le, Bool, true, false, ◌&&◌, if◌then◌else◌, List, [], ◌∷◌, codes, length, fold, Option, Some, None, refl}
+use Rattle.std.specs.Prelude.{◌≡◌, ℕ, ◌+◌, ◌-◌, ◌*◌, ◌≤◌, nat_le, Bool, true, false, ◌&&◌, if◌then◌else◌, List, []}
+use Rattle.std.specs.Prelude.{◌∷◌, codes, length, fold, Option, Some, None, refl}
 use Rattle.std.specs.List.{list_all}
 use Rattle.std.specs.Str.{bytes_eq}
 use Rattle.std.proofs.Common.{arith}
 use Rattle.std.proofs.lemmas.Bool.Decides.{nat_tests}
 use Rattle.vcode_base.specs.declared.limits.Limits.{Limits}
+use Rattle.vcode_base.specs.declared.limits.TheConstants.{LONGEST_NAME, MOST_WORDS, MOST_CELLS, MOST_CALLS, MOST_BUDGET}
 
 -- a job's name and its limits
 pub record JobLine : Type 0 where
@@ -15,9 +17,9 @@ pub record JobLine : Type 0 where
 abbrev pub all_within : ℕ → ℕ → List ℕ → Bool
 all_within low high w = list_all (λ b. nat_le low b && nat_le b high) w
 
--- at most 64 bytes of 33 to 126
+-- not too many bytes, each of 33 to 126
 abbrev pub is_name : List ℕ → Bool
-is_name w = nat_le (length w) 64 && all_within 33 126 w
+is_name w = nat_le (length w) LONGEST_NAME && all_within 33 126 w
 
 -- the value of decimal digits
 abbrev pub value_of : List ℕ → ℕ
@@ -27,50 +29,56 @@ value_of w = fold (λ n b. 10 * n + (b - 48)) 0 w
 abbrev pub number_of : List ℕ → Option ℕ
 number_of w = if nat_le (length w) 10 && all_within 48 57 w then Some (value_of w) else None
 
-abbrev pub fit : ℕ → ℕ → ℕ → ℕ → Bool
-fit words cells calls budget =
-    nat_le words 1048576 && (nat_le 1 cells && nat_le cells 4096) && (nat_le 1 calls && nat_le calls 1024) && nat_le budget 1000000000
+-- the numbers are within their ranges
+abbrev pub are_limits : ℕ → ℕ → ℕ → ℕ → Bool
+are_limits words cells calls budget =
+    nat_le words MOST_WORDS && (nat_le 1 cells && nat_le cells MOST_CELLS) && (nat_le 1 calls && nat_le calls MOST_CALLS)
+    && nat_le budget MOST_BUDGET
 
--- what numbers that fit are within
+-- the same as facts
 pub record AreLimits (words cells calls budget : ℕ) : Type 0 where
-  pub words_fit : words ≤ 1048576
-  pub cells_fit : (1 ≤ cells) × (cells ≤ 4096)
-  pub calls_fit : (1 ≤ calls) × (calls ≤ 1024)
-  pub budget_fit : budget ≤ 1000000000
+  pub words_fit : words ≤ MOST_WORDS
+  pub cells_fit : (1 ≤ cells) × (cells ≤ MOST_CELLS)
+  pub calls_fit : (1 ≤ calls) × (calls ≤ MOST_CALLS)
+  pub budget_fit : budget ≤ MOST_BUDGET
 
-pub fitting : (words cells calls budget : ℕ) → fit words cells calls budget ≡ true → AreLimits words cells calls budget
-fitting words cells calls budget h = record {
+pub limit_facts : (words cells calls budget : ℕ) → are_limits words cells calls budget ≡ true
+    → AreLimits words cells calls budget
+limit_facts words cells calls budget h = record {
   words_fit = grind (arith, nat_tests);
   cells_fit = (grind (arith, nat_tests), grind (arith, nat_tests));
   calls_fit = (grind (arith, nat_tests), grind (arith, nat_tests));
   budget_fit = grind (arith, nat_tests);
 }
 
--- limits of these numbers, where they fit
-abbrev pub limits_where : (words cells calls budget : ℕ) (b : Bool) → fit words cells calls budget ≡ b → Option Limits
+-- limits of these numbers, where they are within their ranges
+abbrev pub limits_where : (words cells calls budget : ℕ) (b : Bool) → are_limits words cells calls budget ≡ b
+    → Option Limits
 limits_where words cells calls budget true h = Some (record {
   words = words;
   cells = cells;
   calls = calls;
   budget = budget;
-  words_in_range = (fitting words cells calls budget h).words_fit;
-  cells_in_range = (fitting words cells calls budget h).cells_fit;
-  calls_in_range = (fitting words cells calls budget h).calls_fit;
-  budget_in_range = (fitting words cells calls budget h).budget_fit;
+  words_in_range = (limit_facts words cells calls budget h).words_fit;
+  cells_in_range = (limit_facts words cells calls budget h).cells_fit;
+  calls_in_range = (limit_facts words cells calls budget h).calls_fit;
+  budget_in_range = (limit_facts words cells calls budget h).budget_fit;
 })
 limits_where words cells calls budget false h = None
 
 abbrev pub limits_of : Option ℕ → Option ℕ → Option ℕ → Option ℕ → Option Limits
-limits_of (Some words) (Some cells) (Some calls) (Some budget) = limits_where words cells calls budget (fit words cells calls budget) refl
+limits_of (Some words) (Some cells) (Some calls) (Some budget) =
+    limits_where words cells calls budget (are_limits words cells calls budget) refl
 limits_of _ _ _ _ = None
 
-abbrev pub named : List ℕ → Option Limits → Option JobLine
-named name None = None
-named name (Some limits) = Some (record { name = name; limits = limits })
+abbrev pub job_line_with : List ℕ → Option Limits → Option JobLine
+job_line_with name None = None
+job_line_with name (Some limits) = Some (record { name = name; limits = limits })
 
 -- JOB, a name, and the four limits
 abbrev pub job_line_of : List (List ℕ) → Option JobLine
 job_line_of (keyword ∷ name ∷ words ∷ cells ∷ calls ∷ budget ∷ []) =
-    if bytes_eq keyword (codes "JOB") && is_name name then named name (limits_of (number_of words) (number_of cells) (number_of calls) (number_of budget))
+    if bytes_eq keyword (codes "JOB") && is_name name
+    then job_line_with name (limits_of (number_of words) (number_of cells) (number_of calls) (number_of budget))
     else None
 job_line_of _ = None

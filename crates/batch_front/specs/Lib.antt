@@ -1,6 +1,7 @@
 pub mod BatchTexts
 pub mod Batches
 pub mod Blocks
+pub mod Chains
 pub mod Cursors
 pub mod Devices
 pub mod Ends
@@ -9,8 +10,9 @@ pub mod Fates
 pub mod Headings
 pub mod Inputs
 pub mod JobLines
+pub mod JobStops
 pub mod JobTexts
 pub mod Lines
-pub mod Refusing
 pub mod Reports
+pub mod Seats
 pub mod Shown

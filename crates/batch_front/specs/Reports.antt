@@ -1,5 +1,6 @@
 -- The report of a batch, byte by byte, and its status.
-use Rattle.std.specs.Prelude.{ℕ, ℤ, pos, ◌+◌, Bool, true, false, if◌then◌else◌, List, [], ◌∷◌, ◌++◌, codes, length, map, count_by, Result, Ok, Err, decimal}
+use Rattle.std.specs.Prelude.{ℕ, ℤ, pos, ◌+◌, Bool, true, false, if◌then◌else◌, List, [], ◌∷◌, ◌++◌, codes, length}
+use Rattle.std.specs.Prelude.{map, count_by, Result, Ok, Err, decimal}
 use Rattle.std.specs.Fmt.{signed_decimal}
 use Rattle.std.specs.Ordering.{int_eq}
 use Rattle.std.specs.List.{flat_map, join_with_byte, list_all}
@@ -41,21 +42,26 @@ value_text v = kind_text v.kind ++ codes " (" ++ join_with_byte 32 (map (word_te
 
 -- ---- jobs
 
--- where a fault stands and what it is
-abbrev pub fault_text : ℕ → List ℕ → List ℕ
-fault_text line name = codes "line " ++ decimal line ++ codes " " ++ name ++ codes "\n"
+-- a line of this head: where a fault stands and what it is
+abbrev pub fault_text : List ℕ → ℕ → List ℕ → List ℕ
+fault_text head line name = head ++ codes "line " ++ decimal line ++ codes " " ++ name ++ codes "\n"
+
+-- a number and what it counts
+abbrev pub count_text : ℕ → List ℕ → List ℕ
+count_text number unit = codes " " ++ decimal number ++ codes " " ++ unit
 
 abbrev pub outcome_text : Outcome (List Vector) → List ℕ
 outcome_text (Returned results) = codes "RETURNED\n" ++ flat_map value_text results
-outcome_text (Fault fault line) = codes "FAULT " ++ fault_text line (data_fault_text fault)
-outcome_text (Memory fault line) = codes "MEMORY " ++ fault_text line (memory_fault_text fault)
+outcome_text (Fault fault line) = fault_text (codes "FAULT ") line (data_fault_text fault)
+outcome_text (Memory fault line) = fault_text (codes "MEMORY ") line (memory_fault_text fault)
 outcome_text Budget = codes "BUDGET\n"
 
 abbrev pub used_text : ℕ → ℕ → List ℕ
-used_text instructions words = codes "USED " ++ decimal instructions ++ codes " instructions " ++ decimal words ++ codes " words\n"
+used_text instructions words =
+    codes "USED" ++ count_text instructions (codes "instructions") ++ count_text words (codes "words") ++ codes "\n"
 
 abbrev pub fate_text : Fate → List ℕ
-fate_text (Refused fault line) = codes "REFUSED " ++ fault_text line (job_fault_text fault)
+fate_text (Refused fault line) = fault_text (codes "REFUSED ") line (job_fault_text fault)
 fate_text (Ran end instructions words) = outcome_text end ++ used_text instructions words
 
 -- what begins the lines of the job of this number
@@ -76,11 +82,12 @@ is_refused (Refused fault line) = true
 is_refused (Ran end instructions words) = false
 
 abbrev pub end_text : ℕ → ℕ → List ℕ
-end_text jobs refused = codes "END " ++ decimal jobs ++ codes " jobs " ++ decimal refused ++ codes " refused\n"
+end_text jobs refused =
+    codes "END" ++ count_text jobs (codes "jobs") ++ count_text refused (codes "refused") ++ codes "\n"
 
 unfoldable pub report_of : Result (List Entry) Refusal → List ℕ
 report_of (Ok es) = entries_text 1 es ++ end_text (length es) (count_by (λ (e : Entry). is_refused e.fate) es)
-report_of (Err refusal) = codes "BATCH " ++ fault_text refusal.1 (batch_fault_text refusal.0)
+report_of (Err refusal) = fault_text (codes "BATCH ") refusal.1 (batch_fault_text refusal.0)
 
 abbrev pub is_return : Outcome (List Vector) → Bool
 is_return (Returned results) = true

@@ -1,48 +1,51 @@
 //! The run on the calling thread.
+
 ghost use Rattle.std.specs.Prelude.{◌≡◌, ◌⊎◌, ℕ, ◌+◌, ◌≤◌, false, true, take, IfOk, IfSome, OnOk, OnErr, IsErrOf};
 ghost use Rattle.std.specs.Io.KnownBytes.{Appends, Keeps};
-ghost use Rattle.batch_front.specs.Fates.{batch_of};
+ghost use Rattle.batch_front.specs.declared.device.TheConstants.{MOST_INTERRUPTIONS};
 ghost use Rattle.batch_front.specs.Devices.{inner_of, has_failed, interrupts_of, IsFresh};
-ghost use Rattle.batch_front.specs.Inputs.{seen_of};
+ghost use Rattle.batch_front.specs.Fates.{batch_of};
+ghost use Rattle.batch_front.specs.Inputs.{first_bytes, ReadsFirstBytes, ReadsNoFurther};
 ghost use Rattle.batch_front.specs.Reports.{report_of, status_of};
 
 use crate::answer::answer;
 use crate::command_line::Options;
-use crate::device::{Device, Trouble};
+use crate::device::{Device, MOST_INTERRUPTIONS, Trouble};
 use crate::fault::FrontFault;
 use crate::status::Status;
 use std::alloc::Allocator;
 use std::io::{Read, Write};
+use vcode_base::limits::MOST_BATCH_BYTES;
 
-/// One more than the bytes that a batch may have.
-const MOST: usize = 16_777_217;
-
-/// The interruptions of a run that are passed over.
-const PATIENCE: u64 = 64;
+/// The most bytes that are read of an input.
+const MOST_READ: usize = MOST_BATCH_BYTES + 1;
 
 /// The most bytes of one read.
 const PIECE: usize = 4096;
 
-/// The bytes of a reader, to its end or to the first byte that is too many.
+/// The first bytes of a reader that was not used: to its end, or one more than a batch may have.
 fn read_all<A: Allocator, R: Read>(
     alloc: A,
     reader: &mut Device<R>,
 ) -> Result<Vec<u8, A>, FrontFault>
     requires { IsFresh reader.old }
-    ensures ok { IfOk result (λ v. IfSome (R.remaining (inner_of reader.old)) (λ input. v.items ≡ seen_of input)) }
-    ensures calm { OnOk result ((has_failed reader.new ≡ false) × (interrupts_of reader.new ≤ 64)) }
-    ensures read { IsErrOf result FrontFault.Read → (has_failed reader.new ≡ true) ⊎ (interrupts_of reader.new ≡ 65) }
-    ensures only { OnErr result (IsErrOf result FrontFault.Read ⊎ IsErrOf result FrontFault.Memory) }
+    ensures bytes { IfOk result (λ v. IfSome (R.remaining (inner_of reader.old)) (λ input. v.items ≡ first_bytes input)) }
+    ensures read_to_the_end { OnOk result (ReadsFirstBytes (R.remaining (inner_of reader.old)) (R.remaining (inner_of reader.new))) }
+    ensures read_no_further { ReadsNoFurther (R.remaining (inner_of reader.old)) (R.remaining (inner_of reader.new)) }
+    ensures few_interruptions { OnOk result ((has_failed reader.new ≡ false) × (interrupts_of reader.new ≤ MOST_INTERRUPTIONS)) }
+    ensures read_fault { IsErrOf result FrontFault.Read →
+        (has_failed reader.new ≡ true) ⊎ (interrupts_of reader.new ≡ MOST_INTERRUPTIONS + 1) }
+    ensures read_or_memory { OnErr result (IsErrOf result FrontFault.Read ⊎ IsErrOf result FrontFault.Memory) }
 {
     let mut input = Vec::new(alloc);
     let mut piece = [0u8; PIECE];
-    'reads: while input.len() < MOST {
-        let room = (MOST - input.len()).min(PIECE);
+    'reads: while input.len() < MOST_READ {
+        let room = (MOST_READ - input.len()).min(PIECE);
         match reader.read(&mut piece[..room]) {
-            Ok(0) => break,
+            Ok(0) => return Ok(input),
             Ok(n) => input.extend_from_slice(&piece[..n])?,
             Err(Trouble::Interrupted) => {
-                if reader.interrupts() > PATIENCE {
+                if reader.interrupts() > MOST_INTERRUPTIONS {
                     return Err(FrontFault::Read);
                 }
             }
@@ -52,33 +55,45 @@ fn read_all<A: Allocator, R: Read>(
     Ok(input)
 }
 
-/// Writes all the bytes and flushes. `spent` interruptions are spent already.
-fn write_all<W: Write>(writer: &mut Device<W>, bytes: &[u8], spent: u64) -> Result<(), FrontFault>
+/// Writes all the bytes. `spent` interruptions are spent already.
+fn write_bytes<W: Write>(writer: &mut Device<W>, bytes: &[u8], spent: u64) -> Result<(), FrontFault>
     requires fresh { IsFresh writer.old }
-    requires patience { spent ≤ 64 }
-    ensures ok { OnOk result (Appends (W.contents (inner_of writer.old)) (W.contents (inner_of writer.new)) bytes.now) }
-    ensures prefix { (n : ℕ) × Appends (W.contents (inner_of writer.old)) (W.contents (inner_of writer.new)) (take n bytes.now) }
-    ensures calm { OnOk result ((has_failed writer.new ≡ false) × (interrupts_of writer.new + spent ≤ 64)) }
-    ensures write { OnErr result ((has_failed writer.new ≡ true) ⊎ (interrupts_of writer.new + spent ≡ 65)) }
-    ensures only { OnErr result (IsErrOf result FrontFault.Write) }
+    requires spent { spent ≤ MOST_INTERRUPTIONS }
+    ensures all_written { OnOk result (Appends (W.contents (inner_of writer.old)) (W.contents (inner_of writer.new)) bytes.now) }
+    ensures front_written { (n : ℕ) × Appends (W.contents (inner_of writer.old)) (W.contents (inner_of writer.new)) (take n bytes.now) }
+    ensures few_interruptions { OnOk result ((has_failed writer.new ≡ false) × (interrupts_of writer.new + spent ≤ MOST_INTERRUPTIONS)) }
+    ensures write_fault { OnErr result ((has_failed writer.new ≡ true) ⊎ (interrupts_of writer.new + spent ≡ MOST_INTERRUPTIONS + 1)) }
+    ensures write_alone { OnErr result (IsErrOf result FrontFault.Write) }
 {
     let mut done = 0;
     'writes: while done < bytes.len() {
         match writer.write(&bytes[done..]) {
             Ok(n) => done += n,
             Err(Trouble::Interrupted) => {
-                if writer.interrupts() > PATIENCE - spent {
+                if writer.interrupts() > MOST_INTERRUPTIONS - spent {
                     return Err(FrontFault::Write);
                 }
             }
             Err(Trouble::Failed) => return Err(FrontFault::Write),
         }
     }
+    Ok(())
+}
+
+/// Flushes. `spent` interruptions are spent already, beside those of the writer.
+fn flush<W: Write>(writer: &mut Device<W>, spent: u64) -> Result<(), FrontFault>
+    requires not_failed { has_failed writer.old ≡ false }
+    requires spent { interrupts_of writer.old + spent ≤ MOST_INTERRUPTIONS }
+    ensures nothing_written { Keeps (W.contents (inner_of writer.old)) (W.contents (inner_of writer.new)) }
+    ensures few_interruptions { OnOk result ((has_failed writer.new ≡ false) × (interrupts_of writer.new + spent ≤ MOST_INTERRUPTIONS)) }
+    ensures write_fault { OnErr result ((has_failed writer.new ≡ true) ⊎ (interrupts_of writer.new + spent ≡ MOST_INTERRUPTIONS + 1)) }
+    ensures write_alone { OnErr result (IsErrOf result FrontFault.Write) }
+{
     'flushes: loop {
         match writer.flush() {
             Ok(()) => return Ok(()),
             Err(Trouble::Interrupted) => {
-                if writer.interrupts() > PATIENCE - spent {
+                if writer.interrupts() > MOST_INTERRUPTIONS - spent {
                     return Err(FrontFault::Write);
                 }
             }
@@ -87,14 +102,28 @@ fn write_all<W: Write>(writer: &mut Device<W>, bytes: &[u8], spent: u64) -> Resu
     }
 }
 
+/// Writes all the bytes and flushes. `spent` interruptions are spent already.
+fn write_all<W: Write>(writer: &mut Device<W>, bytes: &[u8], spent: u64) -> Result<(), FrontFault>
+    requires fresh { IsFresh writer.old }
+    requires spent { spent ≤ MOST_INTERRUPTIONS }
+    ensures all_written { OnOk result (Appends (W.contents (inner_of writer.old)) (W.contents (inner_of writer.new)) bytes.now) }
+    ensures front_written { (n : ℕ) × Appends (W.contents (inner_of writer.old)) (W.contents (inner_of writer.new)) (take n bytes.now) }
+    ensures few_interruptions { OnOk result ((has_failed writer.new ≡ false) × (interrupts_of writer.new + spent ≤ MOST_INTERRUPTIONS)) }
+    ensures write_fault { OnErr result ((has_failed writer.new ≡ true) ⊎ (interrupts_of writer.new + spent ≡ MOST_INTERRUPTIONS + 1)) }
+    ensures write_alone { OnErr result (IsErrOf result FrontFault.Write) }
+{
+    write_bytes(writer, bytes, spent)?;
+    flush(writer, spent)
+}
+
 /// Reads a batch, runs its jobs one after the other on the calling thread, and then writes the report and nothing
 /// else.
 ///
-/// The input is the reader's bytes to its end, or the first 16,777,217 of them. Both devices are fresh. A read, a write
-/// or a flush that answers Interrupted is tried again; the 65th such answer of the run is a fault. After
-/// [`FrontFault::Read`] and [`FrontFault::Memory`] nothing was written, and the input may have been read in part or in
-/// whole. After [`FrontFault::Write`] a part of the report from its front was written, the whole of it where only the
-/// flush failed.
+/// Of the reader no more is read than one byte more than a batch may have, [`MOST_BATCH_BYTES`]. Neither device was used
+/// before. An interruption is no fault by itself: the call is made again, but for the interruption that passes
+/// [`MOST_INTERRUPTIONS`] in this run. [`FrontFault::Read`] and [`FrontFault::Memory`] come before the first write,
+/// and how much was read until then is not said. At [`FrontFault::Write`] the writer has the first bytes of the report,
+/// perhaps none and perhaps all of them.
 pub fn run_alone<A: Allocator + Clone, R: Read, W: Write>(
     alloc: A,
     reader: &mut Device<R>,
@@ -105,27 +134,33 @@ pub fn run_alone<A: Allocator + Clone, R: Read, W: Write>(
     requires writer { IsFresh writer.old }
 
     // The report is written and nothing else, and the status is the batch's.
-    ensures ok { IfOk result (λ status. IfSome (R.remaining (inner_of reader.old)) (λ input.
-        let batch = batch_of (seen_of input) options.now.region in
+    ensures report { IfOk result (λ status. IfSome (R.remaining (inner_of reader.old)) (λ input.
+        let batch = batch_of (first_bytes input) options.now.region in
         Appends (W.contents (inner_of writer.old)) (W.contents (inner_of writer.new)) (report_of batch)
         × (status ≡ status_of batch))) }
-    // No fault of a device is passed over, nor a 65th interruption.
-    ensures calm { OnOk result ((has_failed reader.new ≡ false) × (has_failed writer.new ≡ false)
-        × (interrupts_of reader.new + interrupts_of writer.new ≤ 64)) }
+    // No fault of a device is passed over, nor one interruption too many.
+    ensures few_interruptions { OnOk result ((has_failed reader.new ≡ false) × (has_failed writer.new ≡ false)
+        × (interrupts_of reader.new + interrupts_of writer.new ≤ MOST_INTERRUPTIONS)) }
+
+    // The input is read to its end, or exactly one byte further than a batch may have, before anything is written.
+    ensures read_to_the_end { OnOk result (ReadsFirstBytes (R.remaining (inner_of reader.old)) (R.remaining (inner_of reader.new))) }
+    ensures read_before_written { IsErrOf result FrontFault.Write →
+        ReadsFirstBytes (R.remaining (inner_of reader.old)) (R.remaining (inner_of reader.new)) }
+    // It is never read any further.
+    ensures read_no_further { ReadsNoFurther (R.remaining (inner_of reader.old)) (R.remaining (inner_of reader.new)) }
 
     // A part of the report from its front was written.
-    ensures write { IsErrOf result FrontFault.Write → IfSome (R.remaining (inner_of reader.old)) (λ input. (n : ℕ) ×
+    ensures front_written { IsErrOf result FrontFault.Write → IfSome (R.remaining (inner_of reader.old)) (λ input. (n : ℕ) ×
         Appends (W.contents (inner_of writer.old)) (W.contents (inner_of writer.new))
-        (take n (report_of (batch_of (seen_of input) options.now.region)))) }
-    // Nothing was written.
-    ensures silent { IsErrOf result FrontFault.Read ⊎ IsErrOf result FrontFault.Memory →
+        (take n (report_of (batch_of (first_bytes input) options.now.region)))) }
+    ensures nothing_written { IsErrOf result FrontFault.Read ⊎ IsErrOf result FrontFault.Memory →
         Keeps (W.contents (inner_of writer.old)) (W.contents (inner_of writer.new)) }
 
-    // The side that failed, or the 65th interruption of the run.
+    // The side that failed, or the first interruption of the run that is too many.
     ensures read_fault { IsErrOf result FrontFault.Read →
-        (has_failed reader.new ≡ true) ⊎ (interrupts_of reader.new + interrupts_of writer.new ≡ 65) }
+        (has_failed reader.new ≡ true) ⊎ (interrupts_of reader.new + interrupts_of writer.new ≡ MOST_INTERRUPTIONS + 1) }
     ensures write_fault { IsErrOf result FrontFault.Write →
-        (has_failed writer.new ≡ true) ⊎ (interrupts_of reader.new + interrupts_of writer.new ≡ 65) }
+        (has_failed writer.new ≡ true) ⊎ (interrupts_of reader.new + interrupts_of writer.new ≡ MOST_INTERRUPTIONS + 1) }
 {
     let input = read_all(alloc.clone()?, reader)?;
     let (report, status) = answer(alloc, input.as_slice(), options.region)?;

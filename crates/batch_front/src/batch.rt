@@ -1,13 +1,14 @@
 //! The jobs of a batch as texts.
 
-ghost use Rattle.std.specs.Prelude.{◌≡◌, ◌≤◌, length, Ok, Err, [], ◌∷◌, MatchOption, MatchResult, IfOk, IfSome};
-ghost use Rattle.batch_front.specs.Batches.{behind_blank, head_of, jobs_of, no_job, part_of, signatures_heading, whole_job};
+ghost use Rattle.std.specs.Prelude.{◌≡◌, ◌+◌, ◌≤◌, Ok, Err, [], ◌∷◌, MatchOption, MatchResult, IfOk, IfSome};
+ghost use Rattle.vcode_base.specs.declared.limits.TheConstants.{MOST_BATCH_BYTES};
+ghost use Rattle.batch_front.specs.Batches.{lines_behind_blanks, head_of, jobs_of, no_job, part_of, signatures_heading, whole_job};
 ghost use Rattle.batch_front.specs.BatchTexts.{batch_fault_text};
-ghost use Rattle.batch_front.specs.Cursors.{ahead, shown_line};
+ghost use Rattle.batch_front.specs.Cursors.{lines_ahead, shown_line};
 ghost use Rattle.batch_front.specs.Shown.{shown_head, shown_job, shown_jobs, shown_part};
 
 use crate::block::{Part, take_block};
-use crate::cursor::{Cursor, Line};
+use crate::cursor::{BatchLine, Cursor};
 use crate::job_line::{JobLine, job_line};
 use crate::job_text::{JobText, PartText};
 
@@ -53,10 +54,10 @@ pub(crate) fn batch(input: &[u8]) -> Result<Option<JobText<'_>>, (BatchFault, u6
 }
 
 /// The first line that isn't blank and the place behind it.
-fn next_job(start: Cursor<'_>) -> Option<(Line<'_>, Cursor<'_>)>
-    ensures lines { MatchOption result (behind_blank (ahead start.entry) ≡ [])
-        (λ r. behind_blank (ahead start.entry) ≡ shown_line r.0 ∷ ahead r.1) }
-    ensures number { IfSome result (λ r. r.0.number ≤ 16777217) }
+fn next_job(start: Cursor<'_>) -> Option<(BatchLine<'_>, Cursor<'_>)>
+    ensures lines { MatchOption result (lines_behind_blanks (lines_ahead start.entry) ≡ [])
+        (λ r. lines_behind_blanks (lines_ahead start.entry) ≡ shown_line r.0 ∷ lines_ahead r.1) }
+    ensures number { IfSome result (λ r. r.0.number ≤ MOST_BATCH_BYTES + 1) }
 {
     let mut rest = start;
     'lines: loop {
@@ -69,7 +70,7 @@ fn next_job(start: Cursor<'_>) -> Option<(Line<'_>, Cursor<'_>)>
 }
 
 /// What a line between jobs says that isn't blank.
-fn head(line: Line<'_>) -> Result<JobLine<'_>, (BatchFault, u64)>
+fn head(line: BatchLine<'_>) -> Result<JobLine<'_>, (BatchFault, u64)>
     ensures { MatchResult result
         (λ j. head_of (shown_line line.entry) ≡ Ok (shown_head j))
         (λ refusal. head_of (shown_line line.entry) ≡ Err refusal) }
@@ -90,8 +91,8 @@ fn whole_job<'a>(
     behind: Cursor<'a>,
 ) -> Result<(JobText<'a>, Cursor<'a>), (BatchFault, u64)>
     ensures { MatchResult result
-        (λ r. whole_job (shown_head head.entry) line (ahead behind.entry) ≡ Ok (shown_job r.0, ahead r.1))
-        (λ refusal. whole_job (shown_head head.entry) line (ahead behind.entry) ≡ Err refusal) }
+        (λ r. whole_job (shown_head head.entry) line (lines_ahead behind.entry) ≡ Ok (shown_job r.0, lines_ahead r.1))
+        (λ refusal. whole_job (shown_head head.entry) line (lines_ahead behind.entry) ≡ Err refusal) }
 {
     let (signatures_line, behind) = signatures_heading(line, behind)?;
     let signatures = part(Part::Signatures, line, behind)?;
@@ -110,9 +111,9 @@ fn whole_job<'a>(
 /// The number of the line behind `SIGNATURES`, and the place before that.
 fn signatures_heading(job: u64, behind: Cursor<'_>) -> Result<(u64, Cursor<'_>), (BatchFault, u64)>
     ensures heading { MatchResult result
-        (λ r. signatures_heading job (ahead behind.entry) ≡ Ok (r.0, ahead r.1))
-        (λ refusal. signatures_heading job (ahead behind.entry) ≡ Err refusal) }
-    ensures number { IfOk result (λ r. r.0 ≤ 16777218) }
+        (λ r. signatures_heading job (lines_ahead behind.entry) ≡ Ok (r.0, lines_ahead r.1))
+        (λ refusal. signatures_heading job (lines_ahead behind.entry) ≡ Err refusal) }
+    ensures number { IfOk result (λ r. r.0 ≤ MOST_BATCH_BYTES + 2) }
 {
     let Some((line, rest)) = behind.next_line() else {
         return Err((BatchFault::UnfinishedJob, job));
@@ -129,8 +130,8 @@ fn signatures_heading(job: u64, behind: Cursor<'_>) -> Result<(u64, Cursor<'_>),
 /// A part of the job whose JOB line has the number `job`.
 fn part(part: Part, job: u64, start: Cursor<'_>) -> Result<PartText<'_>, (BatchFault, u64)>
     ensures { MatchResult result
-        (λ p. part_of part job (ahead start.entry) ≡ Ok (shown_part p))
-        (λ refusal. part_of part job (ahead start.entry) ≡ Err refusal) }
+        (λ p. part_of part job (lines_ahead start.entry) ≡ Ok (shown_part p))
+        (λ refusal. part_of part job (lines_ahead start.entry) ≡ Err refusal) }
 {
     let block = take_block(start, part);
     let Some((heading, number)) = block.end else {
@@ -152,8 +153,8 @@ fn part(part: Part, job: u64, start: Cursor<'_>) -> Result<PartText<'_>, (BatchF
 /// That no job stands from here on.
 fn no_job(start: Cursor<'_>) -> Result<(), (BatchFault, u64)>
     ensures { MatchResult result
-        (λ u. no_job (behind_blank (ahead start.entry)) ≡ Ok [])
-        (λ refusal. no_job (behind_blank (ahead start.entry)) ≡ Err refusal) }
+        (λ u. no_job (lines_behind_blanks (lines_ahead start.entry)) ≡ Ok [])
+        (λ refusal. no_job (lines_behind_blanks (lines_ahead start.entry)) ≡ Err refusal) }
 {
     let Some((line, _)) = next_job(start) else {
         return Ok(());

@@ -1,8 +1,9 @@
 //! The lines of a part of a job.
 
-ghost use Rattle.std.specs.Prelude.{◌≡◌, ◌≤◌, length, IfSome};
+ghost use Rattle.std.specs.Prelude.{◌≡◌, ◌+◌, ◌≤◌, length, IfSome};
+ghost use Rattle.vcode_base.specs.declared.limits.TheConstants.{MOST_BATCH_BYTES};
 ghost use Rattle.batch_front.specs.Blocks.{block_of, closes, ends};
-ghost use Rattle.batch_front.specs.Cursors.{ahead, shown_block};
+ghost use Rattle.batch_front.specs.Cursors.{lines_ahead, shown_block};
 
 use crate::cursor::Cursor;
 use crate::heading::Heading;
@@ -50,9 +51,9 @@ pub(crate) struct Block<'a> {
 
 /// The lines from here on up to the first that ends a part.
 pub(crate) fn take_block<'a>(start: Cursor<'a>, part: Part) -> Block<'a>
-    ensures lines { shown_block result ≡ block_of part (ahead start.entry) }
-    ensures number { IfSome result.end (λ end. end.1 ≤ 16777217) }
-    ensures short { length result.text.now ≤ 16777217 }
+    ensures lines { shown_block result ≡ block_of part (lines_ahead start.entry) }
+    ensures number { IfSome result.end (λ end. end.1 ≤ MOST_BATCH_BYTES + 1) }
+    ensures short { length result.text.now ≤ MOST_BATCH_BYTES + 1 }
 {
     let mut length = 0;
     let mut rest = start;

@@ -1,17 +1,24 @@
 //! The command line.
-ghost use Rattle.std.specs.Prelude.{◌≤◌};
+
+ghost use Rattle.std.specs.Prelude.{◌≡◌, ◌≢◌, ◌≤◌};
+ghost use Rattle.std.specs.declared.io.ErrorKind.TheVariants.{InvalidData};
+ghost use Rattle.vcode_base.specs.declared.limits.TheConstants.{MOST_WORDS};
+ghost use Rattle.batch_front.specs.declared.fault.LineFault.TheVariants.{Memory};
 
 use crate::fault::LineFault;
 use clap::error::ErrorKind;
 use clap::{Arg, ArgMatches, Command, value_parser};
 use std::alloc::Global;
+use std::io::ErrorKind as IoErrorKind;
+use vcode_base::limits::MOST_WORDS;
 
 /// How a batch is run.
 #[derive(Clone, Copy, PartialEq, Eq, Debug)]
 pub struct Options {
-    /// The words of the region that the jobs share, 1 to 1,048,576.
+    /// The words of the region that the jobs share, at least 1 and at most
+    /// [`MOST_WORDS`](vcode_base::limits::MOST_WORDS).
     pub region: u32,
-    pub ghost region_fits: { (1 ≤ region) × (region ≤ 1048576) },
+    pub ghost region_fits: { (1 ≤ region) × (region ≤ MOST_WORDS) },
 }
 
 /// What a command line asks for.
@@ -19,20 +26,23 @@ pub struct Options {
 pub enum Line {
     /// A run with these options over the file of this name; `-` is standard input.
     Run(Options, String),
-    /// The text of help, to be printed.
+    /// The text of help or of the version, to be printed.
     Help(String),
 }
 
-/// The greatest region, in words, and the one where none is given.
-const MOST_WORDS: u32 = 1_048_576;
+/// The words of a region where no number is given: as many as there may be.
+const MOST_REGION: u32 = MOST_WORDS as u32;
+
+/// The same as the text of an argument.
+const MOST_REGION_TEXT: &str = "1048576";
 
 /// The command.
 fn command<'a>(alloc: Global) -> Result<Command<'a>, clap::Error> {
     let region = Arg::new(alloc, "region")
         .long("region")
         .value_name("N")
-        .value_parser(value_parser!(u32).range(1..=i64::from(MOST_WORDS)))
-        .default_value("1048576")
+        .value_parser(value_parser!(u32).range(1..=i64::from(MOST_REGION)))
+        .default_value(MOST_REGION_TEXT)
         .help("Words of the region that the jobs share");
     let file = Arg::new(alloc, "file")
         .value_name("FILE")
@@ -41,6 +51,7 @@ fn command<'a>(alloc: Global) -> Result<Command<'a>, clap::Error> {
     Ok(
         Command::new(alloc, "vjobs")
             .about("Runs a batch of VCODE jobs and prints a report")
+            .version("0.1.0")
             .arg(region)?
             .arg(file)?,
     )
@@ -48,9 +59,9 @@ fn command<'a>(alloc: Global) -> Result<Command<'a>, clap::Error> {
 
 /// What was matched.
 fn run_of(alloc: Global, matches: &ArgMatches<'_>) -> Result<Line, LineFault> {
-    let region = matches.get_one::<u32>("region").unwrap_or(MOST_WORDS);
+    let region = matches.get_one::<u32>("region").unwrap_or(MOST_REGION);
     let options = Options {
-        region: region.clamp(1, MOST_WORDS),
+        region: region.clamp(1, MOST_REGION),
     };
     let file = matches.get_str("file").unwrap_or("-");
     let file = String::from_str(alloc, file).map_err(|_| LineFault::Memory)?;
@@ -58,7 +69,7 @@ fn run_of(alloc: Global, matches: &ArgMatches<'_>) -> Result<Line, LineFault> {
 }
 
 /// What clap answered in place of matches.
-fn shown(alloc: Global, error: &clap::Error) -> Result<Line, LineFault> {
+fn line_of(alloc: Global, error: &clap::Error) -> Result<Line, LineFault> {
     if error.kind() == ErrorKind::OutOfMemory {
         return Err(LineFault::Memory);
     }
@@ -72,15 +83,41 @@ fn shown(alloc: Global, error: &clap::Error) -> Result<Line, LineFault> {
 
 /// Reads a command line, the program's name first: `vjobs [--region N] FILE`.
 ///
-/// The region is 1 to 1,048,576 words, and 1,048,576 where none is given. A line that asks for help is [`Line::Help`].
-/// A line that is refused is [`LineFault::Usage`].
+/// The region is at least 1 word and at most [`MOST_WORDS`], and that where none is given. A line that asks for help or
+/// for the version is [`Line::Help`]. A line that is refused is [`LineFault::Usage`].
 pub fn read_line(alloc: Global, words: &[&str]) -> Result<Line, LineFault> {
     let command = match command(alloc) {
         Ok(command) => command,
-        Err(error) => return shown(alloc, &error),
+        Err(error) => return line_of(alloc, &error),
     };
     match command.try_get_matches_from(words) {
         Ok(matches) => run_of(alloc, &matches),
-        Err(error) => shown(alloc, &error),
+        Err(error) => line_of(alloc, &error),
+    }
+}
+
+/// Why a program's arguments give no words, where reading them gave an error of this kind: `InvalidData` says that one
+/// is not UTF-8, which is [`LineFault::Usage`]. For any other kind it is [`LineFault::Memory`].
+pub fn arguments_fault(alloc: Global, kind: IoErrorKind) -> LineFault
+    ensures memory { kind ≢ InvalidData → result ≡ Memory }
+{
+    match kind {
+        IoErrorKind::InvalidData => not_text(alloc),
+        _ => LineFault::Memory,
+    }
+}
+
+/// That an argument is not UTF-8, as clap would say it.
+fn not_text(alloc: Global) -> LineFault {
+    let Ok(mut command) = command(alloc) else {
+        return LineFault::Memory;
+    };
+    let message = "invalid UTF-8 was detected in one or more arguments";
+    let Ok(error) = command.error(ErrorKind::ValueValidation, message) else {
+        return LineFault::Memory;
+    };
+    match error.to_string(alloc) {
+        Ok(text) => LineFault::Usage(text),
+        Err(_) => LineFault::Memory,
     }
 }

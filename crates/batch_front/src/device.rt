@@ -4,6 +4,9 @@ ghost use Rattle.std.specs.Io.KnownBytes.{Keeps, ReadConsumes, WriteAppends};
 
 use std::io::{ErrorKind, Read, Write};
 
+/// The interruptions of a run that are passed over: one more is a fault.
+pub const MOST_INTERRUPTIONS: u64 = 64;
+
 /// Why a call of a device gave nothing.
 #[derive(Clone, Copy, PartialEq, Eq, Debug)]
 pub(crate) enum Trouble {

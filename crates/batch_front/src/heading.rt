@@ -2,9 +2,9 @@
 
 ghost use Rattle.std.specs.Prelude.{◌≡◌};
 ghost use Rattle.batch_front.specs.Headings.{heading_of, is_blank, is_signatures, is_too_large, marker_of};
-ghost use Rattle.batch_front.specs.Lines.{words};
+ghost use Rattle.batch_front.specs.Lines.{batch_words};
 
-use crate::line::first_word;
+use vcode_base::{LineWords, Parentheses};
 
 /// What a line of a batch is by itself.
 #[derive(Clone, Copy, PartialEq, Eq, Debug)]
@@ -45,14 +45,15 @@ impl Heading {
 
 /// What a line within the limit is.
 pub(crate) fn heading_of(line: &[u8]) -> Heading
-    ensures { result ≡ heading_of (words line.now) }
+    ensures { result ≡ heading_of (batch_words line.now) }
 {
-    match first_word(line) {
-        None => Heading::Blank,
-        Some((word, rest)) => match first_word(rest) {
-            None => marker(word),
-            Some(_) => Heading::Other,
-        },
+    let mut words = LineWords::new(line, Parentheses::StandInWords);
+    let Some(word) = words.next() else {
+        return Heading::Blank;
+    };
+    match words.next() {
+        None => marker(word),
+        Some(_) => Heading::Other,
     }
 }
 

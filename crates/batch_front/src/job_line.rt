@@ -1,16 +1,19 @@
 //! The JOB line: a job's name and its limits.
 
 ghost use Rattle.std.specs.Prelude.{◌≡◌, [], ◌∷◌, length, Some, None, MatchOption};
-ghost use Rattle.batch_front.specs.JobLines.{all_within, is_name, job_line_of, limits_of, named, number_of};
-ghost use Rattle.batch_front.specs.Lines.{words};
+ghost use Rattle.batch_front.specs.JobLines.{all_within, is_name, job_line_of, limits_of, number_of};
+ghost use Rattle.batch_front.specs.Lines.{batch_words};
 
-use crate::line::first_word;
-use vcode_base::Limits;
+use vcode_base::limits::{LONGEST_NAME, MOST_BUDGET, MOST_CALLS, MOST_CELLS, MOST_WORDS};
+use vcode_base::{Limits, LineWords, Parentheses};
+
+/// The most digits of a number.
+const MOST_DIGITS: usize = 10;
 
 /// What a good JOB line says.
 #[derive(Clone, Copy)]
 pub(crate) struct JobLine<'a> {
-    /// 1 to 64 bytes of 33 to 126.
+    /// At most [`LONGEST_NAME`] bytes of 33 to 126, and at least one.
     pub(crate) name: &'a [u8],
     pub(crate) limits: Limits,
 }
@@ -28,8 +31,8 @@ struct SixWords<'a> {
 
 /// What a line says that is a good JOB line.
 pub(crate) fn job_line(line: &[u8]) -> Option<JobLine<'_>>
-    ensures { MatchOption result (job_line_of (words line.now) ≡ None)
-        (λ j. job_line_of (words line.now) ≡ Some (record { name = j.name.now; limits = j.limits })) }
+    ensures { MatchOption result (job_line_of (batch_words line.now) ≡ None)
+        (λ j. job_line_of (batch_words line.now) ≡ Some (record { name = j.name.now; limits = j.limits })) }
 {
     let six = six_words(line)?;
     if six.keyword != b"JOB".as_slice() || !is_name(six.name) {
@@ -49,16 +52,17 @@ pub(crate) fn job_line(line: &[u8]) -> Option<JobLine<'_>>
 
 /// The words of a line, where there are six.
 fn six_words(line: &[u8]) -> Option<SixWords<'_>>
-    ensures { MatchOption result (job_line_of (words line.now) ≡ None)
-        (λ s. words line.now ≡ s.keyword.now ∷ s.name.now ∷ s.words.now ∷ s.cells.now ∷ s.calls.now ∷ s.budget.now ∷ []) }
+    ensures { MatchOption result (job_line_of (batch_words line.now) ≡ None)
+        (λ s. batch_words line.now ≡ s.keyword.now ∷ s.name.now ∷ s.words.now ∷ s.cells.now ∷ s.calls.now ∷ s.budget.now ∷ []) }
 {
-    let (keyword, rest) = first_word(line)?;
-    let (name, rest) = first_word(rest)?;
-    let (words, rest) = first_word(rest)?;
-    let (cells, rest) = first_word(rest)?;
-    let (calls, rest) = first_word(rest)?;
-    let (budget, rest) = first_word(rest)?;
-    if first_word(rest).is_some() {
+    let mut line_words = LineWords::new(line, Parentheses::StandInWords);
+    let keyword = line_words.next()?;
+    let name = line_words.next()?;
+    let words = line_words.next()?;
+    let cells = line_words.next()?;
+    let calls = line_words.next()?;
+    let budget = line_words.next()?;
+    if line_words.next().is_some() {
         return None;
     }
     Some(SixWords {
@@ -90,7 +94,7 @@ fn all_within(word: &[u8], low: u8, high: u8) -> bool
 fn is_name(word: &[u8]) -> bool
     ensures { result ≡ is_name word.now }
 {
-    if word.len() > 64 {
+    if word.len() > LONGEST_NAME {
         return false;
     }
     all_within(word, 33, 126)
@@ -101,7 +105,7 @@ fn is_name(word: &[u8]) -> bool
 fn number(word: &[u8]) -> Option<u64>
     ensures { result ≡ number_of word.now }
 {
-    if word.len() > 10 {
+    if word.len() > MOST_DIGITS {
         return None;
     }
     if !all_within(word, b'0', b'9') {
@@ -126,13 +130,14 @@ fn limits(
     limits_within(words?, cells?, calls?, budget?)
 }
 
+/// These limits, where they are within their ranges.
 fn limits_within(words: u64, cells: u64, calls: u64, budget: u64) -> Option<Limits>
     ensures { result ≡ limits_of (Some words) (Some cells) (Some calls) (Some budget) }
 {
-    if words > 1_048_576 || cells == 0 || cells > 4_096 {
+    if words > MOST_WORDS as u64 || cells == 0 || cells > MOST_CELLS as u64 {
         return None;
     }
-    if calls == 0 || calls > 1_024 || budget > 1_000_000_000 {
+    if calls == 0 || calls > MOST_CALLS as u64 || budget > MOST_BUDGET {
         return None;
     }
     Some(Limits {

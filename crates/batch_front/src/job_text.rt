@@ -1,6 +1,7 @@
 //! The texts of a job and of its parts.
 
-ghost use Rattle.std.specs.Prelude.{◌≤◌, length};
+ghost use Rattle.std.specs.Prelude.{◌≤◌, ◌+◌, length};
+ghost use Rattle.vcode_base.specs.declared.limits.TheConstants.{MOST_BATCH_BYTES};
 
 use crate::cursor::Cursor;
 use crate::job_line::JobLine;
@@ -15,8 +16,8 @@ pub(crate) struct JobText<'a> {
     pub(crate) signatures_line: u64,
     pub(crate) code: &'a [u8],
     pub(crate) code_line: u64,
-    ghost signatures_fit: { (signatures_line ≤ 16777218) × (length signatures.now ≤ 16777217) },
-    ghost code_fits: { (code_line ≤ 16777218) × (length code.now ≤ 16777217) },
+    ghost signatures_fit: { (signatures_line ≤ MOST_BATCH_BYTES + 2) × (length signatures.now ≤ MOST_BATCH_BYTES + 1) },
+    ghost code_fits: { (code_line ≤ MOST_BATCH_BYTES + 2) × (length code.now ≤ MOST_BATCH_BYTES + 1) },
 }
 
 /// The bytes of a part of a job, the number of the line behind its end, and the place before that.
@@ -25,5 +26,5 @@ pub(crate) struct PartText<'a> {
     pub(crate) text: &'a [u8],
     pub(crate) next: u64,
     pub(crate) rest: Cursor<'a>,
-    ghost fits: { (next ≤ 16777218) × (length text.now ≤ 16777217) },
+    ghost fits: { (next ≤ MOST_BATCH_BYTES + 2) × (length text.now ≤ MOST_BATCH_BYTES + 1) },
 }

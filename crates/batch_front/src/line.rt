@@ -1,7 +1,7 @@
-//! Lines and words of a text.
+//! The lines of a text.
 
-ghost use Rattle.std.specs.Prelude.{◌≡◌, ◌<◌, [], ◌∷◌, ◌++◌, true, length, MatchOption};
-ghost use Rattle.batch_front.specs.Lines.{begins_with_word, is_separator, lines, words};
+ghost use Rattle.std.specs.Prelude.{◌≡◌, ◌<◌, ◌∷◌, ◌++◌, length};
+ghost use Rattle.batch_front.specs.Lines.{lines};
 
 /// The first line of a text, with the LF that ends it, and what is behind.
 pub(crate) fn split_line(text: &[u8]) -> (&[u8], &[u8])
@@ -13,39 +13,6 @@ pub(crate) fn split_line(text: &[u8]) -> (&[u8], &[u8])
     for (i, b) in text.iter().enumerate() {
         if *b == b'\n' {
             return text.split_at(i + 1);
-        }
-    }
-    text.split_at(text.len())
-}
-
-/// Whether a byte stands between words.
-fn is_separator(b: u8) -> bool
-    ensures { result ≡ is_separator b }
-{
-    b == b' ' || b == b'\t' || b == b'\r' || b == b'\n'
-}
-
-/// The first word of a line and what is behind it; `None` where there is no word.
-pub(crate) fn first_word(line: &[u8]) -> Option<(&[u8], &[u8])>
-    ensures { MatchOption result (words line.now ≡ [])
-        (λ parts. words line.now ≡ parts.0.now ∷ words parts.1.now) }
-{
-    for (i, b) in line.iter().enumerate() {
-        if !is_separator(*b) {
-            return Some(split_word(&line[i..]));
-        }
-    }
-    None
-}
-
-/// The word at the front and what is behind it.
-fn split_word(text: &[u8]) -> (&[u8], &[u8])
-    requires { begins_with_word text.now ≡ true }
-    ensures { words text.now ≡ result.0.now ∷ words result.1.now }
-{
-    for (i, b) in text.iter().enumerate() {
-        if is_separator(*b) {
-            return text.split_at(i);
         }
     }
     text.split_at(text.len())

@@ -1,9 +1,9 @@
 //! The report, line by line.
 
-ghost use Rattle.std.specs.Prelude.{◌≡◌, ◌∷◌, ◌++◌, codes, decimal, map, OnOk};
+ghost use Rattle.std.specs.Prelude.{◌≡◌, ◌∷◌, ◌++◌, decimal, map, OnOk};
 ghost use Rattle.std.specs.Fmt.{signed_decimal};
 ghost use Rattle.std.specs.List.{flat_map, join_with_byte};
-ghost use Rattle.batch_front.specs.Reports.{end_text, fault_text, job_text, kind_text, next_word_text, outcome_text, used_text, value_text, word_text};
+ghost use Rattle.batch_front.specs.Reports.{count_text, end_text, fault_text, job_text, kind_text, next_word_text, outcome_text, used_text, value_text, word_text};
 
 use itoa::Buffer;
 use std::alloc::{AllocError, Allocator};
@@ -22,14 +22,6 @@ fn put_number<A: Allocator>(report: &mut Vec<u8, A>, number: u64) -> Result<(), 
 {
     let mut buffer = Buffer::new();
     report.extend_from_slice(buffer.format(number).as_bytes())
-}
-
-/// Appends a number of words.
-fn put_size<A: Allocator>(report: &mut Vec<u8, A>, size: usize) -> Result<(), AllocError>
-    ensures { OnOk result (report.new.items ≡ report.old.items ++ decimal size) }
-{
-    let mut buffer = Buffer::new();
-    report.extend_from_slice(buffer.format(size).as_bytes())
 }
 
 /// Appends a number with its sign.
@@ -135,15 +127,35 @@ fn put_values<A: Allocator>(
     Ok(())
 }
 
-/// Appends where a fault stands and its name.
-fn put_fault<A: Allocator>(report: &mut Vec<u8, A>, line: u64, name: &str) -> Result<(), AllocError>
-    ensures { OnOk result (report.new.items ≡ report.old.items ++ fault_text line name.now) }
+/// Appends a line of this head, where a fault stands, and its name.
+pub(crate) fn put_fault<A: Allocator>(
+    report: &mut Vec<u8, A>,
+    head: &[u8],
+    line: u64,
+    name: &str,
+) -> Result<(), AllocError>
+    ensures { OnOk result (report.new.items ≡ report.old.items ++ fault_text head.now line name.now) }
 {
+    put(report, head)?;
     put(report, b"line ")?;
     put_number(report, line)?;
     put(report, b" ")?;
     put(report, name.as_bytes())?;
     put(report, b"\n")
+}
+
+/// Appends a blank, a number and what it counts.
+fn put_count<A: Allocator>(
+    report: &mut Vec<u8, A>,
+    number: u64,
+    unit: &str,
+) -> Result<(), AllocError>
+    ensures { OnOk result (report.new.items ≡ report.old.items ++ count_text number unit.now) }
+{
+    put(report, b" ")?;
+    put_number(report, number)?;
+    put(report, b" ")?;
+    put(report, unit.as_bytes())
 }
 
 /// Appends how a job ended.
@@ -158,14 +170,8 @@ pub(crate) fn put_outcome<A: Allocator>(
             put(report, b"RETURNED\n")?;
             put_values(report, values.as_slice())
         }
-        Outcome::Fault(fault, line) => {
-            put(report, b"FAULT ")?;
-            put_fault(report, *line, fault.text())
-        }
-        Outcome::Memory(fault, line) => {
-            put(report, b"MEMORY ")?;
-            put_fault(report, *line, fault.text())
-        }
+        Outcome::Fault(fault, line) => put_fault(report, b"FAULT ", *line, fault.text()),
+        Outcome::Memory(fault, line) => put_fault(report, b"MEMORY ", *line, fault.text()),
         Outcome::Budget => put(report, b"BUDGET\n"),
     }
 }
@@ -178,24 +184,10 @@ pub(crate) fn put_used<A: Allocator>(
 ) -> Result<(), AllocError>
     ensures { OnOk result (report.new.items ≡ report.old.items ++ used_text instructions words) }
 {
-    put(report, b"USED ")?;
-    put_number(report, instructions)?;
-    put(report, b" instructions ")?;
-    put_size(report, words)?;
-    put(report, b" words\n")?;
-    Ok(())
-}
-
-/// Appends that a job is refused, where and for what.
-pub(crate) fn put_refused<A: Allocator>(
-    report: &mut Vec<u8, A>,
-    line: u64,
-    name: &str,
-) -> Result<(), AllocError>
-    ensures { OnOk result (report.new.items ≡ report.old.items ++ (codes "REFUSED " ++ fault_text line name.now)) }
-{
-    put(report, b"REFUSED ")?;
-    put_fault(report, line, name)
+    put(report, b"USED")?;
+    put_count(report, instructions, "instructions")?;
+    put_count(report, words as u64, "words")?;
+    put(report, b"\n")
 }
 
 /// Appends what begins the lines of a job.
@@ -221,21 +213,8 @@ pub(crate) fn put_end<A: Allocator>(
 ) -> Result<(), AllocError>
     ensures { OnOk result (report.new.items ≡ report.old.items ++ end_text jobs refused) }
 {
-    put(report, b"END ")?;
-    put_number(report, jobs)?;
-    put(report, b" jobs ")?;
-    put_number(report, refused)?;
-    put(report, b" refused\n")
-}
-
-/// Appends what refuses a batch.
-pub(crate) fn put_batch_refused<A: Allocator>(
-    report: &mut Vec<u8, A>,
-    line: u64,
-    name: &str,
-) -> Result<(), AllocError>
-    ensures { OnOk result (report.new.items ≡ report.old.items ++ (codes "BATCH " ++ fault_text line name.now)) }
-{
-    put(report, b"BATCH ")?;
-    put_fault(report, line, name)
+    put(report, b"END")?;
+    put_count(report, jobs, "jobs")?;
+    put_count(report, refused, "refused")?;
+    put(report, b"\n")
 }

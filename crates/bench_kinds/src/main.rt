@@ -9,6 +9,7 @@ use std::time::Instant;
 use std::{env, io};
 use verifier::{VerifyFault, verify};
 
+#[tactic(auto, using(vcode_reader::proofs::Lines::line_feeds_at_most))]
 fn main(rt: HostRuntime) -> io::Result<()> {
     let is_timed = env::args(&rt)?.any(|word| word.as_str() == "time");
     let mut code = Vec::new(rt.alloc());

@@ -1,5 +1,6 @@
 ghost use Rattle.std.specs.Prelude.{◌≡◌, ◌≤◌, ◌*◌, None, [], ◌∷◌, length};
-ghost use Rattle.vcode_base.specs.Kinds.{HasKind, HaveKinds, source_kinds, greatest_total};
+ghost use Rattle.vcode_base.specs.Kinds.{HasKind, HaveKinds, source_kinds};
+ghost use Rattle.vcode_base.specs.declared.limits.TheConstants.{MOST_TOTAL};
 ghost use Rattle.vcode_base.specs.declared.kind.Kind.TheVariants.{Bool, Segdes};
 ghost use Rattle.vcode_base.specs.Meaning.{shape, need};
 ghost use Rattle.segment_ops.specs.Served.{IsServed as IsSegmented};
@@ -371,7 +372,7 @@ fn part_rows<'a, R: Runtime>(
 
 /// A line for each family of the segment instructions, over `segments` segments of `size` words each.
 pub fn segment_rows<R: Runtime>(rt: &R, shown: Shown, segments: usize, size: u32) -> io::Result<()>
-    requires { segments * size ≤ greatest_total }
+    requires { segments * size ≤ MOST_TOTAL }
 {
     let load = Load {
         shown,

@@ -1,5 +1,6 @@
 ghost use Rattle.std.specs.Prelude.{◌≡◌, ◌≤◌, ◌<◌, ◌*◌, IfOk, length, pos};
-ghost use Rattle.vcode_base.specs.Kinds.{HasKind, greatest_total};
+ghost use Rattle.vcode_base.specs.Kinds.{HasKind};
+ghost use Rattle.vcode_base.specs.declared.limits.TheConstants.{MOST_TOTAL};
 ghost use Rattle.vcode_base.specs.declared.kind.Kind.TheVariants.{Bool, Segdes};
 
 use std::alloc::{AllocError, Allocator};
@@ -10,7 +11,7 @@ pub fn descriptor<A: Allocator>(
     segments: usize,
     size: u32,
 ) -> Result<Vec<i64, A>, AllocError>
-    requires { segments * size ≤ greatest_total }
+    requires { segments * size ≤ MOST_TOTAL }
     ensures long { IfOk result (λ s. length s.items ≡ segments) }
     ensures kind { IfOk result (λ s. HasKind Segdes s.items) }
 {

@@ -1,17 +1,21 @@
 -- Lemmas on the free words of a region.
-use Rattle.std.proofs.Common.{◌≡◌, ℕ, zero, suc, ◌+◌, ◌-◌, ◌<◌, ◌≤◌, Bool, true, false, List, ◌++◌, length, take, drop, replicate, refl, ap, ◌∙◌, arith, length-append}
-use Rattle.std.proofs.lemmas.List.{append-nil, take-append-drop, get_or_append_left, get_or-append_right, get_or-take, get_or-drop, get_or-replicate, length-take-le, length-drop, length-replicate}
+use Rattle.std.proofs.Common.{◌≡◌, ℕ, zero, suc, ◌+◌, ◌-◌, ◌<◌, ◌≤◌, Bool, true, false, List, ◌++◌, length, take}
+use Rattle.std.proofs.Common.{drop, replicate, refl, ap, ◌∙◌, arith, length-append}
+use Rattle.std.proofs.lemmas.List.{append-nil, take-append-drop, get_or_append_left, get_or-append_right, get_or-take}
+use Rattle.std.proofs.lemmas.List.{get_or-drop, get_or-replicate, length-take-le, length-drop, length-replicate}
 use Rattle.holes.specs.FreeWords.{is_free, set_range, free_from, hole_count, hole_count_after, front_run, widest}
 
 -- the words before a range and those of the range
-length-front : (free : List Bool) (place len : ℕ) (value : Bool) → place + len ≤ length free → length (take place free ++ replicate len value) ≡ place + len
+length-front : (free : List Bool) (place len : ℕ) (value : Bool) → place + len ≤ length free
+    → length (take place free ++ replicate len value) ≡ place + len
 length-front free place len value fits =
     let front = length-take-le place free (omega arith) in
     let range = length-replicate len value in
     let both = length-append (take place free) (replicate len value) in
     omega (arith, front, range, both)
 
-pub length-set_range : (free : List Bool) (place len : ℕ) (value : Bool) → place + len ≤ length free → length (set_range free place len value) ≡ length free
+pub length-set_range : (free : List Bool) (place len : ℕ) (value : Bool) → place + len ≤ length free
+    → length (set_range free place len value) ≡ length free
 length-set_range free place len value fits =
     let front = length-front free place len value fits in
     let behind = length-drop (place + len) free in
@@ -19,14 +23,17 @@ length-set_range free place len value fits =
     omega (arith, front, behind, all)
 
 -- a range that was set, and the words before and behind it
-pub is_free-set_inside : (free : List Bool) (place len word : ℕ) (value : Bool) → place + len ≤ length free → place ≤ word → word < place + len → is_free (set_range free place len value) word ≡ value
+pub is_free-set_inside : (free : List Bool) (place len word : ℕ) (value : Bool) → place + len ≤ length free
+    → place ≤ word → word < place + len → is_free (set_range free place len value) word ≡ value
 is_free-set_inside free place len word value fits from below =
     let front = length-front free place len value fits in
     get_or_append_left (take place free ++ replicate len value) (drop (place + len) free) false word (omega arith)
-    ∙ (get_or-append_right (take place free) (replicate len value) place word false (length-take-le place free (omega arith)) from
+    ∙ (get_or-append_right (take place free) (replicate len value) place word false
+    (length-take-le place free (omega arith)) from
     ∙ get_or-replicate len (word - place) value false (omega arith))
 
-pub is_free-set_before : (free : List Bool) (place len word : ℕ) (value : Bool) → place + len ≤ length free → word < place → is_free (set_range free place len value) word ≡ is_free free word
+pub is_free-set_before : (free : List Bool) (place len word : ℕ) (value : Bool) → place + len ≤ length free
+    → word < place → is_free (set_range free place len value) word ≡ is_free free word
 is_free-set_before free place len word value fits before =
     let front = length-front free place len value fits in
     let first = length-take-le place free (omega arith) in
@@ -34,11 +41,13 @@ is_free-set_before free place len word value fits before =
     ∙ (get_or_append_left (take place free) (replicate len value) false word (omega arith)
     ∙ get_or-take place free word false before)
 
-pub is_free-set_behind : (free : List Bool) (place len word : ℕ) (value : Bool) → place + len ≤ length free → place + len ≤ word → is_free (set_range free place len value) word ≡ is_free free word
+pub is_free-set_behind : (free : List Bool) (place len word : ℕ) (value : Bool) → place + len ≤ length free
+    → place + len ≤ word → is_free (set_range free place len value) word ≡ is_free free word
 is_free-set_behind free place len word value fits behind =
     let front = length-front free place len value fits in
     let there : place + len + (word - (place + len)) ≡ word = omega arith in
-    get_or-append_right (take place free ++ replicate len value) (drop (place + len) free) (place + len) word false front behind
+    get_or-append_right (take place free ++ replicate len value) (drop (place + len) free) (place + len) word false
+    front behind
     ∙ (get_or-drop (place + len) free (word - (place + len)) false
     ∙ ap (is_free free) there)
 
@@ -59,11 +68,14 @@ length-free_from place size within =
 pub is_free-from_before : (place size word : ℕ) → word < place → is_free (free_from place size) word ≡ false
 is_free-from_before place size word before =
     let front = length-replicate place false in
-    get_or_append_left (replicate place false) (replicate (size - place) true) false word (omega arith) ∙ get_or-replicate place word false false before
+    get_or_append_left (replicate place false) (replicate (size - place) true) false word (omega arith)
+    ∙ get_or-replicate place word false false before
 
-pub is_free-from_behind : (place size word : ℕ) → place ≤ word → word < size → is_free (free_from place size) word ≡ true
+pub is_free-from_behind : (place size word : ℕ) → place ≤ word → word < size
+    → is_free (free_from place size) word ≡ true
 is_free-from_behind place size word from below =
-    get_or-append_right (replicate place false) (replicate (size - place) true) place word false (length-replicate place false) from
+    get_or-append_right (replicate place false) (replicate (size - place) true) place word false
+    (length-replicate place false) from
     ∙ get_or-replicate (size - place) (word - place) true false (omega arith)
 
 front_run-all : (n : ℕ) → front_run (replicate n true) ≡ n

@@ -1,131 +1,168 @@
 -- Lemmas on where blocks lie.
-use Rattle.std.proofs.Common.{◌≡◌, ◌≢◌, ◌⊎◌, ℕ, ◌+◌, ◌<◌, ◌≤◌, Bool, List, [], ◌∷◌, length, take, drop, slice_index_or, slice_set, Option, Some, None, is_some, cond, inl, inr, refl, sym, ap, ◌∙◌, arith}
+use Rattle.std.proofs.Common.{◌≡◌, ◌≢◌, ◌⊎◌, ℕ, ◌+◌, ◌<◌, ◌≤◌, List, length, take, drop, slice_index_or, slice_set}
+use Rattle.std.proofs.Common.{Option, Some, None, is_some, inl, inr, refl, sym, ap, ◌∙◌, arith}
 use Rattle.std.proofs.lemmas.Bool.{cases_eq}
-use Rattle.std.proofs.lemmas.List.{get_or-take, get_or-drop, length-take-le, length-drop, ext_get_or, get_or-set_same, get_or-set_other}
-use Rattle.std.proofs.lemmas.List.Sums.{sum_by-cons}
+use Rattle.std.proofs.lemmas.List.{get_or-take, get_or-drop, length-take-le, length-drop, ext_get_or, get_or-set_same}
+use Rattle.std.proofs.lemmas.List.{get_or-set_other}
 use Rattle.std.proofs.Math.ListN.{get_or-map}
-use Rattle.block_memory.specs.Content.{Block, block_at, block_count, words_of as content_words_of, words_at as content_words_at}
+use Rattle.block_memory.specs.Content.{block_at, block_count, words_of as content_words_of}
+use Rattle.block_memory.specs.Content.{words_at as content_words_at}
 use Rattle.block_memory.specs.Table.{value_at, value_count}
-use Rattle.block_memory.specs.Layout.{Placed, Covers, IsClear, block_of, content_of, words_of, words_at}
+use Rattle.block_memory.specs.Layout.{PlacedBlock, Covers, IsClear, block_of, content_of, words_of, words_at}
 use Rattle.block_memory.specs.Region.{AreApart, AreWithin}
-use Rattle.block_memory.proofs.Lists.{same_some, None≢Some}
+use Rattle.block_memory.proofs.Lists.{same_some, None≢Some, value_count-map}
 
 module _ {X : Type 0} where
   -- as many elements as are there
   pub length-part : (xs : List X) (from len : ℕ) → from + len ≤ length xs → length (take len (drop from xs)) ≡ len
-  length-part xs from len h = let rest = length-drop from xs in length-take-le len (drop from xs) (omega (arith, rest))
+  length-part xs from len h = let rest = length-drop from xs in
+      length-take-le len (drop from xs) (omega (arith, rest))
 
-  get_or-part : (xs : List X) (from len i : ℕ) (d : X) → i < len → slice_index_or (take len (drop from xs)) i d ≡ slice_index_or xs (from + i) d
+  get_or-part : (xs : List X) (from len i : ℕ) (d : X) → i < len
+      → slice_index_or (take len (drop from xs)) i d ≡ slice_index_or xs (from + i) d
   get_or-part xs from len i d h = get_or-take len (drop from xs) i d h ∙ get_or-drop from xs i d
 
   -- a part of two lists that are alike there
-  pub same_part : (xs ys : List X) (from len : ℕ) (d : X) → from + len ≤ length xs → from + len ≤ length ys → ((i : ℕ) → i < len → slice_index_or xs (from + i) d ≡ slice_index_or ys (from + i) d) → take len (drop from xs) ≡ take len (drop from ys)
+  pub same_part : (xs ys : List X) (from len : ℕ) (d : X) → from + len ≤ length xs → from + len ≤ length ys
+      → ((i : ℕ) → i < len → slice_index_or xs (from + i) d ≡ slice_index_or ys (from + i) d)
+      → take len (drop from xs) ≡ take len (drop from ys)
   same_part xs ys from len d hx hy same =
       let lx = length-part xs from len hx in
       let ly = length-part ys from len hy in
       ext_get_or d (take len (drop from xs)) (take len (drop from ys)) (lx ∙ sym ly)
-      (λ i h. let below : i < len = omega arith in get_or-part xs from len i d below ∙ (same i below ∙ sym (get_or-part ys from len i d below)))
+      (λ i h. let below : i < len = omega arith in
+      get_or-part xs from len i d below ∙ (same i below ∙ sym (get_or-part ys from len i d below)))
 
   -- what a number has after a write at a number in range
-  pub value_at-set_same : (xs : List (Option X)) (n : ℕ) (v : Option X) → n < length xs → value_at (slice_set xs n v) n ≡ v
+  pub value_at-set_same : (xs : List (Option X)) (n : ℕ) (v : Option X) → n < length xs
+      → value_at (slice_set xs n v) n ≡ v
   value_at-set_same xs n v h = get_or-set_same xs n v None h
 
-  pub value_at-set_other : (xs : List (Option X)) (n k : ℕ) (v : Option X) → k ≢ n → value_at (slice_set xs n v) k ≡ value_at xs k
+  pub value_at-set_other : (xs : List (Option X)) (n k : ℕ) (v : Option X) → k ≢ n
+      → value_at (slice_set xs n v) k ≡ value_at xs k
   value_at-set_other xs n k v h = get_or-set_other xs n k v None h
 
 -- a block that covers a word after what the number has was changed: the new one, or another as before
-pub Covers-set : (placed : List (Option Placed)) (n k word : ℕ) (p : Placed) → n < length placed → Covers (slice_set placed n (Some p)) k word → ((k ≡ n) × ((p.place ≤ word) × (word < p.place + length p.words))) ⊎ ((k ≢ n) × Covers placed k word)
-Covers-set placed n k word p within c =
+pub Covers-set : (slots : List (Option PlacedBlock)) (n k word : ℕ) (p : PlacedBlock) → n < length slots
+    → Covers (slice_set slots n (Some p)) k word
+    → ((k ≡ n) × ((p.place ≤ word) × (word < p.place + length p.words))) ⊎ ((k ≢ n) × Covers slots k word)
+Covers-set slots n k word p within c =
     elim (cases_eq k n) [
       | inl same ↦
-          let is : c.block ≡ p = same_some c.block p (sym c.there ∙ (ap (value_at (slice_set placed n (Some p))) same ∙ value_at-set_same placed n (Some p) within)) in
+          let is : c.block ≡ p =
+          same_some c.block p (sym c.there
+          ∙ (ap (value_at (slice_set slots n (Some p))) same ∙ value_at-set_same slots n (Some p) within)) in
           let from : p.place ≤ word = rw is at c.from in
           let below : word < p.place + length p.words = rw is at c.below in
           inl (same, (from, below))
-      | inr other ↦ inr (other, record { block = c.block; there = sym (value_at-set_other placed n k (Some p) other) ∙ c.there; from = c.from; below = c.below })
+      | inr other ↦
+          inr (
+            other,
+            record {
+              block = c.block;
+              there =
+                  sym (value_at-set_other slots n k (Some p) other) ∙ c.there;
+              from = c.from;
+              below = c.below;
+            },
+          )
     ]
 
-pub Covers-set_here : (placed : List (Option Placed)) (n word : ℕ) (p : Placed) → n < length placed → p.place ≤ word → word < p.place + length p.words → Covers (slice_set placed n (Some p)) n word
-Covers-set_here placed n word p within from below =
-    record { block = p; there = value_at-set_same placed n (Some p) within; from = from; below = below }
+pub Covers-set_here : (slots : List (Option PlacedBlock)) (n word : ℕ) (p : PlacedBlock) → n < length slots
+    → p.place ≤ word → word < p.place + length p.words → Covers (slice_set slots n (Some p)) n word
+Covers-set_here slots n word p within from below =
+    record { block = p; there = value_at-set_same slots n (Some p) within; from = from; below = below }
 
-pub Covers-set_other : (placed : List (Option Placed)) (n k word : ℕ) (o : Option Placed) → k ≢ n → Covers placed k word → Covers (slice_set placed n o) k word
-Covers-set_other placed n k word o other c =
-    record { block = c.block; there = value_at-set_other placed n k o other ∙ c.there; from = c.from; below = c.below }
+pub Covers-set_other : (slots : List (Option PlacedBlock)) (n k word : ℕ) (o : Option PlacedBlock) → k ≢ n
+    → Covers slots k word → Covers (slice_set slots n o) k word
+Covers-set_other slots n k word o other c =
+    record { block = c.block; there = value_at-set_other slots n k o other ∙ c.there; from = c.from; below = c.below }
 
 -- a block that covers a word after one was taken away is another, as before
-pub Covers-set_none : (placed : List (Option Placed)) (n k word : ℕ) → n < length placed → Covers (slice_set placed n None) k word → (k ≢ n) × Covers placed k word
-Covers-set_none placed n k word within c =
+pub Covers-set_none : (slots : List (Option PlacedBlock)) (n k word : ℕ) → n < length slots
+    → Covers (slice_set slots n None) k word → (k ≢ n) × Covers slots k word
+Covers-set_none slots n k word within c =
     elim (cases_eq k n) [
-      | inl same ↦ absurd (None≢Some c.block (sym (value_at-set_same placed n None within) ∙ (ap (value_at (slice_set placed n None)) (sym same) ∙ c.there)))
-      | inr other ↦ (other, record { block = c.block; there = sym (value_at-set_other placed n k None other) ∙ c.there; from = c.from; below = c.below })
+      | inl same ↦
+          absurd (None≢Some c.block (sym (value_at-set_same slots n None within)
+          ∙ (ap (value_at (slice_set slots n None)) (sym same) ∙ c.there)))
+      | inr other ↦ (
+        other,
+        record {
+          block = c.block;
+          there = sym (value_at-set_other slots n k None other) ∙ c.there;
+          from =
+              c.from;
+          below = c.below;
+        },
+      )
     ]
 
 -- a block covers no word but those from its place on
-pub Covers-by : (placed : List (Option Placed)) (n word : ℕ) (p : Placed) → value_at placed n ≡ Some p → Covers placed n word → (p.place ≤ word) × (word < p.place + length p.words)
-Covers-by placed n word p there c =
+pub Covers-by : (slots : List (Option PlacedBlock)) (n word : ℕ) (p : PlacedBlock) → value_at slots n ≡ Some p
+    → Covers slots n word → (p.place ≤ word) × (word < p.place + length p.words)
+Covers-by slots n word p there c =
     let is : c.block ≡ p = same_some c.block p (sym c.there ∙ there) in
     let from : p.place ≤ word = rw is at c.from in
     let below : word < p.place + length p.words = rw is at c.below in
     (from, below)
 
 -- blocks that lie apart still do after one was put where it covers no word of another
-pub AreApart-set : (placed : List (Option Placed)) (n : ℕ) (p : Placed) → n < length placed → AreApart placed → IsClear placed n p.place (length p.words) → AreApart (slice_set placed n (Some p))
-AreApart-set placed n p within apart clear k m word a b =
-    elim (Covers-set placed n k word p within a) [
-      | inl here ↦ elim (Covers-set placed n m word p within b) [
+pub AreApart-set : (slots : List (Option PlacedBlock)) (n : ℕ) (p : PlacedBlock) → n < length slots → AreApart slots
+    → IsClear slots n p.place (length p.words) → AreApart (slice_set slots n (Some p))
+AreApart-set slots n p within apart clear k m word a b =
+    elim (Covers-set slots n k word p within a) [
+      | inl here ↦ elim (Covers-set slots n m word p within b) [
         | inl too ↦ here.0 ∙ sym too.0
         | inr other ↦ absurd (other.0 (clear m word here.1.0 here.1.1 other.1))
       ]
-      | inr other ↦ elim (Covers-set placed n m word p within b) [
+      | inr other ↦ elim (Covers-set slots n m word p within b) [
         | inl here ↦ absurd (other.0 (clear k word here.1.0 here.1.1 other.1))
         | inr too ↦ apart k m word other.1 too.1
       ]
     ]
 
 -- blocks that lie in the region, and one that is put into it
-pub AreWithin-set : (placed : List (Option Placed)) (size n : ℕ) (p : Placed) → n < length placed → AreWithin placed size → p.place + length p.words ≤ size → AreWithin (slice_set placed n (Some p)) size
-AreWithin-set placed size n p within all fits k q there =
+pub AreWithin-set : (slots : List (Option PlacedBlock)) (size n : ℕ) (p : PlacedBlock) → n < length slots
+    → AreWithin slots size → p.place + length p.words ≤ size → AreWithin (slice_set slots n (Some p)) size
+AreWithin-set slots size n p within all fits k q there =
     elim (cases_eq k n) [
-      | inl same ↦ let is : q ≡ p = same_some q p (sym there ∙ (ap (value_at (slice_set placed n (Some p))) same ∙ value_at-set_same placed n (Some p) within)) in rw is fits
-      | inr other ↦ all k q (sym (value_at-set_other placed n k (Some p) other) ∙ there)
+      | inl same ↦ let is : q ≡ p =
+          same_some q p (sym there ∙ (ap (value_at (slice_set slots n (Some p))) same
+          ∙ value_at-set_same slots n (Some p) within)) in rw is fits
+      | inr other ↦ all k q (sym (value_at-set_other slots n k (Some p) other) ∙ there)
     ]
 
-pub AreWithin-set_none : (placed : List (Option Placed)) (size n : ℕ) → n < length placed → AreWithin placed size → AreWithin (slice_set placed n None) size
-AreWithin-set_none placed size n within all k q there =
+pub AreWithin-set_none : (slots : List (Option PlacedBlock)) (size n : ℕ) → n < length slots → AreWithin slots size
+    → AreWithin (slice_set slots n None) size
+AreWithin-set_none slots size n within all k q there =
     elim (cases_eq k n) [
-      | inl same ↦ absurd (None≢Some q (sym (value_at-set_same placed n None within) ∙ (ap (value_at (slice_set placed n None)) (sym same) ∙ there)))
-      | inr other ↦ all k q (sym (value_at-set_other placed n k None other) ∙ there)
+      | inl same ↦
+          absurd (None≢Some q (sym (value_at-set_same slots n None within)
+          ∙ (ap (value_at (slice_set slots n None)) (sym same) ∙ there)))
+      | inr other ↦ all k q (sym (value_at-set_other slots n k None other) ∙ there)
     ]
 
 -- what the region contains at a number
-pub block_at-content_of : (placed : List (Option Placed)) (n : ℕ) → block_at (content_of placed) n ≡ block_of (value_at placed n)
-block_at-content_of placed n = get_or-map block_of placed n None
+pub block_at-content_of : (slots : List (Option PlacedBlock)) (n : ℕ)
+    → block_at (content_of slots) n ≡ block_of (value_at slots n)
+block_at-content_of slots n = get_or-map block_of slots n None
 
-pub words_at-content_of : (placed : List (Option Placed)) (n : ℕ) → content_words_at (content_of placed) n ≡ words_at placed n
-words_at-content_of placed n = ap content_words_of (block_at-content_of placed n) ∙ words_of-block_of (value_at placed n)
+pub words_at-content_of : (slots : List (Option PlacedBlock)) (n : ℕ)
+    → content_words_at (content_of slots) n ≡ words_at slots n
+words_at-content_of slots n = ap content_words_of (block_at-content_of slots n) ∙ words_of-block_of (value_at slots n)
   where
-    words_of-block_of : (o : Option Placed) → content_words_of (block_of o) ≡ words_of o
+    words_of-block_of : (o : Option PlacedBlock) → content_words_of (block_of o) ≡ words_of o
     words_of-block_of None = refl
     words_of-block_of (Some p) = refl
 
-pub is_some-content_of : (placed : List (Option Placed)) (n : ℕ) → is_some (block_at (content_of placed) n) ≡ is_some (value_at placed n)
-is_some-content_of placed n = ap is_some (block_at-content_of placed n) ∙ is_some-block_of (value_at placed n)
-  where
-    is_some-block_of : (o : Option Placed) → is_some (block_of o) ≡ is_some o
-    is_some-block_of None = refl
-    is_some-block_of (Some p) = refl
+is_some-block_of : (o : Option PlacedBlock) → is_some (block_of o) ≡ is_some o
+is_some-block_of None = refl
+is_some-block_of (Some p) = refl
 
-pub block_count-content_of : (placed : List (Option Placed)) → block_count (content_of placed) ≡ value_count placed
-block_count-content_of [] = refl
-block_count-content_of (o ∷ placed) =
-    let one_if_block : Option Block → ℕ = λ b. cond (is_some b) 1 0 in
-    let one_if_placed : Option Placed → ℕ = λ b. cond (is_some b) 1 0 in
-    let one_if : Bool → ℕ = λ b. cond b 1 0 in
-    let same : one_if_block (block_of o) ≡ one_if_placed o = ap one_if (is_some-block_of o) in
-    sum_by-cons one_if_block (block_of o) (content_of placed)
-    ∙ ((ap (λ n. n + block_count (content_of placed)) same ∙ ap (λ n. one_if_placed o + n) (block_count-content_of placed)) ∙ sym (sum_by-cons one_if_placed o placed))
-  where
-    is_some-block_of : (o : Option Placed) → is_some (block_of o) ≡ is_some o
-    is_some-block_of None = refl
-    is_some-block_of (Some p) = refl
+pub is_some-content_of : (slots : List (Option PlacedBlock)) (n : ℕ)
+    → is_some (block_at (content_of slots) n) ≡ is_some (value_at slots n)
+is_some-content_of slots n = ap is_some (block_at-content_of slots n) ∙ is_some-block_of (value_at slots n)
+
+pub block_count-content_of : (slots : List (Option PlacedBlock)) → block_count (content_of slots) ≡ value_count slots
+block_count-content_of slots = value_count-map block_of is_some-block_of slots

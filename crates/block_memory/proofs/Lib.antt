@@ -8,3 +8,4 @@ pub mod FreeLemmas
 pub mod PackLemmas
 pub mod BesideLemmas
 pub mod RegionLemmas
+pub mod SlideLemmas

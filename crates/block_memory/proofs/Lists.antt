@@ -1,7 +1,9 @@
 -- Lemmas on values that may be missing, and on lists of them.
-use Rattle.std.proofs.Common.{◌≡◌, ℕ, ◌+◌, ◌<◌, List, Bool, length, slice_set, Option, Some, None, is_some, IsSome, true, false, cond, ap, arith}
-use Rattle.std.proofs.lemmas.List.{get_or_past}
-use Rattle.std.proofs.lemmas.List.Sums.{sum_by-set}
+use Rattle.std.proofs.Common.{◌≡◌, ℕ, ◌+◌, ◌<◌, List, [], ◌∷◌, Bool, length, map, slice_set, Option, Some, None}
+use Rattle.std.proofs.Common.{is_some, IsSome, Vec, true, false, cond, refl, sym, ap, ◌∙◌, arith}
+use Rattle.std.specs.Vec.{with_items}
+use Rattle.std.proofs.lemmas.List.{get_or_past, with_items_is}
+use Rattle.std.proofs.lemmas.List.Sums.{sum_by-set, sum_by-cons}
 use Rattle.block_memory.specs.Table.{value_at, value_count}
 
 module _ {X : Type 0} where
@@ -26,7 +28,8 @@ module _ {T : Type 0} where
   IsSome-in_range slots n h = grind (arith, get_or_past)
 
   -- a value goes to an empty number
-  pub value_count-insert : (slots : List (Option T)) (n : ℕ) (v : T) → n < length slots → value_at slots n ≡ None → value_count (slice_set slots n (Some v)) ≡ value_count slots + 1
+  pub value_count-insert : (slots : List (Option T)) (n : ℕ) (v : T) → n < length slots → value_at slots n ≡ None
+      → value_count (slice_set slots n (Some v)) ≡ value_count slots + 1
   value_count-insert slots n v h e =
       let one_if_value : Option T → ℕ = λ o. cond (is_some o) 1 0 in
       let change = sum_by-set one_if_value slots n (Some v) None h in
@@ -34,7 +37,8 @@ module _ {T : Type 0} where
       omega (arith, change, was)
 
   -- the value of a number goes
-  pub value_count-remove : (slots : List (Option T)) (n : ℕ) → IsSome (value_at slots n) → value_count (slice_set slots n None) + 1 ≡ value_count slots
+  pub value_count-remove : (slots : List (Option T)) (n : ℕ) → IsSome (value_at slots n)
+      → value_count (slice_set slots n None) + 1 ≡ value_count slots
   value_count-remove slots n h =
       let one_if_value : Option T → ℕ = λ o. cond (is_some o) 1 0 in
       let one_if : Bool → ℕ = λ b. cond b 1 0 in
@@ -43,10 +47,28 @@ module _ {T : Type 0} where
       omega (arith, change, was)
 
   -- another value comes in the place of one
-  pub value_count-set : (slots : List (Option T)) (n : ℕ) (v : T) → IsSome (value_at slots n) → value_count (slice_set slots n (Some v)) ≡ value_count slots
+  pub value_count-set : (slots : List (Option T)) (n : ℕ) (v : T) → IsSome (value_at slots n)
+      → value_count (slice_set slots n (Some v)) ≡ value_count slots
   value_count-set slots n v h =
       let one_if_value : Option T → ℕ = λ o. cond (is_some o) 1 0 in
       let one_if : Bool → ℕ = λ b. cond b 1 0 in
       let change = sum_by-set one_if_value slots n (Some v) None (IsSome-in_range slots n h) in
       let was : one_if_value (value_at slots n) ≡ 1 = ap one_if h in
       omega (arith, change, was)
+
+-- as many values stand in a list as in one that is made of it value by value
+pub value_count-map : {X Y : Type 0} (f : Option X → Option Y) → ((o : Option X) → is_some (f o) ≡ is_some o)
+    → (slots : List (Option X)) → value_count (map f slots) ≡ value_count slots
+value_count-map f same [] = refl
+value_count-map f same (o ∷ slots) =
+    let one_if : Bool → ℕ = λ b. cond b 1 0 in
+    let first : one_if (is_some (f o)) ≡ one_if (is_some o) = ap one_if (same o) in
+    let others = value_count-map f same slots in
+    let made = sum_by-cons (λ p. one_if (is_some p)) (f o) (map f slots) in
+    let given = sum_by-cons (λ p. one_if (is_some p)) o slots in
+    omega (arith, first, others, made, given)
+
+-- what a vector keeps after its elements were written over
+pub items_after_write : {X Z : Type 0} (v : Vec X Z) (old new : List X) → old ≡ v.items → length new ≡ length old
+    → (with_items v new).items ≡ new
+items_after_write v old new whole same = with_items_is v new (same ∙ (ap length whole ∙ sym v.ok.0))

@@ -1,58 +1,65 @@
 -- Lemmas on moving blocks together: what holds while the blocks before a place were moved and the others not yet.
-use Rattle.std.proofs.Common.{◌≡◌, ◌≢◌, ◌⊎◌, ℕ, zero, suc, ◌+◌, ◌<◌, ◌≤◌, Bool, List, [], ◌∷◌, length, slice_set, Option, Some, None, is_some, cond, sum_by, inl, inr, refl, sym, ap, subst, ◌∙◌, arith}
+use Rattle.std.proofs.Common.{◌≡◌, ◌≢◌, ◌⊎◌, ℕ, zero, suc, ◌+◌, ◌<◌, ◌≤◌, Bool, List, [], ◌∷◌, length, slice_set}
+use Rattle.std.proofs.Common.{Option, Some, None, is_some, cond, sum_by, inl, inr, refl, sym, ap, subst, ◌∙◌, arith}
 use Rattle.std.specs.Prelude.{nat_le}
 use Rattle.std.proofs.lemmas.Bool.{cases_eq, cases_lt, le-leb, lt-leb}
 use Rattle.std.proofs.lemmas.List.Sums.{sum_by-cons, sum_by-set, get_or-le-sum_by}
 use Rattle.std.proofs.Math.Seq.{map-set_same}
 use Rattle.block_memory.specs.Content.{Block, words_of as content_words_of, used_words}
 use Rattle.block_memory.specs.Table.{value_at}
-use Rattle.block_memory.specs.Layout.{Placed, Layout, Covers, Begins, IsClear, block_of, content_of, with_placed}
+use Rattle.block_memory.specs.Layout.{PlacedBlock, Layout, Covers, Begins, IsClear, block_of, content_of, with_slot}
 use Rattle.block_memory.specs.Region.{AreApart, AreWithin, IsCovered, ArePacked}
 use Rattle.block_memory.proofs.Lists.{IsSome-in_range, same_some}
-use Rattle.block_memory.proofs.LayoutLemmas.{value_at-set_same, value_at-set_other, Covers-set_here, Covers-set_other, Covers-by, AreApart-set, AreWithin-set}
+use Rattle.block_memory.proofs.LayoutLemmas.{value_at-set_same, value_at-set_other, Covers-set_here, Covers-set_other}
+use Rattle.block_memory.proofs.LayoutLemmas.{Covers-by, AreApart-set, AreWithin-set}
 
 -- how many words a block has, if it lies at the place or behind it
-abbrev pub words_from : ℕ → Option Placed → ℕ
+abbrev pub words_from : ℕ → Option PlacedBlock → ℕ
 words_from place None = 0
 words_from place (Some p) = cond (nat_le place p.place) (length p.words) 0
 
 -- the words of all blocks there
-abbrev pub rest : ℕ → List (Option Placed) → ℕ
-rest place placed = sum_by (words_from place) placed
+abbrev pub rest : ℕ → List (Option PlacedBlock) → ℕ
+rest place slots = sum_by (words_from place) slots
 
 -- the first words are packed, and the blocks from a place on lie as before
 pub record IsPacking (before now : Layout) (packed place used : ℕ) : Type 0 where
   pub size : now.size ≡ before.size
-  pub content : content_of now.placed ≡ content_of before.placed
-  pub apart : AreApart now.placed
-  pub within : AreWithin now.placed now.size
-  pub front : (word : ℕ) → word < packed → IsCovered now.placed word
-  pub sides : (n : ℕ) (p : Placed) → value_at now.placed n ≡ Some p → 0 < length p.words → (p.place + length p.words ≤ packed) ⊎ (place ≤ p.place)
+  pub content : content_of now.slots ≡ content_of before.slots
+  pub apart : AreApart now.slots
+  pub within : AreWithin now.slots now.size
+  pub front : (word : ℕ) → word < packed → IsCovered now.slots word
+  pub sides : (n : ℕ) (p : PlacedBlock) → value_at now.slots n ≡ Some p → 0 < length p.words
+      → (p.place + length p.words ≤ packed) ⊎ (place ≤ p.place)
   pub order : packed ≤ place
-  pub all : packed + rest place now.placed ≡ used
+  pub all : packed + rest place now.slots ≡ used
 
 -- sums of what is alike at each number
-same_sums : {X : Type 0} (f g : Option X → ℕ) (xs : List (Option X)) → ((k : ℕ) → k < length xs → f (value_at xs k) ≡ g (value_at xs k)) → sum_by f xs ≡ sum_by g xs
+same_sums : {X : Type 0} (f g : Option X → ℕ) (xs : List (Option X))
+    → ((k : ℕ) → k < length xs → f (value_at xs k) ≡ g (value_at xs k)) → sum_by f xs ≡ sum_by g xs
 same_sums f g [] h = refl
 same_sums f g (x ∷ xs) h =
     sum_by-cons f x xs
-    ∙ ((ap (λ n. n + sum_by f xs) (h zero (omega arith)) ∙ ap (λ n. g x + n) (same_sums f g xs (λ k below. h (suc k) (omega arith))))
+    ∙ ((ap (λ n. n + sum_by f xs) (h zero (omega arith))
+    ∙ ap (λ n. g x + n) (same_sums f g xs (λ k below. h (suc k) (omega arith))))
     ∙ sym (sum_by-cons g x xs))
 
-no_sum : {X : Type 0} (f : Option X → ℕ) (xs : List (Option X)) → ((k : ℕ) → k < length xs → f (value_at xs k) ≡ 0) → sum_by f xs ≡ 0
+no_sum : {X : Type 0} (f : Option X → ℕ) (xs : List (Option X)) → ((k : ℕ) → k < length xs → f (value_at xs k) ≡ 0)
+    → sum_by f xs ≡ 0
 no_sum f [] h = refl
 no_sum f (x ∷ xs) h =
     let first = h zero (omega arith) in
     let others = no_sum f xs (λ k below. h (suc k) (omega arith)) in
     omega (arith, sum_by-cons f x xs, first, others)
 
-words_from-behind : (place : ℕ) (p : Placed) → place ≤ p.place → words_from place (Some p) ≡ length p.words
+words_from-behind : (place : ℕ) (p : PlacedBlock) → place ≤ p.place → words_from place (Some p) ≡ length p.words
 words_from-behind place p h = let pick : Bool → ℕ = λ b. cond b (length p.words) 0 in ap pick (le-leb place p.place h)
 
-words_from-before : (place : ℕ) (p : Placed) → p.place < place → words_from place (Some p) ≡ 0
+words_from-before : (place : ℕ) (p : PlacedBlock) → p.place < place → words_from place (Some p) ≡ 0
 words_from-before place p h = let pick : Bool → ℕ = λ b. cond b (length p.words) 0 in ap pick (lt-leb place p.place h)
 
-words_from-none : (place : ℕ) (o : Option Placed) → ((p : Placed) → o ≡ Some p → place ≤ p.place → length p.words ≡ 0) → words_from place o ≡ 0
+words_from-none : (place : ℕ) (o : Option PlacedBlock)
+    → ((p : PlacedBlock) → o ≡ Some p → place ≤ p.place → length p.words ≡ 0) → words_from place o ≡ 0
 words_from-none place None h = refl
 words_from-none place (Some p) h =
     elim (cases_lt p.place place) [
@@ -61,7 +68,9 @@ words_from-none place (Some p) h =
     ]
 
 -- a block counts from two places alike, if none with words lies between them
-words_from-same : (place next : ℕ) (o : Option Placed) → place ≤ next → ((p : Placed) → o ≡ Some p → 0 < length p.words → place ≤ p.place → next ≤ p.place) → words_from place o ≡ words_from next o
+words_from-same : (place next : ℕ) (o : Option PlacedBlock) → place ≤ next
+    → ((p : PlacedBlock) → o ≡ Some p → 0 < length p.words → place ≤ p.place → next ≤ p.place)
+    → words_from place o ≡ words_from next o
 words_from-same place next None order h = refl
 words_from-same place next (Some p) order h =
     elim (cases_lt p.place place) [
@@ -76,7 +85,8 @@ words_from-same place next (Some p) order h =
     ]
 
 -- at first all blocks lie as before
-pub IsPacking-start : (layout : Layout) (used : ℕ) → AreApart layout.placed → AreWithin layout.placed layout.size → used ≡ used_words (content_of layout.placed) → IsPacking layout layout 0 0 used
+pub IsPacking-start : (layout : Layout) (used : ℕ) → AreApart layout.slots → AreWithin layout.slots layout.size
+    → used ≡ used_words (content_of layout.slots) → IsPacking layout layout 0 0 used
 IsPacking-start layout used apart within counted =
     record {
       size = refl;
@@ -86,31 +96,49 @@ IsPacking-start layout used apart within counted =
       front = λ word h. absurd (omega arith);
       sides = λ n p there some. inr (omega arith);
       order = omega arith;
-      all = let same = all_words layout.placed in omega (arith, same, counted);
+      all = let same = all_words layout.slots in omega (arith, same, counted);
     }
   where
-    all_words : (placed : List (Option Placed)) → rest 0 placed ≡ used_words (content_of placed)
+    all_words : (slots : List (Option PlacedBlock)) → rest 0 slots ≡ used_words (content_of slots)
     all_words [] = refl
-    all_words (None ∷ placed) =
+    all_words (None ∷ slots) =
         let size : Option Block → ℕ = λ b. length (content_words_of b) in
-        omega (arith, all_words placed, sum_by-cons (words_from 0) None placed, sum_by-cons size None (content_of placed))
-    all_words (Some p ∷ placed) =
+        omega (
+          arith,
+          all_words slots,
+          sum_by-cons (words_from 0) None slots,
+          sum_by-cons size None
+              (content_of slots),
+        )
+    all_words (Some p ∷ slots) =
         let size : Option Block → ℕ = λ b. length (content_words_of b) in
         let here = words_from-behind 0 p (omega arith) in
-        omega (arith, all_words placed, here, sum_by-cons (words_from 0) (Some p) placed, sum_by-cons size (block_of (Some p)) (content_of placed))
+        omega (
+          arith,
+          all_words slots,
+          here,
+          sum_by-cons (words_from 0) (Some p) slots,
+          sum_by-cons size
+              (block_of (Some p)) (content_of slots),
+        )
 
 -- while words are missing, the place is in the region
-pub IsPacking-inside : (before now : Layout) (packed place used : ℕ) → IsPacking before now packed place used → packed < used → place < now.size
+pub IsPacking-inside : (before now : Layout) (packed place used : ℕ) → IsPacking before now packed place used
+    → packed < used → place < now.size
 IsPacking-inside before now packed place used i missing =
     elim (cases_lt place now.size) [
       | inl inside ↦ inside
       | inr past ↦ absurd (
-          let none = no_sum (words_from place) now.placed (λ k h. words_from-none place (value_at now.placed k) (λ p there behind. let fits = i.within k p there in omega arith)) in
+          let none =
+          no_sum (words_from place) now.slots
+          (λ k h. words_from-none place (value_at now.slots k)
+          (λ p there behind. let fits = i.within k p there in omega arith)) in
           let all = i.all in omega (arith, all, none))
     ]
 
 -- no block begins at the place
-pub IsPacking-skip : (before now : Layout) (packed place used : ℕ) → IsPacking before now packed place used → ((n : ℕ) → Begins now.placed n place → ⊥) → IsPacking before now packed (place + 1) used
+pub IsPacking-skip : (before now : Layout) (packed place used : ℕ) → IsPacking before now packed place used
+    → ((n : ℕ) → Begins now.slots n place → ⊥) → IsPacking before now packed (place + 1) used
 IsPacking-skip before now packed place used i none =
     record {
       size = i.size;
@@ -123,10 +151,14 @@ IsPacking-skip before now packed place used i none =
         | inr behind ↦ inr (further n p there some behind)
       ];
       order = let o = i.order in omega arith;
-      all = let same = same_sums (words_from place) (words_from (place + 1)) now.placed (λ k h. words_from-same place (place + 1) (value_at now.placed k) (omega arith) (λ p there some behind. further k p there some behind)) in let all = i.all in omega (arith, all, same);
+      all = let same =
+          same_sums (words_from place) (words_from (place + 1)) now.slots
+          (λ k h. words_from-same place (place + 1) (value_at now.slots k) (omega arith)
+          (λ p there some behind. further k p there some behind)) in let all = i.all in omega (arith, all, same);
     }
   where
-    further : (n : ℕ) (p : Placed) → value_at now.placed n ≡ Some p → 0 < length p.words → place ≤ p.place → place + 1 ≤ p.place
+    further : (n : ℕ) (p : PlacedBlock) → value_at now.slots n ≡ Some p → 0 < length p.words → place ≤ p.place
+        → place + 1 ≤ p.place
     further n p there some behind =
         elim (cases_eq p.place place) [
           | inl here ↦ absurd (none n (record { block = p; there = there; here = here; some = some }))
@@ -134,9 +166,12 @@ IsPacking-skip before now packed place used i none =
         ]
 
 -- the block that begins at the place is to be moved
-module _ (before now : Layout) (packed place used n : ℕ) (p : Placed) (i : IsPacking before now packed place used) (there : value_at now.placed n ≡ Some p) (here : p.place ≡ place) (some : 0 < length p.words) where
+module _ (before now : Layout) (packed place used n : ℕ) (p : PlacedBlock)
+    (i : IsPacking before now packed place used) (there : value_at now.slots n ≡ Some p) (here : p.place ≡ place)
+    (some : 0 < length p.words) where
   -- every other block behind the place lies behind this one
-  beyond : (k : ℕ) (q : Placed) → k ≢ n → value_at now.placed k ≡ Some q → 0 < length q.words → place ≤ q.place → place + length p.words ≤ q.place
+  beyond : (k : ℕ) (q : PlacedBlock) → k ≢ n → value_at now.slots k ≡ Some q → 0 < length q.words → place ≤ q.place
+      → place + length p.words ≤ q.place
   beyond k q other found words behind =
       elim (cases_lt q.place (place + length p.words)) [
         | inr past ↦ past
@@ -146,76 +181,99 @@ module _ (before now : Layout) (packed place used n : ℕ) (p : Placed) (i : IsP
       ]
 
   -- no other block covers a word that it comes to cover
-  pub slide_clear : IsClear now.placed n packed (length p.words)
+  pub slide_clear : IsClear now.slots n packed (length p.words)
   slide_clear k word from below c =
       elim (cases_eq k n) [
         | inl same ↦ same
         | inr other ↦ absurd (elim (i.sides k c.block c.there (let f = c.from in let b = c.below in omega arith)) [
           | inl before ↦ let b = c.below in omega arith
-          | inr behind ↦ let past = beyond k c.block other c.there (let f = c.from in let b = c.below in omega arith) behind in let f = c.from in let o = i.order in omega arith
+          | inr behind ↦ let past =
+              beyond k c.block other c.there (let f = c.from in let b = c.below in omega arith) behind in let f =
+              c.from in let o = i.order in omega arith
         ])
       ]
 
-  abbrev slid : Placed
-  slid = record { owner = p.owner; place = packed; words = p.words }
+  abbrev slid_block : PlacedBlock
+  slid_block = record { owner = p.owner; place = packed; words = p.words }
 
-  in_range : n < length now.placed
-  in_range = IsSome-in_range now.placed n (ap is_some there)
+  in_range : n < length now.slots
+  in_range = IsSome-in_range now.slots n (ap is_some there)
 
-  slid_content : content_of (slice_set now.placed n (Some slid)) ≡ content_of now.placed
-  slid_content = map-set_same block_of now.placed n (Some slid) None (sym (ap block_of there))
+  slid_content : content_of (slice_set now.slots n (Some slid_block)) ≡ content_of now.slots
+  slid_content = map-set_same block_of now.slots n (Some slid_block) None (sym (ap block_of there))
 
-  slid_front : (word : ℕ) → word < packed + length p.words → IsCovered (slice_set now.placed n (Some slid)) word
+  slid_front : (word : ℕ) → word < packed + length p.words → IsCovered (slice_set now.slots n (Some slid_block)) word
   slid_front word h =
       elim (cases_lt word packed) [
-        | inr new ↦ record { number = n; covers = Covers-set_here now.placed n word slid in_range new h }
+        | inr new ↦ record { number = n; covers = Covers-set_here now.slots n word slid_block in_range new h }
         | inl old ↦ kept (i.front word old) old
       ]
     where
-      kept : IsCovered now.placed word → word < packed → IsCovered (slice_set now.placed n (Some slid)) word
-      kept c old = record { number = c.number; covers = Covers-set_other now.placed n c.number word (Some slid) (λ same. not_here (subst (λ (k : ℕ). Covers now.placed k word) same c.covers)) c.covers }
+      kept : IsCovered now.slots word → word < packed → IsCovered (slice_set now.slots n (Some slid_block)) word
+      kept c old =
+          record {
+            number = c.number;
+            covers =
+                Covers-set_other now.slots n c.number word (Some slid_block)
+                (λ same. not_here (subst (λ (k : ℕ). Covers now.slots k word) same c.covers)) c.covers;
+          }
         where
-          not_here : Covers now.placed n word → ⊥
-          not_here covers = let by = Covers-by now.placed n word p there covers in let from = by.0 in let o = i.order in omega arith
+          not_here : Covers now.slots n word → ⊥
+          not_here covers = let by = Covers-by now.slots n word p there covers in let from = by.0 in let o =
+              i.order in omega arith
 
-  slid_sides : (k : ℕ) (q : Placed) → value_at (slice_set now.placed n (Some slid)) k ≡ Some q → 0 < length q.words → (q.place + length q.words ≤ packed + length p.words) ⊎ (place + length p.words ≤ q.place)
+  slid_sides : (k : ℕ) (q : PlacedBlock) → value_at (slice_set now.slots n (Some slid_block)) k ≡ Some q
+      → 0 < length q.words → (q.place + length q.words ≤ packed + length p.words) ⊎ (place + length p.words ≤ q.place)
   slid_sides k q found words =
       elim (cases_eq k n) [
-        | inl same ↦ let is : q ≡ slid = same_some q slid (sym found ∙ (ap (value_at (slice_set now.placed n (Some slid))) same ∙ value_at-set_same now.placed n (Some slid) in_range)) in inl (rw is (omega arith))
-        | inr other ↦ let was = sym (value_at-set_other now.placed n k (Some slid) other) ∙ found in elim (i.sides k q was words) [
-          | inl front ↦ inl (omega arith)
-          | inr behind ↦ inr (beyond k q other was words behind)
-        ]
+        | inl same ↦ let is : q ≡ slid_block =
+            same_some q slid_block (sym found
+            ∙ (ap (value_at (slice_set now.slots n (Some slid_block))) same
+            ∙ value_at-set_same now.slots n (Some slid_block) in_range)) in inl (rw is (omega arith))
+        | inr other ↦ let was = sym (value_at-set_other now.slots n k (Some slid_block) other) ∙ found in
+            elim (i.sides k q was words) [
+              | inl front ↦ inl (omega arith)
+              | inr behind ↦ inr (beyond k q other was words behind)
+            ]
       ]
 
   -- the other blocks count alike from behind this one
-  others_alike : sum_by (words_from place) (slice_set now.placed n None) ≡ sum_by (words_from (place + length p.words)) (slice_set now.placed n None)
+  others_alike : sum_by (words_from place) (slice_set now.slots n None) ≡ sum_by (words_from (place + length p.words))
+      (slice_set now.slots n None)
   others_alike =
-      same_sums (words_from place) (words_from (place + length p.words)) (slice_set now.placed n None)
+      same_sums (words_from place) (words_from (place + length p.words)) (slice_set now.slots n None)
       (λ k h. elim (cases_eq k n) [
-        | inl same ↦ rw same (rw (value_at-set_same now.placed n None in_range) refl)
-        | inr other ↦ rw (value_at-set_other now.placed n k None other) (words_from-same place (place + length p.words) (value_at now.placed k) (omega arith) (λ q found words behind. beyond k q other found words behind))
+        | inl same ↦ rw same (rw (value_at-set_same now.slots n None in_range) refl)
+        | inr other ↦
+            rw (value_at-set_other now.slots n k None other)
+            (words_from-same place (place + length p.words) (value_at now.slots k) (omega arith)
+            (λ q found words behind. beyond k q other found words behind))
       ])
 
-  slid_rest : rest (place + length p.words) (slice_set now.placed n (Some slid)) + length p.words ≡ rest place now.placed
+  slid_rest : rest (place + length p.words) (slice_set now.slots n (Some slid_block)) + length p.words ≡ rest place
+      now.slots
   slid_rest =
       let next : ℕ = place + length p.words in
       let o = i.order in
-      let old = sum_by-set (words_from place) now.placed n None None in_range in
-      let gone = sum_by-set (words_from next) now.placed n None None in_range in
-      let new = sum_by-set (words_from next) now.placed n (Some slid) None in_range in
-      let was : words_from place (value_at now.placed n) ≡ length p.words = ap (words_from place) there ∙ words_from-behind place p (omega arith) in
-      let is : words_from next (Some slid) ≡ 0 = words_from-before next slid (omega arith) in
+      let old = sum_by-set (words_from place) now.slots n None None in_range in
+      let gone = sum_by-set (words_from next) now.slots n None None in_range in
+      let new = sum_by-set (words_from next) now.slots n (Some slid_block) None in_range in
+      let was : words_from place (value_at now.slots n) ≡ length p.words =
+      ap (words_from place) there ∙ words_from-behind place p (omega arith) in
+      let is : words_from next (Some slid_block) ≡ 0 = words_from-before next slid_block (omega arith) in
       let alike = others_alike in
       omega (arith, old, gone, new, was, is, alike)
 
-  pub IsPacking-slide : IsPacking before (with_placed now n (Some slid)) (packed + length p.words) (place + length p.words) used
+  pub IsPacking-slide : IsPacking before (with_slot now n (Some slid_block)) (packed + length p.words)
+      (place + length p.words) used
   IsPacking-slide =
       record {
         size = i.size;
         content = slid_content ∙ i.content;
-        apart = AreApart-set now.placed n slid in_range i.apart slide_clear;
-        within = AreWithin-set now.placed now.size n slid in_range i.within (let o = i.order in let w = i.within n p there in omega arith);
+        apart = AreApart-set now.slots n slid_block in_range i.apart slide_clear;
+        within =
+            AreWithin-set now.slots now.size n slid_block in_range i.within
+            (let o = i.order in let w = i.within n p there in omega arith);
         front = slid_front;
         sides = slid_sides;
         order = let o = i.order in omega arith;
@@ -223,7 +281,8 @@ module _ (before now : Layout) (packed place used n : ℕ) (p : Placed) (i : IsP
       }
 
 -- at the end all blocks are packed
-pub ArePacked-end : (before now : Layout) (packed place used : ℕ) → IsPacking before now packed place used → used ≤ packed → ArePacked now.placed used
+pub ArePacked-end : (before now : Layout) (packed place used : ℕ) → IsPacking before now packed place used
+    → used ≤ packed → ArePacked now.slots used
 ArePacked-end before now packed place used i done =
     let all = i.all in
     record {
@@ -233,8 +292,11 @@ ArePacked-end before now packed place used i done =
         | inl front ↦ let b = c.below in omega arith
         | inr behind ↦ absurd (
             let f = c.from in let b = c.below in
-            let part = get_or-le-sum_by (words_from place) now.placed n None (IsSome-in_range now.placed n (ap is_some c.there)) in
-            let here : words_from place (value_at now.placed n) ≡ length c.block.words = ap (words_from place) c.there ∙ words_from-behind place c.block behind in
+            let part =
+            get_or-le-sum_by (words_from place) now.slots n None
+            (IsSome-in_range now.slots n (ap is_some c.there)) in
+            let here : words_from place (value_at now.slots n) ≡ length c.block.words =
+            ap (words_from place) c.there ∙ words_from-behind place c.block behind in
             omega (arith, all, part, here))
       ];
     }

@@ -1,23 +1,29 @@
 -- Lemmas on the blocks and the holes of a region: what a block that comes, goes or moves leaves.
-use Rattle.std.proofs.Common.{◌≡◌, ℕ, ℤ, zero, suc, ◌+◌, ◌-◌, ◌<◌, ◌≤◌, true, false, List, ◌∷◌, length, replicate, slice_index_or, slice_set, Option, Some, None, is_some, IsSome, inl, inr, refl, sym, ap, subst, ◌∙◌, arith}
-use Rattle.std.specs.List.{slice_get}
+use Rattle.std.proofs.Common.{◌≡◌, ℕ, ℤ, zero, suc, ◌+◌, ◌-◌, ◌<◌, ◌≤◌, true, false, List, ◌∷◌, length, replicate}
+use Rattle.std.proofs.Common.{slice_set, Option, Some, None, is_some, IsSome, inl, inr, refl, sym, ap, subst, ◌∙◌}
+use Rattle.std.proofs.Common.{arith}
 use Rattle.std.proofs.lemmas.Bool.{cases_lt}
 use Rattle.std.proofs.lemmas.List.{map-set, length-map, length-set, length-replicate, get_or-replicate}
 use Rattle.std.proofs.lemmas.List.Folds.{sum_by-replicate}
-use Rattle.std.proofs.lemmas.Option.{slice_get-get_or}
-use Rattle.holes.specs.FreeWords.{Region, is_free, NoneFree, set_range, given_to, free_from, widest}
-use Rattle.block_memory.specs.Content.{Block, no_blocks, IsLive, used_words, with_block, without_block, words_of as content_words_of, words_at as content_words_at}
+use Rattle.holes.specs.FreeWords.{Region, is_free, NoneFree, set_range, given_to, free_from, widest, hole_count}
+use Rattle.holes.specs.Laws.{OneHoleMoreThanRanges}
+use Rattle.block_memory.specs.Content.{Block, no_blocks, IsLive, used_words, with_block, without_block}
+use Rattle.block_memory.specs.Content.{words_of as content_words_of, words_at as content_words_at}
 use Rattle.block_memory.specs.Table.{value_at}
-use Rattle.block_memory.specs.Layout.{Placed, Layout, Covers, IsBare, block_of, content_of, words_of, words_at, with_placed}
+use Rattle.block_memory.specs.Layout.{PlacedBlock, Layout, Covers, IsBare, block_of, content_of, place_of, words_of}
+use Rattle.block_memory.specs.Layout.{place_at, words_at, with_slot}
 use Rattle.block_memory.specs.Region.{AreWithin, IsCovered, CoverRegion, IsRegion, ArePacked, HasRoom}
 use Rattle.block_memory.proofs.Lists.{IsSome-in_range, None≢Some, true-not_false}
 use Rattle.block_memory.proofs.ContentLemmas.{used_words-with_block, used_words-without_block}
-use Rattle.block_memory.proofs.LayoutLemmas.{Covers-set, Covers-set_here, Covers-set_other, Covers-set_none, Covers-by, AreApart-set, AreWithin-set, AreWithin-set_none, block_at-content_of, words_at-content_of, is_some-content_of}
-use Rattle.block_memory.proofs.FreeLemmas.{length-set_range, is_free-set_inside, length-free_from, is_free-from_before, is_free-from_behind, widest-free_from}
-use Rattle.block_memory.proofs.BesideLemmas.{is_free-still_taken, is_free-outside}
+use Rattle.block_memory.proofs.LayoutLemmas.{Covers-set, Covers-set_here, Covers-set_other, Covers-set_none}
+use Rattle.block_memory.proofs.LayoutLemmas.{Covers-by, AreApart-set, AreWithin-set, AreWithin-set_none}
+use Rattle.block_memory.proofs.LayoutLemmas.{block_at-content_of, words_at-content_of, is_some-content_of}
+use Rattle.block_memory.proofs.FreeLemmas.{length-set_range, is_free-set_inside, length-free_from}
+use Rattle.block_memory.proofs.FreeLemmas.{is_free-from_before, is_free-from_behind, widest-free_from}
+use Rattle.block_memory.proofs.BesideLemmas.{is_free-still_taken, is_free-outside, room_for_hole}
 
 -- a region with no block
-no_value : (most n : ℕ) → value_at {T = Placed} (replicate most None) n ≡ None
+no_value : (most n : ℕ) → value_at {T = PlacedBlock} (replicate most None) n ≡ None
 no_value zero n = refl
 no_value (suc most) zero = refl
 no_value (suc most) (suc n) = no_value most n
@@ -26,18 +32,24 @@ pub content_of-empty : (most : ℕ) → content_of (replicate most None) ≡ no_
 content_of-empty zero = refl
 content_of-empty (suc most) = ap (λ c. None ∷ c) (content_of-empty most)
 
-pub IsRegion-empty : (size most : ℕ) → IsRegion (record { size = size; placed = replicate most None }) (record { free = replicate size true; most = most + 2 }) 0
+pub IsRegion-empty : (size most : ℕ) → IsRegion (record { size = size; slots = replicate most None })
+    (record { free = replicate size true; most = most + 2 }) 0
 IsRegion-empty size most =
     record {
       cover = record {
         apart = λ m n word a b. absurd (none m word a);
         covered = λ n word c. absurd (none n word c);
-        others = λ word below taken. absurd (let long = length-replicate size true in true-not_false (is_free (replicate size true) word) (get_or-replicate size word true false (omega arith)) taken);
+        others =
+            λ word below taken. absurd (let long = length-replicate size true in
+            true-not_false (is_free (replicate size true) word) (get_or-replicate size word true false (omega arith))
+            taken);
       };
       within = λ n p there. absurd (None≢Some p (sym (no_value most n) ∙ there));
       same_size = length-replicate size true;
-      room = let long = length-replicate {A = Option Placed} most None in omega arith;
-      counted = rw (content_of-empty most) (let size_of : Option Block → ℕ = λ b. length (content_words_of b) in let all = sum_by-replicate size_of most None in omega (arith, all));
+      room = let long = length-replicate {A = Option PlacedBlock} most None in omega arith;
+      counted =
+          rw (content_of-empty most) (let size_of : Option Block → ℕ = λ b. length (content_words_of b) in let all =
+          sum_by-replicate size_of most None in omega (arith, all));
       fits = omega arith;
     }
   where
@@ -45,7 +57,10 @@ IsRegion-empty size most =
     none n word c = None≢Some c.block (sym (no_value most n) ∙ c.there)
 
 -- after the blocks were moved together
-pub IsRegion-packed : (before now : Layout) (holes : Region) (used : ℕ) → IsRegion before holes used → now.size ≡ before.size → content_of now.placed ≡ content_of before.placed → AreWithin now.placed now.size → ArePacked now.placed used → IsRegion now (record { free = free_from used (length holes.free); most = holes.most }) used
+pub IsRegion-packed : (before now : Layout) (holes : Region) (used : ℕ) → IsRegion before holes used
+    → now.size ≡ before.size → content_of now.slots ≡ content_of before.slots → AreWithin now.slots now.size
+    → ArePacked now.slots used → IsRegion now
+    (record { free = free_from used (length holes.free); most = holes.most }) used
 IsRegion-packed before now holes used r size content within packed =
     let fits : used ≤ length holes.free = let f = r.fits in let s = r.same_size in omega arith in
     let long = length-free_from used (length holes.free) fits in
@@ -55,155 +70,236 @@ IsRegion-packed before now holes used r size content within packed =
         covered = λ n word c. is_free-from_before used (length holes.free) word (packed.behind n word c);
         others = λ word below taken. elim (cases_lt word used) [
           | inl front ↦ packed.front word front
-          | inr behind ↦ absurd (true-not_false (is_free (free_from used (length holes.free)) word) (is_free-from_behind used (length holes.free) word behind (omega arith)) taken)
+          | inr behind ↦
+              absurd (true-not_false (is_free (free_from used (length holes.free)) word)
+              (is_free-from_behind used (length holes.free) word behind (omega arith)) taken)
         ];
       };
       within = within;
       same_size = long ∙ (r.same_size ∙ sym size);
-      room = let same : length now.placed ≡ length before.placed = sym (length-map now.placed block_of) ∙ (ap length content ∙ length-map before.placed block_of) in let room = r.room in omega arith;
+      room = let same : length now.slots ≡ length before.slots =
+          sym (length-map now.slots block_of) ∙ (ap length content ∙ length-map before.slots block_of) in let room =
+          r.room in omega arith;
       counted = r.counted ∙ ap used_words (sym content);
       fits = let f = r.fits in omega arith;
     }
 
 -- after the blocks were moved together a hole is wide enough
-pub wide_enough : (layout : Layout) (holes : Region) (used len : ℕ) → holes.free ≡ free_from used layout.size → used + len ≤ layout.size → widest holes.free < len → ⊥
+pub wide_enough : (layout : Layout) (holes : Region) (used len : ℕ) → holes.free ≡ free_from used layout.size
+    → used + len ≤ layout.size → widest holes.free < len → ⊥
 wide_enough layout holes used len packed fits narrow =
     let wide = widest-free_from used layout.size in
     let same = ap widest packed in
     omega (arith, wide, same)
 
 -- no block covers the words that were taken
-pub HasRoom-bare : (layout : Layout) (holes : Region) (used place len : ℕ) → HasRoom layout holes used place len → IsBare layout.placed place len
+pub HasRoom-bare : (layout : Layout) (holes : Region) (used place len : ℕ) → HasRoom layout holes used place len
+    → IsBare layout.slots place len
 HasRoom-bare layout holes used place len h other word from below c =
     true-not_false (is_free h.before.free word) (h.all_free word from below) (h.region.cover.covered other word c)
 
 -- a block comes
-module _ (layout : Layout) (holes : Region) (used place n owner : ℕ) (words : List ℤ) (h : HasRoom layout holes used place (length words)) (within : n < length layout.placed) (empty : value_at layout.placed n ≡ None) (fits : used + length words ≤ layout.size) where
-  abbrev came : Placed
-  came = record { owner = owner; place = place; words = words }
+module _ (layout : Layout) (holes : Region) (used place n owner : ℕ) (words : List ℤ)
+    (h : HasRoom layout holes used place (length words)) (within : n < length layout.slots)
+    (empty : value_at layout.slots n ≡ None) (fits : used + length words ≤ layout.size) where
+  abbrev new_block : PlacedBlock
+  new_block = record { owner = owner; place = place; words = words }
 
   inside_free : place + length words ≤ length h.before.free
   inside_free = let i = h.inside in let s = h.region.same_size in omega arith
 
-  came-cover : CoverRegion (slice_set layout.placed n (Some came)) holes.free
-  came-cover =
+  cover_with_new : CoverRegion (slice_set layout.slots n (Some new_block)) holes.free
+  cover_with_new =
       record {
-        apart = AreApart-set layout.placed n came within h.region.cover.apart (λ other word from below c. absurd (HasRoom-bare layout holes used place (length words) h other word from below c));
-        covered = λ k word c. subst (λ (r : Region). is_free r.free word ≡ false) (sym h.taken) (elim (Covers-set layout.placed n k word came within c) [
-          | inl here ↦ is_free-set_inside h.before.free place (length words) word false inside_free here.1.0 here.1.1
-          | inr other ↦ is_free-still_taken h.before.free place (length words) word inside_free (h.region.cover.covered k word other.1)
-        ]);
+        apart =
+            AreApart-set layout.slots n new_block within h.region.cover.apart
+            (λ other word from below c. absurd
+            (HasRoom-bare layout holes used place (length words) h other word from below c));
+        covered =
+            λ k word c. subst (λ (r : Region). is_free r.free word ≡ false) (sym h.taken)
+            (elim (Covers-set layout.slots n k word new_block within c) [
+              | inl here ↦
+                  is_free-set_inside h.before.free place (length words) word false inside_free here.1.0 here.1.1
+              | inr other ↦
+                  is_free-still_taken h.before.free place (length words) word inside_free
+                  (h.region.cover.covered k word other.1)
+            ]);
         others = λ word below taken. covered_now word below taken;
       }
     where
-      covered_now : (word : ℕ) → word < length holes.free → is_free holes.free word ≡ false → IsCovered (slice_set layout.placed n (Some came)) word
+      covered_now : (word : ℕ) → word < length holes.free → is_free holes.free word ≡ false
+          → IsCovered (slice_set layout.slots n (Some new_block)) word
       covered_now word below taken =
           elim (cases_lt word place) [
             | inl before ↦ by_other (λ from to. omega arith)
             | inr from ↦ elim (cases_lt word (place + length words)) [
-              | inl to ↦ record { number = n; covers = Covers-set_here layout.placed n word came within from to }
+              | inl to ↦ record { number = n; covers = Covers-set_here layout.slots n word new_block within from to }
               | inr behind ↦ by_other (λ from to. omega arith)
             ]
           ]
         where
-          by_other : (place ≤ word → word < place + length words → ⊥) → IsCovered (slice_set layout.placed n (Some came)) word
+          by_other : (place ≤ word → word < place + length words → ⊥)
+              → IsCovered (slice_set layout.slots n (Some new_block)) word
           by_other outside =
-              let long : length holes.free ≡ length h.before.free = ap (λ (r : Region). length r.free) h.taken ∙ length-set_range h.before.free place (length words) false inside_free in
-              let was : is_free h.before.free word ≡ false = sym (is_free-outside h.before.free place (length words) word false inside_free outside) ∙ (ap (λ (r : Region). is_free r.free word) (sym h.taken) ∙ taken) in
+              let long : length holes.free ≡ length h.before.free =
+              ap (λ (r : Region). length r.free) h.taken
+              ∙ length-set_range h.before.free place (length words) false inside_free in
+              let was : is_free h.before.free word ≡ false =
+              sym (is_free-outside h.before.free place (length words) word false inside_free outside)
+              ∙ (ap (λ (r : Region). is_free r.free word) (sym h.taken) ∙ taken) in
               let c = h.region.cover.others word (omega arith) was in
-              record { number = c.number; covers = Covers-set_other layout.placed n c.number word (Some came) (λ same. None≢Some c.covers.block (sym empty ∙ (ap (value_at layout.placed) (sym same) ∙ c.covers.there))) c.covers }
+              record {
+                number = c.number;
+                covers =
+                    Covers-set_other layout.slots n c.number word (Some new_block)
+                    (λ same. None≢Some c.covers.block
+                    (sym empty ∙ (ap (value_at layout.slots) (sym same) ∙ c.covers.there))) c.covers;
+              }
 
-  pub IsRegion-put : IsRegion (with_placed layout n (Some came)) holes (used + length words)
+  pub IsRegion-put : IsRegion (with_slot layout n (Some new_block)) holes (used + length words)
   IsRegion-put =
       record {
-        cover = came-cover;
-        within = AreWithin-set layout.placed layout.size n came within h.region.within h.inside;
-        same_size = ap (λ (r : Region). length r.free) h.taken ∙ (length-set_range h.before.free place (length words) false inside_free ∙ h.region.same_size);
-        room = let same = length-set layout.placed n (Some came) in let most = ap (λ (r : Region). r.most) h.taken in let room = h.region.room in omega (arith, same, most, room);
+        cover = cover_with_new;
+        within = AreWithin-set layout.slots layout.size n new_block within h.region.within h.inside;
+        same_size =
+            ap (λ (r : Region). length r.free) h.taken
+            ∙ (length-set_range h.before.free place (length words) false inside_free ∙ h.region.same_size);
+        room = let same = length-set layout.slots n (Some new_block) in let most =
+            ap (λ (r : Region). r.most) h.taken in let room = h.region.room in omega (arith, same, most, room);
         counted =
-            let content : content_of (slice_set layout.placed n (Some came)) ≡ with_block (content_of layout.placed) n (record { owner = owner; words = words }) = map-set block_of layout.placed n (Some came) in
-            let long = length-map layout.placed block_of in
-            let more = used_words-with_block (content_of layout.placed) n (record { owner = owner; words = words }) (omega arith) (block_at-content_of layout.placed n ∙ ap block_of empty) in
+            let content : content_of (slice_set layout.slots n (Some new_block)) ≡ with_block
+            (content_of layout.slots) n (record { owner = owner; words = words }) =
+            map-set block_of layout.slots n (Some new_block) in
+            let long = length-map layout.slots block_of in
+            let more =
+            used_words-with_block (content_of layout.slots) n (record { owner = owner; words = words })
+            (omega arith) (block_at-content_of layout.slots n ∙ ap block_of empty) in
             let counted = h.region.counted in
             rw content (omega (arith, more, counted));
         fits = fits;
       }
 
 -- a block goes
-module _ (layout : Layout) (holes : Region) (used n : ℕ) (p : Placed) (r : IsRegion layout holes used) (there : value_at layout.placed n ≡ Some p) where
-  in_range : n < length layout.placed
-  in_range = IsSome-in_range layout.placed n (ap is_some there)
+module _ (layout : Layout) (holes : Region) (used n : ℕ) (p : PlacedBlock) (r : IsRegion layout holes used)
+    (there : value_at layout.slots n ≡ Some p) where
+  pub in_range : n < length layout.slots
+  in_range = IsSome-in_range layout.slots n (ap is_some there)
 
-  inside : p.place + length p.words ≤ length holes.free
+  pub inside : p.place + length p.words ≤ length holes.free
   inside = let w = r.within n p there in let s = r.same_size in omega arith
 
-  gone_covers : (word : ℕ) → p.place ≤ word → word < p.place + length p.words → Covers layout.placed n word
+  gone_covers : (word : ℕ) → p.place ≤ word → word < p.place + length p.words → Covers layout.slots n word
   gone_covers word from below = record { block = p; there = there; from = from; below = below }
 
   -- none of its words is free
   pub none_free : NoneFree holes.free p.place (length p.words)
   none_free word from below = r.cover.covered n word (gone_covers word from below)
 
-  gone-cover : CoverRegion (slice_set layout.placed n None) (set_range holes.free p.place (length p.words) true)
-  gone-cover =
+  cover_without : CoverRegion (slice_set layout.slots n None) (set_range holes.free p.place (length p.words) true)
+  cover_without =
       record {
-        apart = λ k m word a b. r.cover.apart k m word (Covers-set_none layout.placed n k word in_range a).1 (Covers-set_none layout.placed n m word in_range b).1;
-        covered = λ k word c. let other = Covers-set_none layout.placed n k word in_range c in
-            is_free-outside holes.free p.place (length p.words) word true inside (λ from below. other.0 (r.cover.apart k n word other.1 (gone_covers word from below)))
+        apart =
+            λ k m word a b. r.cover.apart k m word (Covers-set_none layout.slots n k word in_range a).1
+            (Covers-set_none layout.slots n m word in_range b).1;
+        covered = λ k word c. let other = Covers-set_none layout.slots n k word in_range c in
+            is_free-outside holes.free p.place (length p.words) word true inside
+            (λ from below. other.0 (r.cover.apart k n word other.1 (gone_covers word from below)))
             ∙ r.cover.covered k word other.1;
         others = λ word below taken. covered_still word below taken;
       }
     where
-      covered_still : (word : ℕ) → word < length (set_range holes.free p.place (length p.words) true) → is_free (set_range holes.free p.place (length p.words) true) word ≡ false → IsCovered (slice_set layout.placed n None) word
+      covered_still : (word : ℕ) → word < length (set_range holes.free p.place (length p.words) true)
+          → is_free (set_range holes.free p.place (length p.words) true) word ≡ false
+          → IsCovered (slice_set layout.slots n None) word
       covered_still word below taken =
           let long = length-set_range holes.free p.place (length p.words) true inside in
-          let outside : p.place ≤ word → word < p.place + length p.words → ⊥ = λ from to. true-not_false (is_free (set_range holes.free p.place (length p.words) true) word) (is_free-set_inside holes.free p.place (length p.words) word true inside from to) taken in
-          let was : is_free holes.free word ≡ false = sym (is_free-outside holes.free p.place (length p.words) word true inside outside) ∙ taken in
+          let outside : p.place ≤ word → word < p.place + length p.words → ⊥ =
+          λ from to. true-not_false (is_free (set_range holes.free p.place (length p.words) true) word)
+          (is_free-set_inside holes.free p.place (length p.words) word true inside from to) taken in
+          let was : is_free holes.free word ≡ false =
+          sym (is_free-outside holes.free p.place (length p.words) word true inside outside) ∙ taken in
           let c = r.cover.others word (omega arith) was in
           record {
             number = c.number;
-            covers = Covers-set_other layout.placed n c.number word None (λ same. let by = Covers-by layout.placed n word p there (subst (λ (k : ℕ). Covers layout.placed k word) same c.covers) in outside by.0 by.1) c.covers;
+            covers =
+                Covers-set_other layout.slots n c.number word None
+                (λ same. let by = Covers-by layout.slots n word p there
+                (subst (λ (k : ℕ). Covers layout.slots k word) same c.covers) in outside by.0 by.1) c.covers;
           }
 
-  pub IsRegion-remove : IsRegion (with_placed layout n None) (given_to holes p.place (length p.words)) (used - length p.words)
+  live : IsLive (content_of layout.slots) n
+  live = is_some-content_of layout.slots n ∙ ap is_some there
+
+  words_there : length (content_words_at (content_of layout.slots) n) ≡ length p.words
+  words_there = ap length (words_at-content_of layout.slots n ∙ ap words_of there)
+
+  -- its words are among those in use
+  pub less_used : length p.words ≤ used
+  less_used =
+      let less = used_words-without_block (content_of layout.slots) n live in
+      let counted = r.counted in
+      omega (arith, less, words_there, counted)
+
+  pub IsRegion-remove : IsRegion (with_slot layout n None) (given_to holes p.place (length p.words))
+      (used - length p.words)
   IsRegion-remove =
       record {
-        cover = gone-cover;
-        within = AreWithin-set_none layout.placed layout.size n in_range r.within;
+        cover = cover_without;
+        within = AreWithin-set_none layout.slots layout.size n in_range r.within;
         same_size = length-set_range holes.free p.place (length p.words) true inside ∙ r.same_size;
-        room = let same = length-set layout.placed n None in let room = r.room in omega (arith, same, room);
+        room = let same = length-set layout.slots n None in let room = r.room in omega (arith, same, room);
         counted =
-            let content : content_of (slice_set layout.placed n None) ≡ without_block (content_of layout.placed) n = map-set block_of layout.placed n None in
-            let live = is_some-content_of layout.placed n ∙ ap is_some there in
-            let less = used_words-without_block (content_of layout.placed) n live in
-            let words : length (content_words_at (content_of layout.placed) n) ≡ length p.words = ap length (words_at-content_of layout.placed n ∙ ap words_of there) in
+            let content : content_of (slice_set layout.slots n None) ≡ without_block (content_of layout.slots) n =
+            map-set block_of layout.slots n None in
+            let less = used_words-without_block (content_of layout.slots) n live in
             let counted = r.counted in
-            rw content (omega (arith, less, words, counted));
+            rw content (omega (arith, less, words_there, counted));
         fits = let f = r.fits in omega arith;
       }
 
 -- a number has a block where the region contains one
-pub placed_there : (placed : List (Option Placed)) (n : ℕ) → IsLive (content_of placed) n → IsSome (value_at placed n)
-placed_there placed n live = sym (is_some-content_of placed n) ∙ live
+pub slot_there : (slots : List (Option PlacedBlock)) (n : ℕ) → IsLive (content_of slots) n → IsSome (value_at slots n)
+slot_there slots n live = sym (is_some-content_of slots n) ∙ live
 
 -- the block that a number has
-pub the_block : (placed : List (Option Placed)) (n : ℕ) → IsSome (value_at placed n) → (p : Placed) × (value_at placed n ≡ Some p)
-the_block placed n some = by_value (value_at placed n) refl some
+pub the_block : (slots : List (Option PlacedBlock)) (n : ℕ) → IsSome (value_at slots n)
+    → (p : PlacedBlock) × (value_at slots n ≡ Some p)
+the_block slots n some = by_value (value_at slots n) refl some
   where
-    by_value : (o : Option Placed) → value_at placed n ≡ o → IsSome o → (p : Placed) × (value_at placed n ≡ Some p)
+    by_value : (o : Option PlacedBlock) → value_at slots n ≡ o → IsSome o
+        → (p : PlacedBlock) × (value_at slots n ≡ Some p)
     by_value None e s = absurd (true-not_false false s refl)
     by_value (Some p) e s = (p, e)
 
--- a word that was read of a block's words is the block's
-pub word_at-placed : (placed : List (Option Placed)) (n i : ℕ) (words : List ℤ) (d : ℤ) → words ≡ words_at placed n → i < length (content_words_at (content_of placed) n) → slice_get (content_words_at (content_of placed) n) i ≡ Some (slice_index_or words i d)
-word_at-placed placed n i words d is within =
-    let same = words_at-content_of placed n ∙ sym is in
-    let short : i < length words = rw same at within in
-    rw same (slice_get-get_or words i d short)
+-- what is known of a block that is taken away, and of its words
+pub record IsLeaving (layout : Layout) (holes : Region) (used n place len : ℕ) : Type 0 where
+  pub within : place + len ≤ length holes.free
+  pub less : len ≤ used
+  pub none_free : NoneFree holes.free place len
+  pub room : hole_count holes.free < holes.most
+  pub region : IsRegion (with_slot layout n None) (given_to holes place len) (used - len)
+
+pub is_leaving : OneHoleMoreThanRanges → (layout : Layout) (holes : Region) (used n place len : ℕ)
+    → IsRegion layout holes used
+    → IsLive (content_of layout.slots) n → place ≡ place_at layout.slots n → len ≡ length (words_at layout.slots n)
+    → IsLeaving layout holes used n place len
+is_leaving law layout holes used n place len r live here long =
+    let p = the_block layout.slots n (slot_there layout.slots n live) in
+    rw (here ∙ ap place_of p.1, long ∙ ap (λ o. length (words_of o)) p.1)
+    (record {
+      within = inside layout holes used n p.0 r p.1;
+      less = less_used layout holes used n p.0 r p.1;
+      none_free = none_free layout holes used n p.0 r p.1;
+      room = room_for_hole law layout.size holes.most layout.slots holes.free r.same_size r.within r.cover r.room;
+      region = IsRegion-remove layout holes used n p.0 r p.1;
+    })
 
 -- what the region contains after a block came or went
-pub content_of-put : (placed : List (Option Placed)) (n : ℕ) (p : Placed) → content_of (slice_set placed n (Some p)) ≡ with_block (content_of placed) n (record { owner = p.owner; words = p.words })
-content_of-put placed n p = map-set block_of placed n (Some p)
+pub content_of-put : (slots : List (Option PlacedBlock)) (n : ℕ) (p : PlacedBlock)
+    → content_of (slice_set slots n (Some p)) ≡ with_block (content_of slots) n
+    (record { owner = p.owner; words = p.words })
+content_of-put slots n p = map-set block_of slots n (Some p)
 
-pub content_of-remove : (placed : List (Option Placed)) (n : ℕ) → content_of (slice_set placed n None) ≡ without_block (content_of placed) n
-content_of-remove placed n = map-set block_of placed n None
+pub content_of-remove : (slots : List (Option PlacedBlock)) (n : ℕ)
+    → content_of (slice_set slots n None) ≡ without_block (content_of slots) n
+content_of-remove slots n = map-set block_of slots n None

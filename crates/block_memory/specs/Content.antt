@@ -1,5 +1,6 @@
 -- What a vector memory contains: at each block number a block, which is an owner and a list of words, or nothing.
-use Rattle.std.specs.Prelude.{ℕ, ℤ, List, [], length, sum_by, count_by, slice_index_or, slice_set, Option, Some, None, is_some, IsSome, replicate}
+use Rattle.std.specs.Prelude.{ℕ, ℤ, List, [], length, sum_by, count_by, slice_index_or, slice_set, Option, Some, None}
+use Rattle.std.specs.Prelude.{is_some, IsSome, replicate}
 
 pub record Block : Type 0 where
   pub owner : ℕ

@@ -1,16 +1,17 @@
 -- How a table keeps its places: the entry of the slab under each number's key, and the numbers that are empty.
-use Rattle.std.specs.Prelude.{◌≡◌, ◌≢◌, ℕ, ◌+◌, ◌<◌, ◌≤◌, List, map, length, slice_index, Option, None, IsSome, unwrap_or}
+use Rattle.std.specs.Prelude.{◌≡◌, ◌≢◌, ℕ, ◌+◌, ◌<◌, ◌≤◌, List, map, length, slice_index, Option, None, IsSome}
+use Rattle.std.specs.Prelude.{unwrap_or}
 use Rattle.slab.specs.Slab.{Slab, get}
 use Rattle.block_memory.specs.Table.{value_at, value_count}
 
 module _ {T : Type 0} where
   -- what the entry under a key is marked with: a value, or nothing
-  abbrev pub under_key : Slab (Option T) → ℕ → Option T
-  under_key entries key = unwrap_or (get entries key) None
+  abbrev pub value_under_key : Slab (Option T) → ℕ → Option T
+  value_under_key entries key = unwrap_or (get entries key) None
 
   -- the places in the order of their keys
   abbrev pub places : Slab (Option T) → List ℕ → List (Option T)
-  places entries keys = map (under_key entries) keys
+  places entries keys = map (value_under_key entries) keys
 
   -- each key has an entry, and no key stands twice
   pub record AreKeys (entries : Slab (Option T)) (keys : List ℕ) : Type 0 where

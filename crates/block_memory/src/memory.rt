@@ -80,27 +80,41 @@ pub trait VectorMemory {
     fn is_live(&self, id: BlockId) -> bool
         ensures { IsTrue result ↔ IsLive (content self.now) id };
 
-    /// How many words a block has.
-    fn len(&self, id: BlockId) -> usize
-        requires { IsLive (content self.now) id }
-        ensures { result ≡ length (words_at (content self.now) id) };
-
     /// Whose a block is.
     fn owner(&self, id: BlockId) -> usize
         requires { IsLive (content self.now) id }
         ensures { result ≡ owner_at (content self.now) id };
 
+    /// The words of a block.
+    fn words(&self, id: BlockId) -> &[i64]
+        requires { IsLive (content self.now) id }
+        ensures { result.now ≡ words_at (content self.now) id };
+
+    /// How many words a block has.
+    fn len(&self, id: BlockId) -> usize
+        requires { IsLive (content self.now) id }
+        ensures { result ≡ length (words_at (content self.now) id) }
+    {
+        self.words(id).len()
+    }
+
     /// A word of a block, counted from 0.
     fn word(&self, id: BlockId, i: usize) -> i64
         requires live { IsLive (content self.now) id }
         requires within { i < length (words_at (content self.now) id) }
-        ensures { slice_get (words_at (content self.now) id) i ≡ Some result };
+        ensures { slice_get (words_at (content self.now) id) i ≡ Some result }
+    {
+        self.words(id)[i]
+    }
 
     /// Copies the words of a block to `buf`, which has its length.
     fn read_into(&self, id: BlockId, buf: &mut [i64])
         requires live { IsLive (content self.now) id }
         requires same_length { length buf.old ≡ length (words_at (content self.now) id) }
-        ensures { buf.new ≡ words_at (content self.now) id };
+        ensures { buf.new ≡ words_at (content self.now) id }
+    {
+        buf.copy_from_slice(self.words(id));
+    }
 
     /// Moves blocks together where the memory keeps them in one region. No block changes.
     fn pack(&mut self)

@@ -6,70 +6,96 @@ ghost use Rattle.block_memory.specs.Layout.{content_of};
 ghost use Rattle.block_memory.specs.Region.{AreApart, AreWithin, ArePacked, IsRegion, HasRoom};
 
 use crate::blocks::Blocks;
+use crate::packing::{Packing, Room};
 use holes::Holes;
 use std::alloc::Allocator;
 
-// Moves the blocks to the front of the region, in the order in which they lie. Each word moves at most once.
-fn pack_blocks<A: Allocator>(blocks: &mut Blocks<A>, used: usize)
-    requires apart { AreApart blocks.old.placed }
-    requires within { AreWithin blocks.old.placed blocks.old.size }
-    requires counted { used ≡ used_words (content_of blocks.old.placed) }
+// Moves the blocks to the front of the region, in the order in which they lie, each word at most once. Answers how many
+// words moved.
+fn pack_blocks<A: Allocator>(blocks: &mut Blocks<A>, used: usize) -> usize
+    requires apart { AreApart blocks.old.slots }
+    requires within { AreWithin blocks.old.slots blocks.old.size }
+    requires counted { used ≡ used_words (content_of blocks.old.slots) }
     ensures size { blocks.new.size ≡ blocks.old.size }
-    ensures content { content_of blocks.new.placed ≡ content_of blocks.old.placed }
-    ensures within { AreWithin blocks.new.placed blocks.new.size }
-    ensures packed { ArePacked blocks.new.placed used }
+    ensures content { content_of blocks.new.slots ≡ content_of blocks.old.slots }
+    ensures within { AreWithin blocks.new.slots blocks.new.size }
+    ensures packed { ArePacked blocks.new.slots used }
 {
     let mut packed = 0;
     let mut place = 0;
+    let mut moved = 0;
     while packed < used {
         match blocks.beginning_at(place) {
             Some(number) => {
                 let len = blocks.words(number).len();
-                blocks.slide(number, packed);
+                moved += blocks.slide(number, packed);
                 packed += len;
                 place += len;
             }
             None => place += 1,
         }
     }
+    moved
 }
 
-/// Moves the blocks of a region to its front, so that the free words are one hole behind them.
-pub(crate) fn pack_region<A: Allocator>(blocks: &mut Blocks<A>, holes: &mut Holes<A>, used: usize)
+/// Moves the blocks of a region to its front, so that the free words are one hole behind them. Answers how many words
+/// moved.
+pub(crate) fn pack_region<A: Allocator>(
+    blocks: &mut Blocks<A>,
+    holes: &mut Holes<A>,
+    used: usize,
+) -> usize
     requires { IsRegion blocks.old holes.old used }
     ensures size { blocks.new.size ≡ blocks.old.size }
-    ensures content { content_of blocks.new.placed ≡ content_of blocks.old.placed }
+    ensures content { content_of blocks.new.slots ≡ content_of blocks.old.slots }
     ensures region { IsRegion blocks.new holes.new used }
     ensures packed { holes.new.free ≡ free_from used blocks.new.size }
 {
-    pack_blocks(blocks, used);
+    let moved = pack_blocks(blocks, used);
     holes.reset(used);
+    moved
 }
 
-/// Takes the words for a block of so many words from a hole, and answers the place of the first. The blocks are moved
-/// together first where no hole is wide enough.
-pub(crate) fn take_room<A: Allocator>(
+/// Moves the blocks of a region to its front, and takes the words for a block of so many words behind them.
+pub(crate) fn pack_and_take<A: Allocator>(
     blocks: &mut Blocks<A>,
     holes: &mut Holes<A>,
     used: usize,
     len: usize,
-) -> usize
+) -> Room
+    requires region { IsRegion blocks.old holes.old used }
+    requires some { 1 ≤ len }
+    requires fits { used + len ≤ blocks.old.size }
+    ensures size { blocks.new.size ≡ blocks.old.size }
+    ensures content { content_of blocks.new.slots ≡ content_of blocks.old.slots }
+    ensures room { HasRoom blocks.new holes.new used result.place len }
+{
+    let moved = pack_region(blocks, holes, used);
+    match holes.take(len) {
+        Some(place) => Room { place, moved },
+        None => unreachable!(),
+    }
+}
+
+/// Takes the words for a block of so many words from the lowest hole that has them. Blocks move first where none has.
+pub(crate) fn take_room<P: Packing, A: Allocator>(
+    blocks: &mut Blocks<A>,
+    holes: &mut Holes<A>,
+    used: usize,
+    len: usize,
+) -> Room
     requires region { IsRegion blocks.old holes.old used }
     requires fits { used + len ≤ blocks.old.size }
     ensures size { blocks.new.size ≡ blocks.old.size }
-    ensures content { content_of blocks.new.placed ≡ content_of blocks.old.placed }
-    ensures room { HasRoom blocks.new holes.new used result len }
+    ensures content { content_of blocks.new.slots ≡ content_of blocks.old.slots }
+    ensures room { HasRoom blocks.new holes.new used result.place len }
 {
     if len == 0 {
-        return 0;
+        return Room { place: 0, moved: 0 };
     }
-    if let Some(place) = holes.take(len) {
-        return place;
-    }
-    pack_region(blocks, holes, used);
     match holes.take(len) {
-        Some(place) => place,
-        None => unreachable!(),
+        Some(place) => Room { place, moved: 0 },
+        None => P::make_room(blocks, holes, used, len),
     }
 }
 

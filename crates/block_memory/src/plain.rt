@@ -7,9 +7,9 @@ use crate::table::Table;
 use std::alloc::{AllocError, Allocator};
 use std::marker::Model;
 
-// A block: whose it is, and its words.
+// A block with a list of its own.
 #[derive(Drop)]
-struct Held<A: Allocator> {
+struct PlainBlock<A: Allocator> {
     owner: usize,
     words: Vec<i64, A>,
 }
@@ -21,7 +21,7 @@ pub struct PlainMemory<A: Allocator> {
     alloc: A,
     size: usize,
     used: usize,
-    held: Table<Held<A>, A>,
+    table: Table<PlainBlock<A>, A>,
 }
 
 impl<A: Allocator> Model for PlainMemory<A> {
@@ -29,11 +29,11 @@ impl<A: Allocator> Model for PlainMemory<A> {
 
     ghost Value = { Memory };
 
-    ghost use Rattle.block_memory.specs.Plain.{held_content, IsPlain};
+    ghost use Rattle.block_memory.specs.Plain.{content_of, IsPlain};
 
-    ghost view = { λ m. record { room = m.size; content = held_content m.held } };
+    ghost view = { λ m. record { room = m.size; content = content_of m.table } };
 
-    ghost invariant = { λ m. IsPlain m.size m.used (held_content m.held) };
+    ghost invariant = { λ m. IsPlain m.size m.used (content_of m.table) };
 }
 
 impl<A: Allocator + Clone> PlainMemory<A> {
@@ -44,17 +44,17 @@ impl<A: Allocator + Clone> PlainMemory<A> {
         ensures empty { IfOk result (λ m. m.content ≡ no_blocks most_blocks) }
         ensures size { IfOk result (λ m. m.room ≡ size) }
     {
-        let held = Table::new(alloc.clone()?, most_blocks)?;
+        let table = Table::new(alloc.clone()?, most_blocks)?;
         Ok(PlainMemory {
             alloc,
             size,
             used: 0,
-            held,
+            table,
         })
     }
 
     // A list with these words.
-    fn copied(&self, words: &[i64]) -> Result<Vec<i64, A>, NoRoom>
+    fn copy_of(&self, words: &[i64]) -> Result<Vec<i64, A>, NoRoom>
         ensures ok { IfOk result (λ list. list.items ≡ words.now) }
         ensures err { result ≢ Err NoRoom.Full }
     {
@@ -76,35 +76,27 @@ impl<A: Allocator + Clone> VectorMemory for PlainMemory<A> {
         if words.len() > self.size - self.used {
             return Err(NoRoom::Full);
         }
-        let copy = self.copied(words)?;
+        let copy = self.copy_of(words)?;
         self.used += words.len();
-        let number = self.held.insert(Held { owner, words: copy });
+        let number = self.table.insert(PlainBlock { owner, words: copy });
         Ok(BlockId::new(number))
     }
 
     fn free(&mut self, id: BlockId) {
-        let held = self.held.remove(id.number());
-        self.used -= held.words.len();
+        let block = self.table.remove(id.number());
+        self.used -= block.words.len();
     }
 
     fn is_live(&self, id: BlockId) -> bool {
-        self.held.find(id.number()).is_some()
-    }
-
-    fn len(&self, id: BlockId) -> usize {
-        self.held.value(id.number()).words.len()
+        self.table.find(id.number()).is_some()
     }
 
     fn owner(&self, id: BlockId) -> usize {
-        self.held.value(id.number()).owner
+        self.table.value(id.number()).owner
     }
 
-    fn word(&self, id: BlockId, i: usize) -> i64 {
-        self.held.value(id.number()).words[i]
-    }
-
-    fn read_into(&self, id: BlockId, buf: &mut [i64]) {
-        buf.copy_from_slice(&self.held.value(id.number()).words);
+    fn words(&self, id: BlockId) -> &[i64] {
+        &self.table.value(id.number()).words
     }
 
     fn pack(&mut self) {}
@@ -118,10 +110,10 @@ impl<A: Allocator + Clone> VectorMemory for PlainMemory<A> {
     }
 
     fn blocks(&self) -> usize {
-        self.held.values()
+        self.table.values()
     }
 
     fn ids(&self) -> usize {
-        self.held.len()
+        self.table.len()
     }
 }

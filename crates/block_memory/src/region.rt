@@ -6,36 +6,47 @@ ghost use Rattle.block_memory.specs.Content.{no_blocks};
 use crate::blocks::Blocks;
 use crate::memory::{BlockId, NoRoom, VectorMemory};
 use crate::pack::{give_room, pack_region, take_room};
+use crate::packing::{Packing, Room, SlidingPacking, WholePacking};
 use holes::Holes;
 use holes::laws::one_hole_more_than_ranges;
 use std::alloc::{AllocError, Allocator};
-use std::marker::Model;
+use std::marker::{Model, PhantomData};
 
-/// A vector memory in one region of words. It takes all its memory when it is made, and `place` never answers
-/// [`NoRoom::Memory`].
+/// A vector memory in one region of words, in which blocks are moved in the way `P` where no hole is wide enough. It takes
+/// all its memory when it is made, and `place` never answers [`NoRoom::Memory`].
 ///
-/// A block lies in a row of words, and a block of no words covers none. Where no hole is wide enough for a new block,
-/// `place` first moves the blocks together. Else `place` costs the words of the block and a look for a hole, and `free`
-/// costs giving the words back to the holes, however many blocks there are.
+/// A block lies in a row of words, and a block of no words covers none. Where a hole is wide enough, `place` costs the
+/// words of the block and a look for the hole; `free` costs giving the words back to the holes, however many blocks there
+/// are. [`RegionMemory`] and [`SlidingMemory`] say what `place` does else.
 #[derive(Drop)]
-pub struct RegionMemory<A: Allocator> {
+pub struct PackedRegion<P, A: Allocator> {
     blocks: Blocks<A>,
     holes: Holes<A>,
     used: usize,
+    // What the last `place` took.
+    last: Room,
+    packing: PhantomData<P>,
 }
 
-impl<A: Allocator> Model for RegionMemory<A> {
+/// A region in which `place` moves all blocks together at once where no hole is wide enough.
+pub type RegionMemory<A> = PackedRegion<WholePacking, A>;
+
+/// A region in which `place` slides blocks down where no hole is wide enough: in order of place, from the lowest hole on,
+/// and no more of them than until a hole is wide enough.
+pub type SlidingMemory<A> = PackedRegion<SlidingPacking, A>;
+
+impl<P, A: Allocator> Model for PackedRegion<P, A> {
     ghost use Rattle.block_memory.specs.Region.{RegionState, IsRegion};
     ghost use Rattle.block_memory.specs.Layout.{content_of};
 
     ghost Value = { RegionState };
 
-    ghost view = { λ m. record { room = m.blocks.size; content = content_of m.blocks.placed; free = m.holes.free } };
+    ghost view = { λ m. record { room = m.blocks.size; content = content_of m.blocks.slots; free = m.holes.free; moved = m.last.moved } };
 
     ghost invariant = { λ m. IsRegion m.blocks m.holes m.used };
 }
 
-impl<A: Allocator> RegionMemory<A> {
+impl<P: Packing, A: Allocator> PackedRegion<P, A> {
     /// A memory for `size` words in at most `most_blocks` blocks, with no block yet. All words are free.
     ///
     /// An error means that the allocator refused the room for the words, the numbers of the blocks or the holes.
@@ -45,18 +56,28 @@ impl<A: Allocator> RegionMemory<A> {
         ensures empty { IfOk result (λ m. m.content ≡ no_blocks most_blocks) }
         ensures size { IfOk result (λ m. m.room ≡ size) }
         ensures free { IfOk result (λ m. m.free ≡ replicate size true) }
+        ensures moved { IfOk result (λ m. m.moved ≡ 0) }
     {
         let blocks = Blocks::new(alloc.clone()?, size, most_blocks)?;
         let holes = Holes::new(alloc, size, most_blocks + 2)?;
-        Ok(RegionMemory {
+        Ok(PackedRegion {
             blocks,
             holes,
             used: 0,
+            last: Room { place: 0, moved: 0 },
+            packing: PhantomData,
         })
+    }
+
+    /// How many words of other blocks the last `place` moved that placed a block, 0 before the first.
+    pub fn moved(&self) -> usize
+        ensures { result ≡ self.now.moved }
+    {
+        self.last.moved
     }
 }
 
-impl<A: Allocator> VectorMemory for RegionMemory<A> {
+impl<P: Packing, A: Allocator> VectorMemory for PackedRegion<P, A> {
     ghost use Rattle.std.specs.Prelude.{false};
 
     ghost content = { λ m. m.content };
@@ -70,9 +91,10 @@ impl<A: Allocator> VectorMemory for RegionMemory<A> {
         if len > self.blocks.size() - self.used {
             return Err(NoRoom::Full);
         }
-        let place = take_room(&mut self.blocks, &mut self.holes, self.used, len);
-        let number = self.blocks.put(owner, place, words);
+        let room = take_room::<P, A>(&mut self.blocks, &mut self.holes, self.used, len);
+        let number = self.blocks.put(owner, room.place, words);
         self.used += len;
+        self.last = room;
         Ok(BlockId::new(number))
     }
 
@@ -87,20 +109,12 @@ impl<A: Allocator> VectorMemory for RegionMemory<A> {
         self.blocks.is_there(id.number())
     }
 
-    fn len(&self, id: BlockId) -> usize {
-        self.blocks.words(id.number()).len()
-    }
-
     fn owner(&self, id: BlockId) -> usize {
         self.blocks.owner(id.number())
     }
 
-    fn word(&self, id: BlockId, i: usize) -> i64 {
-        self.blocks.words(id.number())[i]
-    }
-
-    fn read_into(&self, id: BlockId, buf: &mut [i64]) {
-        buf.copy_from_slice(self.blocks.words(id.number()));
+    fn words(&self, id: BlockId) -> &[i64] {
+        self.blocks.words(id.number())
     }
 
     /// Moves the blocks to the front of the region. The free words are one hole then, or none.

@@ -22,7 +22,8 @@ bound from (hole ∷ holes) = bound (hole.place + hole.len + 1) holes
 -- the words up to the end of the last hole
 unfoldable pub words_before : ℕ → List Hole → List Bool
 words_before from [] = []
-words_before from (hole ∷ holes) = replicate (hole.place - from) false ++ replicate hole.len true ++ words_before (hole.place + hole.len) holes
+words_before from (hole ∷ holes) =
+    replicate (hole.place - from) false ++ replicate hole.len true ++ words_before (hole.place + hole.len) holes
 
 -- no hole begins below a place, which lies in the region
 unfoldable pub StartsFrom : ℕ → ℕ → List Hole → Type 0
@@ -42,7 +43,8 @@ bound-append from (hole ∷ xs) ys = bound-append (hole.place + hole.len + 1) xs
 pub next-le-bound : (from to : ℕ) (holes : List Hole) → from ≤ to → next_from from holes ≤ bound to holes
 unfolding next_from bound
 next-le-bound from to [] le = le
-next-le-bound from to (hole ∷ holes) le = next-le-bound (hole.place + hole.len) (hole.place + hole.len + 1) holes (omega arith)
+next-le-bound from to (hole ∷ holes) le =
+    next-le-bound (hole.place + hole.len) (hole.place + hole.len + 1) holes (omega arith)
 
 -- behind holes there is a word that isn't free, or it is the region's first word
 next-lt-place : (place : ℕ) (holes : List Hole) → 0 < place → bound 0 holes ≤ place → next_from 0 holes < place
@@ -55,7 +57,8 @@ next-lt-place place (hole ∷ holes) some le = omega (arith, suc_bound (hole.pla
     suc_bound from (next ∷ rest) = suc_bound (next.place + next.len) rest
 
 -- Holes that are apart.
-pub apart_weaker : (to from size : ℕ) (holes : List Hole) → to ≤ from → AreApart from size holes → AreApart to size holes
+pub apart_weaker : (to from size : ℕ) (holes : List Hole) → to ≤ from → AreApart from size holes →
+    AreApart to size holes
 apart_weaker to from size [] le a = tt
 apart_weaker to from size (hole ∷ holes) le a = (omega (arith, a.0), a.1, a.2, a.3)
 
@@ -63,52 +66,62 @@ pub apart_front : (from size : ℕ) (xs ys : List Hole) → AreApart from size (
 apart_front from size [] ys a = tt
 apart_front from size (hole ∷ xs) ys a = (a.0, a.1, a.2, apart_front (hole.place + hole.len + 1) size xs ys a.3)
 
-pub apart_back : (from size : ℕ) (xs ys : List Hole) → AreApart from size (xs ++ ys) → AreApart (bound from xs) size ys
+pub apart_back : (from size : ℕ) (xs ys : List Hole) → AreApart from size (xs ++ ys) →
+    AreApart (bound from xs) size ys
 unfolding bound
 apart_back from size [] ys a = a
 apart_back from size (hole ∷ xs) ys a = apart_back (hole.place + hole.len + 1) size xs ys a.3
 
-pub apart-append : (from size : ℕ) (xs ys : List Hole) → AreApart from size xs → AreApart (bound from xs) size ys → AreApart from size (xs ++ ys)
+pub apart-append : (from size : ℕ) (xs ys : List Hole) → AreApart from size xs → AreApart (bound from xs) size ys →
+    AreApart from size (xs ++ ys)
 unfolding bound
 apart-append from size [] ys a b = b
 apart-append from size (hole ∷ xs) ys a b = (a.0, a.1, a.2, apart-append (hole.place + hole.len + 1) size xs ys a.3 b)
 
 -- The words of holes.
-pub words_from-append : (from size : ℕ) (xs ys : List Hole) → words_from from size (xs ++ ys) ≡ words_before from xs ++ words_from (next_from from xs) size ys
+pub words_from-append : (from size : ℕ) (xs ys : List Hole) →
+    words_from from size (xs ++ ys) ≡ words_before from xs ++ words_from (next_from from xs) size ys
 unfolding next_from words_before
 words_from-append from size [] ys = refl
 words_from-append from size (hole ∷ xs) ys =
     let front = replicate (hole.place - from) false ++ replicate hole.len true in
     ap (λ (rest : List Bool). front ++ rest) (words_from-append (hole.place + hole.len) size xs ys)
-    ∙ sym (append_assoc front (words_before (hole.place + hole.len) xs) (words_from (next_from (hole.place + hole.len) xs) size ys))
+    ∙ sym (append_assoc front (words_before (hole.place + hole.len) xs)
+    (words_from (next_from (hole.place + hole.len) xs) size ys))
 
-from-le-next : (from to size : ℕ) (holes : List Hole) → from ≤ to → AreApart to size holes → from ≤ next_from from holes
+from-le-next : (from to size : ℕ) (holes : List Hole) → from ≤ to → AreApart to size holes →
+    from ≤ next_from from holes
 unfolding next_from
 from-le-next from to size [] le a = omega arith
-from-le-next from to size (hole ∷ holes) le a = omega (arith, a.0, from-le-next (hole.place + hole.len) (hole.place + hole.len + 1) size holes (omega arith) a.3)
+from-le-next from to size (hole ∷ holes) le a =
+    omega (arith, a.0, from-le-next (hole.place + hole.len) (hole.place + hole.len + 1) size holes (omega arith) a.3)
 
-pub length-words_before : (from to size : ℕ) (holes : List Hole) → from ≤ to → AreApart to size holes → length (words_before from holes) + from ≡ next_from from holes
+pub length-words_before : (from to size : ℕ) (holes : List Hole) → from ≤ to → AreApart to size holes →
+    length (words_before from holes) + from ≡ next_from from holes
 unfolding next_from words_before
 length-words_before from to size [] le a = omega arith
 length-words_before from to size (hole ∷ holes) le a =
     omega (
       arith,
       a.0,
-      length-append (replicate (hole.place - from) false ++ replicate hole.len true) (words_before (hole.place + hole.len) holes),
+      length-append (replicate (hole.place - from) false ++ replicate hole.len true)
+          (words_before (hole.place + hole.len) holes),
       length-append (replicate (hole.place - from) false) (replicate hole.len true),
       length-replicate (hole.place - from) false,
       length-replicate hole.len true,
       length-words_before (hole.place + hole.len) (hole.place + hole.len + 1) size holes (omega arith) a.3,
     )
 
-pub length-words_from : (from to size : ℕ) (holes : List Hole) → from ≤ to → AreApart to size holes → length (words_from from size holes) ≡ size - from
+pub length-words_from : (from to size : ℕ) (holes : List Hole) → from ≤ to → AreApart to size holes →
+    length (words_from from size holes) ≡ size - from
 length-words_from from to size [] le a = length-replicate (size - from) false
 length-words_from from to size (hole ∷ holes) le a =
     omega (
       arith,
       a.0,
       a.2,
-      length-append (replicate (hole.place - from) false ++ replicate hole.len true) (words_from (hole.place + hole.len) size holes),
+      length-append (replicate (hole.place - from) false ++ replicate hole.len true)
+          (words_from (hole.place + hole.len) size holes),
       length-append (replicate (hole.place - from) false) (replicate hole.len true),
       length-replicate (hole.place - from) false,
       length-replicate hole.len true,
@@ -116,39 +129,53 @@ length-words_from from to size (hole ∷ holes) le a =
     )
 
 -- so many words before the first hole of the rest
-pub words_from_later : (from to size : ℕ) (holes : List Hole) → from ≤ to → StartsFrom to size holes → words_from from size holes ≡ replicate (to - from) false ++ words_from to size holes
+pub words_from_later : (from to size : ℕ) (holes : List Hole) → from ≤ to → StartsFrom to size holes →
+    words_from from size holes ≡ replicate (to - from) false ++ words_from to size holes
 unfolding StartsFrom
 words_from_later from to size [] le starts =
-    ap (λ n. replicate n false) (let e : size - from ≡ (to - from) + (size - to) = omega arith in e) ∙ sym (replicate-append-replicate (to - from) (size - to) false)
+    ap (λ n. replicate n false) (let e : size - from ≡ (to - from) + (size - to) = omega arith in e) ∙ sym
+    (replicate-append-replicate (to - from) (size - to) false)
 words_from_later from to size (hole ∷ holes) le starts =
     let rest = words_from (hole.place + hole.len) size holes in
     let some = replicate (to - from) false in
     let more = replicate (hole.place - to) false in
     let len = replicate hole.len true in
     ap (λ (xs : List Bool). xs ++ len ++ rest)
-    (ap (λ n. replicate n false) (let e : hole.place - from ≡ (to - from) + (hole.place - to) = omega arith in e) ∙ sym (replicate-append-replicate (to - from) (hole.place - to) false))
+    (ap (λ n. replicate n false) (let e : hole.place - from ≡ (to - from) + (hole.place - to) = omega arith in e) ∙
+    sym (replicate-append-replicate (to - from) (hole.place - to) false))
     ∙ (ap (λ (xs : List Bool). xs ++ rest) (append_assoc some more len) ∙ append_assoc some (more ++ len) rest)
 
 -- a range in the middle
-set_range_mid : (front back : List Bool) (place len : ℕ) (old new : Bool) → length front ≡ place → set_range (front ++ (replicate len old ++ back)) place len new ≡ front ++ (replicate len new ++ back)
+set_range_mid : (front back : List Bool) (place len : ℕ) (old new : Bool) → length front ≡ place →
+    set_range (front ++ (replicate len old ++ back)) place len new ≡ front ++ (replicate len new ++ back)
 set_range_mid front back place len old new at =
     let middle = replicate len old in
     let whole = front ++ (middle ++ back) in
-    ap (λ (xs : List Bool). xs ++ replicate len new ++ drop (place + len) whole) (take_at front (middle ++ back) place at)
+    ap (λ (xs : List Bool). xs ++ replicate len new ++ drop (place + len) whole)
+    (take_at front (middle ++ back) place at)
     ∙ (ap (λ (xs : List Bool). front ++ replicate len new ++ xs)
-    (ap (drop (place + len)) (sym (append_assoc front middle back)) ∙ drop_at (front ++ middle) back (place + len) (omega (arith, length-append front middle, length-replicate len old)))
+    (ap (drop (place + len)) (sym (append_assoc front middle back)) ∙ drop_at (front ++ middle) back (place + len)
+    (omega (arith, length-append front middle, length-replicate len old)))
     ∙ append_assoc front (replicate len new) back)
 
 -- the words before a place behind some holes
 front_of : List Hole → ℕ → List Bool
 front_of xs place = words_before 0 xs ++ replicate (place - next_from 0 xs) false
 
-length-front_of : (size place : ℕ) (xs : List Hole) → AreApart 0 size xs → next_from 0 xs ≤ place → length (front_of xs place) ≡ place
+length-front_of : (size place : ℕ) (xs : List Hole) → AreApart 0 size xs → next_from 0 xs ≤ place →
+    length (front_of xs place) ≡ place
 unfolding front_of
 length-front_of size place xs a le =
-    omega (arith, length-append (words_before 0 xs) (replicate (place - next_from 0 xs) false), length-words_before 0 0 size xs (omega arith) a, length-replicate (place - next_from 0 xs) false)
+    omega (
+      arith,
+      length-append (words_before 0 xs) (replicate (place - next_from 0 xs) false),
+      length-words_before 0
+          0 size xs (omega arith) a,
+      length-replicate (place - next_from 0 xs) false,
+    )
 
-hole_between : (size : ℕ) (xs : List Hole) (hole : Hole) (ys : List Hole) → words_from 0 size (xs ++ hole ∷ ys) ≡ front_of xs hole.place ++ (replicate hole.len true ++ words_from (hole.place + hole.len) size ys)
+hole_between : (size : ℕ) (xs : List Hole) (hole : Hole) (ys : List Hole) → words_from 0 size (xs ++ hole ∷ ys) ≡
+    front_of xs hole.place ++ (replicate hole.len true ++ words_from (hole.place + hole.len) size ys)
 unfolding front_of
 hole_between size xs hole ys =
     let before = words_before 0 xs in
@@ -156,9 +183,12 @@ hole_between size xs hole ys =
     let len = replicate hole.len true in
     let rest = words_from (hole.place + hole.len) size ys in
     words_from-append 0 size xs (hole ∷ ys)
-    ∙ (ap (λ (zs : List Bool). before ++ zs) (append_assoc gap len rest) ∙ sym (append_assoc before gap (len ++ rest)))
+    ∙ (ap (λ (zs : List Bool). before ++ zs) (append_assoc gap len rest) ∙ sym
+    (append_assoc before gap (len ++ rest)))
 
-no_hole_between : (size : ℕ) (xs : List Hole) (place len : ℕ) (ys : List Hole) → next_from 0 xs ≤ place → StartsFrom (place + len) size ys → words_from 0 size (xs ++ ys) ≡ front_of xs place ++ (replicate len false ++ words_from (place + len) size ys)
+no_hole_between : (size : ℕ) (xs : List Hole) (place len : ℕ) (ys : List Hole) → next_from 0 xs ≤ place →
+    StartsFrom (place + len) size ys →
+    words_from 0 size (xs ++ ys) ≡ front_of xs place ++ (replicate len false ++ words_from (place + len) size ys)
 unfolding front_of
 no_hole_between size xs place len ys le starts =
     let from = next_from 0 xs in
@@ -168,47 +198,61 @@ no_hole_between size xs place len ys le starts =
     words_from-append 0 size xs ys
     ∙ (ap (λ (zs : List Bool). before ++ zs)
     (words_from_later from (place + len) size ys (omega arith) starts
-    ∙ (ap (λ (zs : List Bool). zs ++ rest) (ap (λ n. replicate n false) (let e : (place + len) - from ≡ (place - from) + len = omega arith in e) ∙ sym (replicate-append-replicate (place - from) len false))
+    ∙ (ap (λ (zs : List Bool). zs ++ rest) (ap (λ n. replicate n false) (let e : (place + len) - from ≡ (place - from)
+    + len = omega arith in e) ∙ sym (replicate-append-replicate (place - from) len false))
     ∙ append_assoc gap (replicate len false) rest))
     ∙ sym (append_assoc before gap (replicate len false ++ rest)))
 
 -- a hole more between holes, and a hole less
-pub words_given : (size : ℕ) (xs : List Hole) (place len : ℕ) (ys : List Hole) → AreApart 0 size xs → next_from 0 xs ≤ place → StartsFrom (place + len) size ys → words_from 0 size (xs ++ record { place = place; len = len } ∷ ys) ≡ set_range (words_from 0 size (xs ++ ys)) place len true
+pub words_given : (size : ℕ) (xs : List Hole) (place len : ℕ) (ys : List Hole) → AreApart 0 size xs →
+    next_from 0 xs ≤ place → StartsFrom (place + len) size ys → words_from 0 size
+    (xs ++ record { place = place; len = len } ∷ ys) ≡ set_range (words_from 0 size (xs ++ ys)) place len true
 words_given size xs place len ys a le starts =
     let rest = words_from (place + len) size ys in
     hole_between size xs (record { place = place; len = len }) ys
     ∙ sym (ap (λ (free : List Bool). set_range free place len true) (no_hole_between size xs place len ys le starts)
     ∙ set_range_mid (front_of xs place) rest place len false true (length-front_of size place xs a le))
 
-pub words_taken : (size : ℕ) (xs : List Hole) (place len : ℕ) (ys : List Hole) → AreApart 0 size xs → next_from 0 xs ≤ place → StartsFrom (place + len) size ys → words_from 0 size (xs ++ ys) ≡ set_range (words_from 0 size (xs ++ record { place = place; len = len } ∷ ys)) place len false
+pub words_taken : (size : ℕ) (xs : List Hole) (place len : ℕ) (ys : List Hole) → AreApart 0 size xs →
+    next_from 0 xs ≤ place → StartsFrom (place + len) size ys → words_from 0 size (xs ++ ys) ≡ set_range (words_from 0
+    size (xs ++ record { place = place; len = len } ∷ ys)) place len false
 words_taken size xs place len ys a le starts =
     let rest = words_from (place + len) size ys in
     no_hole_between size xs place len ys le starts
-    ∙ sym (ap (λ (free : List Bool). set_range free place len false) (hole_between size xs (record { place = place; len = len }) ys)
+    ∙ sym (ap (λ (free : List Bool). set_range free place len false)
+    (hole_between size xs (record { place = place; len = len }) ys)
     ∙ set_range_mid (front_of xs place) rest place len true false (length-front_of size place xs a le))
 
 -- two holes that touch make the same words free as one
-pub fused_first : (from size place first second : ℕ) (ys : List Hole) → words_from from size (record { place = place; len = first + second } ∷ ys) ≡ words_from from size (record { place = place; len = first } ∷ (record { place = place + first; len = second } ∷ ys))
+pub fused_first : (from size place first second : ℕ) (ys : List Hole) → words_from from size
+    (record { place = place; len = first + second } ∷ ys) ≡ words_from from size (record
+    { place = place; len = first } ∷ (record { place = place + first; len = second } ∷ ys))
 fused_first from size place first second ys =
     let gap = replicate (place - from) false in
     let one = replicate first true in
     let two = replicate second true in
     let rest = words_from (place + first + second) size ys in
-    ap (λ (n : ℕ). gap ++ replicate (first + second) true ++ words_from n size ys) (let e : place + (first + second) ≡ place + first + second = omega arith in e)
+    ap (λ (n : ℕ). gap ++ replicate (first + second) true ++ words_from n size ys) (let e : place + (first + second) ≡
+    place + first + second = omega arith in e)
     ∙ (append_assoc gap (replicate (first + second) true) rest
     ∙ (ap (λ (zs : List Bool). gap ++ (zs ++ rest)) (sym (replicate-append-replicate first second true))
     ∙ (ap (λ (zs : List Bool). gap ++ zs) (append_assoc one two rest)
     ∙ (sym (append_assoc gap one (two ++ rest))
-    ∙ ap (λ (n : ℕ). gap ++ one ++ (replicate n false ++ two ++ rest)) (let e : 0 ≡ (place + first) - (place + first) = omega arith in e)))))
+    ∙ ap (λ (n : ℕ). gap ++ one ++ (replicate n false ++ two ++ rest))
+    (let e : 0 ≡ (place + first) - (place + first) = omega arith in e)))))
 
-pub words_fused : (size : ℕ) (xs : List Hole) (place first second : ℕ) (ys : List Hole) → words_from 0 size (xs ++ record { place = place; len = first + second } ∷ ys) ≡ words_from 0 size (xs ++ record { place = place; len = first } ∷ (record { place = place + first; len = second } ∷ ys))
+pub words_fused : (size : ℕ) (xs : List Hole) (place first second : ℕ) (ys : List Hole) → words_from 0 size
+    (xs ++ record { place = place; len = first + second } ∷ ys) ≡ words_from 0 size (xs ++ record
+    { place = place; len = first } ∷ (record { place = place + first; len = second } ∷ ys))
 words_fused size xs place first second ys =
     words_from-append 0 size xs (record { place = place; len = first + second } ∷ ys)
     ∙ (ap (λ (zs : List Bool). words_before 0 xs ++ zs) (fused_first (next_from 0 xs) size place first second ys)
-    ∙ sym (words_from-append 0 size xs (record { place = place; len = first } ∷ (record { place = place + first; len = second } ∷ ys))))
+    ∙ sym (words_from-append 0 size xs (record { place = place; len = first } ∷
+    (record { place = place + first; len = second } ∷ ys))))
 
 -- The word right behind a hole isn't free.
-front_taken : (from size : ℕ) (holes : List Hole) → AreApart (from + 1) size holes → is_free (words_from from size holes) 0 ≡ false
+front_taken : (from size : ℕ) (holes : List Hole) → AreApart (from + 1) size holes →
+    is_free (words_from from size holes) 0 ≡ false
 front_taken from size [] a = no_words (size - from)
   where
     no_words : (n : ℕ) → get_or (replicate n false) 0 false ≡ false
@@ -220,10 +264,12 @@ front_taken from size (hole ∷ holes) a =
     let rest = words_from (hole.place + hole.len) size holes in
     let some : 0 < length gap = omega (arith, a.0, length-replicate (hole.place - from) false) in
     get_or_append_left (gap ++ len) rest false 0 (omega (arith, length-append gap len))
-    ∙ (get_or_append_left gap len false 0 some ∙ get_or-replicate (hole.place - from) 0 false false (omega (arith, length-replicate (hole.place - from) false)))
+    ∙ (get_or_append_left gap len false 0 some ∙ get_or-replicate (hole.place - from) 0 false false
+    (omega (arith, length-replicate (hole.place - from) false)))
 
 -- How many words, and how many holes.
-pub free_count-words_from : (from size : ℕ) (holes : List Hole) → free_count (words_from from size holes) ≡ sum_by (λ hole. hole.len) holes
+pub free_count-words_from : (from size : ℕ) (holes : List Hole) →
+    free_count (words_from from size holes) ≡ sum_by (λ hole. hole.len) holes
 free_count-words_from from size [] = free_count-false (size - from)
 free_count-words_from from size (hole ∷ holes) =
     let gap = replicate (hole.place - from) false in
@@ -239,20 +285,24 @@ free_count-words_from from size (hole ∷ holes) =
       sum_by-cons (λ (next : Hole). next.len) hole holes,
     )
 
-count_behind_false : (n : ℕ) (free : List Bool) → hole_count_after false (replicate n false ++ free) ≡ hole_count_after false free
+count_behind_false : (n : ℕ) (free : List Bool) →
+    hole_count_after false (replicate n false ++ free) ≡ hole_count_after false free
 count_behind_false zero free = refl
 count_behind_false (suc n) free = count_behind_false n free
 
-count_behind_true : (n : ℕ) (free : List Bool) → hole_count_after true (replicate n true ++ free) ≡ hole_count_after true free
+count_behind_true : (n : ℕ) (free : List Bool) →
+    hole_count_after true (replicate n true ++ free) ≡ hole_count_after true free
 count_behind_true zero free = refl
 count_behind_true (suc n) free = count_behind_true n free
 
-count_of_hole : (n : ℕ) (free : List Bool) → 0 < n → hole_count_after false (replicate n true ++ free) ≡ 1 + hole_count_after true free
+count_of_hole : (n : ℕ) (free : List Bool) → 0 < n →
+    hole_count_after false (replicate n true ++ free) ≡ 1 + hole_count_after true free
 count_of_hole zero free some = absurd (omega arith)
 count_of_hole (suc n) free some = ap (λ k. 1 + k) (count_behind_true n free)
 
 -- what begins with a word that isn't free
-count_from_taken : (before : Bool) (free : List Bool) → is_free free 0 ≡ false → hole_count_after before free ≡ hole_count_after false free
+count_from_taken : (before : Bool) (free : List Bool) → is_free free 0 ≡ false →
+    hole_count_after before free ≡ hole_count_after false free
 count_from_taken before [] taken = refl
 count_from_taken before (false ∷ free) taken = refl
 count_from_taken before (true ∷ free) taken = absurd (false≢true (sym taken))
@@ -262,7 +312,8 @@ run_from_taken [] taken = refl
 run_from_taken (false ∷ free) taken = refl
 run_from_taken (true ∷ free) taken = absurd (false≢true (sym taken))
 
-pub hole_count-words_from : (from to size : ℕ) (holes : List Hole) → AreApart to size holes → hole_count (words_from from size holes) ≡ length holes
+pub hole_count-words_from : (from to size : ℕ) (holes : List Hole) → AreApart to size holes →
+    hole_count (words_from from size holes) ≡ length holes
 hole_count-words_from from to size [] a = none (size - from)
   where
     none : (n : ℕ) → hole_count_after false (replicate n false) ≡ 0
@@ -275,7 +326,13 @@ hole_count-words_from from to size (hole ∷ holes) a =
     ap hole_count (append_assoc gap len rest)
     ∙ (count_behind_false (hole.place - from) (len ++ rest)
     ∙ (count_of_hole hole.len rest a.1
-    ∙ (let e : 1 + hole_count_after true rest ≡ suc (length holes) = omega (arith, count_from_taken true rest (front_taken (hole.place + hole.len) size holes a.3), hole_count-words_from (hole.place + hole.len) (hole.place + hole.len + 1) size holes a.3) in e)))
+    ∙ (let e : 1 + hole_count_after true rest ≡ suc (length holes) = omega (
+      arith,
+      count_from_taken true rest
+          (front_taken (hole.place + hole.len) size holes a.3),
+      hole_count-words_from (hole.place + hole.len)
+          (hole.place + hole.len + 1) size holes a.3,
+    ) in e)))
 
 -- The widest hole.
 unfoldable pub most_len : List Hole → ℕ
@@ -290,11 +347,13 @@ run_of_hole : (n : ℕ) (free : List Bool) → front_run (replicate n true ++ fr
 run_of_hole zero free = omega arith
 run_of_hole (suc n) free = omega (arith, run_of_hole n free)
 
-widest_of_hole : (n : ℕ) (free : List Bool) → front_run free ≡ 0 → widest (replicate n true ++ free) ≡ max n (widest free)
+widest_of_hole : (n : ℕ) (free : List Bool) → front_run free ≡ 0 →
+    widest (replicate n true ++ free) ≡ max n (widest free)
 widest_of_hole zero free taken = omega arith
 widest_of_hole (suc n) free taken = omega (arith, run_of_hole n free, widest_of_hole n free taken)
 
-pub widest-words_from : (from to size : ℕ) (holes : List Hole) → AreApart to size holes → widest (words_from from size holes) ≡ most_len holes
+pub widest-words_from : (from to size : ℕ) (holes : List Hole) → AreApart to size holes →
+    widest (words_from from size holes) ≡ most_len holes
 unfolding most_len
 widest-words_from from to size [] a = none (size - from)
   where
@@ -316,29 +375,39 @@ unfolding StartsFrom
 starts from size [] within a = within
 starts from size (hole ∷ holes) within a = a.0
 
-pub without_hole : (size : ℕ) (xs : List Hole) (hole : Hole) (ys : List Hole) → AreApart 0 size (xs ++ hole ∷ ys) → AreApart 0 size (xs ++ ys)
+pub without_hole : (size : ℕ) (xs : List Hole) (hole : Hole) (ys : List Hole) → AreApart 0 size (xs ++ hole ∷ ys) →
+    AreApart 0 size (xs ++ ys)
 without_hole size xs hole ys a =
     let b = apart_back 0 size xs (hole ∷ ys) a in
-    apart-append 0 size xs ys (apart_front 0 size xs (hole ∷ ys) a) (apart_weaker (bound 0 xs) (hole.place + hole.len + 1) size ys (omega (arith, b.0)) b.3)
+    apart-append 0 size xs ys (apart_front 0 size xs (hole ∷ ys) a) (apart_weaker (bound 0 xs)
+    (hole.place + hole.len + 1) size ys (omega (arith, b.0)) b.3)
 
-pub next-le-hole : (size : ℕ) (xs : List Hole) (hole : Hole) (ys : List Hole) → AreApart 0 size (xs ++ hole ∷ ys) → next_from 0 xs ≤ hole.place
-next-le-hole size xs hole ys a = omega (arith, next-le-bound 0 0 xs (omega arith), (apart_back 0 size xs (hole ∷ ys) a).0)
+pub next-le-hole : (size : ℕ) (xs : List Hole) (hole : Hole) (ys : List Hole) → AreApart 0 size (xs ++ hole ∷ ys) →
+    next_from 0 xs ≤ hole.place
+next-le-hole size xs hole ys a =
+    omega (arith, next-le-bound 0 0 xs (omega arith), (apart_back 0 size xs (hole ∷ ys) a).0)
 
-pub starts_behind : (size : ℕ) (xs : List Hole) (hole : Hole) (ys : List Hole) → AreApart 0 size (xs ++ hole ∷ ys) → StartsFrom (hole.place + hole.len) size ys
+pub starts_behind : (size : ℕ) (xs : List Hole) (hole : Hole) (ys : List Hole) → AreApart 0 size (xs ++ hole ∷ ys) →
+    StartsFrom (hole.place + hole.len) size ys
 starts_behind size xs hole ys a =
     let b = apart_back 0 size xs (hole ∷ ys) a in
-    starts (hole.place + hole.len) size ys b.2 (apart_weaker (hole.place + hole.len) (hole.place + hole.len + 1) size ys (omega arith) b.3)
+    starts (hole.place + hole.len) size ys b.2 (apart_weaker (hole.place + hole.len) (hole.place + hole.len + 1) size
+    ys (omega arith) b.3)
 
-pub hole_inside : (size : ℕ) (xs : List Hole) (hole : Hole) (ys : List Hole) → AreApart 0 size (xs ++ hole ∷ ys) → AllFree (words_from 0 size (xs ++ hole ∷ ys)) hole.place hole.len
+pub hole_inside : (size : ℕ) (xs : List Hole) (hole : Hole) (ys : List Hole) → AreApart 0 size (xs ++ hole ∷ ys) →
+    AllFree (words_from 0 size (xs ++ hole ∷ ys)) hole.place hole.len
 hole_inside size xs hole ys a word from to =
     let b = apart_back 0 size xs (hole ∷ ys) a in
     let others = words_from 0 size (xs ++ ys) in
-    let size_is : length others ≡ size - 0 = length-words_from 0 0 size (xs ++ ys) (omega arith) (without_hole size xs hole ys a) in
+    let size_is : length others ≡ size - 0 = length-words_from 0 0 size (xs ++ ys) (omega arith)
+    (without_hole size xs hole ys a) in
     ap (λ (free : List Bool). is_free free word)
-    (words_given size xs hole.place hole.len ys (apart_front 0 size xs (hole ∷ ys) a) (next-le-hole size xs hole ys a) (starts_behind size xs hole ys a))
+    (words_given size xs hole.place hole.len ys (apart_front 0 size xs (hole ∷ ys) a) (next-le-hole size xs hole ys a)
+    (starts_behind size xs hole ys a))
     ∙ set_range_inside others hole.place hole.len true word (omega (arith, b.2)) from to
 
-hole_before : (size : ℕ) (xs : List Hole) (hole : Hole) (ys : List Hole) → AreApart 0 size (xs ++ hole ∷ ys) → (word : ℕ) → word + 1 ≡ hole.place → is_free (words_from 0 size (xs ++ hole ∷ ys)) word ≡ false
+hole_before : (size : ℕ) (xs : List Hole) (hole : Hole) (ys : List Hole) → AreApart 0 size (xs ++ hole ∷ ys) →
+    (word : ℕ) → word + 1 ≡ hole.place → is_free (words_from 0 size (xs ++ hole ∷ ys)) word ≡ false
 unfolding front_of
 hole_before size xs hole ys a word next =
     let b = apart_back 0 size xs (hole ∷ ys) a in
@@ -349,11 +418,17 @@ hole_before size xs hole ys a word next =
     let lt : next_from 0 xs < hole.place = next-lt-place hole.place xs (omega arith) b.0 in
     let at : length before + 0 ≡ next_from 0 xs = length-words_before 0 0 size xs (omega arith) front in
     ap (λ (free : List Bool). is_free free word) (hole_between size xs hole ys)
-    ∙ (get_or_append_left (before ++ gap) back false word (omega (arith, length-append before gap, length-replicate (hole.place - next_from 0 xs) false))
+    ∙ (get_or_append_left (before ++ gap) back false word (omega (
+      arith,
+      length-append before gap,
+      length-replicate
+          (hole.place - next_from 0 xs) false,
+    ))
     ∙ (get_or-append_right before gap (next_from 0 xs) word false (omega arith) (omega arith)
     ∙ get_or-replicate (hole.place - next_from 0 xs) (word - next_from 0 xs) false false (omega arith)))
 
-hole_behind : (size : ℕ) (xs : List Hole) (hole : Hole) (ys : List Hole) → AreApart 0 size (xs ++ hole ∷ ys) → is_free (words_from 0 size (xs ++ hole ∷ ys)) (hole.place + hole.len) ≡ false
+hole_behind : (size : ℕ) (xs : List Hole) (hole : Hole) (ys : List Hole) → AreApart 0 size (xs ++ hole ∷ ys) →
+    is_free (words_from 0 size (xs ++ hole ∷ ys)) (hole.place + hole.len) ≡ false
 hole_behind size xs hole ys a =
     let b = apart_back 0 size xs (hole ∷ ys) a in
     let front = apart_front 0 size xs (hole ∷ ys) a in
@@ -361,12 +436,16 @@ hole_behind size xs hole ys a =
     let rest = words_from (hole.place + hole.len) size ys in
     let before = front_of xs hole.place in
     let at : length before ≡ hole.place = length-front_of size hole.place xs front (next-le-hole size xs hole ys a) in
-    ap (λ (free : List Bool). is_free free (hole.place + hole.len)) (hole_between size xs hole ys ∙ sym (append_assoc before len rest))
-    ∙ (get_or-append_right (before ++ len) rest (hole.place + hole.len) (hole.place + hole.len) false (omega (arith, length-append before len, length-replicate hole.len true)) (omega arith)
-    ∙ (ap (λ n. get_or rest n false) (let e : (hole.place + hole.len) - (hole.place + hole.len) ≡ 0 = omega arith in e)
+    ap (λ (free : List Bool). is_free free (hole.place + hole.len))
+    (hole_between size xs hole ys ∙ sym (append_assoc before len rest))
+    ∙ (get_or-append_right (before ++ len) rest (hole.place + hole.len) (hole.place + hole.len) false (omega
+    (arith, length-append before len, length-replicate hole.len true)) (omega arith)
+    ∙ (ap (λ n. get_or rest n false) (let e : (hole.place + hole.len) - (hole.place + hole.len) ≡ 0 = omega arith in
+    e)
     ∙ front_taken (hole.place + hole.len) size ys b.3))
 
-pub hole_is_hole : (size : ℕ) (xs : List Hole) (hole : Hole) (ys : List Hole) → AreApart 0 size (xs ++ hole ∷ ys) → IsHole (words_from 0 size (xs ++ hole ∷ ys)) hole.place hole.len
+pub hole_is_hole : (size : ℕ) (xs : List Hole) (hole : Hole) (ys : List Hole) → AreApart 0 size (xs ++ hole ∷ ys) →
+    IsHole (words_from 0 size (xs ++ hole ∷ ys)) hole.place hole.len
 hole_is_hole size xs hole ys a = record {
   some = (apart_back 0 size xs (hole ∷ ys) a).1;
   inside = hole_inside size xs hole ys a;
@@ -376,46 +455,71 @@ hole_is_hole size xs hole ys a = record {
 
 not_in_gap : (n word : ℕ) (back : List Bool) → word < n → is_free (replicate n false ++ back) word ≡ true → ⊥
 not_in_gap n word back lt free =
-    false≢true (sym (get_or_append_left (replicate n false) back false word (omega (arith, length-replicate n false)) ∙ get_or-replicate n word false false lt) ∙ free)
+    false≢true (sym (get_or_append_left (replicate n false) back false word (omega (arith, length-replicate n false))
+    ∙ get_or-replicate n word false false lt) ∙ free)
 
 -- free words in a row lie in one hole
-pub run_in_hole : (from to size : ℕ) (holes : List Hole) (place len : ℕ) (d : Hole) → from ≤ to → AreApart to size holes → AllFree (words_from from size holes) place len → 0 < len → (k : ℕ) × (k < length holes) × ((get_or holes k d).place ≤ from + place) × (from + place + len ≤ (get_or holes k d).place + (get_or holes k d).len)
+pub run_in_hole : (from to size : ℕ) (holes : List Hole) (place len : ℕ) (d : Hole) → from ≤ to →
+    AreApart to size holes → AllFree (words_from from size holes) place len → 0 < len → (k : ℕ) × (k < length holes) ×
+    ((get_or holes k d).place ≤ from + place) × (from + place + len ≤ (get_or holes k d).place +
+    (get_or holes k d).len)
 run_in_hole from to size [] place len d le a all some =
     absurd (elim (cases_lt place (size - from)) [
-      | inl lt ↦ false≢true (sym (get_or-replicate (size - from) place false false lt) ∙ all place (omega arith) (omega arith))
-      | inr ge ↦ false≢true (sym (get_or_past (replicate (size - from) false) place false (omega (arith, length-replicate (size - from) false))) ∙ all place (omega arith) (omega arith))
+      | inl lt ↦ false≢true (sym (get_or-replicate (size - from) place false false lt) ∙ all place (omega arith)
+          (omega arith))
+      | inr ge ↦ false≢true (sym (get_or_past (replicate (size - from) false) place false
+          (omega (arith, length-replicate (size - from) false))) ∙ all place (omega arith) (omega arith))
     ])
 run_in_hole from to size (hole ∷ holes) place len d le a all some =
     let gap = replicate (hole.place - from) false in
     let words = replicate hole.len true in
     let rest = words_from (hole.place + hole.len) size holes in
     let end = hole.place + hole.len - from in
-    let at : length (gap ++ words) ≡ end = omega (arith, a.0, length-append gap words, length-replicate (hole.place - from) false, length-replicate hole.len true) in
-    let later : (word : ℕ) → end ≤ word → is_free (gap ++ words ++ rest) word ≡ is_free rest (word - end) = λ word ge. get_or-append_right (gap ++ words) rest end word false at ge in
+    let at : length (gap ++ words) ≡ end = omega (
+      arith,
+      a.0,
+      length-append gap words,
+      length-replicate
+          (hole.place - from) false,
+      length-replicate hole.len true,
+    ) in
+    let later : (word : ℕ) → end ≤ word → is_free (gap ++ words ++ rest) word ≡ is_free rest (word - end) = λ word ge.
+    get_or-append_right (gap ++ words) rest end word false at ge in
     elim (cases_lt (from + place) hole.place) [
-      | inl before ↦ absurd (not_in_gap (hole.place - from) place (words ++ rest) (omega arith) (ap (λ (free : List Bool). is_free free place) (sym (append_assoc gap words rest)) ∙ all place (omega arith) (omega arith)))
+      | inl before ↦ absurd (not_in_gap (hole.place - from) place (words ++ rest) (omega arith) (ap
+          (λ (free : List Bool). is_free free place) (sym (append_assoc gap words rest)) ∙ all place (omega arith)
+          (omega arith)))
       | inr behind ↦ elim (cases_lt (from + place) (hole.place + hole.len)) [
         | inl inside ↦ elim (cases_lt (hole.place + hole.len) (from + place + len)) [
-          | inl past ↦ absurd (false≢true (sym (later end (omega arith) ∙ (ap (λ n. is_free rest n) (let e : end - end ≡ 0 = omega arith in e) ∙ front_taken (hole.place + hole.len) size holes a.3)) ∙ all end (omega (arith, a.0)) (omega (arith, a.0))))
+          | inl past ↦ absurd (false≢true (sym (later end (omega arith) ∙ (ap (λ n. is_free rest n)
+              (let e : end - end ≡ 0 = omega arith in e) ∙ front_taken (hole.place + hole.len) size holes a.3)) ∙ all
+              end (omega (arith, a.0)) (omega (arith, a.0))))
           | inr within ↦ (0, omega arith, behind, within)
         ]
         | inr past ↦
-            let rec = run_in_hole (hole.place + hole.len) (hole.place + hole.len + 1) size holes (place - end) len d (omega arith) a.3
-            (λ word ge lt. ap (λ n. is_free rest n) (let e : word ≡ (word + end) - end = omega arith in e) ∙ (sym (later (word + end) (omega arith)) ∙ all (word + end) (omega (arith, a.0)) (omega (arith, a.0))))
+            let rec = run_in_hole (hole.place + hole.len) (hole.place + hole.len + 1) size holes (place - end) len d
+            (omega arith) a.3
+            (λ word ge lt. ap (λ n. is_free rest n) (let e : word ≡ (word + end) - end = omega arith in e) ∙ (sym
+            (later (word + end) (omega arith)) ∙ all (word + end) (omega (arith, a.0)) (omega (arith, a.0))))
             some in
             (suc rec.0, omega (arith, rec.1), omega (arith, rec.2, a.0), omega (arith, rec.3, a.0))
       ]
     ]
 
 -- the holes stand in order
-place_from : (from size : ℕ) (holes : List Hole) (k : ℕ) (d : Hole) → AreApart from size holes → k < length holes → from ≤ (get_or holes k d).place
+place_from : (from size : ℕ) (holes : List Hole) (k : ℕ) (d : Hole) → AreApart from size holes → k < length holes →
+    from ≤ (get_or holes k d).place
 place_from from size [] k d a lt = absurd (omega arith)
 place_from from size (hole ∷ holes) zero d a lt = a.0
-place_from from size (hole ∷ holes) (suc k) d a lt = omega (arith, a.0, place_from (hole.place + hole.len + 1) size holes k d a.3 (omega arith))
+place_from from size (hole ∷ holes) (suc k) d a lt =
+    omega (arith, a.0, place_from (hole.place + hole.len + 1) size holes k d a.3 (omega arith))
 
-pub places_in_order : (from size : ℕ) (holes : List Hole) (i k : ℕ) (d : Hole) → AreApart from size holes → i ≤ k → k < length holes → (get_or holes i d).place ≤ (get_or holes k d).place
+pub places_in_order : (from size : ℕ) (holes : List Hole) (i k : ℕ) (d : Hole) → AreApart from size holes → i ≤ k →
+    k < length holes → (get_or holes i d).place ≤ (get_or holes k d).place
 places_in_order from size [] i k d a le lt = absurd (omega arith)
 places_in_order from size (hole ∷ holes) zero zero d a le lt = omega arith
-places_in_order from size (hole ∷ holes) zero (suc k) d a le lt = omega (arith, place_from (hole.place + hole.len + 1) size holes k d a.3 (omega arith))
+places_in_order from size (hole ∷ holes) zero (suc k) d a le lt =
+    omega (arith, place_from (hole.place + hole.len + 1) size holes k d a.3 (omega arith))
 places_in_order from size (hole ∷ holes) (suc i) zero d a le lt = absurd (omega arith)
-places_in_order from size (hole ∷ holes) (suc i) (suc k) d a le lt = places_in_order (hole.place + hole.len + 1) size holes i k d a.3 (omega arith) (omega arith)
+places_in_order from size (hole ∷ holes) (suc i) (suc k) d a le lt =
+    places_in_order (hole.place + hole.len + 1) size holes i k d a.3 (omega arith) (omega arith)

@@ -8,15 +8,20 @@ OneHoleHasAll = (free : List Bool) → hole_count free ≤ 1 → widest free ≡
 
 -- free words that are taken are free no more, and all others stay
 abbrev pub TakingLowersCount : Type 0
-TakingLowersCount = (free : List Bool) (place len : ℕ) → place + len ≤ length free → AllFree free place len → free_count free ≡ free_count (set_range free place len false) + len
+TakingLowersCount =
+    (free : List Bool) (place len : ℕ) → place + len ≤ length free → AllFree free place len →
+    free_count free ≡ free_count (set_range free place len false) + len
 
 -- words that are given back are free again, and all others stay
 abbrev pub GivingRaisesCount : Type 0
-GivingRaisesCount = (free : List Bool) (place len : ℕ) → place + len ≤ length free → NoneFree free place len → free_count (set_range free place len true) ≡ free_count free + len
+GivingRaisesCount =
+    (free : List Bool) (place len : ℕ) → place + len ≤ length free → NoneFree free place len →
+    free_count (set_range free place len true) ≡ free_count free + len
 
 -- beside some ranges there is at most one hole more than there are ranges
 abbrev pub OneHoleMoreThanRanges : Type 0
-OneHoleMoreThanRanges = (size : ℕ) (ranges : List Range) → hole_count (free_beside size ranges) ≤ length ranges + 1
+OneHoleMoreThanRanges =
+    (size : ℕ) (ranges : List Range) → hole_count (free_beside size ranges) ≤ length ranges + 1
 
 -- the range at an index, past the end an empty one
 abbrev pub range_at : List Range → ℕ → Range
@@ -25,8 +30,10 @@ range_at ranges index = slice_index_or ranges index (record { place = 0; len = 0
 -- the ranges are the holes of some words, all of them, each once and in order of place
 pub record AreHoles (free : List Bool) (ranges : List Range) : Type 0 where
   pub each : (k : ℕ) → k < length ranges → IsHole free (range_at ranges k).place (range_at ranges k).len
-  pub every : (place len : ℕ) → IsHole free place len → (k : ℕ) × (k < length ranges) × ((range_at ranges k).place ≡ place) × ((range_at ranges k).len ≡ len)
-  pub ordered : (i k : ℕ) → i < k → k < length ranges → (range_at ranges i).place + (range_at ranges i).len < (range_at ranges k).place
+  pub every : (place len : ℕ) → IsHole free place len →
+      (k : ℕ) × (k < length ranges) × ((range_at ranges k).place ≡ place) × ((range_at ranges k).len ≡ len)
+  pub ordered : (i k : ℕ) → i < k → k < length ranges →
+      (range_at ranges i).place + (range_at ranges i).len < (range_at ranges k).place
 
 -- `hole_count` is the number of the holes
 abbrev pub HolesAreCounted : Type 0

@@ -2,7 +2,7 @@
 
 ghost use Rattle.std.specs.Prelude.{◌≡◌, ◌+◌, ◌-◌, ◌^◌, ◌<◌, ◌≤◌, nat_le, nat_lt, length, position, true, false, vec_len, vec_capacity, fold, max};
 ghost use Rattle.std.specs.List.Sorted.{IsPartitionedBy, IsPartitionPoint};
-ghost use Rattle.holes.specs.Layout.{hole_at, cut_front, ends_at, begins_at, joined};
+ghost use Rattle.holes.specs.Layout.{hole_at, holes_after_cut, ends_at, begins_at, holes_after_join};
 
 use std::alloc::Allocator;
 
@@ -34,7 +34,7 @@ pub fn cut_front<A: Allocator>(holes: &mut Vec<Hole, A>, index: usize, len: usiz
     requires within { index < vec_len holes.old }
     requires fits { len ≤ (hole_at holes.old.items index).len }
     requires small { (hole_at holes.old.items index).place + len < 2 ^ 64 }
-    ensures cut { holes.new.items ≡ cut_front holes.old.items index len }
+    ensures holes { holes.new.items ≡ holes_after_cut holes.old.items index len }
     ensures capacity { vec_capacity holes.new ≡ vec_capacity holes.old }
 {
     let Hole { place, len: whole } = holes[index];
@@ -77,7 +77,7 @@ pub fn join<A: Allocator>(holes: &mut Vec<Hole, A>, index: usize, place: usize, 
     requires behind { index < vec_len holes.old → place + len ≤ (hole_at holes.old.items index).place }
     requires small { place + len < 2 ^ 64 }
     requires behind_small { (hole_at holes.old.items index).place + (hole_at holes.old.items index).len < 2 ^ 64 }
-    ensures joined { holes.new.items ≡ joined holes.old.items index place len }
+    ensures holes { holes.new.items ≡ holes_after_join holes.old.items index place len }
     ensures capacity { vec_capacity holes.old ≤ vec_capacity holes.new }
 {
     let joins_before = ends_at(holes, index, place);

@@ -7,23 +7,24 @@ use Rattle.std.specs.Prelude.{nat_eq}
 use Rattle.std.proofs.lemmas.Bool.Decides.{Decides-and, Decides-like, Decides-eqb}
 use Rattle.std.proofs.lemmas.Slice.Eq.{slice_eq-Decides}
 use Rattle.vcode_base.specs.declared.limits.Limits.{Limits}
+use Rattle.vcode_base.specs.declared.limits.TheConstants.{MOST_WORDS, MOST_CELLS, MOST_CALLS, MOST_BUDGET}
 use Rattle.vcode_reader.specs.Trees.{Program}
 use Rattle.job_machine.specs.States.{Task}
 
 -- ---- limits, whose facts are propositions
 
-abbrev limits_by : (w c k b : ℕ) → w ≤ 1048576 → (1 ≤ c) × (c ≤ 4096) → (1 ≤ k) × (k ≤ 1024) → b ≤ 1000000000 → Limits
+abbrev limits_by : (w c k b : ℕ) → w ≤ MOST_WORDS → (1 ≤ c) × (c ≤ MOST_CELLS) → (1 ≤ k) × (k ≤ MOST_CALLS) → b ≤ MOST_BUDGET → Limits
 limits_by w c k b h i j l = record { words = w; cells = c; calls = k; budget = b; words_in_range = h; cells_in_range = i; calls_in_range = j; budget_in_range = l }
 
-same_facts : (w c k b : ℕ) (h h' : w ≤ 1048576) (i i' : (1 ≤ c) × (c ≤ 4096)) (j j' : (1 ≤ k) × (k ≤ 1024)) (l l' : b ≤ 1000000000) → limits_by w c k b h i j l ≡ limits_by w c k b h' i' j' l'
+same_facts : (w c k b : ℕ) (h h' : w ≤ MOST_WORDS) (i i' : (1 ≤ c) × (c ≤ MOST_CELLS)) (j j' : (1 ≤ k) × (k ≤ MOST_CALLS)) (l l' : b ≤ MOST_BUDGET) → limits_by w c k b h i j l ≡ limits_by w c k b h' i' j' l'
 same_facts w c k b h h' i i' j j' l l' = λ t. limits_by w c k b (le_prop h h' t) (×_prop le_prop le_prop i i' t) (×_prop le_prop le_prop j j' t) (le_prop l l' t)
 
 same_numbers : (x y : Limits) → x.words ≡ y.words → x.cells ≡ y.cells → x.calls ≡ y.calls → x.budget ≡ y.budget → x ≡ y
 same_numbers x y ew ec ek eb =
-    subst (λ w. (h : w ≤ 1048576) → x ≡ limits_by w y.cells y.calls y.budget h y.cells_in_range y.calls_in_range y.budget_in_range) ew
-    (λ h. subst (λ c. (i : (1 ≤ c) × (c ≤ 4096)) → x ≡ limits_by x.words c y.calls y.budget h i y.calls_in_range y.budget_in_range) ec
-    (λ i. subst (λ k. (j : (1 ≤ k) × (k ≤ 1024)) → x ≡ limits_by x.words x.cells k y.budget h i j y.budget_in_range) ek
-    (λ j. subst (λ b. (l : b ≤ 1000000000) → x ≡ limits_by x.words x.cells x.calls b h i j l) eb
+    subst (λ w. (h : w ≤ MOST_WORDS) → x ≡ limits_by w y.cells y.calls y.budget h y.cells_in_range y.calls_in_range y.budget_in_range) ew
+    (λ h. subst (λ c. (i : (1 ≤ c) × (c ≤ MOST_CELLS)) → x ≡ limits_by x.words c y.calls y.budget h i y.calls_in_range y.budget_in_range) ec
+    (λ i. subst (λ k. (j : (1 ≤ k) × (k ≤ MOST_CALLS)) → x ≡ limits_by x.words x.cells k y.budget h i j y.budget_in_range) ek
+    (λ j. subst (λ b. (l : b ≤ MOST_BUDGET) → x ≡ limits_by x.words x.cells x.calls b h i j l) eb
     (λ l. same_facts x.words x.cells x.calls x.budget x.words_in_range h x.cells_in_range i x.calls_in_range j x.budget_in_range l)
     y.budget_in_range) y.calls_in_range) y.cells_in_range) y.words_in_range
 

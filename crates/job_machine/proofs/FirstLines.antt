@@ -3,8 +3,7 @@ use Rattle.std.proofs.Common.{◌≡◌, ℕ, ◌+◌, ◌<◌, ◌≤◌, suc, 
 use Rattle.std.proofs.lemmas.Bool.Decides.{nat_tests}
 use Rattle.std.proofs.lemmas.List.Sums.{sum_by-cons}
 use Rattle.std.proofs.lemmas.List.{drop_all, drop_more}
-use Rattle.job_machine.specs.declared.first.signatures.SignatureError.{SignatureError}
-use Rattle.job_machine.specs.declared.first.signatures.SigFault.TheVariants.{At}
+use Rattle.job_machine.specs.declared.first.signatures.SignatureFault.{SignatureFault}
 use Rattle.job_machine.specs.FirstSignatures.{lines, words, is_separator, is_parenthesis, is_plain, begins_plain, begins_with_word, signatures_from, after_line, go_on}
 
 -- ---- lines
@@ -103,8 +102,8 @@ past_line known next number text line after e good =
     after_lines known number text line after e ∙ ap (λ r. go_on r number (λ k. signatures_from k (number + 1) (lines after))) (sym good)
 
 -- a bad line at the front
-pub at_bad_line : (known : Bool) (error : SignatureError) (number : ℕ) (text line after : List ℕ) → lines text ≡ line ∷ lines after → Err error ≡ after_line known line → signatures_from known number (lines text) ≡ Err (At error number)
-at_bad_line known error number text line after e bad =
+pub at_bad_line : (known : Bool) (fault : SignatureFault) (number : ℕ) (text line after : List ℕ) → lines text ≡ line ∷ lines after → Err fault ≡ after_line known line → signatures_from known number (lines text) ≡ Err (fault, number)
+at_bad_line known fault number text line after e bad =
     after_lines known number text line after e ∙ ap (λ r. go_on r number (λ k. signatures_from k (number + 1) (lines after))) (sym bad)
 
 -- no line is left, and the number is of no matter

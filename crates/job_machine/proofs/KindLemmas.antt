@@ -10,9 +10,9 @@ use Rattle.std.proofs.lemmas.List.{length-append, length-drop, get_or-drop}
 use Rattle.std.proofs.lemmas.List.Elements.{All-nil, All-cons, All-head}
 use Rattle.vcode_base.specs.declared.instr.Instr.TheVariants.{Return}
 use Rattle.vcode_base.specs.Instructions.{op_of}
-use Rattle.vcode_reader.specs.declared.line.Part.{Part}
-use Rattle.vcode_reader.specs.declared.line.Part.TheVariants.{If as If_line}
-use Rattle.vcode_reader.specs.Trees.{Item, Body, End, Do, Choice, CodeLine, Function, Program, line_of, doing, flat, lines_of}
+use Rattle.vcode_reader.specs.declared.line.CodeItem.{CodeItem}
+use Rattle.vcode_reader.specs.declared.line.CodeItem.TheVariants.{If as If_line}
+use Rattle.vcode_reader.specs.Trees.{Item, Body, End, Do, Choice, CodeLine, Function, Program, line_of, instruction_line, body_lines, lines_of}
 use Rattle.job_machine.specs.declared.first.KindFault.{KindFault}
 use Rattle.job_machine.specs.declared.first.KindFault.TheVariants.{MissingOperand, ResultDiffers, NoSignature, NoMain}
 use Rattle.job_machine.specs.States.{function_of, function_at, main_name}
@@ -113,7 +113,7 @@ well_kinded_true signed p w = subst (λ b. IsWellKinded b p) (signed_main signed
 -- from a place on stand the lines of this rest, and the fault is the rest's
 pub record Walked (f : Function) (place entries : ℕ) : Type 0 where
   pub rest : Body
-  pub lines : drop place (lines_of f) ≡ flat rest ++ doing Return f.ret ∷ []
+  pub lines : drop place (lines_of f) ≡ body_lines rest ++ instruction_line Return f.ret ∷ []
   pub fault : body_fault f.body 0 f.ret ≡ body_fault rest entries f.ret
   pub few : entries ≤ place
 
@@ -123,8 +123,8 @@ pub record Walks (f : Function) (place entries : ℕ) (line : CodeLine) : Type 0
   pub few : (count : ℕ) → taken_at line.item ≡ Some count → entries < count → body_fault f.body 0 f.ret ≡ Some (MissingOperand, line.number)
   pub more : (count : ℕ) → taken_at line.item ≡ Some count → count ≤ entries → Walked f (place + 1) ((entries - count) + 1)
 
-deep : (f : Function) (place : ℕ) (rest : Body) → drop place (lines_of f) ≡ flat rest ++ doing Return f.ret ∷ [] → length (lines_of f) - place ≡ length (flat rest) + 1
-deep f place rest e = sym (length-drop place (lines_of f)) ∙ (ap length e ∙ length-append (flat rest) (doing Return f.ret ∷ []))
+deep : (f : Function) (place : ℕ) (rest : Body) → drop place (lines_of f) ≡ body_lines rest ++ instruction_line Return f.ret ∷ [] → length (lines_of f) - place ≡ length (body_lines rest) + 1
+deep f place rest e = sym (length-drop place (lines_of f)) ∙ (ap length e ∙ length-append (body_lines rest) (instruction_line Return f.ret ∷ []))
 
 at_place : (xs : List (CodeLine)) (place : ℕ) (x : CodeLine) (ys : List (CodeLine)) (d : CodeLine) → drop place xs ≡ x ∷ ys → get_or xs place d ≡ x
 at_place xs place x ys d e = omega_place ∙ (sym (get_or-drop place xs 0 d) ∙ ap (λ zs. get_or zs 0 d) e)
@@ -132,16 +132,16 @@ at_place xs place x ys d e = omega_place ∙ (sym (get_or-drop place xs 0 d) ∙
     omega_place : get_or xs place d ≡ get_or xs (place + 0) d
     omega_place = let same : place ≡ place + 0 = omega arith in ap (λ k. get_or xs k d) same
 
-walks_at : (f : Function) (place entries : ℕ) (line : CodeLine) (rest : Body) → drop place (lines_of f) ≡ flat rest ++ doing Return f.ret ∷ [] → body_fault f.body 0 f.ret ≡ body_fault rest entries f.ret → entries ≤ place → place < length (lines_of f) - 1 → get_or (lines_of f) place line ≡ line → Walks f place entries line
+walks_at : (f : Function) (place entries : ℕ) (line : CodeLine) (rest : Body) → drop place (lines_of f) ≡ body_lines rest ++ instruction_line Return f.ret ∷ [] → body_fault f.body 0 f.ret ≡ body_fault rest entries f.ret → entries ≤ place → place < length (lines_of f) - 1 → get_or (lines_of f) place line ≡ line → Walks f place entries line
 walks_at f place entries line End lines fault small inside is = absurd (let d = deep f place End lines in omega arith)
 walks_at f place entries line (Do item number rest) lines fault small inside is =
-    let same : doing item number ≡ line = sym (at_place (lines_of f) place (doing item number) (flat rest ++ doing Return f.ret ∷ []) line lines) ∙ is in
-    let one : Walks f place entries (doing item number) = record {
+    let same : instruction_line item number ≡ line = sym (at_place (lines_of f) place (instruction_line item number) (body_lines rest ++ instruction_line Return f.ret ∷ []) line lines) ∙ is in
+    let one : Walks f place entries (instruction_line item number) = record {
       missing = λ e. fault ∙ ap (λ o. item_fault o entries number (λ next. body_fault rest next f.ret)) e;
       few = λ count e lt. fault ∙ (ap (λ o. item_fault o entries number (λ next. body_fault rest next f.ret)) e ∙ (let t : ltb entries count ≡ true = grind (arith, nat_tests, lt) in rw t refl));
       more = λ count e le. record {
         rest = rest;
-        lines = drop_next (lines_of f) place (doing item number) (flat rest ++ doing Return f.ret ∷ []) lines;
+        lines = drop_next (lines_of f) place (instruction_line item number) (body_lines rest ++ instruction_line Return f.ret ∷ []) lines;
         fault = fault ∙ (ap (λ o. item_fault o entries number (λ next. body_fault rest next f.ret)) e ∙ (let t : ltb entries count ≡ false = grind (arith, nat_tests, le) in rw t refl));
         few = omega arith;
       };
@@ -164,16 +164,16 @@ pub walks : (f : Function) (place entries : ℕ) (line : CodeLine) → Walked f 
 walks f place entries line w inside is = walks_at f place entries line w.rest w.lines w.fault w.few inside is
 
 -- the last line
-ends_at : (f : Function) (place entries : ℕ) (line : CodeLine) (rest : Body) → drop place (lines_of f) ≡ flat rest ++ doing Return f.ret ∷ [] → body_fault f.body 0 f.ret ≡ body_fault rest entries f.ret → place ≡ length (lines_of f) - 1 → (body_fault f.body 0 f.ret ≡ cond (eqb entries 1) None (Some (ResultDiffers, f.ret))) × (get_or (lines_of f) place line ≡ doing Return f.ret)
-ends_at f place entries line End lines fault last = (fault, at_place (lines_of f) place (doing Return f.ret) [] line lines)
+ends_at : (f : Function) (place entries : ℕ) (line : CodeLine) (rest : Body) → drop place (lines_of f) ≡ body_lines rest ++ instruction_line Return f.ret ∷ [] → body_fault f.body 0 f.ret ≡ body_fault rest entries f.ret → place ≡ length (lines_of f) - 1 → (body_fault f.body 0 f.ret ≡ cond (eqb entries 1) None (Some (ResultDiffers, f.ret))) × (get_or (lines_of f) place line ≡ instruction_line Return f.ret)
+ends_at f place entries line End lines fault last = (fault, at_place (lines_of f) place (instruction_line Return f.ret) [] line lines)
 ends_at f place entries line (Do item number rest) lines fault last = absurd (let d = deep f place (Do item number rest) lines in omega arith)
 ends_at f place entries line (Choice number first second end rest) lines fault last = absurd (let d = deep f place (Choice number first second end rest) lines in omega arith)
 
-pub walk_ends : (f : Function) (place entries : ℕ) (line : CodeLine) → Walked f place entries → place ≡ length (lines_of f) - 1 → (body_fault f.body 0 f.ret ≡ cond (eqb entries 1) None (Some (ResultDiffers, f.ret))) × (get_or (lines_of f) place line ≡ doing Return f.ret)
+pub walk_ends : (f : Function) (place entries : ℕ) (line : CodeLine) → Walked f place entries → place ≡ length (lines_of f) - 1 → (body_fault f.body 0 f.ret ≡ cond (eqb entries 1) None (Some (ResultDiffers, f.ret))) × (get_or (lines_of f) place line ≡ instruction_line Return f.ret)
 walk_ends f place entries line w last = ends_at f place entries line w.rest w.lines w.fault last
 
 pub long_enough : (f : Function) → 1 ≤ length (lines_of f)
-long_enough f = omega (arith, length-append (flat f.body) (doing Return f.ret ∷ []))
+long_enough f = omega (arith, length-append (body_lines f.body) (instruction_line Return f.ret ∷ []))
 
 -- with a MAIN, the fault is that of the functions
 pub faults_of : (signed : Bool) (p : Program) → is_none (position (λ (f : Function). bytes_eq f.name main_name) p.functions) ≡ false → kind_fault signed p ≡ functions_fault signed p.functions

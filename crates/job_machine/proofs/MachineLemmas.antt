@@ -6,6 +6,7 @@ use Rattle.std.proofs.lemmas.List.{length-set}
 use Rattle.std.proofs.lemmas.List.Sums.{sum_by-set, sum_by-cons}
 use Rattle.std.proofs.lemmas.Option.{same_Some, get_or_from_slice_get, slice_get_within, slice_get_past}
 use Rattle.std.specs.Option.{option_map_or}
+use Rattle.vcode_base.specs.declared.limits.TheConstants.{MOST_WORDS}
 use Rattle.job_machine.specs.declared.machine.Admission.{Admission}
 use Rattle.job_machine.specs.declared.machine.Admission.TheVariants.{Admitted, NotNow, NoneWaiting}
 use Rattle.job_machine.specs.declared.seat.Begun.{Begun}
@@ -107,7 +108,7 @@ finishes_by (Answered Stale desk) m job s new some e is = unchanged_here m job s
 finishes_by (NoMemory filled) m job s new some e is = unchanged_here m job s new e is
 
 -- a machine just made
-pub sound_new : (region : ℕ) (tasks : List Task) → length tasks ≤ 1 → region ≤ 1048576 → All (λ (t : Task). t.limits.words ≤ region) tasks → IsSound region (map waiting tasks)
+pub sound_new : (region : ℕ) (tasks : List Task) → length tasks ≤ 1 → region ≤ MOST_WORDS → All (λ (t : Task). t.limits.words ≤ region) tasks → IsSound region (map waiting tasks)
 sound_new region [] few bound fits = record { single = omega arith; fitting = All-nil (λ (k : Seated). k.task.limits.words ≤ region); granted = omega arith; bound = bound }
 sound_new region (t ∷ []) few bound fits = record {
   single = omega arith;

@@ -12,7 +12,7 @@ use Rattle.vcode_base.specs.declared.kind.Kind.TheVariants.{Int}
 use Rattle.vcode_base.specs.declared.outcome.Outcome.{Outcome}
 use Rattle.vcode_base.specs.Instructions.{op_of}
 use Rattle.vcode_base.specs.Meaning.{result_of}
-use Rattle.vcode_reader.specs.Trees.{Function, doing}
+use Rattle.vcode_reader.specs.Trees.{Function, instruction_line}
 use Rattle.job_machine.specs.States.{Vector, Task, Entry, State, first, first_calls, function_at, main_name, main_lines, lines_at, next_of, has_tag, held}
 use Rattle.job_machine.specs.Steps.{Progress, Running, Over, Stuck, step, stopped_at, ends_or, sources, need_words}
 use Rattle.job_machine.specs.Runs.{alone, onward, whole_run, outcome, executed, peak, end_in, executed_in, peak_in}
@@ -72,7 +72,7 @@ reached_pushed task n s r g free =
     record {
       call = record { rest = g.rest; ret = r.call.ret };
       calls = refl;
-      left = drop_next (main_lines task.program) n (doing line.item line.number) (lines_left (record { rest = g.rest; ret = r.call.ret })) (r.left ∙ ap (λ b. lines_left (record { rest = b; ret = r.call.ret })) g.body);
+      left = drop_next (main_lines task.program) n (instruction_line line.item line.number) (lines_left (record { rest = g.rest; ret = r.call.ret })) (r.left ∙ ap (λ b. lines_left (record { rest = b; ret = r.call.ret })) g.body);
       goes = subst (λ k. Goes g.rest k 1) (sym deep) g.goes;
       count = ap (λ k. k + 1) r.count;
       budget = unspent_within n task.limits.budget (ap (λ k. eqb k task.limits.budget) (sym r.count) ∙ p.unspent) r.budget;

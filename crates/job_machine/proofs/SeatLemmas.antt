@@ -19,10 +19,10 @@ use Rattle.vcode_base.specs.declared.outcome.Outcome.{Outcome}
 use Rattle.vcode_base.specs.declared.outcome.Outcome.TheVariants.{Returned, Fault, Memory, Budget}
 use Rattle.vcode_base.specs.Instructions.{op_of}
 use Rattle.vcode_base.specs.Meaning.{shape, need, result_of}
-use Rattle.vcode_reader.specs.declared.line.Line.{Line}
-use Rattle.vcode_reader.specs.declared.line.Part.{Part}
-use Rattle.vcode_reader.specs.declared.line.Part.TheVariants.{Do as Doing}
-use Rattle.vcode_reader.specs.Trees.{Item, Body, End, Do, Choice, CodeLine, line_of, doing, flat}
+use Rattle.vcode_reader.specs.declared.line.Numbered.{Numbered}
+use Rattle.vcode_reader.specs.declared.line.CodeItem.{CodeItem}
+use Rattle.vcode_reader.specs.declared.line.CodeItem.TheVariants.{Do as Doing}
+use Rattle.vcode_reader.specs.Trees.{Item, Body, End, Do, Choice, CodeLine, line_of, instruction_line, body_lines}
 use Rattle.job_machine.specs.declared.desk.FirstOp.{FirstOp}
 use Rattle.job_machine.specs.declared.desk.FirstOp.TheVariants.{Constant, Add, Return as Back}
 use Rattle.job_machine.specs.declared.seat.Status.{Status}
@@ -56,12 +56,12 @@ head_of_drop (x ∷ xs) zero y ys e = let h : x ∷ xs ≡ y ∷ ys = e in let k
 head_of_drop (x ∷ xs) (suc n) y ys e = head_of_drop xs n y ys e
 
 -- the line of the code where an instruction stands
-abbrev pub in_code : Line Item → CodeLine
-in_code line = doing line.item line.number
+abbrev pub in_code : Numbered Item → CodeLine
+in_code line = instruction_line line.item line.number
 
 left_head : (rest : Body) (ret entries : ℕ) → Goes rest entries 1 → (ys : List CodeLine) × (lines_left (record { rest = rest; ret = ret }) ≡ in_code (next_of rest ret) ∷ ys)
 left_head End ret entries goes = ([], refl)
-left_head (Do item line rest) ret entries goes = (flat rest ++ doing Return ret ∷ [], refl)
+left_head (Do item line rest) ret entries goes = (body_lines rest ++ instruction_line Return ret ∷ [], refl)
 left_head (Choice line first second end rest) ret entries goes = absurd goes
 
 pub line_there : (task : Task) (n : ℕ) (s : State) (r : IsReached task n s) → slice_get (main_lines task.program) n ≡ Some (in_code (next_of r.call.rest r.call.ret))
@@ -69,15 +69,15 @@ line_there task n s r =
     let h = left_head r.call.rest r.call.ret (length s.stack) r.goes in
     head_of_drop (main_lines task.program) n (in_code (next_of r.call.rest r.call.ret)) h.0 (r.left ∙ h.1)
 
-instruction_at : Part Item → Item
+instruction_at : CodeItem Item → Item
 instruction_at (Doing item) = item
 instruction_at _ = Return
 
-same_line : (x y : Line Item) → in_code x ≡ in_code y → x ≡ y
+same_line : (x y : Numbered Item) → in_code x ≡ in_code y → x ≡ y
 unfolding instruction_at
 same_line x y h = ap (λ (l : CodeLine). line_of (instruction_at l.item) l.number) h
 
-line_is : (task : Task) (n : ℕ) (s : State) (r : IsReached task n s) (line : Line Item) → slice_get (main_lines task.program) n ≡ Some (in_code line) → next_of r.call.rest r.call.ret ≡ line
+line_is : (task : Task) (n : ℕ) (s : State) (r : IsReached task n s) (line : Numbered Item) → slice_get (main_lines task.program) n ≡ Some (in_code line) → next_of r.call.rest r.call.ret ≡ line
 line_is task n s r line e =
     same_line (next_of r.call.rest r.call.ret) line (same_Some (in_code (next_of r.call.rest r.call.ret)) (in_code line) (sym (line_there task n s r) ∙ e))
 
@@ -96,14 +96,14 @@ stop_shown task t a r =
     stop_is task t a r ∙ (λ i. stopped task.limits (op_of line.item) (sources line.item a.state.stack) line.number (r.count i) (a.held_is i) (depth_is task t a i) (one i))
 
 -- the parts of what stands next, where the line is known
-next_by : (task : Task) → IsWellKinded true task.program → (t : Trace) (a : IsAt task t) (line : Line Item) → slice_get (main_lines task.program) t.executed ≡ Some (in_code line) →
+next_by : (task : Task) → IsWellKinded true task.program → (t : Trace) (a : IsAt task t) (line : Numbered Item) → slice_get (main_lines task.program) t.executed ≡ Some (in_code line) →
     (o : FirstOp) (left right : List ℤ) → op_of line.item ≡ op_in o → sources line.item a.state.stack ≡ sources_by o left right →
     (shape (op_in o) (sources_by o left right) ≡ None → length left + length right ≤ 2 * need_words (op_in o) (sources_by o left right)) → NextIs task t o left right line.number
 next_by task w t a line e o left right same_op same_sources small =
     let r = reached_at task w t a in
     let is = line_is task t.executed a.state r line e in
-    let asked = asked_at task t a r ∙ ap (λ (l : Line Item). let q : Question = record { op = op_of l.item; sources = sources l.item a.state.stack } in Some q) is in
-    let stop = stop_shown task t a r ∙ ap (λ (l : Line Item). stopped task.limits (op_of l.item) (sources l.item a.state.stack) l.number t.executed t.held (length t.stack) 1) is in
+    let asked = asked_at task t a r ∙ ap (λ (l : Numbered Item). let q : Question = record { op = op_of l.item; sources = sources l.item a.state.stack } in Some q) is in
+    let stop = stop_shown task t a r ∙ ap (λ (l : Numbered Item). stopped task.limits (op_of l.item) (sources l.item a.state.stack) l.number t.executed t.held (length t.stack) 1) is in
     record {
       asked = asked ∙ (λ i. Some (record { op = same_op i; sources = same_sources i }));
       stop = stop ∙ (λ i. stopped task.limits (same_op i) (same_sources i) line.number t.executed t.held (length t.stack) 1);
@@ -121,9 +121,9 @@ unfolding need
 add_small x y e = let same = add_shape x y e in omega arith
 
 -- the next is an instruction that goes on, or RET
-taken_next : (task : Task) (s : State) (c : Active) → Ahead task s c → (line : Line Item) → next_of c.rest c.ret ≡ line → (line.item ≡ Return) ⊎ ((count : ℕ) × (taken (op_of line.item) ≡ Some count) × (count ≤ length s.stack))
-taken_next task s c (Last l) line e = inl (ap (λ (k : Line Item). k.item) (sym e) ∙ ap (λ b. (next_of b c.ret).item) l.body)
-taken_next task s c (More g) line e = inr (g.count, ap (λ (k : Line Item). taken (op_of k.item)) (sym e) ∙ g.takes, g.there)
+taken_next : (task : Task) (s : State) (c : Active) → Ahead task s c → (line : Numbered Item) → next_of c.rest c.ret ≡ line → (line.item ≡ Return) ⊎ ((count : ℕ) × (taken (op_of line.item) ≡ Some count) × (count ≤ length s.stack))
+taken_next task s c (Last l) line e = inl (ap (λ (k : Numbered Item). k.item) (sym e) ∙ ap (λ b. (next_of b c.ret).item) l.body)
+taken_next task s c (More g) line e = inr (g.count, ap (λ (k : Numbered Item). taken (op_of k.item)) (sym e) ∙ g.takes, g.there)
 
 const_kind : (k : Scalar) (list : List ℤ) → (◌≡◌ {A = Item} (Const k list) Return ⊎ ((count : ℕ) × (taken (op.Const k) ≡ Some count) × Unit {0})) → k ≡ Numbers
 const_kind Numbers list h = refl
@@ -134,11 +134,11 @@ weaker_count : (item : Item) (n : ℕ) → ((item ≡ Return) ⊎ ((count : ℕ)
 weaker_count item n (inl e) = inl e
 weaker_count item n (inr h) = inr (h.0, h.1, tt)
 
-next_const_by : (task : Task) → IsWellKinded true task.program → (t : Trace) (a : IsAt task t) (k : Scalar) (list : List ℤ) (number : ℕ) → k ≡ Numbers → slice_get (main_lines task.program) t.executed ≡ Some (doing (Const k list) number) → NextIs task t Constant list [] number
+next_const_by : (task : Task) → IsWellKinded true task.program → (t : Trace) (a : IsAt task t) (k : Scalar) (list : List ℤ) (number : ℕ) → k ≡ Numbers → slice_get (main_lines task.program) t.executed ≡ Some (instruction_line (Const k list) number) → NextIs task t Constant list [] number
 next_const_by task w t a k list number is e =
     next_by task w t a (line_of (Const k list) number) e Constant list [] (ap op.Const is) refl (λ h. const_small list)
 
-pub next_const : (task : Task) → IsWellKinded true task.program → (t : Trace) → IsAt task t → (k : Scalar) (list : List ℤ) (number : ℕ) → slice_get (main_lines task.program) t.executed ≡ Some (doing (Const k list) number) → NextIs task t Constant list [] number
+pub next_const : (task : Task) → IsWellKinded true task.program → (t : Trace) → IsAt task t → (k : Scalar) (list : List ℤ) (number : ℕ) → slice_get (main_lines task.program) t.executed ≡ Some (instruction_line (Const k list) number) → NextIs task t Constant list [] number
 next_const task w t a k list number e =
     let r = reached_at task w t a in
     let h = taken_next task a.state r.call (ahead_of task t.executed a.state r) (line_of (Const k list) number) (line_is task t.executed a.state r (line_of (Const k list) number) e) in
@@ -159,13 +159,13 @@ sources_two (x ∷ []) many = absurd (omega arith)
 sources_two (y ∷ x ∷ below) many = refl
 
 -- two entries are there for a sum
-pub two_there : (task : Task) → IsWellKinded true task.program → (t : Trace) → IsAt task t → (e : ElementwiseOp) (number : ℕ) → slice_get (main_lines task.program) t.executed ≡ Some (doing (Elementwise e) number) → (e ≡ Arith Plus) × (2 ≤ length t.stack)
+pub two_there : (task : Task) → IsWellKinded true task.program → (t : Trace) → IsAt task t → (e : ElementwiseOp) (number : ℕ) → slice_get (main_lines task.program) t.executed ≡ Some (instruction_line (Elementwise e) number) → (e ≡ Arith Plus) × (2 ≤ length t.stack)
 two_there task w t a e number is =
     let r = reached_at task w t a in
     let h = sum_there e (length a.state.stack) (taken_next task a.state r.call (ahead_of task t.executed a.state r) (line_of (Elementwise e) number) (line_is task t.executed a.state r (line_of (Elementwise e) number) is)) in
     (h.0, subst (λ n. 2 ≤ n) (depth_is task t a) h.1)
 
-pub next_add : (task : Task) → IsWellKinded true task.program → (t : Trace) → IsAt task t → (e : ElementwiseOp) (number : ℕ) → slice_get (main_lines task.program) t.executed ≡ Some (doing (Elementwise e) number) → NextIs task t Add (words_at t.stack 1) (words_at t.stack 0) number
+pub next_add : (task : Task) → IsWellKinded true task.program → (t : Trace) → IsAt task t → (e : ElementwiseOp) (number : ℕ) → slice_get (main_lines task.program) t.executed ≡ Some (instruction_line (Elementwise e) number) → NextIs task t Add (words_at t.stack 1) (words_at t.stack 0) number
 next_add task w t a e number is =
     let two = two_there task w t a e number is in
     let many : 2 ≤ length a.state.stack = subst (λ n. 2 ≤ n) (sym (depth_is task t a)) two.1 in
@@ -182,7 +182,7 @@ return_there : (item : Item) (n : ℕ) → ((item ≡ Return) ⊎ ((count : ℕ)
 return_there item n (inl e) no_const no_sum = e
 return_there item n (inr h) no_const no_sum = absurd (other_item item h.0 h.1 no_const no_sum)
 
-pub next_return : (task : Task) → IsWellKinded true task.program → (t : Trace) → IsAt task t → (line : Line Item) → slice_get (main_lines task.program) t.executed ≡ Some (in_code line) → ((k : Scalar) (list : List ℤ) → line.item ≡ Const k list → ⊥) → ((e : ElementwiseOp) → line.item ≡ Elementwise e → ⊥) → NextIs task t Back [] [] line.number
+pub next_return : (task : Task) → IsWellKinded true task.program → (t : Trace) → IsAt task t → (line : Numbered Item) → slice_get (main_lines task.program) t.executed ≡ Some (in_code line) → ((k : Scalar) (list : List ℤ) → line.item ≡ Const k list → ⊥) → ((e : ElementwiseOp) → line.item ≡ Elementwise e → ⊥) → NextIs task t Back [] [] line.number
 next_return task w t a line is no_const no_sum =
     let r = reached_at task w t a in
     let e = return_there line.item (length a.state.stack) (taken_next task a.state r.call (ahead_of task t.executed a.state r) line (line_is task t.executed a.state r line is)) no_const no_sum in

@@ -1,19 +1,19 @@
 -- Which signature texts are read at first: those whose only line that isn't blank is MAIN () -> (INT), or that have none.
-use Rattle.std.specs.Prelude.{ℕ, ◌+◌, ◌==◌, Bool, true, false, not, ◌||◌, ◌&&◌, if◌then◌else◌, List, [], ◌∷◌, codes, Option, Some, None, Result, Ok, Err}
+use Rattle.std.specs.Prelude.{◌≡◌, ℕ, ◌+◌, ◌==◌, Bool, true, false, not, ◌||◌, ◌&&◌, if◌then◌else◌, List, [], ◌∷◌, codes, Option, Some, None, Result, Ok, Err}
 use Rattle.std.specs.List.{onto_first}
 use Rattle.std.specs.Str.{bytes_eq}
 use Rattle.std.specs.Cmp.Lexicographic.{pointwise}
 use Rattle.vcode_base.specs.declared.kind.Kind.{Kind}
 use Rattle.vcode_base.specs.declared.kind.Kind.TheVariants.{Int}
-use Rattle.job_machine.specs.declared.first.signatures.SigFault.{SigFault}
-use Rattle.job_machine.specs.declared.first.signatures.SigFault.TheVariants.{At}
-use Rattle.job_machine.specs.declared.first.signatures.SignatureError.{SignatureError}
-use Rattle.job_machine.specs.declared.first.signatures.SignatureError.TheVariants.{BadLine, NameTwice}
+use Rattle.vcode_base.specs.declared.fault.TextFault.{TextFault}
+use Rattle.vcode_base.specs.declared.fault.TextFault.TheVariants.{Memory, At}
+use Rattle.job_machine.specs.declared.first.signatures.SignatureFault.{SignatureFault}
+use Rattle.job_machine.specs.declared.first.signatures.SignatureFault.TheVariants.{BadLine, NameTwice}
 
 -- the names as the report prints them
-abbrev pub signature_error_text : SignatureError → List ℕ
-signature_error_text BadLine = codes "G1 BAD_LINE"
-signature_error_text NameTwice = codes "G2 NAME_TWICE"
+abbrev pub signature_fault_text : SignatureFault → List ℕ
+signature_fault_text BadLine = codes "G1 BAD_LINE"
+signature_fault_text NameTwice = codes "G2 NAME_TWICE"
 
 -- ---- lines and words
 
@@ -67,26 +67,31 @@ is_main_line line = are_words (words line)
 -- ---- what a text says
 
 -- whether MAIN has a signature after a line, where `known` says whether it had one before; or what is wrong with the line
-abbrev pub after_line : Bool → List ℕ → Result Bool SignatureError
+abbrev pub after_line : Bool → List ℕ → Result Bool SignatureFault
 after_line known line =
     if is_blank_line line then Ok known
     else if not (is_main_line line) then Err BadLine
     else if known then Err NameTwice
     else Ok true
 
--- the first error ends it
-abbrev pub go_on : Result Bool SignatureError → ℕ → (Bool → Result Bool SigFault) → Result Bool SigFault
+-- the first fault ends it
+abbrev pub go_on : Result Bool SignatureFault → ℕ → (Bool → Result Bool (SignatureFault × ℕ)) → Result Bool (SignatureFault × ℕ)
 go_on (Ok known) number rest = rest known
-go_on (Err error) number rest = Err (At error number)
+go_on (Err fault) number rest = Err (fault, number)
 
--- whether MAIN has a signature after these lines, the first of this number; or the first bad line
-unfoldable pub signatures_from : Bool → ℕ → List (List ℕ) → Result Bool SigFault
+-- whether MAIN has a signature after these lines, the first of this number; or the fault of the first bad line, and its number
+unfoldable pub signatures_from : Bool → ℕ → List (List ℕ) → Result Bool (SignatureFault × ℕ)
 signatures_from known number [] = Ok known
 signatures_from known number (line ∷ more) = go_on (after_line known line) number (λ k. signatures_from k (number + 1) more)
 
 -- what a text whose first line has this number says
-abbrev pub signatures_in : ℕ → List ℕ → Result Bool SigFault
+abbrev pub signatures_in : ℕ → List ℕ → Result Bool (SignatureFault × ℕ)
 signatures_in first text = signatures_from false first (lines text)
+
+-- what is answered where a text has a bad line: its fault, and never want of memory
+abbrev pub SignatureFaultIs : TextFault SignatureFault → Result Bool (SignatureFault × ℕ) → Type 0
+SignatureFaultIs Memory said = ⊥
+SignatureFaultIs (At fault line) said = said ≡ Err (fault, line)
 
 -- the kinds that a function takes and gives, where MAIN alone may have a signature
 abbrev pub signature_of : Bool → List ℕ → Option (List Kind × List Kind)

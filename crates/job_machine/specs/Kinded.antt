@@ -2,6 +2,8 @@
 -- All entries of its stacks are INT, so that their number tells their kinds.
 use Rattle.std.specs.Prelude.{◌≡◌, ℕ, ◌+◌, ◌-◌, ◌≤◌, ◌==◌, nat_lt, Bool, IsTrue, ◌&&◌, if◌then◌else◌, List, [], ◌∷◌, All, Option, Some, None, is_none}
 use Rattle.std.specs.Str.{bytes_eq}
+use Rattle.vcode_base.specs.declared.fault.TextFault.{TextFault}
+use Rattle.vcode_base.specs.declared.fault.TextFault.TheVariants.{Memory as OutOfMemory, At}
 use Rattle.vcode_base.specs.declared.kind.Scalar.{Scalar}
 use Rattle.vcode_base.specs.declared.kind.Scalar.TheVariants.{Int as Numbers, Bool as Flags}
 use Rattle.vcode_base.specs.declared.op.Arith.{Arith}
@@ -11,13 +13,11 @@ use Rattle.vcode_base.specs.declared.op.Elementwise.TheVariants.{Arith as Arithm
 use Rattle.vcode_base.specs.declared.op.Op.{Op}
 use Rattle.vcode_base.specs.declared.op.Op.TheVariants.{Const, Elementwise}
 use Rattle.vcode_base.specs.Instructions.{op_of}
-use Rattle.vcode_reader.specs.declared.line.Part.{Part}
-use Rattle.vcode_reader.specs.declared.line.Part.TheVariants.{Do as Doing}
+use Rattle.vcode_reader.specs.declared.line.CodeItem.{CodeItem}
+use Rattle.vcode_reader.specs.declared.line.CodeItem.TheVariants.{Do as Doing}
 use Rattle.vcode_reader.specs.Trees.{Item, Body, End, Do, Choice, Function, Program}
 use Rattle.job_machine.specs.declared.first.KindFault.{KindFault}
 use Rattle.job_machine.specs.declared.first.KindFault.TheVariants.{MissingOperand, ResultDiffers, NoSignature, NoMain}
-use Rattle.job_machine.specs.declared.first.VerifyFault.{VerifyFault}
-use Rattle.job_machine.specs.declared.first.VerifyFault.TheVariants.{Memory as OutOfMemory, At}
 use Rattle.job_machine.specs.States.{function_of, main_name}
 use Rattle.job_machine.specs.Steps.{or_else}
 
@@ -40,7 +40,7 @@ taken (Elementwise e) = taken_by_elementwise e
 taken _ = None
 
 -- the same of a line of the code, where an IF is no instruction of this language
-abbrev pub taken_at : Part Item → Option ℕ
+abbrev pub taken_at : CodeItem Item → Option ℕ
 taken_at (Doing item) = taken (op_of item)
 taken_at _ = None
 
@@ -80,7 +80,7 @@ body_fault (Do item line rest) entries ret = item_fault (taken (op_of item)) ent
 body_fault (Choice line first second end rest) entries ret = Some (MissingOperand, line)
 
 -- what the verifier answers at a fault
-abbrev pub FaultIs : VerifyFault → Option (KindFault × ℕ) → Type 0
+abbrev pub FaultIs : TextFault KindFault → Option (KindFault × ℕ) → Type 0
 FaultIs OutOfMemory found = ⊥
 FaultIs (At fault line) found = found ≡ Some (fault, line)
 

@@ -3,7 +3,7 @@ use Rattle.std.specs.Prelude.{◌≡◌, ℕ, ◌+◌, ◌<◌, ◌≤◌, true,
 use Rattle.vcode_base.specs.declared.kind.Kind.TheVariants.{Int}
 use Rattle.vcode_base.specs.declared.outcome.Outcome.{Outcome}
 use Rattle.vcode_base.specs.declared.instr.Instr.TheVariants.{Return}
-use Rattle.vcode_reader.specs.Trees.{CodeLine, flat, doing}
+use Rattle.vcode_reader.specs.Trees.{CodeLine, body_lines, instruction_line}
 use Rattle.job_machine.specs.States.{Vector, Task, Entry, Active, State, main_lines, has_tag, held}
 use Rattle.job_machine.specs.Steps.{Running, Over, Stuck}
 use Rattle.job_machine.specs.Runs.{alone, whole_run, outcome, executed, peak}
@@ -16,7 +16,7 @@ IsApart (e ∷ es) = (has_tag e.tag es ≡ false) × IsApart es
 
 -- the lines that remain of a call
 abbrev pub lines_left : Active → List CodeLine
-lines_left c = flat c.rest ++ doing Return c.ret ∷ []
+lines_left c = body_lines c.rest ++ instruction_line Return c.ret ∷ []
 
 -- the state after n instructions: within the limits, and with as many INTs as what remains takes
 pub record IsReached (task : Task) (n : ℕ) (s : State) : Type 0 where

@@ -6,7 +6,7 @@ use Rattle.std.specs.Coded.{Coded, code_by, coded_ℕ, coded×, coded_list}
 use Rattle.vcode_base.specs.declared.value.Value.{Value}
 use Rattle.vcode_base.specs.declared.instr.Instr.TheVariants.{If, Return}
 use Rattle.vcode_base.specs.declared.limits.Limits.{Limits}
-use Rattle.vcode_reader.specs.declared.line.Line.{Line}
+use Rattle.vcode_reader.specs.declared.line.Numbered.{Numbered}
 use Rattle.vcode_reader.specs.Trees.{Item, Body, End, Do, Choice, CodeLine, Function, Program, line_of, lines_of}
 use Rattle.vcode_reader.specs.Decode.{program_code}
 
@@ -80,7 +80,7 @@ first task = record {
 }
 
 -- the next item of a call, which is its RET where nothing else remains
-abbrev pub next_of : Body → ℕ → Line Item
+abbrev pub next_of : Body → ℕ → Numbered Item
 next_of End ret = line_of Return ret
 next_of (Do item line rest) ret = line_of item line
 next_of (Choice line first second end rest) ret = line_of If line

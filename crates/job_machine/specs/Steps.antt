@@ -13,7 +13,7 @@ use Rattle.vcode_base.specs.declared.outcome.Outcome.TheVariants.{Returned, Faul
 use Rattle.vcode_base.specs.Instructions.{op_of}
 use Rattle.vcode_base.specs.Kinds.{operand_kinds, result_kinds}
 use Rattle.vcode_base.specs.Meaning.{shape, need, value_fault, result_of, second_result_of}
-use Rattle.vcode_reader.specs.declared.line.Line.{Line}
+use Rattle.vcode_reader.specs.declared.line.Numbered.{Numbered}
 use Rattle.vcode_reader.specs.Trees.{Item, Body, End as Done, Do, Choice, Function, Program}
 use Rattle.job_machine.specs.Motions.{operand_count, reach, stack_after, entries_after}
 use Rattle.job_machine.specs.States.{Vector, Task, Entry, Active, State, function_of, next_of, words_of, values_of, held, fresh}
@@ -93,7 +93,7 @@ stopped limits op xs line executed words entries calls =
     else or_else (faulted line (shape op xs)) (refused limits op line (words + need_words op xs) (entries_after op entries) calls)
 
 -- the same at an instruction of a state
-abbrev pub stopped_at : Limits → Line Item → State → Option (Outcome (List Vector))
+abbrev pub stopped_at : Limits → Numbered Item → State → Option (Outcome (List Vector))
 stopped_at limits line s =
     stopped limits (op_of line.item) (sources line.item s.stack) line.number s.executed (held s.stack) (length s.stack) (length s.calls)
 
@@ -123,7 +123,7 @@ calls_after program (Do item line rest) ret calls = calls_past program item (rec
 calls_after program _ ret calls = calls
 
 -- the instruction is executed, with these calls after it; without any the job has returned
-abbrev pub executed_with : Line Item → State → List (List ℤ) → List Active → Progress
+abbrev pub executed_with : Numbered Item → State → List (List ℤ) → List Active → Progress
 executed_with line s xs [] = Over (Returned (reverse (values_of s.stack))) (s.executed + 1) (max s.peak (held s.stack + need_words (op_of line.item) xs))
 executed_with line s xs (c ∷ cs) = Running (record {
   stack = stack_after (op_of line.item) (fresh s.next (results (op_of line.item) xs)) s.stack;
@@ -134,7 +134,7 @@ executed_with line s xs (c ∷ cs) = Running (record {
 })
 
 -- the end by a value fault, or the instruction is executed
-abbrev pub committed : Option DataFault → Line Item → State → List (List ℤ) → List Active → Progress
+abbrev pub committed : Option DataFault → Numbered Item → State → List (List ℤ) → List Active → Progress
 committed (Some f) line s xs calls = Over (Fault f line.number) s.executed s.peak
 committed None line s xs calls = executed_with line s xs calls
 
@@ -142,7 +142,7 @@ abbrev pub ends_or : Option (Outcome (List Vector)) → State → Progress → P
 ends_or None s p = p
 ends_or (Some e) s p = Over e s.executed s.peak
 
-abbrev pub step_at : Task → Line Item → State → List Active → Progress
+abbrev pub step_at : Task → Numbered Item → State → List Active → Progress
 step_at task line s calls =
     if can_run task.program line.item s.stack then
     ends_or (stopped_at task.limits line s) s (committed (value_fault (op_of line.item) (sources line.item s.stack)) line s (sources line.item s.stack) calls)

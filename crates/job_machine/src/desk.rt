@@ -4,6 +4,7 @@ ghost use Rattle.std.specs.Prelude.{◌≡◌, ℤ, List, ◌+◌, ◌*◌, ◌�
 ghost use Rattle.vcode_base.specs.Elements.{arithmetic};
 ghost use Rattle.vcode_base.specs.Meaning.{value_fault, result_of, two_by_two};
 ghost use Rattle.vcode_base.specs.declared.op.Arith.TheVariants.{Add as Plus};
+ghost use Rattle.vcode_base.specs.declared.limits.TheConstants.{MOST_WORDS};
 ghost use Rattle.job_machine.specs.Kinded.{taken};
 ghost use Rattle.job_machine.specs.Steps.{need_words};
 ghost use Rattle.job_machine.specs.Tickets.{op_in, sources_by, question_by, asked_by, CanAnswer};
@@ -88,7 +89,7 @@ impl<A: Allocator + Clone> Desk<A> {
     /// A desk for vectors of at most so many words, which are reserved six times: for five operands
     /// and for the results.
     pub fn new(alloc: A, words: usize) -> Result<Desk<A>, AllocError>
-        requires { words ≤ 1048576 }
+        requires { words ≤ MOST_WORDS }
         ensures { IfOk result (λ d. d ≡ words) }
     {
         let operands = Vec::with_capacity(alloc.clone()?, 5 * words)?;

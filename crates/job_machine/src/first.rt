@@ -10,8 +10,8 @@ ghost use Rattle.job_machine.specs.States.{main_lines};
 pub use signatures::{SigFault, Signatures};
 use std::alloc::Allocator;
 use std::marker::Model;
-use vcode_base::{Arith, Elementwise, Instruction, Op, Scalar};
-use vcode_reader::{CodeLine, Function, Part, Program};
+use vcode_base::{Arith, Elementwise, Instruction, Op, Scalar, TextFault};
+use vcode_reader::{CodeItem, CodeLine, Function, Program};
 
 /// Why a program is not well kinded.
 #[derive(Clone, Copy, PartialEq, Eq, Debug)]
@@ -41,14 +41,9 @@ impl KindFault {
     }
 }
 
-/// Why a program was not verified.
-#[derive(Clone, Copy, PartialEq, Eq, Debug)]
-pub enum VerifyFault {
-    /// Want of memory, which this verifier never meets.
-    Memory,
-    /// A fault of its kinds, and the line where it stands.
-    At(KindFault, u64),
-}
+/// Why a program was not verified: a fault of its kinds, at its line. This verifier never meets want
+/// of memory.
+pub type VerifyFault = TextFault<KindFault>;
 
 /// A well kinded program, whose `MAIN` takes nothing and gives one INT.
 #[derive(Drop)]
@@ -167,12 +162,12 @@ fn fault_in<A: Allocator>(function: &Function<A>) -> Option<(KindFault, u64)>
 }
 
 /// How many entries a line of this language takes: an instruction of it.
-fn taken_at<A: Allocator>(item: &Part<Instruction<A>>) -> Option<usize>
+fn taken_at<A: Allocator>(item: &CodeItem<Instruction<A>>) -> Option<usize>
     ensures { result ≡ taken_at item.now }
 {
     match item {
-        Part::Do(instruction) => taken_by(instruction.op()),
-        Part::If | Part::Else | Part::Endif => None,
+        CodeItem::Do(instruction) => taken_by(instruction.op()),
+        CodeItem::If | CodeItem::Else | CodeItem::Endif => None,
     }
 }
 

@@ -4,61 +4,11 @@ ghost use Rattle.job_machine.specs.States.{main_lines};
 use crate::first::Verified;
 use std::alloc::Allocator;
 use std::marker::Model;
-use vcode_base::Limits;
+use vcode_base::{Limits, Sequence};
 use vcode_reader::CodeLine;
 
 /// The name of a job: its bytes.
-#[derive(Debug, Drop)]
-pub struct JobName<A: Allocator> {
-    bytes: Vec<u8, A>,
-}
-
-impl<A: Allocator> Model for JobName<A> {
-    ghost use Rattle.std.specs.Prelude.{ℕ, List};
-
-    ghost Value = { List ℕ };
-
-    ghost view = { λ n. n.bytes.items };
-}
-
-impl<A: Allocator> JobName<A> {
-    /// The name of these bytes, which takes no memory.
-    pub fn from_vec(bytes: Vec<u8, A>) -> JobName<A>
-        ensures { result ≡ bytes.items }
-    {
-        JobName { bytes }
-    }
-
-    /// The bytes in order.
-    pub fn as_bytes(&self) -> &[u8]
-        ensures { result.now ≡ self.now }
-    {
-        self.bytes.as_slice()
-    }
-}
-
-/// Equal where the bytes are.
-impl<A: Allocator> PartialEq for JobName<A> {
-    ghost use Rattle.std.specs.Cmp.Lexicographic.{pointwise};
-    ghost use Rattle.std.specs.Prelude.{nat_eq};
-    ghost use Rattle.std.specs.Cmp.Rules.{comparing};
-    ghost use Rattle.std.proofs.Common.{rules};
-
-    ghost eq = { pointwise nat_eq };
-
-    ghost laws = { Prim.search (comparing, rules) };
-
-    fn eq(&self, other: &JobName<A>) -> bool {
-        self.as_bytes() == other.as_bytes()
-    }
-}
-
-impl<A: Allocator> Eq for JobName<A> {
-    ghost use Rattle.std.specs.Cmp.Rules.{comparing};
-    ghost use Rattle.std.proofs.Common.{rules};
-
-    ghost laws = { Prim.search (comparing, rules) };
-}
+pub type JobName<A> = Sequence<u8, A>;
 
 /// A verified program with its name and its limits.
 #[derive(Drop)]

@@ -1,6 +1,7 @@
 //! Jobs over one region of words.
 
 ghost use Rattle.std.specs.Prelude.{◌≡◌, ◌<◌, ◌≤◌, ◌^◌, true, false, length, map, All, IfOk, OnOk, OnErr, IfSome, option_map, option_copied, position};
+ghost use Rattle.vcode_base.specs.declared.limits.TheConstants.{MOST_WORDS};
 ghost use Rattle.job_machine.specs.Standings.{Collected, Admit, Begin, Finish, Recall, Collect, happens, admission, seat_of, status_by, executed_by, peak_by, outcome_of, is_flying, is_over, is_in_flight, is_waiting, granted_words, used_words, task_of, waiting};
 ghost use Rattle.job_machine.specs.Answers.{Begins, begun_of, Finishes, finished_of};
 
@@ -54,7 +55,7 @@ impl<A: Allocator + Clone> Machine<A> {
     /// A machine over a region of so many words, whose jobs all wait. The cells of each are reserved
     /// here once. At present there is at most one job, and its words fit the region.
     pub fn new(alloc: A, region: usize, jobs: Vec<Job<A>, A>) -> Result<Machine<A>, AllocError>
-        requires region { (1 ≤ region) × (region ≤ 1048576) }
+        requires region { (1 ≤ region) × (region ≤ MOST_WORDS) }
         requires jobs { length jobs.items ≤ 1 }
         requires words { All (λ t. t.limits.words ≤ region) jobs.items }
         ensures { IfOk result (λ m. m ≡ record { region = region; seats = map waiting jobs.items }) }

@@ -2,6 +2,7 @@
 
 ghost use Rattle.std.specs.Prelude.{◌≡◌, ◌<◌, ◌≤◌, ◌^◌, ◌↔◌, true, false, length, IsTrue, IfOk, OnOk, OnErr, None, Some, MatchResult, option_copied};
 ghost use Rattle.vcode_base.specs.Meaning.{shape};
+ghost use Rattle.vcode_base.specs.declared.limits.TheConstants.{MOST_WORDS};
 ghost use Rattle.job_machine.specs.Motions.{entries_after};
 ghost use Rattle.job_machine.specs.Steps.{stopped};
 ghost use Rattle.job_machine.specs.Kinded.{IsWellKinded};
@@ -16,7 +17,7 @@ use crate::track::Track;
 use std::alloc::{AllocError, Allocator};
 use std::marker::Model;
 use vcode_base::{DataFault, Instr, Limits, MemoryFault, Outcome, Values};
-use vcode_reader::Part;
+use vcode_reader::CodeItem;
 
 /// Where a job stands.
 #[derive(Clone, Copy, PartialEq, Eq, Debug)]
@@ -137,7 +138,7 @@ impl<A: Allocator> Seat<A> {
     /// The words that it is to reserve.
     pub(crate) fn words(&self) -> usize
         ensures words { result ≡ self.now.task.limits.words }
-        ensures bound { result ≤ 1048576 }
+        ensures bound { result ≤ MOST_WORDS }
     {
         self.job.limits.words
     }
@@ -357,7 +358,7 @@ fn next_of<'a, A: Allocator>(job: &'a Job<A>, track: &'a Track<A>) -> Next<'a>
     let Some(line) = job.item(track.executed() as usize) else {
         unreachable!()
     };
-    let Part::Do(instruction) = &line.item else {
+    let CodeItem::Do(instruction) = &line.item else {
         unreachable!()
     };
     match instruction {

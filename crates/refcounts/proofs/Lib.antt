@@ -1,3 +1,4 @@
 mod Slots
-pub mod Puts
-pub mod Changes
+mod States
+mod Puts
+mod Changes

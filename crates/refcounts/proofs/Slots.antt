@@ -1,143 +1,193 @@
 -- The slots that the blocks of a memory and the counts make.
-use Rattle.std.proofs.Common.{◌≡◌, ℕ, ◌+◌, ◌-◌, ◌<◌, Bool, cond, ltb, List, [], ◌∷◌, length, get_or, set, Option, Some, None, refl, sym, ◌∙◌, ap, subst, inl, inr, arith, zero, suc}
+use Rattle.std.proofs.Common.{◌≡◌, ℕ, ◌+◌, ◌-◌, ◌<◌, Bool, cond, ltb, List, [], ◌∷◌, length, get_or, set, Option}
+use Rattle.std.proofs.Common.{Some, None, refl, sym, ◌∙◌, ap, subst, inl, inr, arith, zero, suc}
 use Rattle.std.specs.Prelude.{replicate, is_some, IsSome}
-use Rattle.std.proofs.lemmas.Bool.{cases_eq, cases_lt, false≢true, lt-ltb, le-leb, lt-leb}
-use Rattle.std.proofs.lemmas.List.{get_or-set_same, get_or-set_other, length-set, set-get_or, get_or_past, length-replicate}
+use Rattle.std.proofs.lemmas.Bool.{cases_eq, cases_lt, false≢true, lt-ltb, lt-leb}
+use Rattle.std.proofs.lemmas.List.{get_or-set_same, get_or-set_other, length-set, set-get_or, get_or_past}
+use Rattle.std.proofs.lemmas.List.{get_or_default, length-replicate}
 use Rattle.std.proofs.lemmas.List.Sums.{sum_by-cons}
-use Rattle.block_memory.specs.Content.{Block, Content, block_at, IsLive, words_of, owner_of, words_at, owner_at, used_words, block_count}
-use Rattle.refcounts.specs.Shared.{Slot, Shared, none, at, words_in, blocks_in, one_more, one_less}
-use Rattle.refcounts.specs.Inside.{with_count, slots_of, IsCounted}
+use Rattle.block_memory.specs.Content.{Block, Content, block_at, IsLive, words_of, owner_of, words_at, owner_at}
+use Rattle.block_memory.specs.Content.{used_words, block_count}
+use Rattle.refcounts.specs.SharedState.{Slot, SharedState, empty_slot, slot_in, words_in, blocks_in, raised_slot}
+use Rattle.refcounts.specs.SharedState.{lowered_slot}
+use Rattle.refcounts.proofs.Puts.{one_less_last}
+use Rattle.refcounts.specs.Inside.{slot_of, slots_of, IsCounted}
 
-pub slot_is : (content : Content) (counts : List ℕ) (id : ℕ) → length counts ≡ length content → at (slots_of content counts) id ≡ with_count (block_at content id) (get_or counts id 0)
+pub slot_is : (content : Content) (counts : List ℕ) (id : ℕ) → length counts ≡ length content
+    → slot_in (slots_of content counts) id ≡ slot_of (block_at content id) (get_or counts id 0)
 slot_is [] counts id same = refl
 slot_is (block ∷ blocks) [] id same = absurd (omega arith)
 slot_is (block ∷ blocks) (count ∷ counts) zero same = refl
 slot_is (block ∷ blocks) (count ∷ counts) (suc id) same = slot_is blocks counts id (omega arith)
 
-pub length-slots_of : (content : Content) (counts : List ℕ) → length counts ≡ length content → length (slots_of content counts) ≡ length content
+pub length-slots_of : (content : Content) (counts : List ℕ) → length counts ≡ length content
+    → length (slots_of content counts) ≡ length content
 length-slots_of [] counts same = refl
 length-slots_of (block ∷ blocks) [] same = absurd (omega arith)
 length-slots_of (block ∷ blocks) (count ∷ counts) same = ap suc (length-slots_of blocks counts (omega arith))
 
-pub slots_of-set : (content : Content) (counts : List ℕ) (id : ℕ) (block : Option Block) (count : ℕ) → slots_of (set content id block) (set counts id count) ≡ set (slots_of content counts) id (with_count block count)
+pub slots_of-set : (content : Content) (counts : List ℕ) (id : ℕ) (block : Option Block) (count : ℕ)
+    → slots_of (set content id block) (set counts id count) ≡ set (slots_of content counts) id (slot_of block count)
 slots_of-set [] counts id block count = refl
 slots_of-set (b ∷ blocks) [] zero block count = refl
 slots_of-set (b ∷ blocks) [] (suc id) block count = refl
 slots_of-set (b ∷ blocks) (n ∷ counts) zero block count = refl
-slots_of-set (b ∷ blocks) (n ∷ counts) (suc id) block count = ap (λ (slots : List Slot). with_count b n ∷ slots) (slots_of-set blocks counts id block count)
+slots_of-set (b ∷ blocks) (n ∷ counts) (suc id) block count =
+    ap (λ (slots : List Slot). slot_of b n ∷ slots) (slots_of-set blocks counts id block count)
 
 -- the same blocks with another count
-pub slots_of-count : (content : Content) (counts : List ℕ) (id count : ℕ) → slots_of content (set counts id count) ≡ set (slots_of content counts) id (with_count (block_at content id) count)
+pub slots_of-count : (content : Content) (counts : List ℕ) (id count : ℕ)
+    → slots_of content (set counts id count) ≡ set (slots_of content counts) id (slot_of (block_at content id) count)
 slots_of-count content counts id count =
-    ap (λ (blocks : Content). slots_of blocks (set counts id count)) (sym (set-get_or content id None)) ∙ slots_of-set content counts id (block_at content id) count
+    ap (λ (blocks : Content). slots_of blocks (set counts id count)) (sym (set-get_or content id None))
+    ∙ slots_of-set content counts id (block_at content id) count
 
-words_with_count : (block : Option Block) (count : ℕ) → (with_count block count).words ≡ words_of block
+words_with_count : (block : Option Block) (count : ℕ) → (slot_of block count).words ≡ words_of block
 words_with_count None count = refl
 words_with_count (Some block) count = refl
 
-owner_with_count : (block : Option Block) (count : ℕ) → (with_count block count).owner ≡ owner_of block
+owner_with_count : (block : Option Block) (count : ℕ) → (slot_of block count).owner ≡ owner_of block
 owner_with_count None count = refl
 owner_with_count (Some block) count = refl
 
-pub words_is : (content : Content) (counts : List ℕ) (id : ℕ) → length counts ≡ length content → (at (slots_of content counts) id).words ≡ words_at content id
-words_is content counts id same = ap (λ (slot : Slot). slot.words) (slot_is content counts id same) ∙ words_with_count (block_at content id) (get_or counts id 0)
+pub words_is : (content : Content) (counts : List ℕ) (id : ℕ) → length counts ≡ length content
+    → (slot_in (slots_of content counts) id).words ≡ words_at content id
+words_is content counts id same =
+    ap (λ (slot : Slot). slot.words) (slot_is content counts id same)
+    ∙ words_with_count (block_at content id) (get_or counts id 0)
 
-pub owner_is : (content : Content) (counts : List ℕ) (id : ℕ) → length counts ≡ length content → (at (slots_of content counts) id).owner ≡ owner_at content id
-owner_is content counts id same = ap (λ (slot : Slot). slot.owner) (slot_is content counts id same) ∙ owner_with_count (block_at content id) (get_or counts id 0)
+pub owner_is : (content : Content) (counts : List ℕ) (id : ℕ) → length counts ≡ length content
+    → (slot_in (slots_of content counts) id).owner ≡ owner_at content id
+owner_is content counts id same =
+    ap (λ (slot : Slot). slot.owner) (slot_is content counts id same)
+    ∙ owner_with_count (block_at content id) (get_or counts id 0)
 
-count_with : (block : Option Block) (count : ℕ) → (block ≡ None → count ≡ 0) → (with_count block count).count ≡ count
+count_with : (block : Option Block) (count : ℕ) → (block ≡ None → count ≡ 0) → (slot_of block count).count ≡ count
 count_with None count gone = sym (gone refl)
 count_with (Some block) count gone = refl
 
-pub count_is : (content : Content) (counts : List ℕ) (id : ℕ) → IsCounted content counts → (at (slots_of content counts) id).count ≡ get_or counts id 0
-count_is content counts id c = ap (λ (slot : Slot). slot.count) (slot_is content counts id c.ids) ∙ count_with (block_at content id) (get_or counts id 0) (c.gone id)
+pub count_is : (content : Content) (counts : List ℕ) (id : ℕ) → IsCounted content counts
+    → (slot_in (slots_of content counts) id).count ≡ get_or counts id 0
+count_is content counts id c =
+    ap (λ (slot : Slot). slot.count) (slot_is content counts id c.ids)
+    ∙ count_with (block_at content id) (get_or counts id 0) (c.gone id)
 
-live_with : (block : Option Block) (count : ℕ) → 0 < (with_count block count).count → IsSome block
+live_with : (block : Option Block) (count : ℕ) → 0 < (slot_of block count).count → IsSome block
 live_with None count some = absurd (omega arith)
 live_with (Some block) count some = refl
 
 -- a counted slot has a block
-pub live_is : (content : Content) (counts : List ℕ) (id : ℕ) → length counts ≡ length content → 0 < (at (slots_of content counts) id).count → IsLive content id
-live_is content counts id same some = live_with (block_at content id) (get_or counts id 0) (subst (λ (slot : Slot). 0 < slot.count) (slot_is content counts id same) some)
+pub live_is : (content : Content) (counts : List ℕ) (id : ℕ) → length counts ≡ length content
+    → 0 < (slot_in (slots_of content counts) id).count → IsLive content id
+live_is content counts id same some =
+    live_with (block_at content id) (get_or counts id 0)
+    (subst (λ (slot : Slot). 0 < slot.count) (slot_is content counts id same) some)
 
-none_with : (block : Option Block) (count : ℕ) → block ≡ None → with_count block count ≡ none
-none_with block count gone = ap (λ (b : Option Block). with_count b count) gone
+none_with : (block : Option Block) (count : ℕ) → block ≡ None → slot_of block count ≡ empty_slot
+none_with block count gone = ap (λ (b : Option Block). slot_of b count) gone
 
-pub none_is : (content : Content) (counts : List ℕ) (id : ℕ) → length counts ≡ length content → block_at content id ≡ None → at (slots_of content counts) id ≡ none
-none_is content counts id same gone = slot_is content counts id same ∙ none_with (block_at content id) (get_or counts id 0) gone
+pub none_is : (content : Content) (counts : List ℕ) (id : ℕ) → length counts ≡ length content
+    → block_at content id ≡ None → slot_in (slots_of content counts) id ≡ empty_slot
+none_is content counts id same gone =
+    slot_is content counts id same ∙ none_with (block_at content id) (get_or counts id 0) gone
 
 -- the words in use, and the blocks
-pub words_in-slots_of : (content : Content) (counts : List ℕ) → length counts ≡ length content → words_in (slots_of content counts) ≡ used_words content
+pub words_in-slots_of : (content : Content) (counts : List ℕ) → length counts ≡ length content
+    → words_in (slots_of content counts) ≡ used_words content
 words_in-slots_of [] counts same = refl
 words_in-slots_of (block ∷ blocks) [] same = absurd (omega arith)
 words_in-slots_of (block ∷ blocks) (count ∷ counts) same =
     omega (
       arith,
-      sum_by-cons (λ (slot : Slot). length slot.words) (with_count block count) (slots_of blocks counts),
+      sum_by-cons (λ (slot : Slot). length slot.words) (slot_of block count) (slots_of blocks counts),
       sum_by-cons (λ (b : Option Block). length (words_of b)) block blocks,
       ap length (words_with_count block count),
       words_in-slots_of blocks counts (omega arith),
     )
 
-counted_rest : (block : Option Block) (blocks : Content) (count : ℕ) (counts : List ℕ) → IsCounted (block ∷ blocks) (count ∷ counts) → IsCounted blocks counts
+counted_rest : (block : Option Block) (blocks : Content) (count : ℕ) (counts : List ℕ)
+    → IsCounted (block ∷ blocks) (count ∷ counts) → IsCounted blocks counts
 counted_rest block blocks count counts c = record {
   ids = let same = c.ids in omega arith;
   live = λ id. c.live (suc id);
   gone = λ id. c.gone (suc id);
 }
 
-count_one : (block : Option Block) (count : ℕ) → (IsSome block → 0 < count) → ◌≡◌ {A = ℕ} (cond (ltb 0 (with_count block count).count) 1 0) (cond (is_some block) 1 0)
+count_one : (block : Option Block) (count : ℕ) → (IsSome block → 0 < count)
+    → ◌≡◌ {A = ℕ} (cond (ltb 0 (slot_of block count).count) 1 0) (cond (is_some block) 1 0)
 count_one None count live = refl
 count_one (Some block) count live = ap (λ (b : Bool). let n : ℕ = cond b 1 0 in n) (lt-ltb 0 count (live refl))
 
-pub blocks_in-slots_of : (content : Content) (counts : List ℕ) → IsCounted content counts → blocks_in (slots_of content counts) ≡ block_count content
+pub blocks_in-slots_of : (content : Content) (counts : List ℕ) → IsCounted content counts
+    → blocks_in (slots_of content counts) ≡ block_count content
 blocks_in-slots_of [] counts c = refl
 blocks_in-slots_of (block ∷ blocks) [] c = absurd (let same = c.ids in omega arith)
 blocks_in-slots_of (block ∷ blocks) (count ∷ counts) c =
     omega (
       arith,
-      sum_by-cons (λ (slot : Slot). cond (ltb 0 slot.count) 1 0) (with_count block count) (slots_of blocks counts),
+      sum_by-cons (λ (slot : Slot). cond (ltb 0 slot.count) 1 0) (slot_of block count) (slots_of blocks counts),
       sum_by-cons (λ (b : Option Block). cond (is_some b) 1 0) block blocks,
       count_one block count (c.live 0),
       blocks_in-slots_of blocks counts (counted_rest block blocks count counts c),
     )
 
 -- a block and its count are put at a number
-pub counted_set : (content : Content) (counts : List ℕ) (id : ℕ) (block : Option Block) (count : ℕ) → IsCounted content counts → id < length content → (IsSome block → 0 < count) → (block ≡ None → count ≡ 0) → IsCounted (set content id block) (set counts id count)
+pub counted_set : (content : Content) (counts : List ℕ) (id : ℕ) (block : Option Block) (count : ℕ)
+    → IsCounted content counts → id < length content → (IsSome block → 0 < count) → (block ≡ None → count ≡ 0)
+    → IsCounted (set content id block) (set counts id count)
 counted_set content counts id block count c within live gone = record {
   ids = length-set counts id count ∙ (c.ids ∙ sym (length-set content id block));
   live = λ other. elim (cases_eq other id) [
-    | inl e ↦ λ here. subst (λ k. 0 < get_or (set counts id count) k 0) (sym e) (subst (λ n. 0 < n) (sym (get_or-set_same counts id count 0 (omega (arith, c.ids)))) (live (subst (λ (b : Option Block). IsSome b) (ap (block_at (set content id block)) e ∙ get_or-set_same content id block None within) here)))
-    | inr ne ↦ λ here. subst (λ n. 0 < n) (sym (get_or-set_other counts id other count 0 ne)) (c.live other (subst (λ (b : Option Block). IsSome b) (get_or-set_other content id other block None ne) here))
+    | inl e ↦
+        λ here. subst (λ k. 0 < get_or (set counts id count) k 0) (sym e)
+        (subst (λ n. 0 < n) (sym (get_or-set_same counts id count 0 (omega (arith, c.ids))))
+        (live (subst (λ (b : Option Block). IsSome b)
+        (ap (block_at (set content id block)) e ∙ get_or-set_same content id block None within) here)))
+    | inr ne ↦
+        λ here. subst (λ n. 0 < n) (sym (get_or-set_other counts id other count 0 ne))
+        (c.live other (subst (λ (b : Option Block). IsSome b) (get_or-set_other content id other block None ne) here))
   ];
   gone = λ other. elim (cases_eq other id) [
-    | inl e ↦ λ here. ap (λ k. get_or (set counts id count) k 0) e ∙ (get_or-set_same counts id count 0 (omega (arith, c.ids)) ∙ gone (sym (ap (block_at (set content id block)) e ∙ get_or-set_same content id block None within) ∙ here))
-    | inr ne ↦ λ here. get_or-set_other counts id other count 0 ne ∙ c.gone other (sym (get_or-set_other content id other block None ne) ∙ here)
+    | inl e ↦
+        λ here. ap (λ k. get_or (set counts id count) k 0) e
+        ∙ (get_or-set_same counts id count 0 (omega (arith, c.ids))
+        ∙ gone (sym (ap (block_at (set content id block)) e ∙ get_or-set_same content id block None within) ∙ here))
+    | inr ne ↦
+        λ here. get_or-set_other counts id other count 0 ne
+        ∙ c.gone other (sym (get_or-set_other content id other block None ne) ∙ here)
   ];
 }
 
-pub counted_count : (content : Content) (counts : List ℕ) (id count : ℕ) → IsCounted content counts → id < length content → (IsLive content id → 0 < count) → (block_at content id ≡ None → count ≡ 0) → IsCounted content (set counts id count)
+pub counted_count : (content : Content) (counts : List ℕ) (id count : ℕ) → IsCounted content counts
+    → id < length content → (IsLive content id → 0 < count) → (block_at content id ≡ None → count ≡ 0)
+    → IsCounted content (set counts id count)
 counted_count content counts id count c within live gone =
-    subst (λ (blocks : Content). IsCounted blocks (set counts id count)) (set-get_or content id None) (counted_set content counts id (block_at content id) count c within live gone)
+    subst (λ (blocks : Content). IsCounted blocks (set counts id count)) (set-get_or content id None)
+    (counted_set content counts id (block_at content id) count c within live gone)
 
 -- the slots of a memory with no block
-pub slots_of_none : (content : Content) → block_count content ≡ 0 → slots_of content (replicate (length content) 0) ≡ replicate (length content) none
+pub slots_of_none : (content : Content) → block_count content ≡ 0
+    → slots_of content (replicate (length content) 0) ≡ replicate (length content) empty_slot
 slots_of_none [] e = refl
 slots_of_none (None ∷ blocks) e =
-    let step : block_count (None ∷ blocks) ≡ 0 + block_count blocks = sum_by-cons (λ (b : Option Block). cond (is_some b) 1 0) None blocks in
-    ap (λ (slots : List Slot). none ∷ slots) (slots_of_none blocks (omega arith))
+    let step : block_count (None ∷ blocks) ≡ 0 + block_count blocks =
+    sum_by-cons (λ (b : Option Block). cond (is_some b) 1 0) None blocks in
+    ap (λ (slots : List Slot). empty_slot ∷ slots) (slots_of_none blocks (omega arith))
 slots_of_none (Some block ∷ blocks) e =
-    let step : block_count (Some block ∷ blocks) ≡ 1 + block_count blocks = sum_by-cons (λ (b : Option Block). cond (is_some b) 1 0) (Some block) blocks in
+    let step : block_count (Some block ∷ blocks) ≡ 1 + block_count blocks =
+    sum_by-cons (λ (b : Option Block). cond (is_some b) 1 0) (Some block) blocks in
     absurd (omega arith)
 
 no_block : (content : Content) (id : ℕ) → block_count content ≡ 0 → block_at content id ≡ None
 no_block [] id e = refl
 no_block (None ∷ blocks) zero e = refl
 no_block (None ∷ blocks) (suc id) e =
-    let step : block_count (None ∷ blocks) ≡ 0 + block_count blocks = sum_by-cons (λ (b : Option Block). cond (is_some b) 1 0) None blocks in
+    let step : block_count (None ∷ blocks) ≡ 0 + block_count blocks =
+    sum_by-cons (λ (b : Option Block). cond (is_some b) 1 0) None blocks in
     no_block blocks id (omega arith)
 no_block (Some block ∷ blocks) id e =
-    let step : block_count (Some block ∷ blocks) ≡ 1 + block_count blocks = sum_by-cons (λ (b : Option Block). cond (is_some b) 1 0) (Some block) blocks in
+    let step : block_count (Some block ∷ blocks) ≡ 1 + block_count blocks =
+    sum_by-cons (λ (b : Option Block). cond (is_some b) 1 0) (Some block) blocks in
     absurd (omega arith)
 
 pub counted_none : (content : Content) → block_count content ≡ 0 → IsCounted content (replicate (length content) 0)
@@ -153,53 +203,73 @@ counted_none content e = record {
     zeros (suc n) (suc id) = zeros n id
 
 -- A reference more, a reference less, and the last one.
-more_with : (block : Option Block) (count : ℕ) → IsSome block → with_count block (count + 1) ≡ one_more (with_count block count)
+more_with : (block : Option Block) (count : ℕ) → IsSome block
+    → slot_of block (count + 1) ≡ raised_slot (slot_of block count)
 more_with None count live = absurd (false≢true live)
 more_with (Some block) count live = refl
 
-less_with : (block : Option Block) (count : ℕ) → IsSome block → 1 < count → with_count block (count - 1) ≡ one_less (with_count block count)
+less_with : (block : Option Block) (count : ℕ) → IsSome block → 1 < count
+    → slot_of block (count - 1) ≡ lowered_slot (slot_of block count)
 less_with None count live many = absurd (false≢true live)
 less_with (Some block) count live many =
     let slot : Slot = record { owner = block.owner; count = count - 1; words = block.words } in
-    ap (λ b. cond b none slot) (sym (lt-leb count 1 many))
+    ap (λ b. cond b empty_slot slot) (sym (lt-leb count 1 many))
 
-pub last_less : (slot : Slot) → slot.count ≡ 1 → one_less slot ≡ none
-last_less slot one =
-    let rest : Slot = record { owner = slot.owner; count = slot.count - 1; words = slot.words } in
-    ap (λ b. cond b none rest) (le-leb slot.count 1 (omega arith))
-
-pub slots_shared : (content : Content) (counts : List ℕ) (id count : ℕ) → IsCounted content counts → 0 < (at (slots_of content counts) id).count → count ≡ get_or counts id 0 → slots_of content (set counts id (count + 1)) ≡ set (slots_of content counts) id (one_more (at (slots_of content counts) id))
+pub slots_shared : (content : Content) (counts : List ℕ) (id count : ℕ) → IsCounted content counts
+    → 0 < (slot_in (slots_of content counts) id).count → count ≡ get_or counts id 0
+    → slots_of content (set counts id (count + 1)) ≡ set (slots_of content counts) id
+    (raised_slot (slot_in (slots_of content counts) id))
 slots_shared content counts id count c some is =
     slots_of-count content counts id (count + 1)
-    ∙ ap (set (slots_of content counts) id) (ap (λ n. with_count (block_at content id) (n + 1)) is
-    ∙ (more_with (block_at content id) (get_or counts id 0) (live_is content counts id c.ids some) ∙ ap one_more (sym (slot_is content counts id c.ids))))
+    ∙ ap (set (slots_of content counts) id) (ap (λ n. slot_of (block_at content id) (n + 1)) is
+    ∙ (more_with (block_at content id) (get_or counts id 0) (live_is content counts id c.ids some)
+    ∙ ap raised_slot (sym (slot_is content counts id c.ids))))
 
-pub slots_released : (content : Content) (counts : List ℕ) (id count : ℕ) → IsCounted content counts → 1 < (at (slots_of content counts) id).count → count ≡ get_or counts id 0 → slots_of content (set counts id (count - 1)) ≡ set (slots_of content counts) id (one_less (at (slots_of content counts) id))
+pub slots_released : (content : Content) (counts : List ℕ) (id count : ℕ) → IsCounted content counts
+    → 1 < (slot_in (slots_of content counts) id).count → count ≡ get_or counts id 0
+    → slots_of content (set counts id (count - 1)) ≡ set (slots_of content counts) id
+    (lowered_slot (slot_in (slots_of content counts) id))
 slots_released content counts id count c many is =
     slots_of-count content counts id (count - 1)
-    ∙ ap (set (slots_of content counts) id) (ap (λ n. with_count (block_at content id) (n - 1)) is
-    ∙ (less_with (block_at content id) (get_or counts id 0) (live_is content counts id c.ids (omega arith)) (omega (arith, count_is content counts id c)) ∙ ap one_less (sym (slot_is content counts id c.ids))))
+    ∙ ap (set (slots_of content counts) id) (ap (λ n. slot_of (block_at content id) (n - 1)) is
+    ∙ (less_with (block_at content id) (get_or counts id 0) (live_is content counts id c.ids (omega arith))
+    (omega (arith, count_is content counts id c)) ∙ ap lowered_slot (sym (slot_is content counts id c.ids))))
 
-pub slots_freed : (content : Content) (counts : List ℕ) (id count : ℕ) → (at (slots_of content counts) id).count ≡ 1 → slots_of (set content id None) (set counts id count) ≡ set (slots_of content counts) id (one_less (at (slots_of content counts) id))
+pub slots_freed : (content : Content) (counts : List ℕ) (id count : ℕ)
+    → (slot_in (slots_of content counts) id).count ≡ 1
+    → slots_of (set content id None) (set counts id count) ≡ set (slots_of content counts) id
+    (lowered_slot (slot_in (slots_of content counts) id))
 slots_freed content counts id count one =
-    slots_of-set content counts id None count ∙ ap (set (slots_of content counts) id) (sym (last_less (at (slots_of content counts) id) one))
+    slots_of-set content counts id None count
+    ∙ ap (set (slots_of content counts) id) (sym (one_less_last (slot_in (slots_of content counts) id) (omega arith)))
 
-pub same_shared : (m n : ℕ) (xs ys : List Slot) → m ≡ n → xs ≡ ys → ◌≡◌ {A = Shared} (record { room = m; slots = xs }) (record { room = n; slots = ys })
-same_shared m n xs ys room slots =
-    let one : ◌≡◌ {A = Shared} (record { room = m; slots = xs }) (record { room = n; slots = xs }) = ap (λ k. let s : Shared = record { room = k; slots = xs } in s) room in
-    let two : ◌≡◌ {A = Shared} (record { room = n; slots = xs }) (record { room = n; slots = ys }) = ap (λ (zs : List Slot). let s : Shared = record { room = n; slots = zs } in s) slots in
-    one ∙ two
+-- memories for so many words, with the same slots
+pub same_slots : (room : ℕ) (xs ys : List Slot) → xs ≡ ys
+    → ◌≡◌ {A = SharedState} (record { room = room; slots = xs }) (record { room = room; slots = ys })
+same_slots room xs ys same =
+    ap (λ (slots : List Slot). let s : SharedState = record { room = room; slots = slots } in s) same
 
 -- a live number is within
 pub live_within_content : (content : Content) (id : ℕ) → IsLive content id → id < length content
 live_within_content content id live = elim (cases_lt id (length content)) [
   | inl lt ↦ lt
-  | inr past ↦ absurd (false≢true (ap (λ (b : Option Block). is_some b) (sym (get_or_past content id None past)) ∙ live))
+  | inr past ↦
+      absurd (false≢true (ap (λ (b : Option Block). is_some b) (sym (get_or_past content id None past)) ∙ live))
 ]
 
-pub tidy_is : (content : Content) (counts : List ℕ) (id : ℕ) → IsCounted content counts → (at (slots_of content counts) id).count ≡ 0 → at (slots_of content counts) id ≡ none
-tidy_is content counts id c empty = slot_is content counts id c.ids ∙ by_block (block_at content id) (get_or counts id 0) (c.live id) (sym (count_is content counts id c) ∙ empty)
+pub tidy_is : (content : Content) (counts : List ℕ) (id : ℕ) → IsCounted content counts
+    → (slot_in (slots_of content counts) id).count ≡ 0 → slot_in (slots_of content counts) id ≡ empty_slot
+tidy_is content counts id c empty =
+    slot_is content counts id c.ids ∙ by_block (block_at content id) (get_or counts id 0) (c.live id)
+    (sym (count_is content counts id c) ∙ empty)
   where
-    by_block : (block : Option Block) (count : ℕ) → (IsSome block → 0 < count) → count ≡ 0 → with_count block count ≡ none
+    by_block : (block : Option Block) (count : ℕ) → (IsSome block → 0 < count) → count ≡ 0
+        → slot_of block count ≡ empty_slot
     by_block None count live gone = refl
     by_block (Some block) count live gone = absurd (let some = live refl in omega arith)
+
+-- the count that was read at a number
+pub read_count : (counts : List ℕ) (number id count : ℕ) → number ≡ id → id < length counts
+    → count ≡ get_or counts number count → count ≡ get_or counts id 0
+read_count counts number id count same within read =
+    read ∙ (ap (λ n. get_or counts n count) same ∙ get_or_default counts id count 0 within)

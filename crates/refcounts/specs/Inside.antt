@@ -1,17 +1,21 @@
 -- How a memory of blocks and a list of counts stand for a memory of counted blocks.
 use Rattle.std.specs.Prelude.{◌≡◌, ℕ, ◌<◌, List, [], ◌∷◌, length, slice_index, Option, Some, None}
 use Rattle.block_memory.specs.Content.{Block, Content, block_at, IsLive}
-use Rattle.refcounts.specs.Shared.{Slot, none}
+use Rattle.refcounts.specs.SharedState.{Slot, empty_slot, SharedState}
 
 -- a block with its count
-abbrev pub with_count : Option Block → ℕ → Slot
-with_count None count = none
-with_count (Some block) count = record { owner = block.owner; count = count; words = block.words }
+abbrev pub slot_of : Option Block → ℕ → Slot
+slot_of None count = empty_slot
+slot_of (Some block) count = record { owner = block.owner; count = count; words = block.words }
 
 abbrev pub slots_of : Content → List ℕ → List Slot
 slots_of [] counts = []
 slots_of (block ∷ blocks) [] = []
-slots_of (block ∷ blocks) (count ∷ counts) = with_count block count ∷ slots_of blocks counts
+slots_of (block ∷ blocks) (count ∷ counts) = slot_of block count ∷ slots_of blocks counts
+
+-- the blocks of a memory for so many words, with their counts
+abbrev pub state_of : ℕ → Content → List ℕ → SharedState
+state_of room content counts = record { room = room; slots = slots_of content counts }
 
 -- there is a count for each number, which is above 0 exactly where it has a block
 pub record IsCounted (content : Content) (counts : List ℕ) : Type 0 where

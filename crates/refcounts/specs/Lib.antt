@@ -1,3 +1,4 @@
-pub mod Shared
+pub mod SharedState
 pub mod Owners
 pub mod Inside
+pub mod Laws

@@ -8,7 +8,9 @@
 
 ghost use Rattle.std.specs.Prelude.{◌≡◌, ◌+◌, ◌-◌, ◌^◌, ◌<◌, ◌≤◌, ◌↔◌, length, replicate, slice_get, Some, IsTrue, IfOk, OnErr};
 ghost use Rattle.block_memory.specs.Content.{block_count as block_count_of};
-ghost use Rattle.refcounts.specs.Shared.{none, slot_at, IsLive, IsTidy, used_words, block_count, put, new_slot, shared_at, released_at};
+ghost use Rattle.refcounts.specs.SharedState.{empty_slot, slot_at, IsLive, IsTidy, used_words, block_count, with_slot, new_slot, state_after_share, state_after_release};
+
+pub mod laws;
 
 use block_memory::{BlockId, NoRoom, VectorMemory};
 use std::alloc::{AllocError, Allocator};
@@ -26,13 +28,13 @@ pub struct SharedMemory<M: VectorMemory, A: Allocator> {
 }
 
 impl<M: VectorMemory, A: Allocator> Model for SharedMemory<M, A> {
-    ghost use Rattle.refcounts.specs.Shared.{Shared};
+    ghost use Rattle.refcounts.specs.SharedState.{SharedState};
 
-    ghost Value = { Shared };
+    ghost Value = { SharedState };
 
-    ghost use Rattle.refcounts.specs.Inside.{slots_of, IsCounted};
+    ghost use Rattle.refcounts.specs.Inside.{state_of, IsCounted};
 
-    ghost view = { λ a. record { room = M.room a.memory; slots = slots_of (M.content a.memory) a.counts.items } };
+    ghost view = { λ a. state_of (M.room a.memory) (M.content a.memory) a.counts.items };
 
     ghost invariant = { λ a. IsCounted (M.content a.memory) a.counts.items };
 }
@@ -46,7 +48,7 @@ impl<M: VectorMemory, A: Allocator> SharedMemory<M, A> {
     where
         M: Drop,
         requires { block_count_of (M.content memory) ≡ 0 }
-        ensures { IfOk result (λ shared. shared ≡ record { room = M.room memory; slots = replicate (length (M.content memory)) none }) }
+        ensures { IfOk result (λ shared. shared ≡ record { room = M.room memory; slots = replicate (length (M.content memory)) empty_slot }) }
     {
         let counts = vec![in alloc; 0; memory.ids()]?;
         Ok(Self { memory, counts })
@@ -58,8 +60,8 @@ impl<M: VectorMemory, A: Allocator> SharedMemory<M, A> {
     /// and only over a memory that may refuse. Nothing changes at either.
     pub fn make(&mut self, owner: usize, words: &[i64]) -> Result<BlockId, NoRoom>
         requires { block_count self.old < length self.old.slots }
-        ensures fresh { IfOk result (λ id. (id < length self.old.slots) × (slot_at self.old id ≡ none)) }
-        ensures made { IfOk result (λ id. self.new ≡ put self.old id (new_slot owner words.now)) }
+        ensures fresh { IfOk result (λ id. (id < length self.old.slots) × (slot_at self.old id ≡ empty_slot)) }
+        ensures made { IfOk result (λ id. self.new ≡ with_slot self.old id (new_slot owner words.now)) }
 
         ensures full { (result ≡ Err NoRoom.Full) ↔ (self.old.room < used_words self.old + length words.now) }
         ensures memory { result ≡ Err NoRoom.Memory → IsTrue M.may_refuse × (used_words self.old + length words.now ≤ self.old.room) }
@@ -74,7 +76,7 @@ impl<M: VectorMemory, A: Allocator> SharedMemory<M, A> {
     pub fn share(&mut self, id: BlockId)
         requires live { IsLive self.old id }
         requires few { (slot_at self.old id).count < u64.MAX }
-        ensures { self.new ≡ shared_at self.old id }
+        ensures { self.new ≡ state_after_share self.old id }
     {
         self.counts[id.number()] += 1;
     }
@@ -84,11 +86,11 @@ impl<M: VectorMemory, A: Allocator> SharedMemory<M, A> {
     pub fn release(&mut self, id: BlockId) -> bool
         requires { IsLive self.old id }
         ensures last { IsTrue result ↔ ((slot_at self.old id).count ≡ 1) }
-        ensures released { self.new ≡ released_at self.old id }
+        ensures released { self.new ≡ state_after_release self.old id }
     {
-        let number = id.number();
-        self.counts[number] -= 1;
-        let last = self.counts[number] == 0;
+        let count = &mut self.counts[id.number()];
+        *count -= 1;
+        let last = *count == 0;
         if last {
             self.memory.free(id);
         }
@@ -117,6 +119,14 @@ impl<M: VectorMemory, A: Allocator> SharedMemory<M, A> {
         ensures { result ≡ (slot_at self.now id).owner }
     {
         self.memory.owner(id)
+    }
+
+    /// The words of a block.
+    pub fn words(&self, id: BlockId) -> &[i64]
+        requires { IsLive self.now id }
+        ensures { result.now ≡ (slot_at self.now id).words }
+    {
+        self.memory.words(id)
     }
 
     /// A word of a block, counted from 0.

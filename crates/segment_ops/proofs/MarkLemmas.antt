@@ -9,7 +9,8 @@ any_push : (p : ℤ → Bool) (xs : List ℤ) (x : ℤ) → list_any p (xs ++ x 
 any_push p [] x = grind arith
 any_push p (y ∷ ys) x = let e = any_push p ys x in grind (arith, e)
 
-any_more : (p : ℤ → Bool) (xs : List ℤ) (k : ℕ) → k < length xs → list_any p (take (k + 1) xs) ≡ (list_any p (take k xs) || p (get_or xs k (pos 0)))
+any_more : (p : ℤ → Bool) (xs : List ℤ) (k : ℕ) → k < length xs
+    → list_any p (take (k + 1) xs) ≡ (list_any p (take k xs) || p (get_or xs k (pos 0)))
 any_more p xs k h = ap (list_any p) (take_more xs k (pos 0) h) ∙ any_push p (take k xs) (get_or xs k (pos 0))
 
 regroup : (a b c d : Bool) → ((a || b) || (c || d)) ≡ ((a || c) || (b || d))
@@ -26,11 +27,14 @@ twice_push [] j = refl
 twice_push (i ∷ is) j =
     ap (λ b. b || has_twice (is ++ j ∷ [])) (any_push (names (unsigned_abs i)) is j)
     ∙ ap (λ b. (list_any (names (unsigned_abs i)) is || names (unsigned_abs i) j) || b) (twice_push is j)
-    ∙ regroup (list_any (names (unsigned_abs i)) is) (names (unsigned_abs i) j) (has_twice is) (list_any (names (unsigned_abs j)) is)
-    ∙ ap (λ b. (list_any (names (unsigned_abs i)) is || has_twice is) || (b || list_any (names (unsigned_abs j)) is)) (names_each_other i j)
+    ∙ regroup (list_any (names (unsigned_abs i)) is) (names (unsigned_abs i) j) (has_twice is)
+    (list_any (names (unsigned_abs j)) is)
+    ∙ ap (λ b. (list_any (names (unsigned_abs i)) is || has_twice is) || (b || list_any (names (unsigned_abs j)) is))
+    (names_each_other i j)
 
 twice_more : (is : List ℤ) (k : ℕ) → k < length is
-    → has_twice (take (k + 1) is) ≡ (has_twice (take k is) || list_any (names (unsigned_abs (get_or is k (pos 0)))) (take k is))
+    → has_twice (take (k + 1) is) ≡ (has_twice (take k is)
+    || list_any (names (unsigned_abs (get_or is k (pos 0)))) (take k is))
 twice_more is k h = ap has_twice (take_more is k (pos 0) h) ∙ twice_push (take k is) (get_or is k (pos 0))
 
 -- the code's test of a mark
@@ -42,7 +46,8 @@ test_mark false = refl
 pub mark_step : (is : List ℤ) (k : ℕ) (marks : List ℤ) → k < length is
     → ((q : ℕ) → q < length marks → get_or marks q (pos 0) ≡ flag (list_any (names q) (take k is)))
     → (q : ℕ) → q < length (set marks (unsigned_abs (get_or is k (pos 0))) (pos 1))
-    → get_or (set marks (unsigned_abs (get_or is k (pos 0))) (pos 1)) q (pos 0) ≡ flag (list_any (names q) (take (k + 1) is))
+    → get_or (set marks (unsigned_abs (get_or is k (pos 0))) (pos 1)) q (pos 0)
+    ≡ flag (list_any (names q) (take (k + 1) is))
 mark_step is k marks here marked q h =
     let place = unsigned_abs (get_or is k (pos 0)) in
     let inside : q < length marks = omega (arith, length-set {A = ℤ}) in
@@ -51,10 +56,12 @@ mark_step is k marks here marked q h =
     grind (arith, more, so_far, get_or-set_same {A = ℤ}, get_or-set_other {A = ℤ})
 
 -- a place that is marked already was named before
-pub twice_step : (is : List ℤ) (k : ℕ) (marks : List ℤ) (twice : Bool) → k < length is → unsigned_abs (get_or is k (pos 0)) < length marks
+pub twice_step : (is : List ℤ) (k : ℕ) (marks : List ℤ) (twice : Bool) → k < length is
+    → unsigned_abs (get_or is k (pos 0)) < length marks
     → ((q : ℕ) → q < length marks → get_or marks q (pos 0) ≡ flag (list_any (names q) (take k is)))
     → twice ≡ has_twice (take k is)
-    → (twice || nat_eq (of_z w64 (get_or marks (unsigned_abs (get_or is k (pos 0))) (pos 0))) 1) ≡ has_twice (take (k + 1) is)
+    → (twice || nat_eq (of_z w64 (get_or marks (unsigned_abs (get_or is k (pos 0))) (pos 0))) 1)
+    ≡ has_twice (take (k + 1) is)
 twice_step is k marks twice here inside marked so_far =
     ap (λ m. twice || nat_eq (of_z w64 m) 1) (marked (unsigned_abs (get_or is k (pos 0))) inside)
     ∙ ap (λ b. twice || b) (test_mark (list_any (names (unsigned_abs (get_or is k (pos 0)))) (take k is)))

@@ -6,13 +6,15 @@ use Rattle.std.proofs.lemmas.List.FromFn.{length-enumerate_from, get_or-enumerat
 use Rattle.std.proofs.lemmas.List.Sums.{fold_more}
 use Rattle.std.proofs.lemmas.Slice.Zip.{length-zip, get_or-zip}
 use Rattle.vcode_base.specs.Elements.{flag}
-use Rattle.vcode_base.specs.Segments.{names, arrival, moved}
+use Rattle.vcode_base.specs.Segments.{names, arrival, scatter_of}
 use Rattle.segment_ops.specs.Indices.{marks_of}
 
-length-moved : (xs is there : List ℤ) → length (moved xs is there) ≡ length there
-length-moved xs is there = length-map (enumerate_from 0 there) (λ (q, d). arrival (zip is xs) q d) ∙ length-enumerate_from 0 there
+length-moved : (xs is there : List ℤ) → length (scatter_of xs is there) ≡ length there
+length-moved xs is there = length-map (enumerate_from 0 there) (λ (q, d). arrival (zip is xs) q d)
+    ∙ length-enumerate_from 0 there
 
-moved_at : (xs is there : List ℤ) (q : ℕ) → q < length there → get_or (moved xs is there) q (pos 0) ≡ arrival (zip is xs) q (get_or there q (pos 0))
+moved_at : (xs is there : List ℤ) (q : ℕ) → q < length there
+    → get_or (scatter_of xs is there) q (pos 0) ≡ arrival (zip is xs) q (get_or there q (pos 0))
 moved_at xs is there q inside =
     let listed : q < length (enumerate_from 0 there) = omega (arith, length-enumerate_from 0 there) in
     get_or-map (λ (q, d). arrival (zip is xs) q d) (enumerate_from 0 there) q (0, pos 0) (pos 0) listed
@@ -21,22 +23,28 @@ moved_at xs is there q inside =
 
 -- a list with at each place what arrives there
 pub moved_all : (xs is there out : List ℤ) → length out ≡ length there
-    → ((q : ℕ) → q < length there → get_or out q (pos 0) ≡ arrival (zip is xs) q (get_or there q (pos 0))) → out ≡ moved xs is there
+    → ((q : ℕ) → q < length there → get_or out q (pos 0) ≡ arrival (zip is xs) q (get_or there q (pos 0)))
+    → out ≡ scatter_of xs is there
 moved_all xs is there out long each =
-    ext_get_or (pos 0) out (moved xs is there) (long ∙ sym (length-moved xs is there))
+    ext_get_or (pos 0) out (scatter_of xs is there) (long ∙ sym (length-moved xs is there))
     (λ q h. let inside : q < length there = omega arith in each q inside ∙ sym (moved_at xs is there q inside))
 
 arrival_more : (is xs : List ℤ) (k q : ℕ) (d : ℤ) → length is ≡ length xs → k < length xs
-    → arrival (take (k + 1) (zip is xs)) q d ≡ (if names q (get_or is k (pos 0)) then get_or xs k (pos 0) else arrival (take k (zip is xs)) q d)
+    → arrival (take (k + 1) (zip is xs)) q d
+    ≡ (if names q (get_or is k (pos 0)) then get_or xs k (pos 0) else arrival (take k (zip is xs)) q d)
 arrival_more is xs k q d same here =
-    fold_more (λ there (i, x). if names q i then x else there) d (zip is xs) k (pos 0, pos 0) (omega (arith, length-zip is xs))
-    ∙ ap (λ p. if names q p.0 then p.1 else arrival (take k (zip is xs)) q d) (get_or-zip is xs k (pos 0, pos 0) (omega arith) here)
+    fold_more (λ there (i, x). if names q i then x else there) d (zip is xs) k (pos 0, pos 0)
+    (omega (arith, length-zip is xs))
+    ∙ ap (λ p. if names q p.0 then p.1 else arrival (take k (zip is xs)) q d)
+    (get_or-zip is xs k (pos 0, pos 0) (omega arith) here)
 
 -- one more element has gone to its index
-pub move_step : (is xs there out : List ℤ) (k : ℕ) → length is ≡ length xs → k < length xs → unsigned_abs (get_or is k (pos 0)) < length out
+pub move_step : (is xs there out : List ℤ) (k : ℕ) → length is ≡ length xs → k < length xs
+    → unsigned_abs (get_or is k (pos 0)) < length out
     → ((q : ℕ) → q < length out → get_or out q (pos 0) ≡ arrival (take k (zip is xs)) q (get_or there q (pos 0)))
     → (q : ℕ) → q < length (set out (unsigned_abs (get_or is k (pos 0))) (get_or xs k (pos 0)))
-    → get_or (set out (unsigned_abs (get_or is k (pos 0))) (get_or xs k (pos 0))) q (pos 0) ≡ arrival (take (k + 1) (zip is xs)) q (get_or there q (pos 0))
+    → get_or (set out (unsigned_abs (get_or is k (pos 0))) (get_or xs k (pos 0))) q (pos 0)
+    ≡ arrival (take (k + 1) (zip is xs)) q (get_or there q (pos 0))
 move_step is xs there out k same here within so_far q h =
     let inside : q < length out = omega (arith, length-set {A = ℤ}) in
     let more = arrival_more is xs k q (get_or there q (pos 0)) same here in
@@ -44,26 +52,33 @@ move_step is xs there out k same here within so_far q h =
     grind (arith, more, before, get_or-set_same {A = ℤ}, get_or-set_other {A = ℤ})
 
 -- where an index names the place, what stood there does not matter
-arrival_named : (is xs : List ℤ) (q : ℕ) (d e : ℤ) → length is ≡ length xs → list_any (names q) is ≡ true → arrival (zip is xs) q d ≡ arrival (zip is xs) q e
+arrival_named : (is xs : List ℤ) (q : ℕ) (d e : ℤ) → length is ≡ length xs → list_any (names q) is ≡ true
+    → arrival (zip is xs) q d ≡ arrival (zip is xs) q e
 arrival_named [] xs q d e same named = cc
 arrival_named (i ∷ is) [] q d e same named = absurd (omega arith)
 arrival_named (i ∷ is) (x ∷ xs) q d e same named =
-    (elim (names q i) as (λ b. (b || list_any (names q) is) ≡ true → arrival (zip is xs) q (if b then x else d) ≡ arrival (zip is xs) q (if b then x else e))
+    (elim (names q i) as (λ b. (b || list_any (names q) is) ≡ true
+    → arrival (zip is xs) q (if b then x else d) ≡ arrival (zip is xs) q (if b then x else e))
     [ true ↦ λ h. refl | false ↦ λ h. arrival_named is xs q d e (omega arith) h ]) named
 
-arrival_marked : (is xs : List ℤ) (q : ℕ) → length is ≡ length xs → arrival (zip is xs) q (flag (list_any (names q) is)) ≡ arrival (zip is xs) q (pos 0)
+arrival_marked : (is xs : List ℤ) (q : ℕ) → length is ≡ length xs
+    → arrival (zip is xs) q (flag (list_any (names q) is)) ≡ arrival (zip is xs) q (pos 0)
 arrival_marked is xs q same =
-    (elim (list_any (names q) is) as (λ b. list_any (names q) is ≡ b → arrival (zip is xs) q (flag b) ≡ arrival (zip is xs) q (pos 0))
+    (elim (list_any (names q) is) as (λ b. list_any (names q) is ≡ b
+    → arrival (zip is xs) q (flag b) ≡ arrival (zip is xs) q (pos 0))
     [ true ↦ λ named. arrival_named is xs q (pos 1) (pos 0) same named | false ↦ λ named. refl ]) refl
 
 -- to move onto the marks is to move onto zeros
-pub moved_over_marks : (xs is : List ℤ) (n : ℕ) → length is ≡ length xs → moved xs is (marks_of is n) ≡ moved xs is (replicate n (pos 0))
+pub moved_over_marks : (xs is : List ℤ) (n : ℕ) → length is ≡ length xs
+    → scatter_of xs is (marks_of is n) ≡ scatter_of xs is (replicate n (pos 0))
 moved_over_marks xs is n same =
     let long : length (marks_of is n) ≡ n = length-map-range_with_len (λ q. flag (list_any (names q) is)) 0 n in
     let zeros : length (replicate n (pos 0)) ≡ n = length-replicate n (pos 0) in
-    moved_all xs is (replicate n (pos 0)) (moved xs is (marks_of is n)) (length-moved xs is (marks_of is n) ∙ long ∙ sym zeros)
+    moved_all xs is (replicate n (pos 0)) (scatter_of xs is (marks_of is n))
+    (length-moved xs is (marks_of is n) ∙ long ∙ sym zeros)
     (λ q h. let inside : q < n = omega arith in
     moved_at xs is (marks_of is n) q (omega arith)
-    ∙ ap (arrival (zip is xs) q) (get_or-map-range_with_len (λ q. flag (list_any (names q) is)) 0 n q q (pos 0) inside (omega arith))
+    ∙ ap (arrival (zip is xs) q) (get_or-map-range_with_len (λ q. flag (list_any (names q) is)) 0 n q q
+    (pos 0) inside (omega arith))
     ∙ arrival_marked is xs q same
     ∙ ap (arrival (zip is xs) q) (sym (get_or-replicate n q (pos 0) (pos 0) inside)))

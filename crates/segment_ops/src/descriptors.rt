@@ -1,5 +1,6 @@
-ghost use Rattle.std.specs.Prelude.{◌≡◌, ◌≤◌, length, ◌∷◌, [], MatchResult, None, Some};
-ghost use Rattle.vcode_base.specs.Kinds.{AreLengths, greatest_total};
+ghost use Rattle.std.specs.Prelude.{◌≡◌, ◌≤◌, ◌<◌, ◌+◌, ◌^◌, pos, length, drop, slice_index_or, unsigned_abs, ◌∷◌, [], MatchResult, None, Some};
+ghost use Rattle.vcode_base.specs.Kinds.{AreLengths};
+ghost use Rattle.vcode_base.specs.declared.limits.TheConstants.{MOST_TOTAL};
 ghost use Rattle.vcode_base.specs.Meaning.{segmented_fault, segmented_result};
 ghost use Rattle.vcode_base.specs.Segments.{total};
 ghost use Rattle.vcode_base.specs.declared.op.Segmented.TheVariants.{MakeSegdes, Lengths};
@@ -9,7 +10,7 @@ use vcode_base::{DataFault, Kind};
 /// The total of a descriptor.
 pub fn total_of(descriptor: &[i64]) -> u64
     requires lengths { AreLengths descriptor.now }
-    requires small { total descriptor.now ≤ greatest_total }
+    requires small { total descriptor.now ≤ MOST_TOTAL }
     ensures { result ≡ total descriptor.now }
 {
     let mut sum: u64 = 0;
@@ -17,6 +18,16 @@ pub fn total_of(descriptor: &[i64]) -> u64
         sum += *size as u64;
     }
     sum
+}
+
+/// Where a segment ends that begins at `begin`: `segment` is its number.
+pub fn end_of(descriptor: &[i64], segment: usize, begin: usize) -> usize
+    requires lengths { AreLengths descriptor.now }
+    requires number { segment < length descriptor.now }
+    requires within { begin + total (drop segment descriptor.now) < 2 ^ 64 }
+    ensures { result ≡ begin + unsigned_abs (slice_index_or descriptor.now segment (pos 0)) }
+{
+    begin + descriptor[segment] as usize
 }
 
 /// `MAKE_SEGDES`: writes the descriptor of these segment lengths, which are its words.

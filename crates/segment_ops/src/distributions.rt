@@ -2,6 +2,8 @@ ghost use Rattle.std.specs.Prelude.{◌≡◌, length, flat_map, replicate, zip}
 ghost use Rattle.vcode_base.specs.Kinds.{AreLengths};
 ghost use Rattle.vcode_base.specs.Segments.{total, sizes, progression};
 
+use crate::descriptors::end_of;
+
 /// `DIST`: writes at each position the element of its segment.
 ///
 /// `elements` has one element a segment of `descriptor`, and `out` is in its segments. INT and BOOL
@@ -15,7 +17,7 @@ pub fn distribute(elements: &[i64], descriptor: &[i64], out: &mut [i64])
 {
     let mut begin = 0;
     for segment in 0..descriptor.len() {
-        let end = begin + descriptor[segment] as usize;
+        let end = end_of(descriptor, segment, begin);
         out[begin..end].fill(elements[segment]);
         begin = end;
     }
@@ -35,7 +37,7 @@ pub fn index(firsts: &[i64], strides: &[i64], descriptor: &[i64], out: &mut [i64
 {
     let mut begin = 0;
     for segment in 0..descriptor.len() {
-        let end = begin + descriptor[segment] as usize;
+        let end = end_of(descriptor, segment, begin);
         progress(firsts[segment], strides[segment], &mut out[begin..end]);
         begin = end;
     }

@@ -5,6 +5,7 @@ ghost use Rattle.vcode_base.specs.Segments.{total};
 ghost use Rattle.vcode_base.specs.declared.kind.Scalar.TheVariants.{Int};
 ghost use Rattle.vcode_base.specs.declared.op.Segmented.TheVariants.{Extract};
 
+use crate::descriptors::end_of;
 use crate::indices::is_outside;
 use vcode_base::DataFault;
 
@@ -39,7 +40,7 @@ pub fn extract(
             return Err(DataFault::BadIndex);
         }
         out[segment] = elements[begin + indices[segment] as usize];
-        begin += descriptor[segment] as usize;
+        begin = end_of(descriptor, segment, begin);
     }
     Ok(())
 }

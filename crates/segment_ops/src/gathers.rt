@@ -6,6 +6,7 @@ ghost use Rattle.vcode_base.specs.Segments.{total, element};
 ghost use Rattle.vcode_base.specs.declared.kind.Scalar.TheVariants.{Int};
 ghost use Rattle.vcode_base.specs.declared.op.Segmented.TheVariants.{BackPermute};
 
+use crate::descriptors::end_of;
 use crate::indices::any_outside;
 use vcode_base::DataFault;
 
@@ -44,8 +45,8 @@ pub fn back_permute(
     let mut begin = 0;
     let mut target_begin = 0;
     for segment in 0..source.len() {
-        let end = begin + source[segment] as usize;
-        let target_end = target_begin + target[segment] as usize;
+        let end = end_of(source, segment, begin);
+        let target_end = end_of(target, segment, target_begin);
         gather(
             &elements[begin..end],
             &indices[target_begin..target_end],

@@ -4,6 +4,8 @@ ghost use Rattle.vcode_base.specs.Elements.{is_outside};
 ghost use Rattle.vcode_base.specs.Kinds.{AreLengths};
 ghost use Rattle.vcode_base.specs.Segments.{total, segments, sizes, any_outside};
 
+use crate::descriptors::end_of;
+
 /// Whether an index is none of the places `0..size` of a segment.
 pub fn is_outside(size: i64, index: i64) -> bool
     requires { pos 0 ≤ℤ size }
@@ -26,7 +28,7 @@ pub fn any_outside(indices: &[i64], descriptor: &[i64], bounds: &[i64]) -> bool
     let mut begin = 0;
     let mut outside = false;
     for segment in 0..descriptor.len() {
-        let end = begin + descriptor[segment] as usize;
+        let end = end_of(descriptor, segment, begin);
         outside |= has_outside(&indices[begin..end], bounds[segment]);
         begin = end;
     }

@@ -2,10 +2,11 @@ ghost use Rattle.std.specs.Prelude.{◌≡◌, length, [], ◌∷◌, false, Mat
 ghost use Rattle.segment_ops.specs.Indices.{AreWithin};
 ghost use Rattle.vcode_base.specs.Kinds.{AreLengths};
 ghost use Rattle.vcode_base.specs.Meaning.{segmented_result, segmented_fault};
-ghost use Rattle.vcode_base.specs.Segments.{total, moved, has_twice};
+ghost use Rattle.vcode_base.specs.Segments.{total, scatter_of, has_twice};
 ghost use Rattle.vcode_base.specs.declared.kind.Scalar.TheVariants.{Int};
 ghost use Rattle.vcode_base.specs.declared.op.Segmented.TheVariants.{DefaultPermute};
 
+use crate::descriptors::end_of;
 use crate::indices::any_outside;
 use crate::scatters::{mark, scatter};
 use vcode_base::DataFault;
@@ -48,8 +49,8 @@ pub fn default_permute(
     let mut begin = 0;
     let mut target_begin = 0;
     for segment in 0..source.len() {
-        let end = begin + source[segment] as usize;
-        let target_end = target_begin + target[segment] as usize;
+        let end = end_of(source, segment, begin);
+        let target_end = end_of(target, segment, target_begin);
         if move_over(
             &elements[begin..end],
             &indices[begin..end],
@@ -71,7 +72,7 @@ fn move_over(elements: &[i64], indices: &[i64], default: &[i64], out: &mut [i64]
     requires room { length out.old ≡ length default.now }
     requires within { AreWithin (length default.now) indices.now }
     ensures twice { result ≡ has_twice indices.now }
-    ensures moved { result ≡ false → out.new ≡ moved elements.now indices.now default.now }
+    ensures moved { result ≡ false → out.new ≡ scatter_of elements.now indices.now default.now }
 {
     let twice = mark(indices, out);
     if !twice {

@@ -1,10 +1,13 @@
 ghost use Rattle.std.specs.Prelude.{◌≡◌, ◌≤◌, pos, length, take, count_by, [], ◌∷◌};
 ghost use Rattle.vcode_base.specs.Elements.{is_set};
-ghost use Rattle.vcode_base.specs.Kinds.{AreLengths, greatest_total};
-ghost use Rattle.vcode_base.specs.Meaning.{packed, segmented_result, segmented_second};
+ghost use Rattle.vcode_base.specs.Kinds.{AreLengths};
+ghost use Rattle.vcode_base.specs.declared.limits.TheConstants.{MOST_TOTAL};
+ghost use Rattle.vcode_base.specs.Meaning.{flagged_elements, segmented_result, segmented_second};
 ghost use Rattle.vcode_base.specs.Segments.{total};
 ghost use Rattle.vcode_base.specs.declared.kind.Scalar.TheVariants.{Int};
 ghost use Rattle.vcode_base.specs.declared.op.Segmented.TheVariants.{Pack};
+
+use crate::descriptors::end_of;
 
 /// `PACK`: writes the elements whose flag is T, in order, and how many of each segment they are.
 ///
@@ -18,7 +21,7 @@ pub fn pack(
     counts: &mut [i64],
 )
     requires lengths { AreLengths descriptor.now }
-    requires bounded { total descriptor.now ≤ greatest_total }
+    requires bounded { total descriptor.now ≤ MOST_TOTAL }
     requires whole { length elements.now ≡ total descriptor.now }
     requires flag_whole { length flags.now ≡ total descriptor.now }
     requires room { length out.old ≡ count_by is_set flags.now }
@@ -31,7 +34,7 @@ pub fn pack(
     let mut begin = 0;
     let mut kept = 0;
     for segment in 0..descriptor.len() {
-        let end = begin + descriptor[segment] as usize;
+        let end = end_of(descriptor, segment, begin);
         let more = pack_segment(&elements[begin..end], &flags[begin..end], &mut out[kept..]);
         counts[segment] = more as i64;
         kept += more;
@@ -45,7 +48,7 @@ fn pack_segment(elements: &[i64], flags: &[i64], out: &mut [i64]) -> usize
     requires same { length flags.now ≡ length elements.now }
     requires room { count_by is_set flags.now ≤ length out.old }
     ensures counted { result ≡ count_by is_set flags.now }
-    ensures packed { take result out.new ≡ packed elements.now flags.now }
+    ensures packed { take result out.new ≡ flagged_elements elements.now flags.now }
 {
     let mut kept = 0;
     for place in 0..elements.len() {

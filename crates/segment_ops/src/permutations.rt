@@ -2,10 +2,11 @@ ghost use Rattle.std.specs.Prelude.{◌≡◌, length, [], ◌∷◌, false, Mat
 ghost use Rattle.segment_ops.specs.Indices.{AreWithin};
 ghost use Rattle.vcode_base.specs.Kinds.{AreLengths};
 ghost use Rattle.vcode_base.specs.Meaning.{segmented_result, segmented_fault};
-ghost use Rattle.vcode_base.specs.Segments.{total, permuted, has_twice};
+ghost use Rattle.vcode_base.specs.Segments.{total, permutation_of, has_twice};
 ghost use Rattle.vcode_base.specs.declared.kind.Scalar.TheVariants.{Int};
 ghost use Rattle.vcode_base.specs.declared.op.Segmented.TheVariants.{Permute};
 
+use crate::descriptors::end_of;
 use crate::indices::any_outside;
 use crate::scatters::{mark, scatter};
 use vcode_base::DataFault;
@@ -41,7 +42,7 @@ pub fn permute(
     }
     let mut begin = 0;
     for segment in 0..descriptor.len() {
-        let end = begin + descriptor[segment] as usize;
+        let end = end_of(descriptor, segment, begin);
         if permute_segment(
             &elements[begin..end],
             &indices[begin..end],
@@ -60,7 +61,7 @@ fn permute_segment(elements: &[i64], indices: &[i64], out: &mut [i64]) -> bool
     requires room { length out.old ≡ length elements.now }
     requires within { AreWithin (length elements.now) indices.now }
     ensures twice { result ≡ has_twice indices.now }
-    ensures moved { result ≡ false → out.new ≡ permuted elements.now indices.now }
+    ensures moved { result ≡ false → out.new ≡ permutation_of elements.now indices.now }
 {
     // Each place that no index names keeps its mark, which is 0.
     let twice = mark(indices, out);

@@ -5,6 +5,7 @@ ghost use Rattle.vcode_base.specs.Segments.{total};
 ghost use Rattle.vcode_base.specs.declared.kind.Scalar.TheVariants.{Int};
 ghost use Rattle.vcode_base.specs.declared.op.Segmented.TheVariants.{Replace};
 
+use crate::descriptors::end_of;
 use crate::indices::is_outside;
 use vcode_base::DataFault;
 
@@ -42,7 +43,7 @@ pub fn replace(
             return Err(DataFault::BadIndex);
         }
         out[begin + indices[segment] as usize] = replacements[segment];
-        begin += descriptor[segment] as usize;
+        begin = end_of(descriptor, segment, begin);
     }
     Ok(())
 }

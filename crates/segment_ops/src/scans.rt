@@ -1,18 +1,17 @@
 ghost use Rattle.std.specs.Prelude.{◌≡◌, length, flat_map};
 ghost use Rattle.vcode_base.specs.Kinds.{AreLengths};
 ghost use Rattle.vcode_base.specs.Segments.{total, segments, folds_before};
-ghost use Rattle.segment_ops.specs.Folds.{scanned};
+ghost use Rattle.segment_ops.specs.Folds.{exclusive_scan};
 
-use crate::steps::{
-    AndStep, MaxStep, MinStep, OrStep, ProductStep, Step, SumStep, XorStep, identity_of,
-};
+use crate::descriptors::end_of;
+use crate::steps::{Max, Min, identity_of};
+use vcode_base::element::{And, Combine, Or, Product, Sum, Xor};
 use vcode_base::{Fold, Logic};
 
-/// `+_SCAN` and the other scans: writes at each position the fold of the elements before it in its
-/// segment.
+/// `+_SCAN` and its kin: an element of the result takes together what stands before its place in
+/// the segment, and so the first one of each segment is the identity.
 ///
-/// `elements` and `out` are in the segments of `descriptor`. A scan is exclusive, so at the begin of
-/// a segment stands the identity.
+/// `elements` and `out` are in the segments of `descriptor`.
 pub fn scan(fold: Fold, elements: &[i64], descriptor: &[i64], out: &mut [i64])
     requires lengths { AreLengths descriptor.now }
     requires whole { length elements.now ≡ total descriptor.now }
@@ -21,41 +20,41 @@ pub fn scan(fold: Fold, elements: &[i64], descriptor: &[i64], out: &mut [i64])
 {
     let start = identity_of(fold);
     match fold {
-        Fold::Sum => scan_segments::<SumStep>(elements, descriptor, start, out),
-        Fold::Product => scan_segments::<ProductStep>(elements, descriptor, start, out),
-        Fold::Max => scan_segments::<MaxStep>(elements, descriptor, start, out),
-        Fold::Min => scan_segments::<MinStep>(elements, descriptor, start, out),
+        Fold::Sum => scan_segments::<Sum>(elements, descriptor, start, out),
+        Fold::Product => scan_segments::<Product>(elements, descriptor, start, out),
+        Fold::Max => scan_segments::<Max>(elements, descriptor, start, out),
+        Fold::Min => scan_segments::<Min>(elements, descriptor, start, out),
         Fold::Logic(logic, _) => match logic {
-            Logic::And => scan_segments::<AndStep>(elements, descriptor, start, out),
-            Logic::Or => scan_segments::<OrStep>(elements, descriptor, start, out),
-            Logic::Xor => scan_segments::<XorStep>(elements, descriptor, start, out),
+            Logic::And => scan_segments::<And>(elements, descriptor, start, out),
+            Logic::Or => scan_segments::<Or>(elements, descriptor, start, out),
+            Logic::Xor => scan_segments::<Xor>(elements, descriptor, start, out),
         },
     }
 }
 
 /// Writes the scan of each segment, which begins again at `start`.
-fn scan_segments<S: Step>(elements: &[i64], descriptor: &[i64], start: i64, out: &mut [i64])
+fn scan_segments<S: Combine>(elements: &[i64], descriptor: &[i64], start: i64, out: &mut [i64])
     requires lengths { AreLengths descriptor.now }
     requires whole { length elements.now ≡ total descriptor.now }
     requires room { length out.old ≡ length elements.now }
-    ensures { out.new ≡ flat_map (scanned S.combine start) (segments descriptor.now elements.now) }
+    ensures { out.new ≡ flat_map (exclusive_scan S.combination start) (segments descriptor.now elements.now) }
 {
     let mut begin = 0;
-    for size in descriptor {
-        let end = begin + *size as usize;
+    for segment in 0..descriptor.len() {
+        let end = end_of(descriptor, segment, begin);
         scan_segment::<S>(&elements[begin..end], start, &mut out[begin..end]);
         begin = end;
     }
 }
 
 /// Writes the scan of one segment.
-fn scan_segment<S: Step>(elements: &[i64], start: i64, out: &mut [i64])
+fn scan_segment<S: Combine>(elements: &[i64], start: i64, out: &mut [i64])
     requires { length out.old ≡ length elements.now }
-    ensures { out.new ≡ scanned S.combine start elements.now }
+    ensures { out.new ≡ exclusive_scan S.combination start elements.now }
 {
     let mut so_far = start;
     for i in 0..elements.len() {
         out[i] = so_far;
-        so_far = S::step(so_far, elements[i]);
+        so_far = S::combine(so_far, elements[i]);
     }
 }

@@ -1,6 +1,6 @@
 ghost use Rattle.std.specs.Prelude.{◌≡◌, length, replicate, false, pos};
 ghost use Rattle.segment_ops.specs.Indices.{AreWithin, marks_of};
-ghost use Rattle.vcode_base.specs.Segments.{moved, has_twice};
+ghost use Rattle.vcode_base.specs.Segments.{scatter_of, has_twice};
 
 /// Writes 1 at each place that an index names and 0 at the others, and says whether two of the
 /// indices are equal.
@@ -23,7 +23,7 @@ pub fn mark(indices: &[i64], marks: &mut [i64]) -> bool
 pub fn scatter(elements: &[i64], indices: &[i64], out: &mut [i64])
     requires same { length indices.now ≡ length elements.now }
     requires within { AreWithin (length out.old) indices.now }
-    ensures { out.new ≡ moved elements.now indices.now out.old }
+    ensures { out.new ≡ scatter_of elements.now indices.now out.old }
 {
     for place in 0..elements.len() {
         out[indices[place] as usize] = elements[place];

@@ -1,6 +1,7 @@
 ghost use Rattle.std.specs.Prelude.{◌≡◌, ◌==◌, ◌≤◌, not, length, MatchResult, None, Some};
 ghost use Rattle.std.specs.List.{list_any};
-ghost use Rattle.vcode_base.specs.Kinds.{AreLengths, HaveKinds, source_kinds, segmented_operands, greatest_total};
+ghost use Rattle.vcode_base.specs.Kinds.{AreLengths, HaveKinds, source_kinds, segmented_operands};
+ghost use Rattle.vcode_base.specs.declared.limits.TheConstants.{MOST_TOTAL};
 ghost use Rattle.vcode_base.specs.Meaning.{shape, segmented_shape, shape_in, shape_between};
 ghost use Rattle.vcode_base.specs.Segments.{total};
 ghost use Rattle.vcode_base.specs.Operands.{contents};
@@ -60,7 +61,7 @@ fn shape_segmented(op: Segmented, ops: &[&[i64]]) -> Result<(), DataFault>
 /// the segments together.
 fn shape_in(descriptor: &[i64], each: &[&[i64]], whole: &[&[i64]]) -> Result<(), DataFault>
     requires lengths { AreLengths descriptor.now }
-    requires small { total descriptor.now ≤ greatest_total }
+    requires small { total descriptor.now ≤ MOST_TOTAL }
     ensures { MatchResult result
         (λ _. shape_in descriptor.now (contents each.now) (contents whole.now) ≡ None)
         (λ fault. shape_in descriptor.now (contents each.now) (contents whole.now) ≡ Some fault) }
@@ -83,9 +84,9 @@ fn shape_between(
     of_target: &[&[i64]],
 ) -> Result<(), DataFault>
     requires source_lengths { AreLengths source.now }
-    requires source_small { total source.now ≤ greatest_total }
+    requires source_small { total source.now ≤ MOST_TOTAL }
     requires target_lengths { AreLengths target.now }
-    requires target_small { total target.now ≤ greatest_total }
+    requires target_small { total target.now ≤ MOST_TOTAL }
     ensures { MatchResult result
         (λ _. shape_between source.now target.now (contents of_source.now) (contents of_target.now) ≡ None)
         (λ fault. shape_between source.now target.now (contents of_source.now) (contents of_target.now) ≡ Some fault) }

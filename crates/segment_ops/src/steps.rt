@@ -1,16 +1,9 @@
-ghost use Rattle.std.specs.Prelude.{◌≡◌, ℤ};
-ghost use Rattle.vcode_base.specs.Elements.{combined, logic, identity};
+ghost use Rattle.std.specs.Prelude.{◌≡◌};
+ghost use Rattle.vcode_base.specs.Elements.{fold_step, identity};
+ghost use Rattle.vcode_base.specs.declared.op.Fold.TheVariants.{Max as FoldMax, Min as FoldMin};
 
+use vcode_base::element::Combine;
 use vcode_base::{Fold, Logic, Scalar};
-
-/// How a scan or a reduction takes one more element to those before it.
-pub trait Step {
-    ghost combine: { ℤ → ℤ → ℤ };
-
-    /// What `so_far` and the next element give.
-    fn step(so_far: i64, element: i64) -> i64
-        ensures { result ≡ combine so_far element };
-}
 
 /// The fold of no elements, from which every fold starts.
 pub fn identity_of(fold: Fold) -> i64
@@ -27,93 +20,24 @@ pub fn identity_of(fold: Fold) -> i64
     }
 }
 
-/// Sums, modulo 2^64.
-pub struct SumStep;
-
-impl Step for SumStep {
-    ghost use Rattle.vcode_base.specs.declared.op.Fold.TheVariants.{Sum};
-
-    ghost combine = { combined Sum };
-
-    fn step(so_far: i64, element: i64) -> i64 {
-        so_far.wrapping_add(element)
-    }
-}
-
-/// Products, modulo 2^64.
-pub struct ProductStep;
-
-impl Step for ProductStep {
-    ghost use Rattle.vcode_base.specs.declared.op.Fold.TheVariants.{Product};
-
-    ghost combine = { combined Product };
-
-    fn step(so_far: i64, element: i64) -> i64 {
-        so_far.wrapping_mul(element)
-    }
-}
-
 /// The greater of two numbers.
-pub struct MaxStep;
+pub struct Max;
 
-impl Step for MaxStep {
-    ghost use Rattle.vcode_base.specs.declared.op.Fold.TheVariants.{Max};
+impl Combine for Max {
+    ghost combination = { fold_step FoldMax };
 
-    ghost combine = { combined Max };
-
-    fn step(so_far: i64, element: i64) -> i64 {
-        so_far.max(element)
+    fn combine(left: i64, right: i64) -> i64 {
+        left.max(right)
     }
 }
 
 /// The lesser of two numbers.
-pub struct MinStep;
+pub struct Min;
 
-impl Step for MinStep {
-    ghost use Rattle.vcode_base.specs.declared.op.Fold.TheVariants.{Min};
+impl Combine for Min {
+    ghost combination = { fold_step FoldMin };
 
-    ghost combine = { combined Min };
-
-    fn step(so_far: i64, element: i64) -> i64 {
-        so_far.min(element)
-    }
-}
-
-/// The bits that both have, which on truth values is AND.
-pub struct AndStep;
-
-impl Step for AndStep {
-    ghost use Rattle.vcode_base.specs.declared.op.Logic.TheVariants.{And};
-
-    ghost combine = { logic And };
-
-    fn step(so_far: i64, element: i64) -> i64 {
-        so_far & element
-    }
-}
-
-/// The bits that one of them has, which on truth values is OR.
-pub struct OrStep;
-
-impl Step for OrStep {
-    ghost use Rattle.vcode_base.specs.declared.op.Logic.TheVariants.{Or};
-
-    ghost combine = { logic Or };
-
-    fn step(so_far: i64, element: i64) -> i64 {
-        so_far | element
-    }
-}
-
-/// The bits that just one of them has, which on truth values is XOR.
-pub struct XorStep;
-
-impl Step for XorStep {
-    ghost use Rattle.vcode_base.specs.declared.op.Logic.TheVariants.{Xor};
-
-    ghost combine = { logic Xor };
-
-    fn step(so_far: i64, element: i64) -> i64 {
-        so_far ^ element
+    fn combine(left: i64, right: i64) -> i64 {
+        left.min(right)
     }
 }

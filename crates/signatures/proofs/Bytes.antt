@@ -1,12 +1,15 @@
 -- The bytes of a line that says a signature.
-use Rattle.std.proofs.Common.{◌≡◌, ◌∙◌, ℕ, Bool, true, false, ◌&&◌, ◌||◌, List, [], ◌∷◌, ◌++◌, map, cond, refl, ap}
+use Rattle.std.proofs.Common.{◌≡◌, ◌∙◌, ℕ, Bool, true, false, ◌&&◌, ◌||◌, cond, refl, ap}
+use Rattle.std.proofs.Common.{List, [], ◌∷◌, ◌++◌, map}
 use Rattle.std.specs.List.{list_all, onto_first}
 use Rattle.std.specs.Prelude.{codes}
 use Rattle.vcode_base.specs.declared.kind.Kind.{Kind}
 use Rattle.vcode_base.specs.declared.kind.Kind.TheVariants.{Int, Bool as BoolKind, Segdes}
-use Rattle.signatures.specs.Lines.{words, is_separator, is_parenthesis, begins_plain, with_plain}
+use Rattle.vcode_base.specs.declared.line_words.Parentheses.TheVariants.{AreWords}
+use Rattle.vcode_base.specs.LineWords.{words_of_line, is_separator, is_parenthesis, begins_plain, with_plain}
 use Rattle.signatures.specs.Signatures.{Signature}
-use Rattle.signatures.specs.Spelling.{GoodLinesHaveGoodBytes, word_of, listed, spelled, is_name, is_name_byte, is_line_byte}
+use Rattle.signatures.specs.Spelling.{GoodLinesHaveGoodBytes, word_of, list_words, arrow_words, signature_words}
+use Rattle.signatures.specs.Spelling.{is_name, is_name_byte, is_line_byte}
 
 -- every byte of every word may stand in a line
 abbrev good_words : List (List ℕ) → Bool
@@ -18,33 +21,41 @@ both false b h = cc
 
 -- ---- from the words to the bytes
 
-alone : (b : ℕ) (ws : List (List ℕ)) → good_words ((b ∷ []) ∷ ws) ≡ true → (is_line_byte b ≡ true) × (good_words ws ≡ true)
+-- the byte may stand in a line, and so may those of the words
+AreGood : ℕ → List (List ℕ) → Type 0
+AreGood b ws = (is_line_byte b ≡ true) × (good_words ws ≡ true)
+
+alone : (b : ℕ) (ws : List (List ℕ)) → good_words ((b ∷ []) ∷ ws) ≡ true → AreGood b ws
+unfolding AreGood
 alone b ws h =
     let p = both (is_line_byte b && true) (good_words ws) h in
     ((both (is_line_byte b) true p.0).0, p.1)
 
-onto : (b : ℕ) (ws : List (List ℕ)) → good_words (onto_first b ws) ≡ true → (is_line_byte b ≡ true) × (good_words ws ≡ true)
+onto : (b : ℕ) (ws : List (List ℕ)) → good_words (onto_first b ws) ≡ true → AreGood b ws
+unfolding AreGood
 onto b [] h = alone b [] h
 onto b (w ∷ ws) h =
     let p = both (is_line_byte b && list_all is_line_byte w) (good_words ws) h in
     let q = both (is_line_byte b) (list_all is_line_byte w) p.0 in
     (q.0, ap (λ t. t && good_words ws) q.1 ∙ p.1)
 
-plain : (t : Bool) (b : ℕ) (ws : List (List ℕ)) → good_words (with_plain b t ws) ≡ true → (is_line_byte b ≡ true) × (good_words ws ≡ true)
+plain : (t : Bool) (b : ℕ) (ws : List (List ℕ)) → good_words (with_plain b t ws) ≡ true → AreGood b ws
 plain true b ws h = onto b ws h
 plain false b ws h = alone b ws h
 
-by_byte : (s p t : Bool) (b : ℕ) (ws : List (List ℕ)) → is_separator b ≡ s → good_words (cond s ws (cond p ((b ∷ []) ∷ ws) (with_plain b t ws))) ≡ true →
-    (is_line_byte b ≡ true) × (good_words ws ≡ true)
+by_byte : (s p t : Bool) (b : ℕ) (ws : List (List ℕ)) → is_separator b ≡ s
+    → good_words (cond s ws (cond p ((b ∷ []) ∷ ws) (with_plain b t ws))) ≡ true → AreGood b ws
+unfolding AreGood
 by_byte true p t b ws e h = (ap (λ x. x || is_parenthesis b || is_name_byte b) e, h)
 by_byte false true t b ws e h = alone b ws h
 by_byte false false t b ws e h = plain t b ws h
 
-of_words : (bs : List ℕ) → good_words (words bs) ≡ true → list_all is_line_byte bs ≡ true
-unfolding words
+of_words : (bs : List ℕ) → good_words (words_of_line AreWords bs) ≡ true → list_all is_line_byte bs ≡ true
+unfolding words_of_line AreGood
 of_words [] h = refl
 of_words (b ∷ bs) h =
-    let p = by_byte (is_separator b) (is_parenthesis b) (begins_plain bs) b (words bs) refl h in
+    let rest = words_of_line AreWords bs in
+    let p = by_byte (is_separator b) (is_parenthesis b) (begins_plain AreWords bs) b rest refl h in
     ap (λ x. x && list_all is_line_byte bs) p.0 ∙ of_words bs p.1
 
 -- ---- the words of a signature
@@ -58,21 +69,23 @@ of_name : (t : List ℕ) → is_name t ≡ true → list_all is_line_byte t ≡ 
 of_name [] h = refl
 of_name (b ∷ t) h =
     let p = both (is_name_byte b) (is_name t) h in
-    ap (λ x. x && list_all is_line_byte t) (last_of (is_separator b) (is_parenthesis b) (is_name_byte b) p.0) ∙ of_name t p.1
+    let here = last_of (is_separator b) (is_parenthesis b) (is_name_byte b) p.0 in
+    ap (λ x. x && list_all is_line_byte t) here ∙ of_name t p.1
 
-of_kinds : (ks : List Kind) (more : List (List ℕ)) → good_words more ≡ true → good_words (map word_of ks ++ codes ")" ∷ more) ≡ true
+of_kinds : (ks : List Kind) (more : List (List ℕ)) → good_words more ≡ true
+    → good_words (map word_of ks ++ codes ")" ∷ more) ≡ true
 of_kinds [] more h = h
 of_kinds (Int ∷ ks) more h = of_kinds ks more h
 of_kinds (BoolKind ∷ ks) more h = of_kinds ks more h
 of_kinds (Segdes ∷ ks) more h = of_kinds ks more h
 
-of_list : (ks : List Kind) (more : List (List ℕ)) → good_words more ≡ true → good_words (listed ks more) ≡ true
+of_list : (ks : List Kind) (more : List (List ℕ)) → good_words more ≡ true → good_words (list_words ks more) ≡ true
 of_list ks more h = of_kinds ks more h
 
-of_signature : (s : Signature) → is_name s.name ≡ true → good_words (spelled s) ≡ true
+of_signature : (s : Signature) → is_name s.name ≡ true → good_words (signature_words s) ≡ true
 of_signature s h =
-    ap (λ x. x && good_words (listed s.operands (codes "->" ∷ listed s.results []))) (of_name s.name h)
-    ∙ of_list s.operands (codes "->" ∷ listed s.results []) (of_list s.results [] refl)
+    ap (λ x. x && good_words (arrow_words s.operands s.results)) (of_name s.name h)
+    ∙ of_list s.operands (codes "->" ∷ list_words s.results []) (of_list s.results [] refl)
 
 pub good_lines_have_good_bytes : GoodLinesHaveGoodBytes
 good_lines_have_good_bytes line s h = of_words line (ap good_words h.words_are ∙ of_signature s h.name)

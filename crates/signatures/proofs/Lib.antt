@@ -5,4 +5,3 @@ pub mod Readings
 pub mod Said
 pub mod Spelled
 pub mod TableLemmas
-pub mod WordLemmas

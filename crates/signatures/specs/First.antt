@@ -1,24 +1,24 @@
 -- What a text of signatures says, line by line, and its first fault.
 use Rattle.std.specs.Prelude.{◌≡◌, ◌≢◌, ◌⊎◌, ◌+◌, ℕ, List, [], ◌∷◌, ◌++◌, length, IsSome, None, Result, Ok, Err}
-use Rattle.signatures.specs.declared.fault.SignatureError.{SignatureError}
-use Rattle.signatures.specs.declared.fault.SignatureError.TheVariants.{BadLine, NameTwice, TooLarge}
-use Rattle.signatures.specs.declared.fault.SigFault.{SigFault}
-use Rattle.signatures.specs.declared.fault.SigFault.TheVariants.{Memory, At}
-use Rattle.signatures.specs.Errors.{Fault}
-use Rattle.signatures.specs.Lines.{lines, words}
+use Rattle.vcode_base.specs.declared.fault.TextFault.{TextFault}
+use Rattle.vcode_base.specs.declared.fault.TextFault.TheVariants.{Memory, At}
+use Rattle.signatures.specs.declared.fault.SignatureFault.{SignatureFault}
+use Rattle.signatures.specs.declared.fault.SignatureFault.TheVariants.{BadLine, NameTwice, TooLarge}
+use Rattle.signatures.specs.Faults.{Fault}
+use Rattle.signatures.specs.Lines.{lines, line_words}
 use Rattle.signatures.specs.Reading.{reading}
 use Rattle.signatures.specs.Signatures.{Signature, kinds_of}
 use Rattle.signatures.specs.Spelling.{Says, Fits}
 
--- a good line: a blank one adds nothing, and another adds what it says, where that fits the limits and its name is new
+-- a good line: a blank one adds nothing; another adds what it says, where that fits the limits and its name is new
 abbrev pub Adds : List Signature → List ℕ → List Signature → Type 0
 Adds known line new =
-    ((words line ≡ []) × (new ≡ known))
+    ((line_words line ≡ []) × (new ≡ known))
     ⊎ ((s : Signature) × Says line s × Fits known s × (kinds_of known s.name ≡ None) × (new ≡ known ++ s ∷ []))
 
 -- what is wrong with a line behind these signatures
-abbrev pub IsWrong : SignatureError → List Signature → List ℕ → Type 0
-IsWrong BadLine known line = (words line ≢ []) × ((s : Signature) → Says line s → ⊥)
+abbrev pub IsWrong : SignatureFault → List Signature → List ℕ → Type 0
+IsWrong BadLine known line = (line_words line ≢ []) × ((s : Signature) → Says line s → ⊥)
 IsWrong TooLarge known line = (s : Signature) × Says line s × (Fits known s → ⊥)
 IsWrong NameTwice known line = (s : Signature) × Says line s × Fits known s × IsSome (kinds_of known s.name)
 
@@ -28,8 +28,8 @@ AddAll known [] new = known ≡ new
 AddAll known (line ∷ more) new = (next : List Signature) × Adds known line next × AddAll next more new
 
 -- the text says these signatures
-abbrev pub Sig : List ℕ → List Signature → Type 0
-Sig text signatures = AddAll [] (lines text) signatures
+abbrev pub TextSays : List ℕ → List Signature → Type 0
+TextSays text signatures = AddAll [] (lines text) signatures
 
 -- the first line with a fault, where the first line of the text has this number
 pub record FirstFault (first : ℕ) (text : List ℕ) (fault : Fault) : Type 0 where
@@ -44,14 +44,14 @@ pub record FirstFault (first : ℕ) (text : List ℕ) (fault : Fault) : Type 0 w
 
 -- the signatures of the text, or its first fault
 abbrev pub IsReading : Result (List Signature) Fault → ℕ → List ℕ → Type 0
-IsReading (Ok signatures) first text = Sig text signatures
+IsReading (Ok signatures) first text = TextSays text signatures
 IsReading (Err fault) first text = FirstFault first text fault
 
 -- the same of an answer that may be want of memory
-abbrev pub IsAnswer : Result (List Signature) SigFault → ℕ → List ℕ → Type 0
-IsAnswer (Ok signatures) first text = Sig text signatures
+abbrev pub IsAnswer : Result (List Signature) (TextFault SignatureFault) → ℕ → List ℕ → Type 0
+IsAnswer (Ok signatures) first text = TextSays text signatures
 IsAnswer (Err Memory) first text = Unit {0}
-IsAnswer (Err (At error number)) first text = FirstFault first text (error, number)
+IsAnswer (Err (At fault number)) first text = FirstFault first text (fault, number)
 
 -- every text has a reading, and it is the one that the function gives
 abbrev pub EveryTextIsRead : Type 0
@@ -59,4 +59,5 @@ EveryTextIsRead = (first : ℕ) (text : List ℕ) → IsReading (reading first t
 
 -- and no other
 abbrev pub OneReading : Type 0
-OneReading = (first : ℕ) (text : List ℕ) (r : Result (List Signature) Fault) → IsReading r first text → reading first text ≡ r
+OneReading =
+    (first : ℕ) (text : List ℕ) (r : Result (List Signature) Fault) → IsReading r first text → reading first text ≡ r

@@ -1,4 +1,4 @@
-pub mod Errors
+pub mod Faults
 pub mod First
 pub mod Lines
 pub mod Reading

@@ -1,11 +1,12 @@
 ghost use Rattle.std.specs.Prelude.{◌≡◌};
-ghost use Rattle.signatures.specs.Errors.{error_text};
+ghost use Rattle.signatures.specs.Faults.{signature_fault_text};
 
 use std::alloc::{AllocError, AllocFailed};
+use vcode_base::TextFault;
 
 /// What is wrong with a line of a signature text.
 #[derive(Clone, Copy, PartialEq, Eq, Debug)]
-pub enum SignatureError {
+pub enum SignatureFault {
     /// It is neither blank nor `NAME (kinds) -> (kinds)`, or it has a byte that no line has.
     BadLine,
     /// An earlier line has its name.
@@ -14,63 +15,48 @@ pub enum SignatureError {
     TooLarge,
 }
 
-impl SignatureError {
+impl SignatureFault {
     /// The name that the report prints.
     pub fn text(self) -> &'static str
-        ensures { result.now ≡ error_text self }
+        ensures { result.now ≡ signature_fault_text self }
     {
         match self {
-            SignatureError::BadLine => "G1 BAD_LINE",
-            SignatureError::NameTwice => "G2 NAME_TWICE",
-            SignatureError::TooLarge => "G3 TOO_LARGE",
+            SignatureFault::BadLine => "G1 BAD_LINE",
+            SignatureFault::NameTwice => "G2 NAME_TWICE",
+            SignatureFault::TooLarge => "G3 TOO_LARGE",
         }
     }
 }
 
 /// Why a text gives no signatures: there was no memory for them, or the line of this number is the
-/// first with an error.
+/// first with a fault.
+pub type SigFault = TextFault<SignatureFault>;
+
+/// Why a line adds no signature: there was no memory for it, or it is wrong.
 #[derive(Clone, Copy, PartialEq, Eq, Debug)]
-pub enum SigFault {
+pub(crate) enum EntryFault {
     Memory,
-    At(SignatureError, u64),
+    Wrong(SignatureFault),
 }
 
-impl From<AllocError> for SigFault {
+impl From<AllocError> for EntryFault {
     ghost use Rattle.std.specs.Prelude.{◌≡◌};
-    ghost use Rattle.signatures.specs.declared.fault.SigFault.TheVariants.{Memory};
+    ghost use Rattle.signatures.specs.declared.fault.EntryFault.TheVariants.{Memory};
 
     ghost from_gives = { λ _ fault. fault ≡ Memory };
 
-    fn from(_: AllocError) -> SigFault {
-        SigFault::Memory
+    fn from(_: AllocError) -> EntryFault {
+        EntryFault::Memory
     }
 }
 
-/// Why a line adds nothing: there was no memory for it, or it is wrong.
-#[derive(Clone, Copy, PartialEq, Eq, Debug)]
-pub(crate) enum LineError {
-    Memory,
-    Wrong(SignatureError),
-}
-
-impl From<AllocError> for LineError {
+impl<T: Drop> From<AllocFailed<T>> for EntryFault {
     ghost use Rattle.std.specs.Prelude.{◌≡◌};
-    ghost use Rattle.signatures.specs.declared.fault.LineError.TheVariants.{Memory};
+    ghost use Rattle.signatures.specs.declared.fault.EntryFault.TheVariants.{Memory};
 
-    ghost from_gives = { λ _ error. error ≡ Memory };
+    ghost from_gives = { λ _ fault. fault ≡ Memory };
 
-    fn from(_: AllocError) -> LineError {
-        LineError::Memory
-    }
-}
-
-impl<T: Drop> From<AllocFailed<T>> for LineError {
-    ghost use Rattle.std.specs.Prelude.{◌≡◌};
-    ghost use Rattle.signatures.specs.declared.fault.LineError.TheVariants.{Memory};
-
-    ghost from_gives = { λ _ error. error ≡ Memory };
-
-    fn from(_refused: AllocFailed<T>) -> LineError {
-        LineError::Memory
+    fn from(_refused: AllocFailed<T>) -> EntryFault {
+        EntryFault::Memory
     }
 }

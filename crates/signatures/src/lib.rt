@@ -6,14 +6,15 @@
 //! without braces, also `->` or `INT`. The kinds are `INT`, `BOOL` and `SEGDES`. Lines without words are
 //! passed over.
 //!
-//! The first line with a fault is answered: [`SignatureError::BadLine`] where it is no such line, also
-//! for a byte that no word has; [`SignatureError::TooLarge`] for a name above 64 bytes, a list above 256
-//! kinds, or a 513th signature; [`SignatureError::NameTwice`] for a name that an earlier line has; in
+//! The first line with a fault is answered: [`SignatureFault::BadLine`] where it is no such line, also
+//! for a byte that no word has; [`SignatureFault::TooLarge`] for a name of more bytes than
+//! `LONGEST_NAME`, a list of more kinds than `MOST_KINDS`, or one signature more than `MOST_FUNCTIONS`
+//! (of [`vcode_base::limits`]); [`SignatureFault::NameTwice`] for a name that an earlier line has; in
 //! this order where two could be.
 //!
-//! `specs/Lines` has the lines of a text and the words of a line, `specs/Spelling` the words of a
-//! signature, `specs/First` what a text says and its first fault, as relations. That each text is read
-//! so stands in [`laws`] and on [`read`].
+//! `specs/Lines` has the lines of a text, `specs/Spelling` the words of a signature, `specs/First` what
+//! a text says and its first fault, as relations. That each text is read so stands in [`laws`] and on
+//! [`read`].
 #![tactic(auto)]
 
 mod fault;
@@ -21,8 +22,7 @@ pub mod laws;
 mod line;
 mod reader;
 mod table;
-mod words;
 
-pub use fault::{SigFault, SignatureError};
+pub use fault::{SigFault, SignatureFault};
 pub use reader::read;
 pub use table::Signatures;

@@ -1,38 +1,42 @@
 //! A text, byte by byte.
 
-ghost use Rattle.std.specs.Prelude.{◌≡◌, ◌+◌, ◌<◌, ◌^◌, OnOk, OnErr, IsErr, IsErrOf, IfOk, IsTrue, MatchResult, Ok, false, ℕ, List, [], ◌++◌};
-ghost use Rattle.signatures.specs.declared.fault.SigFault.TheVariants.{Memory};
+ghost use Rattle.std.specs.Prelude.{◌≡◌, ◌+◌, ◌<◌, ◌^◌, ℕ, List, [], ◌++◌, false, Ok, IsTrue};
+ghost use Rattle.std.specs.Prelude.{OnOk, OnErr, IsErr, IsErrOf, IfOk, MatchResult};
+ghost use Rattle.vcode_base.specs.declared.fault.TextFault.TheVariants.{Memory};
+ghost use Rattle.signatures.specs.Faults.{Answers, OnWrong};
 ghost use Rattle.signatures.specs.First.{IsAnswer};
 ghost use Rattle.signatures.specs.Lines.{is_line_feed, line_feeds};
-ghost use Rattle.signatures.specs.Reading.{after_line, reading, Answers, OnWrong};
-ghost use Rattle.signatures.specs.Scan.{beginning, end_line, outcome, scan_all, scan_byte, HasCome};
+ghost use Rattle.signatures.specs.Reading.{after_line, reading};
+ghost use Rattle.signatures.specs.Scan.{beginning, scan_after_line, scan_after_byte};
+ghost use Rattle.signatures.specs.Scan.{scan_after_bytes, outcome, HasCome};
 
-use crate::fault::{LineError, SigFault, SignatureError};
-use crate::line::{LineFault, arrow, is_name};
+use crate::fault::{EntryFault, SigFault, SignatureFault};
+use crate::line::{arrow, is_name};
 use crate::table::Signatures;
-use crate::words::Words;
 use std::alloc::{AllocError, Allocator};
 use std::marker::Model;
+use vcode_base::{LineWords, Parentheses};
 
 /// Adds what a line says to the signatures of the lines before it. At an `Err` they are as before.
 fn add_line<A: Allocator + Copy>(
     signatures: &mut Signatures<A>,
     line: &[u8],
-) -> Result<(), LineError>
-    ensures added { MatchResult result (λ _. after_line signatures.old line.now ≡ Ok signatures.new) (λ error. OnWrong error (after_line signatures.old line.now)) }
+) -> Result<(), EntryFault>
+    ensures added { MatchResult result
+        (λ _. after_line signatures.old line.now ≡ Ok signatures.new)
+        (λ fault. OnWrong fault (after_line signatures.old line.now)) }
     ensures err { OnErr result (signatures.new ≡ signatures.old) }
 {
-    let mut words = Words::of(line);
+    let mut words = LineWords::new(line, Parentheses::AreWords);
     let Some(name) = words.next() else {
         return Ok(());
     };
     if !is_name(name) {
-        return Err(LineError::Wrong(SignatureError::BadLine));
+        return Err(EntryFault::Wrong(SignatureFault::BadLine));
     }
     match arrow(signatures.allocator(), words) {
         Ok(kinds) => signatures.add(name, kinds),
-        Err(LineFault::Memory) => Err(LineError::Memory),
-        Err(LineFault::Bad) => Err(LineError::Wrong(SignatureError::BadLine)),
+        Err(fault) => Err(fault),
     }
 }
 
@@ -40,7 +44,7 @@ fn add_line<A: Allocator + Copy>(
 #[derive(Drop)]
 struct Scanner<A: Allocator> {
     signatures: Signatures<A>,
-    fault: Option<(SignatureError, u64)>,
+    fault: Option<(SignatureFault, u64)>,
     line: Vec<u8, A>,
     number: u64,
 }
@@ -66,9 +70,9 @@ impl<A: Allocator + Copy> Scanner<A> {
     }
 
     /// The open line is whole.
-    #[tactic(auto, unfolding(crate::specs::Scan::end_line))]
+    #[tactic(auto, unfolding(crate::specs::Scan::scan_after_line))]
     fn end_line(&mut self) -> Result<(), AllocError>
-        ensures ended { OnOk result (self.new ≡ end_line self.old) }
+        ensures ended { OnOk result (self.new ≡ scan_after_line self.old) }
         ensures number { self.new.number ≡ self.old.number }
     {
         if self.fault.is_some() {
@@ -76,16 +80,16 @@ impl<A: Allocator + Copy> Scanner<A> {
         }
         match add_line(&mut self.signatures, self.line.as_slice()) {
             Ok(()) => {}
-            Err(LineError::Wrong(error)) => self.fault = Some((error, self.number)),
-            Err(LineError::Memory) => return Err(AllocError),
+            Err(EntryFault::Wrong(fault)) => self.fault = Some((fault, self.number)),
+            Err(EntryFault::Memory) => return Err(AllocError),
         }
         Ok(())
     }
 
-    #[tactic(auto, unfolding(crate::specs::Scan::scan_byte))]
-    fn byte(&mut self, byte: u8) -> Result<(), AllocError>
+    #[tactic(auto, unfolding(crate::specs::Scan::scan_after_byte))]
+    fn take_byte(&mut self, byte: u8) -> Result<(), AllocError>
         requires { IsTrue (is_line_feed byte) → self.old.number + 1 < 2 ^ 64 }
-        ensures { OnOk result (self.new ≡ scan_byte self.old byte) }
+        ensures { OnOk result (self.new ≡ scan_after_byte self.old byte) }
     {
         if byte == b'\n' {
             self.end_line()?;
@@ -97,13 +101,13 @@ impl<A: Allocator + Copy> Scanner<A> {
         Ok(())
     }
 
-    #[tactic(auto, unfolding(crate::specs::Scan::scan_all))]
-    fn bytes(&mut self, piece: &[u8]) -> Result<(), AllocError>
+    #[tactic(auto, unfolding(crate::specs::Scan::scan_after_bytes))]
+    fn take_bytes(&mut self, piece: &[u8]) -> Result<(), AllocError>
         requires { self.old.number + line_feeds piece.now < 2 ^ 64 }
-        ensures { OnOk result (self.new ≡ scan_all self.old piece.now) }
+        ensures { OnOk result (self.new ≡ scan_after_bytes self.old piece.now) }
     {
         for byte in piece {
-            self.byte(*byte)?;
+            self.take_byte(*byte)?;
         }
         Ok(())
     }
@@ -115,7 +119,7 @@ impl<A: Allocator + Copy> Scanner<A> {
         self.end_line()?;
         match self.fault {
             None => Ok(self.signatures),
-            Some((error, number)) => Err(SigFault::At(error, number)),
+            Some((fault, number)) => Err(SigFault::At(fault, number)),
         }
     }
 }
@@ -128,16 +132,16 @@ pub(crate) struct SigReader<A: Allocator> {
 }
 
 impl<A: Allocator> Model for SigReader<A> {
-    ghost use Rattle.signatures.specs.Scan.{Fed};
+    ghost use Rattle.signatures.specs.Scan.{ReaderState};
 
-    ghost Value = { Fed };
+    ghost Value = { ReaderState };
 
     ghost view = { λ r. record { scan = r.scanner; failed = r.failed } };
 }
 
 impl<A: Allocator + Copy> SigReader<A> {
     /// A reader of the text whose first line has this number. It takes no memory.
-    #[tactic(auto, unfolding(crate::specs::Scan::scan_all))]
+    #[tactic(auto, unfolding(crate::specs::Scan::scan_after_bytes))]
     pub(crate) fn new(alloc: A, first_line: u64) -> SigReader<A>
         ensures come { HasCome result first_line [] }
         ensures line { result.scan.number ≡ first_line }
@@ -148,11 +152,12 @@ impl<A: Allocator + Copy> SigReader<A> {
         }
     }
 
-    /// Takes the next piece of the text. After an `Err` the reader has failed, and answers it again.
+    /// Takes the next piece. Where its memory is refused, this call and each later one answers `Err`.
     pub(crate) fn feed(&mut self, piece: &[u8]) -> Result<(), AllocError>
         requires { self.old.failed ≡ false → self.old.scan.number + line_feeds piece.now < 2 ^ 64 }
-        // The bytes so far are those before, followed by the piece.
-        ensures fed { OnOk result ((first : ℕ) (before : List ℕ) → HasCome self.old first before → HasCome self.new first (before ++ piece.now)) }
+        // What has come is what had come before and then the piece.
+        ensures fed { OnOk result ((first : ℕ) (before : List ℕ) →
+            HasCome self.old first before → HasCome self.new first (before ++ piece.now)) }
         ensures line { OnOk result (self.new.scan.number ≡ self.old.scan.number + line_feeds piece.now) }
         ensures failed { OnErr result (IsTrue self.new.failed) }
         ensures again { IsTrue self.old.failed → IsErr result }
@@ -160,7 +165,7 @@ impl<A: Allocator + Copy> SigReader<A> {
         if self.failed {
             return Err(AllocError);
         }
-        let fed = self.scanner.bytes(piece);
+        let fed = self.scanner.take_bytes(piece);
         if fed.is_err() {
             self.failed = true;
         }
@@ -179,10 +184,11 @@ impl<A: Allocator + Copy> SigReader<A> {
     }
 }
 
-/// Reads signatures from the bytes of their text, whose first line has the number `first_line`.
+/// Reads a text of signatures.
 ///
-/// The answer is what the lines say, or else the first fault with its line, or want of memory. Lines are
-/// counted on from `first_line`; the number of the last must fit.
+/// It answers what the lines say, or what is wrong with the first wrong line and that line's number, or
+/// `Memory` where memory is refused. The lines are numbered upwards from `first_line`, and the last
+/// number must fit.
 pub fn read<A: Allocator + Copy>(
     alloc: A,
     text: &[u8],
@@ -190,7 +196,6 @@ pub fn read<A: Allocator + Copy>(
 ) -> Result<Signatures<A>, SigFault>
     requires { first_line + line_feeds text.now < 2 ^ 64 }
     ensures answer { Answers result (reading first_line text.now) }
-    // What is answered is what the lines say, or the first fault.
     ensures says { IsAnswer result first_line text.now }
 {
     let mut reader = SigReader::new(alloc, first_line);

@@ -1,23 +1,19 @@
 //! Signatures by name.
 
-ghost use Rattle.std.specs.Prelude.{◌≡◌, ◌↔◌, IsTrue, length, MatchOption, MatchResult, OnErr, None, Some, Ok, []};
+ghost use Rattle.std.specs.Prelude.{◌≡◌, ◌↔◌, IsTrue, MatchOption, MatchResult, OnErr};
+ghost use Rattle.std.specs.Prelude.{length, [], None, Some, Ok};
 ghost use Rattle.std.specs.List.{slice_get};
-ghost use Rattle.signatures.specs.Reading.{add, is_too_large, OnWrong};
+ghost use Rattle.signatures.specs.Faults.{OnWrong};
+ghost use Rattle.signatures.specs.Reading.{add, is_too_large};
 ghost use Rattle.signatures.specs.Signatures.{kinds_of, signature, NamesDiffer};
 
-use crate::fault::{LineError, SignatureError};
+use crate::fault::{EntryFault, SignatureFault};
 use indexmap::IndexMap;
 use std::alloc::Allocator;
 use std::hash::{BuildHasherDefault, FoldHasher};
 use std::marker::Model;
 use vcode_base::Kind;
-
-/// The bytes of a name, the kinds of a list and the signatures of a text are at most these.
-const GREATEST_NAME: usize = 64;
-
-const MOST_KINDS: usize = 256;
-
-const MOST_SIGNATURES: usize = 512;
+use vcode_base::limits::{LONGEST_NAME, MOST_FUNCTIONS, MOST_KINDS};
 
 /// The kinds that a function takes and those that it gives, from bottom to top.
 #[derive(Drop)]
@@ -63,15 +59,17 @@ impl<A: Allocator + Copy> Signatures<A> {
 
     /// Adds a signature behind the others, where it fits the limits and its name is new. At an `Err`
     /// they are as before.
-    pub(crate) fn add(&mut self, name: &[u8], arrow: Arrow<A>) -> Result<(), LineError>
-        ensures added { MatchResult result (λ _. add self.old (signature name.now arrow) ≡ Ok self.new) (λ error. OnWrong error (add self.old (signature name.now arrow))) }
+    pub(crate) fn add(&mut self, name: &[u8], arrow: Arrow<A>) -> Result<(), EntryFault>
+        ensures added { MatchResult result
+            (λ _. add self.old (signature name.now arrow) ≡ Ok self.new)
+            (λ fault. OnWrong fault (add self.old (signature name.now arrow))) }
         ensures err { OnErr result (self.new ≡ self.old) }
     {
         if self.is_too_large(name, &arrow) {
-            return Err(LineError::Wrong(SignatureError::TooLarge));
+            return Err(EntryFault::Wrong(SignatureFault::TooLarge));
         }
         if self.arrows.contains_key(name) {
-            return Err(LineError::Wrong(SignatureError::NameTwice));
+            return Err(EntryFault::Wrong(SignatureFault::NameTwice));
         }
         let owned = Vec::from_slice(*self.arrows.allocator(), name)?;
         self.arrows.insert(owned, arrow)?;
@@ -102,17 +100,18 @@ impl<A: Allocator> Signatures<A> {
     fn is_too_large(&self, name: &[u8], arrow: &Arrow<A>) -> bool
         ensures { result ≡ is_too_large self.now (signature name.now arrow.now) }
     {
-        name.len() > GREATEST_NAME
+        name.len() > LONGEST_NAME
             || arrow.operands.len() > MOST_KINDS
             || arrow.results.len() > MOST_KINDS
-            || self.len() >= MOST_SIGNATURES
+            || self.len() >= MOST_FUNCTIONS
     }
 
     /// The signature at a place, counted from 0: its name, the kinds that it takes and those that it
     /// gives; `None` past the last.
     pub fn at(&self, place: usize) -> Option<(&[u8], &[Kind], &[Kind])>
         ensures { MatchOption result (slice_get self.now place ≡ None)
-            (λ parts. slice_get self.now place ≡ Some (record { name = parts.0.now; operands = parts.1.now; results = parts.2.now })) }
+            (λ parts. slice_get self.now place
+            ≡ Some (record { name = parts.0.now; operands = parts.1.now; results = parts.2.now })) }
     {
         let (name, arrow) = self.arrows.get_index(place)?;
         Some((

@@ -6,7 +6,8 @@ use Rattle.std.specs.Ordering.{int_eq}
 use Rattle.std.specs.Prelude.{int_lt}
 use Rattle.std.proofs.lemmas.Bool.Decides.{Decides-at, Decides-and, Decides-or, Decides-by_and, Decides-int_eq, nat_tests}
 use Rattle.std.proofs.lemmas.Int.{ints}
-use Rattle.vcode_base.specs.Kinds.{IsFlag, AreLengths, HasKind, greatest_total}
+use Rattle.vcode_base.specs.Kinds.{IsFlag, AreLengths, HasKind}
+use Rattle.vcode_base.specs.declared.limits.TheConstants.{MOST_TOTAL}
 use Rattle.vcode_base.specs.Segments.{total}
 use Rattle.vcode_base.specs.declared.kind.Kind.TheVariants.{Segdes}
 
@@ -32,8 +33,8 @@ Decides-at_most m n = (λ h. grind (arith, nat_tests), λ h. grind (arith, nat_t
 Decides-lengths : (xs : List ℤ) → Decides (not (list_any is_negative xs)) (AreLengths xs)
 Decides-lengths = Decides-by_and (λ n. not (is_negative n)) (λ n. pos 0 ≤ℤ n) (λ xs. not (list_any is_negative xs)) Decides-length refl (λ n xs. not_or (is_negative n) (list_any is_negative xs))
 
-pub Decides-descriptor : (xs : List ℤ) → Decides (not (list_any is_negative xs || nat_lt greatest_total (total xs))) (HasKind Segdes xs)
+pub Decides-descriptor : (xs : List ℤ) → Decides (not (list_any is_negative xs || nat_lt MOST_TOTAL (total xs))) (HasKind Segdes xs)
 Decides-descriptor xs =
     let negative = list_any is_negative xs in
-    let large = nat_lt greatest_total (total xs) in
-    Decides-at (not (negative || large)) (not negative && not large) (not_or negative large) (Decides-and (not negative) (not large) (Decides-lengths xs) (Decides-at_most greatest_total (total xs)))
+    let large = nat_lt MOST_TOTAL (total xs) in
+    Decides-at (not (negative || large)) (not negative && not large) (not_or negative large) (Decides-and (not negative) (not large) (Decides-lengths xs) (Decides-at_most MOST_TOTAL (total xs)))

@@ -6,8 +6,8 @@ use Rattle.std.proofs.lemmas.List.{length-map, length-replicate}
 use Rattle.std.proofs.lemmas.List.FromFn.{length-map-range_with_len, length-enumerate_from}
 use Rattle.std.proofs.lemmas.Slice.Zip.{length-zip}
 use Rattle.vcode_base.specs.Elements.{wrap, is_set, fold_of}
-use Rattle.vcode_base.specs.Segments.{sizes, total, segments, folds_before, progression, element, arrival, moved, permuted}
-use Rattle.vcode_base.specs.Meaning.{first_fault, wrong_length, shape_in, shape_between, two_by_two, selected, packed}
+use Rattle.vcode_base.specs.Segments.{sizes, total, segments, folds_before, progression, element, arrival, scatter_of, permutation_of}
+use Rattle.vcode_base.specs.Meaning.{first_fault, wrong_length, shape_in, shape_between, two_by_two, selection_of, flagged_elements}
 use Rattle.vcode_base.specs.declared.op.Fold.{Fold}
 use Rattle.vcode_base.specs.declared.fault.DataFault.{DataFault}
 use Rattle.vcode_base.specs.declared.fault.DataFault.TheVariants.{SegmentTotal, SegmentCount}
@@ -116,14 +116,14 @@ progressions_long s xs ds e f =
     pieces (λ (p : ℕ × (ℤ × ℤ)). progression p.0 p.1.0 p.1.1) (λ p. p.0) (λ p. length-map-range_with_len (λ i. wrap (p.1.0 +ℤ pos i *ℤ p.1.1)) 0 p.0) (zip (sizes s) (zip xs ds))
     ∙ first_of_zip (λ n. n) (sizes s) (zip xs ds) (length-map s unsigned_abs ∙ sym (zipped_long xs ds (length s) e f)) ∙ sizes_total s
 
-moved_long : (xs is there : List ℤ) → length (moved xs is there) ≡ length there
+moved_long : (xs is there : List ℤ) → length (scatter_of xs is there) ≡ length there
 moved_long xs is there =
     length-map (enumerate_from 0 there) (λ (p : ℕ × ℤ). arrival (zip is xs) p.0 p.1) ∙ length-enumerate_from 0 there
 
 pub permuted_long : (s xs is : List ℤ) → length xs ≡ total s
-    → length (flat_map (λ (v, is). permuted v is) (zip (segments s xs) (segments s is))) ≡ length xs
+    → length (flat_map (λ (v, is). permutation_of v is) (zip (segments s xs) (segments s is))) ≡ length xs
 permuted_long s xs is e =
-    pieces (λ (p : List ℤ × List ℤ). permuted p.0 p.1) (λ p. length p.0)
+    pieces (λ (p : List ℤ × List ℤ). permutation_of p.0 p.1) (λ p. length p.0)
     (λ p. moved_long p.0 p.1 (replicate (length p.0) (pos 0)) ∙ length-replicate (length p.0) (pos 0)) (zip (segments s xs) (segments s is))
     ∙ first_of_zip length (segments s xs) (segments s is) (segments_many s xs ∙ sym (segments_many s is)) ∙ segments_long s xs e
 
@@ -134,11 +134,11 @@ back_permuted_long s r xs is m e =
     ∙ second_of_zip length (segments s xs) (segments r is) (segments_many s xs ∙ m ∙ sym (segments_many r is)) ∙ segments_long r is e ∙ e
 
 pub default_permuted_long : (s r xs is ds : List ℤ) → length s ≡ length r → length ds ≡ total r
-    → length (flat_map (λ (v, p). moved v p.0 p.1) (zip (segments s xs) (zip (segments s is) (segments r ds)))) ≡ total r
+    → length (flat_map (λ (v, p). scatter_of v p.0 p.1) (zip (segments s xs) (zip (segments s is) (segments r ds)))) ≡ total r
 default_permuted_long s r xs is ds m e =
     let inner = zip (segments s is) (segments r ds) in
     let same : length (segments s is) ≡ length (segments r ds) = segments_many s is ∙ m ∙ sym (segments_many r ds) in
-    pieces (λ (p : List ℤ × (List ℤ × List ℤ)). moved p.0 p.1.0 p.1.1) (λ p. length p.1.1) (λ p. moved_long p.0 p.1.0 p.1.1) (zip (segments s xs) inner)
+    pieces (λ (p : List ℤ × (List ℤ × List ℤ)). scatter_of p.0 p.1.0 p.1.1) (λ p. length p.1.1) (λ p. moved_long p.0 p.1.0 p.1.1) (zip (segments s xs) inner)
     ∙ second_of_zip (λ (q : List ℤ × List ℤ). length q.1) (segments s xs) inner
     (segments_many s xs ∙ sym (zipped_long (segments s is) (segments r ds) (length s) (segments_many s is) (sym same ∙ segments_many s is)))
     ∙ second_of_zip length (segments s is) (segments r ds) same ∙ segments_long r ds e ∙ e
@@ -153,7 +153,7 @@ replaced_long s xs is ys e f g =
     pieces (λ (p : List ℤ × (ℤ × ℤ)). slice_set p.0 (unsigned_abs p.1.0) p.1.1) (λ p. length p.0) (λ p. length-set p.0 (unsigned_abs p.1.0) p.1.1) (zip (segments s xs) (zip is ys))
     ∙ first_of_zip length (segments s xs) (zip is ys) (segments_many s xs ∙ sym (zipped_long is ys (length s) f g)) ∙ segments_long s xs e
 
-pub packed_long : (xs bs : List ℤ) → length xs ≡ length bs → length (packed xs bs) ≡ count_by is_set bs
+pub packed_long : (xs bs : List ℤ) → length xs ≡ length bs → length (flagged_elements xs bs) ≡ count_by is_set bs
 packed_long xs bs e =
     length-map (filter (λ (p : ℤ × ℤ). is_set p.1) (zip xs bs)) (λ (p : ℤ × ℤ). p.0)
     ∙ length-filter (λ (p : ℤ × ℤ). is_set p.1) (zip xs bs)
@@ -163,7 +163,7 @@ packed_long xs bs e =
 pub pair : (a b c d : ℕ) → c ≡ a → d ≡ b → ◌≡◌ {A = ℕ × ℕ} (a, b) (c, d)
 pair a b c d e f = ap (λ n. (n, b)) (sym e) ∙ ap (λ n. (c, n)) (sym f)
 
-pub selected_long : (bs xs ys : List ℤ) → length xs ≡ length bs → length ys ≡ length bs → length (selected bs xs ys) ≡ length bs
+pub selected_long : (bs xs ys : List ℤ) → length xs ≡ length bs → length ys ≡ length bs → length (selection_of bs xs ys) ≡ length bs
 selected_long bs xs ys e f =
     length-map (zip bs (zip xs ys)) (λ (p : ℤ × (ℤ × ℤ)). if is_set p.0 then p.1.0 else p.1.1)
     ∙ zipped_long bs (zip xs ys) (length bs) refl (zipped_long xs ys (length bs) e f)

@@ -4,7 +4,7 @@ use Rattle.std.specs.List.{list_any, enumerate_from}
 use Rattle.std.proofs.lemmas.List.{get_or-map, length-replicate}
 use Rattle.std.proofs.lemmas.List.FromFn.{get_or-enumerate_from, length-enumerate_from}
 use Rattle.vcode_base.specs.Elements.{is_outside}
-use Rattle.vcode_base.specs.Segments.{names, arrival, moved, has_twice}
+use Rattle.vcode_base.specs.Segments.{names, arrival, scatter_of, has_twice}
 use Rattle.vcode_base.specs.Laws.{EachElementAtItsIndex}
 
 pub first_false : (a b : Bool) → (a || b) ≡ false → a ≡ false
@@ -46,7 +46,7 @@ inside n (i ∷ is) zero h l = below n i (first_false (is_outside n i) (list_any
 inside n (i ∷ is) (suc p) h l = inside n is p (last_false (is_outside n i) (list_any (is_outside n) is) h) (omega arith)
 
 -- what stands at place q of a moved list
-pub moved_at : (xs is there : List ℤ) (q : ℕ) → q < length there → get_or (moved xs is there) q (pos 0) ≡ arrival (zip is xs) q (get_or there q (pos 0))
+pub moved_at : (xs is there : List ℤ) (q : ℕ) → q < length there → get_or (scatter_of xs is there) q (pos 0) ≡ arrival (zip is xs) q (get_or there q (pos 0))
 moved_at xs is there q h =
     get_or-map (λ (p : ℕ × ℤ). arrival (zip is xs) p.0 p.1) (enumerate_from 0 there) q (0, pos 0) (pos 0) (simp (length-enumerate_from 0 there) h)
     ∙ ap (λ (p : ℕ × ℤ). arrival (zip is xs) p.0 p.1) (get_or-enumerate_from 0 there q (0, pos 0) h)

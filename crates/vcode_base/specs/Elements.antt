@@ -71,12 +71,12 @@ negation Numbers a = int_bit_not w64 a
 negation Flags a = flag (not (is_set a))
 
 -- one step of a scan or a reduction
-abbrev pub combined : Fold → ℤ → ℤ → ℤ
-combined Sum a x = wrap (a +ℤ x)
-combined Product a x = wrap (a *ℤ x)
-combined Max a x = int_max a x
-combined Min a x = int_min a x
-combined (LogicFold op elements) a x = logic op a x
+abbrev pub fold_step : Fold → ℤ → ℤ → ℤ
+fold_step Sum a x = wrap (a +ℤ x)
+fold_step Product a x = wrap (a *ℤ x)
+fold_step Max a x = int_max a x
+fold_step Min a x = int_min a x
+fold_step (LogicFold op elements) a x = logic op a x
 
 abbrev pub identity : Fold → ℤ
 identity Sum = pos 0
@@ -89,4 +89,4 @@ identity (LogicFold _ _) = pos 0
 
 -- the elements taken together, from the identity
 abbrev pub fold_of : Fold → List ℤ → ℤ
-fold_of f xs = fold (combined f) (identity f) xs
+fold_of f xs = fold (fold_step f) (identity f) xs

@@ -1,7 +1,8 @@
 -- What a value of a kind is, and the kinds of the operands and the results of each instruction.
-use Rattle.std.specs.Prelude.{ℕ, ℤ, pos, ◌≡◌, ◌≤◌, ◌≤ℤ◌, ◌⊎◌, List, [], ◌∷◌}
+use Rattle.std.specs.Prelude.{ℤ, pos, ◌≡◌, ◌≤◌, ◌≤ℤ◌, ◌⊎◌, Bool as Truth, true, false, ◌&&◌, List, [], ◌∷◌}
 use Rattle.std.specs.List.{All}
 use Rattle.vcode_base.specs.Segments.{total}
+use Rattle.vcode_base.specs.declared.limits.TheConstants.{MOST_TOTAL}
 use Rattle.vcode_base.specs.declared.kind.Kind.{Kind}
 use Rattle.vcode_base.specs.declared.kind.Kind.TheVariants.{Int, Bool, Segdes}
 use Rattle.vcode_base.specs.declared.kind.Scalar.{Scalar}
@@ -15,10 +16,6 @@ use Rattle.vcode_base.specs.declared.op.Segmented.TheVariants.{Scan, Reduce, Dis
 use Rattle.vcode_base.specs.declared.op.Op.{Op}
 use Rattle.vcode_base.specs.declared.op.Op.TheVariants.{Const, Elementwise, Segmented, If, Move, Call, Return}
 
--- the greatest total of a descriptor
-abbrev pub greatest_total : ℕ
-greatest_total = 4294967295
-
 -- T is 1 and F is 0
 abbrev pub IsFlag : ℤ → Type 0
 IsFlag x = (x ≡ pos 0) ⊎ (x ≡ pos 1)
@@ -31,7 +28,7 @@ AreLengths s = All (λ n. pos 0 ≤ℤ n) s
 abbrev pub HasKind : Kind → List ℤ → Type 0
 HasKind Int xs = Unit {0}
 HasKind Bool xs = All IsFlag xs
-HasKind Segdes xs = AreLengths xs × (total xs ≤ greatest_total)
+HasKind Segdes xs = AreLengths xs × (total xs ≤ MOST_TOTAL)
 
 -- each value has the kind at its place
 abbrev pub HaveKinds : List Kind → List (List ℤ) → Type 0
@@ -121,3 +118,16 @@ result_kinds Return = []
 abbrev pub source_kinds : Op → List Kind
 source_kinds (Const k) = kind_of k ∷ []
 source_kinds op = operand_kinds op
+
+abbrev pub is_same_kind : Kind → Kind → Truth
+is_same_kind Int Int = true
+is_same_kind Bool Bool = true
+is_same_kind Segdes Segdes = true
+is_same_kind _ _ = false
+
+-- as many kinds, and the same at each place
+abbrev pub are_same_kinds : List Kind → List Kind → Truth
+are_same_kinds [] [] = true
+are_same_kinds [] (k ∷ ks) = false
+are_same_kinds (k ∷ ks) [] = false
+are_same_kinds (k ∷ ks) (l ∷ ls) = is_same_kind k l && are_same_kinds ks ls

@@ -4,7 +4,7 @@ use Rattle.std.specs.List.{list_any}
 use Rattle.vcode_base.specs.Elements.{is_outside}
 use Rattle.vcode_base.specs.Kinds.{source_kinds}
 use Rattle.vcode_base.specs.Meaning.{shape, need, value_fault, result_of, second_result_of}
-use Rattle.vcode_base.specs.Segments.{element, has_twice, permuted}
+use Rattle.vcode_base.specs.Segments.{element, has_twice, permutation_of}
 use Rattle.vcode_base.specs.declared.op.Op.{Op}
 
 -- where an instruction has no fault at as many operands as it takes, its results have the needed lengths
@@ -15,4 +15,4 @@ ResultsHaveNeededLengths = (op : Op) (xs : List (List ℤ)) → length xs ≡ le
 -- where the indices of a segment are those of its places, each once, the element at place p of the segment stands at its index in the permuted one
 abbrev pub EachElementAtItsIndex : Type 0
 EachElementAtItsIndex = (xs is : List ℤ) → length is ≡ length xs → list_any (is_outside (length xs)) is ≡ false → has_twice is ≡ false
-    → (p : ℕ) → p < length xs → element (permuted xs is) (slice_index_or is p (pos 0)) ≡ slice_index_or xs p (pos 0)
+    → (p : ℕ) → p < length xs → element (permutation_of xs is) (slice_index_or is p (pos 0)) ≡ slice_index_or xs p (pos 0)

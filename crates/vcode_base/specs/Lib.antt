@@ -1,8 +1,12 @@
+pub mod Choices
 pub mod Elements
 pub mod Instructions
 pub mod Kinds
 pub mod Laws
+pub mod LineWords
 pub mod Meaning
+pub mod Motions
+pub mod Names
+pub mod Operands
 pub mod Segments
 pub mod Texts
-pub mod Operands

@@ -2,8 +2,8 @@
 use Rattle.std.specs.Prelude.{ℕ, ℤ, pos, ◌==◌, nat_lt, Bool, not, ◌||◌, if◌then◌else◌, List, [], ◌∷◌, length, map, zip, flat_map, filter, count_by, replicate, slice_index_or, slice_set, unsigned_abs, Option, Some, None, int_lt}
 use Rattle.std.specs.List.{list_any}
 use Rattle.vcode_base.specs.Elements.{flag, is_set, is_outside, arithmetic, arithmetic_fault, comparison, logic, negation, fold_of}
-use Rattle.vcode_base.specs.Kinds.{greatest_total}
-use Rattle.vcode_base.specs.Segments.{sizes, total, segments, folds_before, progression, element, moved, permuted, has_twice, any_outside}
+use Rattle.vcode_base.specs.declared.limits.TheConstants.{MOST_TOTAL}
+use Rattle.vcode_base.specs.Segments.{sizes, total, segments, folds_before, progression, element, scatter_of, permutation_of, has_twice, any_outside}
 use Rattle.vcode_base.specs.declared.op.Op.{Op}
 use Rattle.vcode_base.specs.declared.op.Op.TheVariants.{Const, Elementwise, Segmented, If, Move, Call, Return}
 use Rattle.vcode_base.specs.declared.op.Elementwise.{Elementwise as ElementwiseOp}
@@ -107,7 +107,7 @@ segmented_fault (DefaultPermute k) xs = first_fault
 segmented_fault (Extract k) xs = first_fault ((list_any (λ (n, i). is_outside n i) (zip (sizes (operand xs 2)) (operand xs 1)), BadIndex) ∷ [])
 segmented_fault (Replace k) xs = first_fault ((list_any (λ (n, i). is_outside n i) (zip (sizes (operand xs 3)) (operand xs 1)), BadIndex) ∷ [])
 segmented_fault MakeSegdes xs = first_fault
-    ((list_any (λ n. int_lt n (pos 0)) (operand xs 0) || nat_lt greatest_total (total (operand xs 0)), BadLength) ∷ [])
+    ((list_any (λ n. int_lt n (pos 0)) (operand xs 0) || nat_lt MOST_TOTAL (total (operand xs 0)), BadLength) ∷ [])
 segmented_fault _ xs = None
 
 -- the fault of operands of fitting shapes at whose values there is no result
@@ -121,19 +121,19 @@ value_fault _ xs = None
 abbrev pub two_by_two : (ℤ → ℤ → ℤ) → List ℤ → List ℤ → List ℤ
 two_by_two f xs ys = map (λ (x, y). f x y) (zip xs ys)
 
-abbrev pub selected : List ℤ → List ℤ → List ℤ → List ℤ
-selected bs xs ys = map (λ (b, p). if is_set b then p.0 else p.1) (zip bs (zip xs ys))
+abbrev pub selection_of : List ℤ → List ℤ → List ℤ → List ℤ
+selection_of bs xs ys = map (λ (b, p). if is_set b then p.0 else p.1) (zip bs (zip xs ys))
 
 -- each element whose flag is T
-abbrev pub packed : List ℤ → List ℤ → List ℤ
-packed xs bs = map (λ (x, b). x) (filter (λ (x, b). is_set b) (zip xs bs))
+abbrev pub flagged_elements : List ℤ → List ℤ → List ℤ
+flagged_elements xs bs = map (λ (x, b). x) (filter (λ (x, b). is_set b) (zip xs bs))
 
 abbrev pub elementwise_result : ElementwiseOp → List (List ℤ) → List ℤ
 elementwise_result (Arith op) xs = two_by_two (arithmetic op) (operand xs 0) (operand xs 1)
 elementwise_result (Compare op) xs = two_by_two (comparison op) (operand xs 0) (operand xs 1)
 elementwise_result (Logic op k) xs = two_by_two (logic op) (operand xs 0) (operand xs 1)
 elementwise_result (Not k) xs = map (negation k) (operand xs 0)
-elementwise_result (Select k) xs = selected (operand xs 0) (operand xs 1) (operand xs 2)
+elementwise_result (Select k) xs = selection_of (operand xs 0) (operand xs 1) (operand xs 2)
 elementwise_result IntToBool xs = map (λ x. flag (is_set x)) (operand xs 0)
 elementwise_result BoolToInt xs = operand xs 0
 
@@ -142,12 +142,12 @@ segmented_result (Scan f) xs = flat_map (folds_before f) (segments (operand xs 1
 segmented_result (Reduce f) xs = map (fold_of f) (segments (operand xs 1) (operand xs 0))
 segmented_result (Distribute k) xs = flat_map (λ (n, x). replicate n x) (zip (sizes (operand xs 1)) (operand xs 0))
 segmented_result Index xs = flat_map (λ (n, p). progression n p.0 p.1) (zip (sizes (operand xs 2)) (zip (operand xs 0) (operand xs 1)))
-segmented_result (Permute k) xs = flat_map (λ (v, is). permuted v is) (zip (segments (operand xs 2) (operand xs 0)) (segments (operand xs 2) (operand xs 1)))
+segmented_result (Permute k) xs = flat_map (λ (v, is). permutation_of v is) (zip (segments (operand xs 2) (operand xs 0)) (segments (operand xs 2) (operand xs 1)))
 segmented_result (BackPermute k) xs = flat_map (λ (v, is). map (element v) is) (zip (segments (operand xs 2) (operand xs 0)) (segments (operand xs 3) (operand xs 1)))
-segmented_result (DefaultPermute k) xs = flat_map (λ (v, p). moved v p.0 p.1) (zip (segments (operand xs 3) (operand xs 0)) (zip (segments (operand xs 3) (operand xs 1)) (segments (operand xs 4) (operand xs 2))))
+segmented_result (DefaultPermute k) xs = flat_map (λ (v, p). scatter_of v p.0 p.1) (zip (segments (operand xs 3) (operand xs 0)) (zip (segments (operand xs 3) (operand xs 1)) (segments (operand xs 4) (operand xs 2))))
 segmented_result (Extract k) xs = map (λ (v, i). element v i) (zip (segments (operand xs 2) (operand xs 0)) (operand xs 1))
 segmented_result (Replace k) xs = flat_map (λ (v, p). slice_set v (unsigned_abs p.0) p.1) (zip (segments (operand xs 3) (operand xs 0)) (zip (operand xs 1) (operand xs 2)))
-segmented_result (Pack k) xs = packed (operand xs 0) (operand xs 1)
+segmented_result (Pack k) xs = flagged_elements (operand xs 0) (operand xs 1)
 segmented_result MakeSegdes xs = operand xs 0
 segmented_result Lengths xs = operand xs 0
 

@@ -16,13 +16,13 @@ abbrev pub total : List ℤ → ℕ
 total s = sum_by unsigned_abs s
 
 -- the elements in segments of these sizes
-abbrev pub cut : List ℕ → List ℤ → List (List ℤ)
-cut [] xs = []
-cut (n ∷ ns) xs = take n xs ∷ cut ns (drop n xs)
+abbrev pub pieces_of : List ℕ → List ℤ → List (List ℤ)
+pieces_of [] xs = []
+pieces_of (n ∷ ns) xs = take n xs ∷ pieces_of ns (drop n xs)
 
 -- a vector in the segments of a descriptor
 abbrev pub segments : List ℤ → List ℤ → List (List ℤ)
-segments s xs = cut (sizes s) xs
+segments s xs = pieces_of (sizes s) xs
 
 -- at each place the fold of the elements before it
 abbrev pub folds_before : Fold → List ℤ → List ℤ
@@ -45,12 +45,12 @@ abbrev pub arrival : List (ℤ × ℤ) → ℕ → ℤ → ℤ
 arrival moves q d = fold (λ there (i, x). if names q i then x else there) d moves
 
 -- the list with each element of xs gone to its index
-abbrev pub moved : List ℤ → List ℤ → List ℤ → List ℤ
-moved xs is there = map (λ (q, d). arrival (zip is xs) q d) (enumerate_from 0 there)
+abbrev pub scatter_of : List ℤ → List ℤ → List ℤ → List ℤ
+scatter_of xs is there = map (λ (q, d). arrival (zip is xs) q d) (enumerate_from 0 there)
 
 -- each element gone to its index, where the indices are those of the list, each once
-abbrev pub permuted : List ℤ → List ℤ → List ℤ
-permuted xs is = moved xs is (replicate (length xs) (pos 0))
+abbrev pub permutation_of : List ℤ → List ℤ → List ℤ
+permutation_of xs is = scatter_of xs is (replicate (length xs) (pos 0))
 
 -- two of the indices name one place
 abbrev pub has_twice : List ℤ → Bool

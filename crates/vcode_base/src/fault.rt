@@ -1,6 +1,8 @@
 ghost use Rattle.std.specs.Prelude.{◌≡◌};
 ghost use Rattle.vcode_base.specs.Texts.{data_fault_text, memory_fault_text};
 
+use std::alloc::AllocError;
+
 /// Why an instruction has no results at its operands.
 #[derive(Clone, Copy, PartialEq, Eq, Debug)]
 pub enum DataFault {
@@ -64,5 +66,24 @@ impl MemoryFault {
             MemoryFault::Cells => "M2 CELLS",
             MemoryFault::Calls => "M3 CALLS",
         }
+    }
+}
+
+/// Why a text gives nothing: there was no memory for it, or it has this fault at the line of this
+/// number.
+#[derive(Clone, Copy, PartialEq, Eq, Debug)]
+pub enum TextFault<F> {
+    Memory,
+    At(F, u64),
+}
+
+impl<F> From<AllocError> for TextFault<F> {
+    ghost use Rattle.std.specs.Prelude.{◌≡◌};
+    ghost use Rattle.vcode_base.specs.declared.fault.TextFault.TheVariants.{Memory};
+
+    ghost from_gives = { λ _ fault. fault ≡ Memory };
+
+    fn from(_: AllocError) -> TextFault<F> {
+        TextFault::Memory
     }
 }

@@ -1,10 +1,7 @@
-ghost use Rattle.std.specs.Prelude.{◌≡◌};
-
 use crate::kind::Scalar;
 use crate::op::{Elementwise, Op, Segmented, StackMove};
-use crate::words::Words;
-use std::alloc::Allocator;
-use std::marker::Model;
+use crate::sequence::Sequence;
+use crate::value::Words;
 
 /// An instruction of the code, over the type of its list and the type of the name that it calls:
 /// the code holds an [`Instruction`].
@@ -47,54 +44,4 @@ impl<L, N> Instr<L, N> {
 }
 
 /// The name of a function: its bytes.
-#[derive(Debug, Drop)]
-pub struct FunctionName<A: Allocator> {
-    bytes: Vec<u8, A>,
-}
-
-impl<A: Allocator> Model for FunctionName<A> {
-    ghost use Rattle.std.specs.Prelude.{ℕ, List};
-
-    ghost Value = { List ℕ };
-
-    ghost view = { λ n. n.bytes.items };
-}
-
-impl<A: Allocator> FunctionName<A> {
-    /// The name of these bytes, which takes no memory.
-    pub fn from_vec(bytes: Vec<u8, A>) -> FunctionName<A>
-        ensures { result ≡ bytes.items }
-    {
-        FunctionName { bytes }
-    }
-
-    /// The bytes in order.
-    pub fn as_bytes(&self) -> &[u8]
-        ensures { result.now ≡ self.now }
-    {
-        &self.bytes
-    }
-}
-
-/// Equal where the bytes are.
-impl<A: Allocator> PartialEq for FunctionName<A> {
-    ghost use Rattle.std.specs.Cmp.Lexicographic.{pointwise};
-    ghost use Rattle.std.specs.Prelude.{nat_eq};
-    ghost use Rattle.std.specs.Cmp.Rules.{comparing};
-    ghost use Rattle.std.proofs.Common.{rules};
-
-    ghost eq = { pointwise nat_eq };
-
-    ghost laws = { Prim.search (comparing, rules) };
-
-    fn eq(&self, other: &FunctionName<A>) -> bool {
-        self.bytes.as_slice() == other.bytes.as_slice()
-    }
-}
-
-impl<A: Allocator> Eq for FunctionName<A> {
-    ghost use Rattle.std.specs.Cmp.Rules.{comparing};
-    ghost use Rattle.std.proofs.Common.{rules};
-
-    ghost laws = { Prim.search (comparing, rules) };
-}
+pub type FunctionName<A> = Sequence<u8, A>;

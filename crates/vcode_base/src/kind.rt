@@ -1,11 +1,11 @@
 ghost use Rattle.std.specs.Prelude.{◌≡◌, ◌≤◌, ◌||◌, ◌↔◌, IsTrue, pos, int_lt, nat_lt};
 ghost use Rattle.std.specs.List.{All, list_any};
-ghost use Rattle.vcode_base.specs.Kinds.{IsFlag, HasKind, HaveKinds, greatest_total};
+ghost use Rattle.vcode_base.specs.Kinds.{IsFlag, HasKind, HaveKinds};
 ghost use Rattle.vcode_base.specs.Operands.{contents};
 ghost use Rattle.vcode_base.specs.Segments.{total};
+ghost use Rattle.vcode_base.specs.declared.limits.TheConstants.{MOST_TOTAL};
 
-/// The greatest total of a descriptor.
-const GREATEST_TOTAL: u64 = 4_294_967_295;
+use crate::limits::MOST_TOTAL;
 
 /// What the words of a vector are.
 #[derive(Clone, Copy, PartialEq, Eq, Debug)]
@@ -98,7 +98,7 @@ fn are_flags(words: &[i64]) -> bool
 fn is_bad_descriptor(lengths: &[i64]) -> bool
     ensures { result
         ≡ (list_any (λ n. int_lt n (pos 0)) lengths.now
-        || nat_lt greatest_total (total lengths.now)) }
+        || nat_lt MOST_TOTAL (total lengths.now)) }
 {
     let mut any_negative = false;
     let mut sum: u64 = 0;
@@ -106,5 +106,5 @@ fn is_bad_descriptor(lengths: &[i64]) -> bool
         any_negative |= *size < 0;
         sum = sum.saturating_add(size.unsigned_abs());
     }
-    any_negative || sum > GREATEST_TOTAL
+    any_negative || sum > MOST_TOTAL
 }

@@ -4,21 +4,24 @@
 //! `Kinds`, the shapes that it takes, the lengths, the faults and the results in `Meaning`.
 #![tactic(auto)]
 
+pub mod element;
 mod fault;
 mod instr;
 mod kind;
 pub mod laws;
-mod limits;
+pub mod limits;
+mod line_words;
 mod op;
 mod outcome;
+mod sequence;
 mod value;
-mod words;
 
-pub use fault::{DataFault, MemoryFault};
+pub use fault::{DataFault, MemoryFault, TextFault};
 pub use instr::{FunctionName, Instr, Instruction};
 pub use kind::{Kind, Scalar, have_kinds};
 pub use limits::Limits;
+pub use line_words::{LineWords, Parentheses};
 pub use op::{Arith, Comparison, Elementwise, Fold, Logic, Op, Segmented, StackMove};
 pub use outcome::Outcome;
-pub use value::{Value, Values};
-pub use words::Words;
+pub use sequence::Sequence;
+pub use value::{Value, Values, Words};

@@ -66,7 +66,7 @@ pub enum Elementwise {
 /// An instruction that makes, reads or takes a segment descriptor.
 #[derive(Clone, Copy, PartialEq, Eq, Debug)]
 pub enum Segmented {
-    /// An exclusive scan: at each position the fold of the earlier elements of its segment.
+    /// An exclusive scan: for each element the fold of those before it in its segment.
     Scan(Fold),
     /// One fold for each segment.
     Reduce(Fold),

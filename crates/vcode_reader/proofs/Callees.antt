@@ -1,5 +1,7 @@
 -- The place of the first function of a name, and the callee of a CALL.
-use Rattle.std.proofs.Common.{◌≡◌, ◌∙◌, ℕ, suc, ◌+◌, ◌<◌, ◌≤◌, Bool, true, false, inl, inr, cond, List, [], ◌∷◌, ◌++◌, length, take, drop, drop-cons, get_or, add-one, Bor, Option, Some, None, refl, ap, sym, arith}
+use Rattle.std.proofs.Common.{◌≡◌, ◌∙◌, ℕ, suc, ◌+◌, ◌<◌, ◌≤◌, Bool, true, false, inl, inr, cond, List, [], ◌∷◌, ◌++◌}
+use Rattle.std.proofs.Common.{length, take, drop, drop-cons, get_or, add-one, Bor, Option, Some, None, refl, ap, sym}
+use Rattle.std.proofs.Common.{arith}
 use Rattle.std.specs.BTreeMap.{BTreeMap, get_by, UpdatesBy}
 use Rattle.std.specs.Bool.{Decides}
 use Rattle.std.specs.Cmp.Lexicographic.{slice_cmp}
@@ -18,13 +20,14 @@ use Rattle.std.proofs.lemmas.Slice.Eq.{slice_eq-Decides}
 use Rattle.vcode_base.specs.declared.instr.Instr.TheVariants.{Call}
 use Rattle.vcode_reader.specs.Callees.{callee_of, callees_of, callee_in, callee_at, EachCallIsFound}
 use Rattle.vcode_reader.specs.Targets.{target_in}
-use Rattle.vcode_reader.specs.Trees.{CodeLine, Function, doing, lines_of}
+use Rattle.vcode_reader.specs.Trees.{CodeLine, Function, instruction_line, lines_of}
 
 -- the first place that passes, counted on from a place
 position_from_is : {A : Type 0} (p : A → Bool) (i : ℕ) (xs : List A) →
     position_from p i xs ≡ cond (nat_lt (position_or_len p xs) (length xs)) (Some (i + position_or_len p xs)) None
 position_from_is p i [] = refl
-position_from_is p i (x ∷ xs) = one i (position_or_len p xs) (length xs) (position_from p (i + 1) xs) (p x) (position_from_is p (i + 1) xs)
+position_from_is p i (x ∷ xs) =
+    one i (position_or_len p xs) (length xs) (position_from p (i + 1) xs) (p x) (position_from_is p (i + 1) xs)
   where
     one : (i l n : ℕ) (o : Option ℕ) (t : Bool) → o ≡ cond (nat_lt l n) (Some (i + 1 + l)) None →
         cond t (Some i) o ≡ cond (nat_lt (cond (not t) (1 + l) 0) (suc n)) (Some (i + cond (not t) (1 + l) 0)) None
@@ -49,16 +52,19 @@ drop_next xs i d h = rw (add-one i) (drop-cons xs i d h)
 abbrev pub entry_of : List Function → Function → List (Option ℕ)
 entry_of fs f = map (λ x. callee_of fs x.item) (lines_of f)
 
-pub entry_by : (gs fs : List Function) (f : Function) (lines : List CodeLine) → gs ≡ fs → lines ≡ lines_of f → map (λ x. callee_of gs x.item) lines ≡ entry_of fs f
+pub entry_by : (gs fs : List Function) (f : Function) (lines : List CodeLine) → gs ≡ fs → lines ≡ lines_of f →
+    map (λ x. callee_of gs x.item) lines ≡ entry_of fs f
 entry_by gs fs f lines e h = ap (map (λ x. callee_of gs x.item)) h ∙ ap (λ z. entry_of z f) e
 
 -- a map has the first place, from a place on, of each name
 abbrev pub Finds : List Function → ℕ → BTreeMap (Bor (List ℕ)) ℕ → Type 0
-Finds fs place m = (name : List ℕ) → get_by (λ k. slice_cmp nat_cmp name k.now) m ≡ position_from (λ f. bytes_eq f.name name) place (drop place fs)
+Finds fs place m = (name : List ℕ) →
+    get_by (λ k. slice_cmp nat_cmp name k.now) m ≡ position_from (λ f. bytes_eq f.name name) place (drop place fs)
 
 -- the function before is added
 pub finds_more : (fs : List Function) (place : ℕ) (f : Function) (bs : List ℕ) (m n : BTreeMap (Bor (List ℕ)) ℕ) →
-    place < length fs → get_or fs place f ≡ f → bs ≡ f.name → UpdatesBy (λ x y. slice_cmp nat_cmp x.now y.now) (λ k. slice_cmp nat_cmp bs k.now) m n (Some place) →
+    place < length fs → get_or fs place f ≡ f → bs ≡ f.name →
+    UpdatesBy (λ x y. slice_cmp nat_cmp x.now y.now) (λ k. slice_cmp nat_cmp bs k.now) m n (Some place) →
     Finds fs (place + 1) m → Finds fs place n
 finds_more fs place f bs m n lt at same updates found = λ name.
     let p : Function → Bool = λ g. bytes_eq g.name name in
@@ -68,13 +74,18 @@ finds_more fs place f bs m n lt at same updates found = λ name.
     ∙ sym (ap (position_from p place) (drop_next fs place f lt ∙ ap (λ z. z ∷ drop (place + 1) fs) at))))
 
 -- the callees of one function more
-pub callees_more : (fs : List Function) (i : ℕ) (f : Function) (old new : List (List (Option ℕ))) (callees : List (Option ℕ)) →
-    i < length fs → f ≡ get_or fs i f → old ≡ map (entry_of fs) (take i fs) → callees ≡ entry_of fs f → new ≡ old ++ callees ∷ [] → new ≡ map (entry_of fs) (take (i + 1) fs)
+pub callees_more : (fs : List Function) (i : ℕ) (f : Function) (old new : List (List (Option ℕ)))
+    (callees : List (Option ℕ)) →
+    i < length fs → f ≡ get_or fs i f → old ≡ map (entry_of fs) (take i fs) → callees ≡ entry_of fs f →
+    new ≡ old ++ callees ∷ [] → new ≡ map (entry_of fs) (take (i + 1) fs)
 callees_more fs i f old new callees lt at before same pushed =
-    pushed ∙ (ap (λ z. z ++ callees ∷ []) before ∙ (ap (λ z. map (entry_of fs) (take i fs) ++ z ∷ []) (same ∙ ap (entry_of fs) at)
-    ∙ (sym (map-append (entry_of fs) (take i fs) (get_or fs i f ∷ [])) ∙ sym (ap (map (entry_of fs)) (take_more fs i f lt)))))
+    pushed ∙ (ap (λ z. z ++ callees ∷ []) before
+    ∙ (ap (λ z. map (entry_of fs) (take i fs) ++ z ∷ []) (same ∙ ap (entry_of fs) at)
+    ∙ (sym (map-append (entry_of fs) (take i fs) (get_or fs i f ∷ []))
+    ∙ sym (ap (map (entry_of fs)) (take_more fs i f lt)))))
 
-pub callees_all : (fs : List Function) (i : ℕ) (found : List (List (Option ℕ))) → length fs ≤ i → found ≡ map (entry_of fs) (take i fs) → found ≡ callees_of fs
+pub callees_all : (fs : List Function) (i : ℕ) (found : List (List (Option ℕ))) → length fs ≤ i →
+    found ≡ map (entry_of fs) (take i fs) → found ≡ callees_of fs
 unfolding callees_of
 callees_all fs i found past same = same ∙ ap (map (entry_of fs)) (take_all i fs past)
 
@@ -87,17 +98,21 @@ abbrev is_named : List ℕ → Function → Bool
 is_named name f = bytes_eq f.name name
 
 -- what passes has a first place
-has_first : {A : Type 0} (p : A → Bool) (xs : List A) (k : ℕ) (x : A) → slice_get xs k ≡ Some x → p x ≡ true → position p xs ≡ Some (position_or_len p xs)
+has_first : {A : Type 0} (p : A → Bool) (xs : List A) (k : ℕ) (x : A) → slice_get xs k ≡ Some x → p x ≡ true →
+    position p xs ≡ Some (position_or_len p xs)
 has_first p xs k x h t =
     elim (cases_lt (position_or_len p xs) (length xs)) [
-      | inl found ↦ let yes : nat_lt (position_or_len p xs) (length xs) ≡ true = grind (arith, nat_tests) in ap (λ b. cond b (Some (position_or_len p xs)) None) yes
+      | inl found ↦ let yes : nat_lt (position_or_len p xs) (length xs) ≡ true = grind (arith, nat_tests) in
+          ap (λ b. cond b (Some (position_or_len p xs)) None) yes
       | inr none ↦ absurd (
           let within : k < length xs = slice_get_within xs k x h in
-          false≢true (sym (fails_before_first p xs k x (omega arith)) ∙ (ap p (get_or_from_slice_get xs k x x h) ∙ t)))
+          false≢true
+          (sym (fails_before_first p xs k x (omega arith)) ∙ (ap p (get_or_from_slice_get xs k x x h) ∙ t)))
     ]
 
 callee_is : (fs : List Function) (function place number : ℕ) (f : Function) (name : List ℕ) →
-    slice_get fs function ≡ Some f → slice_get (lines_of f) place ≡ Some (doing (Call name) number) → callee_at fs function place ≡ position (is_named name) fs
+    slice_get fs function ≡ Some f → slice_get (lines_of f) place ≡ Some (instruction_line (Call name) number) →
+    callee_at fs function place ≡ position (is_named name) fs
 unfolding callees_of
 callee_is fs function place number f name hf hx =
     let callee : CodeLine → Option ℕ = λ x. callee_of fs x.item in
@@ -107,12 +122,18 @@ callee_is fs function place number f name hf hx =
 pub each_call_is_found : EachCallIsFound
 each_call_is_found fs function place number called f g hf hx hg =
     let p = is_named g.name in
-    let at : position p fs ≡ Some (position_or_len p fs) = has_first p fs called g hg ((same_name g.name g.name).1 refl) in
+    let at : position p fs
+    ≡ Some (position_or_len p fs) = has_first p fs called g hg ((same_name g.name g.name).1 refl) in
     let first = position-Some p fs (position_or_len p fs) g at in (
       position_or_len p fs,
       callee_is fs function place number f g.name hf hx ∙ at,
       (
-        (get_or fs (position_or_len p fs) g, slice_get-get_or fs (position_or_len p fs) g first.0, (same_name _ _).0 first.1),
-        λ k h lt e same. false≢true (sym (first.2 k lt) ∙ (ap p (get_or_from_slice_get fs k h g e) ∙ (same_name h.name g.name).1 same)),
+        (
+          get_or fs (position_or_len p fs) g,
+          slice_get-get_or fs (position_or_len p fs) g first.0,
+          (same_name _ _).0 first.1,
+        ),
+        λ k h lt e same. false≢true
+            (sym (first.2 k lt) ∙ (ap p (get_or_from_slice_get fs k h g e) ∙ (same_name h.name g.name).1 same)),
       ),
     )

@@ -18,9 +18,9 @@ use Rattle.vcode_base.specs.contracts.op.StackMove as motion
 use Rattle.vcode_base.specs.contracts.instr.Instr as instr
 use Rattle.vcode_base.specs.contracts.instr.InstrPartialEq.TheImpl as instr_eq
 use Rattle.vcode_base.specs.declared.instr.Instr.{Instr}
-use Rattle.vcode_reader.specs.contracts.line.Part as parts
-use Rattle.vcode_reader.specs.contracts.line.PartPartialEq.TheImpl as part_eq
-use Rattle.vcode_reader.specs.declared.line.Part.{Part}
+use Rattle.vcode_reader.specs.contracts.line.CodeItem as parts
+use Rattle.vcode_reader.specs.contracts.line.CodeItemPartialEq.TheImpl as part_eq
+use Rattle.vcode_reader.specs.declared.line.CodeItem.{CodeItem}
 use Rattle.std.specs.Prelude.{nat_eq}
 use Rattle.std.specs.declared.cmp.PartialEq.{Ghosts}
 use denote.RattleType.{RattleType}
@@ -40,14 +40,17 @@ other f = (λ h. absurd (differ h), λ p. absurd (f p))
 left_not_right : {A B : Type 0} (x : A) (y : B) → let s : A ⊎ B = inl x in s ≡ inr y → ⊥
 left_not_right x y h = cc
 
-decides_by : (Fss : List (List Field)) (each : Each Bool Fss) → AreExact Fss each → (c d : Choice Fss) → Decides (by false false Fss each c d) (c ≡ d)
+decides_by : (Fss : List (List Field)) (each : Each Bool Fss) → AreExact Fss each → (c d : Choice Fss) →
+    Decides (by false false Fss each c d) (c ≡ d)
 decides_by [] each e c d = absurd c
 decides_by (Fs ∷ Fss) each e (inl x) (inl y) = Decides-like _ (λ h. ap inl h) (λ h. ap (left_or x) h) (e.0 x y)
 decides_by (Fs ∷ Fss) each e (inl x) (inr d) = other (left_not_right x d)
 decides_by (Fs ∷ Fss) each e (inr c) (inl y) = other (λ h. left_not_right y c (sym h))
-decides_by (Fs ∷ Fss) each e (inr c) (inr d) = Decides-like _ (λ h. ap inr h) (λ h. ap (right_or c) h) (decides_by Fss each.1 e.1 c d)
+decides_by (Fs ∷ Fss) each e (inr c) (inr d) =
+    Decides-like _ (λ h. ap inr h) (λ h. ap (right_or c) h) (decides_by Fss each.1 e.1 c d)
 
-pub same_values : {D : Type 0} (parts : List (List Field)) (to : D → Choice parts) (from : Choice parts → D) → ((d : D) → from (to d) ≡ d) → (each : Each Bool parts) → AreExact parts each →
+pub same_values : {D : Type 0} (parts : List (List Field)) (to : D → Choice parts) (from : Choice parts → D) →
+    ((d : D) → from (to d) ≡ d) → (each : Each Bool parts) → AreExact parts each →
     (a b : D) → Decides (by false false parts each (to a) (to b)) (a ≡ b)
 same_values parts to from back each e a b =
     Decides-like _ (λ h. sym (back a) ∙ (ap from h ∙ back b)) (λ h. ap to h) (decides_by parts each e (to a) (to b))
@@ -59,20 +62,28 @@ bare D b x y = (same_true D b x y, true_same D x y)
 pub no_field : (x y : Unit {0}) → Decides true (x ≡ y)
 no_field x y = (λ _. refl, λ _. refl)
 
-pub one_field : {A : Type 0} {t : A → A → Bool} → ((a b : A) → Decides (t a b) (a ≡ b)) → (x y : A × Unit {0}) → Decides (t x.0 y.0) (x ≡ y)
-one_field {A} f x y = Decides-like _ (λ h. ap (λ (a : A). let p : A × Unit {0} = (a, tt) in p) h) (λ h. ap (λ (p : A × Unit {0}). p.0) h) (f x.0 y.0)
+pub one_field : {A : Type 0} {t : A → A → Bool} → ((a b : A) → Decides (t a b) (a ≡ b)) → (x y : A × Unit {0}) →
+    Decides (t x.0 y.0) (x ≡ y)
+one_field {A} f x y =
+    Decides-like _ (λ h. ap (λ (a : A). let p : A × Unit {0} = (a, tt) in p) h)
+    (λ h. ap (λ (p : A × Unit {0}). p.0) h) (f x.0 y.0)
 
-pub two_fields : {A B : Type 0} {s : A → A → Bool} {t : B → B → Bool} → ((a b : A) → Decides (s a b) (a ≡ b)) → ((a b : B) → Decides (t a b) (a ≡ b)) →
+pub two_fields : {A B : Type 0} {s : A → A → Bool} {t : B → B → Bool} → ((a b : A) → Decides (s a b) (a ≡ b)) →
+    ((a b : B) → Decides (t a b) (a ≡ b)) →
     (x y : A × (B × Unit {0})) → Decides (s x.0 y.0 && t x.1.0 y.1.0) (x ≡ y)
 two_fields {A} {B} f g x y =
-    Decides-like _ (λ (h, k). ap (λ (a : A). let p : A × (B × Unit {0}) = (a, x.1) in p) h ∙ ap (λ (b : B). let p : A × (B × Unit {0}) = (y.0, (b, tt)) in p) k)
+    Decides-like _ (λ (h, k). ap (λ (a : A). let p : A × (B × Unit {0}) = (a, x.1) in p) h
+    ∙ ap (λ (b : B). let p : A × (B × Unit {0}) = (y.0, (b, tt)) in p) k)
     (λ h. (ap (λ (p : A × (B × Unit {0})). p.0) h, ap (λ (p : A × (B × Unit {0})). p.1.0) h))
     (Decides-and _ _ (f x.0 y.0) (g x.1.0 y.1.0))
 
-pub three_fields : {A B C : Type 0} {s : A → A → Bool} {t : B → B → Bool} {u : C → C → Bool} → ((a b : A) → Decides (s a b) (a ≡ b)) → ((a b : B) → Decides (t a b) (a ≡ b)) → ((a b : C) → Decides (u a b) (a ≡ b)) →
+pub three_fields : {A B C : Type 0} {s : A → A → Bool} {t : B → B → Bool} {u : C → C → Bool} →
+    ((a b : A) → Decides (s a b) (a ≡ b)) → ((a b : B) → Decides (t a b) (a ≡ b)) →
+    ((a b : C) → Decides (u a b) (a ≡ b)) →
     (x y : A × (B × (C × Unit {0}))) → Decides (s x.0 y.0 && (t x.1.0 y.1.0 && u x.1.1.0 y.1.1.0)) (x ≡ y)
 three_fields {A} {B} {C} f g k x y =
-    Decides-like _ (λ (h, r). ap (λ (a : A). let p : A × (B × (C × Unit {0})) = (a, x.1) in p) h ∙ ap (λ (b : B × (C × Unit {0})). let p : A × (B × (C × Unit {0})) = (y.0, b) in p) r)
+    Decides-like _ (λ (h, r). ap (λ (a : A). let p : A × (B × (C × Unit {0})) = (a, x.1) in p) h
+    ∙ ap (λ (b : B × (C × Unit {0})). let p : A × (B × (C × Unit {0})) = (y.0, b) in p) r)
     (λ h. (ap (λ (p : A × (B × (C × Unit {0}))). p.0) h, ap (λ (p : A × (B × (C × Unit {0}))). p.1) h))
     (Decides-and _ _ (f x.0 y.0) (two_fields g k x.1 y.1))
 
@@ -82,8 +93,13 @@ scalars : (a b : (scalar.the_type).D) → Decides (sameb scalar.the_type a b) (a
 scalars = bare scalar.the_type tt
 
 abbrev pub folds_each : Each Bool folds.the_parts
-folds_each =
-    (λ _ _. true, (λ _ _. true, (λ _ _. true, (λ _ _. true, (λ x y. sameb logic.the_type x.0 y.0 && sameb scalar.the_type x.1.0 y.1.0, tt)))))
+folds_each = (
+  λ _ _. true,
+  (
+    λ _ _. true,
+    (λ _ _. true, (λ _ _. true, (λ x y. sameb logic.the_type x.0 y.0 && sameb scalar.the_type x.1.0 y.1.0, tt))),
+  ),
+)
 
 abbrev pub same_fold : (folds.the_type).D → (folds.the_type).D → Bool
 same_fold a b = by false false folds.the_parts folds_each (folds.as_values a) (folds.as_values b)
@@ -99,25 +115,30 @@ elementwise_each = (
     λ x y. sameb comparison.the_type x.0 y.0,
     (
       λ x y. sameb logic.the_type x.0 y.0 && sameb scalar.the_type x.1.0 y.1.0,
-      (λ x y. sameb scalar.the_type x.0 y.0, (λ x y. sameb scalar.the_type x.0 y.0, (λ _ _. true, (λ _ _. true, tt)))),
+      (
+        λ x y. sameb scalar.the_type x.0 y.0,
+        (λ x y. sameb scalar.the_type x.0 y.0, (λ _ _. true, (λ _ _. true, tt))),
+      ),
     ),
   ),
 )
 
 abbrev pub same_elementwise : (elementwise.the_type).D → (elementwise.the_type).D → Bool
-same_elementwise a b = by false false elementwise.the_parts elementwise_each (elementwise.as_values a) (elementwise.as_values b)
+same_elementwise a b =
+    by false false elementwise.the_parts elementwise_each (elementwise.as_values a) (elementwise.as_values b)
 
 pub elementwise_exact : (a b : (elementwise.the_type).D) → Decides (same_elementwise a b) (a ≡ b)
-elementwise_exact = same_values elementwise.the_parts elementwise.as_values elementwise.the_make elementwise.the_eta elementwise_each (
-  one_field (bare arith.the_type tt),
-  (
-    one_field (bare comparison.the_type tt),
-    (
-      two_fields (bare logic.the_type tt) scalars,
-      (one_field scalars, (one_field scalars, (no_field, (no_field, tt)))),
-    ),
-  ),
-)
+elementwise_exact =
+    same_values elementwise.the_parts elementwise.as_values elementwise.the_make elementwise.the_eta elementwise_each (
+      one_field (bare arith.the_type tt),
+      (
+        one_field (bare comparison.the_type tt),
+        (
+          two_fields (bare logic.the_type tt) scalars,
+          (one_field scalars, (one_field scalars, (no_field, (no_field, tt)))),
+        ),
+      ),
+    )
 
 abbrev pub segmented_each : Each Bool segmented.the_parts
 segmented_each = (
@@ -136,7 +157,10 @@ segmented_each = (
               λ x y. sameb scalar.the_type x.0 y.0,
               (
                 λ x y. sameb scalar.the_type x.0 y.0,
-                (λ x y. sameb scalar.the_type x.0 y.0, (λ x y. sameb scalar.the_type x.0 y.0, (λ _ _. true, (λ _ _. true, tt)))),
+                (
+                  λ x y. sameb scalar.the_type x.0 y.0,
+                  (λ x y. sameb scalar.the_type x.0 y.0, (λ _ _. true, (λ _ _. true, tt))),
+                ),
               ),
             ),
           ),
@@ -150,33 +174,35 @@ abbrev pub same_segmented : (segmented.the_type).D → (segmented.the_type).D �
 same_segmented a b = by false false segmented.the_parts segmented_each (segmented.as_values a) (segmented.as_values b)
 
 pub segmented_exact : (a b : (segmented.the_type).D) → Decides (same_segmented a b) (a ≡ b)
-segmented_exact = same_values segmented.the_parts segmented.as_values segmented.the_make segmented.the_eta segmented_each (
-  one_field same_folds,
-  (
-    one_field same_folds,
-    (
-      one_field scalars,
+segmented_exact =
+    same_values segmented.the_parts segmented.as_values segmented.the_make segmented.the_eta segmented_each (
+      one_field same_folds,
       (
-        no_field,
+        one_field same_folds,
         (
           one_field scalars,
           (
-            one_field scalars,
+            no_field,
             (
               one_field scalars,
               (
                 one_field scalars,
-                (one_field scalars, (one_field scalars, (no_field, (no_field, tt)))),
+                (
+                  one_field scalars,
+                  (
+                    one_field scalars,
+                    (one_field scalars, (one_field scalars, (no_field, (no_field, tt)))),
+                  ),
+                ),
               ),
             ),
           ),
         ),
       ),
-    ),
-  ),
-)
+    )
 
-abbrev pub instr_each : (L N : RattleType) → (L.Denot → L.Denot → Bool) → (N.Denot → N.Denot → Bool) → Each Bool (instr.the_parts L N)
+abbrev pub instr_each : (L N : RattleType) → (L.Denot → L.Denot → Bool) → (N.Denot → N.Denot → Bool) →
+    Each Bool (instr.the_parts L N)
 instr_each L N lists names = (
   λ x y. sameb scalar.the_type x.0 y.0 && lists x.1.0 y.1.0,
   (
@@ -185,31 +211,40 @@ instr_each L N lists names = (
       λ x y. same_segmented x.0 y.0,
       (
         λ _ _. true,
-        (λ x y. sameb motion.the_type x.0 y.0 && (nat_eq x.1.0 y.1.0 && nat_eq x.1.1.0 y.1.1.0), (λ x y. names x.0 y.0, (λ _ _. true, tt))),
+        (
+          λ x y. sameb motion.the_type x.0 y.0 && (nat_eq x.1.0 y.1.0 && nat_eq x.1.1.0 y.1.1.0),
+          (λ x y. names x.0 y.0, (λ _ _. true, tt)),
+        ),
       ),
     ),
   ),
 )
 
-module _ (L N : RattleType) (gl : Ghosts L.Denot) (dl : Dict) (gn : Ghosts N.Denot) (dn : Dict) (lists : (a b : L.Denot) → Decides (gl.eq a b) (a ≡ b)) (names : (a b : N.Denot) → Decides (gn.eq a b) (a ≡ b)) where
+module _ (L N : RattleType) (gl : Ghosts L.Denot) (dl : Dict) (gn : Ghosts N.Denot) (dn : Dict)
+    (lists : (a b : L.Denot) → Decides (gl.eq a b) (a ≡ b))
+    (names : (a b : N.Denot) → Decides (gn.eq a b) (a ≡ b)) where
   pub same_instructions : (i j : Instr L.Denot N.Denot) → Decides ((instr_eq.ghosts L N gl dl gn dn).eq i j) (i ≡ j)
-  same_instructions = same_values (instr.the_parts L N) (instr.as_values L N) (instr.the_make L N) (instr.the_eta L N) (instr_each L N gl.eq gn.eq) (
-    two_fields scalars lists,
-    (
-      one_field elementwise_exact,
-      (
-        one_field segmented_exact,
+  same_instructions =
+      same_values (instr.the_parts L N) (instr.as_values L N) (instr.the_make L N) (instr.the_eta L N)
+      (instr_each L N gl.eq gn.eq) (
+        two_fields scalars lists,
         (
-          no_field,
-          (three_fields (bare motion.the_type tt) Decides-eqb Decides-eqb, (one_field names, (no_field, tt))),
+          one_field elementwise_exact,
+          (
+            one_field segmented_exact,
+            (
+              no_field,
+              (three_fields (bare motion.the_type tt) Decides-eqb Decides-eqb, (one_field names, (no_field, tt))),
+            ),
+          ),
         ),
-      ),
-    ),
-  )
+      )
 
 abbrev pub part_each : (I : RattleType) → (I.Denot → I.Denot → Bool) → Each Bool (parts.the_parts I)
 part_each I items = (λ x y. items x.0 y.0, (λ _ _. true, (λ _ _. true, (λ _ _. true, tt))))
 
 module _ (I : RattleType) (g : Ghosts I.Denot) (d : Dict) (items : (a b : I.Denot) → Decides (g.eq a b) (a ≡ b)) where
-  pub same_parts : (p q : Part I.Denot) → Decides ((part_eq.ghosts I g d).eq p q) (p ≡ q)
-  same_parts = same_values (parts.the_parts I) (parts.as_values I) (parts.the_make I) (parts.the_eta I) (part_each I g.eq) (one_field items, (no_field, (no_field, (no_field, tt))))
+  pub same_parts : (p q : CodeItem I.Denot) → Decides ((part_eq.ghosts I g d).eq p q) (p ≡ q)
+  same_parts =
+      same_values (parts.the_parts I) (parts.as_values I) (parts.the_make I) (parts.the_eta I) (part_each I g.eq)
+      (one_field items, (no_field, (no_field, (no_field, tt))))

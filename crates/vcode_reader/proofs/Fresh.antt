@@ -1,5 +1,6 @@
 -- A name that no function has.
-use Rattle.std.proofs.Common.{◌≡◌, ℕ, ◌+◌, ◌/◌, ◌%◌, ◌≤◌, Bool, true, false, ◌&&◌, List, [], ◌∷◌, length, cond, refl, arith, ◌∙◌, sym, lit≤}
+use Rattle.std.proofs.Common.{◌≡◌, ℕ, ◌+◌, ◌/◌, ◌%◌, ◌≤◌, Bool, true, false, ◌&&◌, List, [], ◌∷◌, length, cond, refl}
+use Rattle.std.proofs.Common.{arith, ◌∙◌, sym, lit≤}
 use Rattle.std.proofs.lemmas.Bool.Decides.{nat_tests}
 use Rattle.std.specs.Prelude.{nat_lt}
 use Rattle.std.specs.Str.{bytes_eq}
@@ -26,18 +27,23 @@ unfolding skip
 skip_is_next k i = grind (arith, nat_tests)
 
 -- of more names than there are functions, one is new
-pub fresh : (fs : List Function) (f : ℕ → List ℕ) → ((i j : ℕ) → f i ≡ f j → i ≡ j) → (k : ℕ) × (k ≤ length fs) × (has_name (f k) fs ≡ false)
+pub fresh : (fs : List Function) (f : ℕ → List ℕ) → ((i j : ℕ) → f i ≡ f j → i ≡ j) →
+    (k : ℕ) × (k ≤ length fs) × (has_name (f k) fs ≡ false)
 fresh [] f one = (0, omega arith, refl)
 fresh (g ∷ fs) f one =
     let found = fresh fs f one in
-    step (bytes_eq (f found.0) g.name) g fs f one found.0 found.1 found.2 refl (fresh fs (λ i. f (skip found.0 i)) (λ i j h. skip_is_one found.0 i j (one _ _ h)))
+    step (bytes_eq (f found.0) g.name) g fs f one found.0 found.1 found.2 refl
+    (fresh fs (λ i. f (skip found.0 i)) (λ i j h. skip_is_one found.0 i j (one _ _ h)))
   where
-    step : (b : Bool) (g : Function) (fs : List Function) (f : ℕ → List ℕ) → ((i j : ℕ) → f i ≡ f j → i ≡ j) → (k : ℕ) → k ≤ length fs → has_name (f k) fs ≡ false → bytes_eq (f k) g.name ≡ b →
-        ((j : ℕ) × (j ≤ length fs) × (has_name (f (skip k j)) fs ≡ false)) → (k : ℕ) × (k ≤ length (g ∷ fs)) × (has_name (f k) (g ∷ fs) ≡ false)
+    step : (b : Bool) (g : Function) (fs : List Function) (f : ℕ → List ℕ) → ((i j : ℕ) → f i ≡ f j → i ≡ j) →
+        (k : ℕ) → k ≤ length fs → has_name (f k) fs ≡ false → bytes_eq (f k) g.name ≡ b →
+        ((j : ℕ) × (j ≤ length fs) × (has_name (f (skip k j)) fs ≡ false)) →
+        (k : ℕ) × (k ≤ length (g ∷ fs)) × (has_name (f k) (g ∷ fs) ≡ false)
     step false g fs f one k le new e other = (k, omega arith, rw (e, new) refl)
     step true g fs f one k le new e (j, less, h) =
         let differs : bytes_eq (f (skip k j)) g.name ≡ false =
-        not_true _ (λ t. skip_is_other k j (one _ _ ((bytes_eq-Decides (f (skip k j)) g.name).0 t ∙ sym ((bytes_eq-Decides (f k) g.name).0 e)))) in
+        not_true _ (λ t. skip_is_other k j
+        (one _ _ ((bytes_eq-Decides (f (skip k j)) g.name).0 t ∙ sym ((bytes_eq-Decides (f k) g.name).0 e)))) in
         (skip k j, omega (arith, skip_is_next k j), rw (differs, h) refl)
 
 candidate : ℕ → List ℕ
@@ -59,4 +65,5 @@ unfolding candidate
 candidate_is_name k = record { bare = rw (and_false _, and_false _) refl; good = refl; short = lit≤ tt }
 
 pub new_name_for : (fs : List Function) → (t : List ℕ) × IsName t × (has_name t fs ≡ false)
-new_name_for fs = let found = fresh fs candidate candidate_is_one in (candidate found.0, candidate_is_name found.0, found.2)
+new_name_for fs = let found = fresh fs candidate candidate_is_one in
+    (candidate found.0, candidate_is_name found.0, found.2)

@@ -1,12 +1,13 @@
 -- What can be completed to a program, and the first word that can't.
-use Rattle.std.proofs.Common.{◌≡◌, ℕ, ℤ, Bool, true, false, inl, List, [], ◌∷◌, ◌++◌, Option, Some, None, refl, ap, ◌∙◌, sym, subst, codes, append_assoc, lit≤}
+use Rattle.std.proofs.Common.{◌≡◌, ℕ, ℤ, Bool, true, false, inl, List, [], ◌∷◌, ◌++◌, Option, Some, None, refl, ap}
+use Rattle.std.proofs.Common.{◌∙◌, sym, subst, codes, append_assoc, lit≤}
 use Rattle.std.specs.Prelude.{pos}
 use Rattle.vcode_base.specs.declared.kind.Scalar.{Scalar}
 use Rattle.vcode_base.specs.declared.kind.Scalar.TheVariants as scalar
 use Rattle.vcode_reader.specs.declared.head.Head.TheVariants as head
 use Rattle.vcode_reader.specs.declared.keyword.Keyword.{Keyword}
 use Rattle.vcode_reader.specs.declared.keyword.Slot.{Slot}
-use Rattle.vcode_reader.specs.declared.keyword.Slot.TheVariants.{Int, Kind, Values, Lower, Upper, Callee}
+use Rattle.vcode_reader.specs.declared.keyword.Slot.TheVariants.{Int, Kind, Values, Count, Callee}
 use Rattle.vcode_reader.specs.declared.language.Language.{Language}
 use Rattle.vcode_reader.specs.declared.language.Language.TheVariants.{First, Whole}
 use Rattle.vcode_reader.specs.declared.place.Place.TheVariants.{Outside}
@@ -14,27 +15,30 @@ use Rattle.vcode_reader.specs.declared.place.OpenIf.{OpenIf}
 use Rattle.vcode_reader.specs.Drafts.{open_if}
 use Rattle.vcode_reader.specs.First.{IsGood, FirstFault, run}
 use Rattle.vcode_reader.specs.Gram.{Fits, Gram}
-use Rattle.vcode_reader.specs.Heads.{head_of, first_head, whole_head, of_three, of_five}
-use Rattle.vcode_reader.specs.Keywords.{Gathered, instruction_of, takes_int}
+use Rattle.vcode_reader.specs.Heads.{head_of, rows}
+use Rattle.vcode_reader.specs.Keywords.{ItemParts, instruction_of, takes_int}
 use Rattle.vcode_reader.specs.Numbers.{number_of, truth_of, value_of}
 use Rattle.vcode_reader.specs.Parsing.{Parse, start, take}
 use Rattle.vcode_reader.specs.Refusals.{Fault}
 use Rattle.vcode_reader.specs.Scan.{Word}
 use Rattle.vcode_reader.specs.Trees.{CodeLine, Function}
 use Rattle.vcode_reader.proofs.Fresh.{new_name_for}
-use Rattle.vcode_reader.proofs.Runs.{run-append, no_run, word_run, Open, with_item, between, naming_at, within, going, in_elements, take_word, take_close, take_name, take_return, take_endif, take_endif_alone, opened, gram_run}
-use Rattle.vcode_reader.proofs.Sound.{Stands, at_outside, at_name, at_inside, at_words, at_elements, run_sound, at_start, faulty_run, some_none}
+use Rattle.vcode_reader.proofs.Runs.{run-append, no_run, word_run, Open, with_item, between, naming_at, within, going}
+use Rattle.vcode_reader.proofs.Runs.{in_elements, take_word, take_close, take_name, take_return, take_endif}
+use Rattle.vcode_reader.proofs.Runs.{take_endif_alone, opened, gram_run}
+use Rattle.vcode_reader.proofs.Sound.{Stands, at_outside, at_name, at_inside, at_words, at_elements, run_sound}
+use Rattle.vcode_reader.proofs.Sound.{at_start, faulty_run, some_none}
 
 word : List ℕ → Word
 word t = record { text = t; line = 0 }
 
 return_head : (lang : Language) → head_of lang (codes "RET") ≡ head.Return
-unfolding head_of first_head whole_head of_three
+unfolding head_of rows
 return_head First = refl
 return_head Whole = refl
 
 endif_head : (lang : Language) → head_of lang (codes "ENDIF") ≡ head.Endif
-unfolding head_of first_head whole_head of_five
+unfolding head_of rows
 endif_head First = refl
 endif_head Whole = refl
 
@@ -49,12 +53,11 @@ unfolding number_of
 zero_number = refl
 
 -- a word for each slot
-fitting : (s : Slot) (q : Gathered) → (t : List ℕ) × (r : Gathered) × Fits s t q r
+fitting : (s : Slot) (q : ItemParts) → (t : List ℕ) × (r : ItemParts) × Fits s t q r
 fitting Int q = (codes "INT", _, (refl, refl))
 fitting Kind q = (codes "INT", _, inl (refl, refl))
 fitting Values q = let (t, n, h) = value q.kind in (t, _, (n, h, refl))
-fitting Lower q = (codes "0", _, (0, (zero_number, lit≤ tt), refl))
-fitting Upper q = (codes "0", _, (0, (zero_number, lit≤ tt), refl))
+fitting (Count which) q = (codes "0", _, (0, (zero_number, lit≤ tt), refl))
 fitting Callee q = (codes "f", _, (record { bare = refl; good = refl; short = lit≤ tt }, refl))
 
 pub run-last : (ws : List Word) (w : Word) (p : Parse) → run p (ws ++ w ∷ []) ≡ take w.text w.line (run p ws)
@@ -73,23 +76,34 @@ module _ (lang : Language) where
   unfolding Ends
   at_end fs = ([], fs, no_run _)
 
-  endif_ends : (c : Bool) (b : Bool) (l : ℕ) (is : List OpenIf) (fs : List Function) (name : List ℕ) (line : ℕ) (code : List CodeLine) →
-      ((more : List CodeLine) → Ends (within lang false (opened fs name line more is))) → Ends (within lang b (opened fs name line code (open_if l c ∷ is)))
+  endif_ends : (c : Bool) (b : Bool) (l : ℕ) (is : List OpenIf) (fs : List Function) (name : List ℕ) (line : ℕ)
+      (code : List CodeLine) →
+      ((more : List CodeLine) → Ends (within lang false (opened fs name line more is))) →
+      Ends (within lang b (opened fs name line code (open_if l c ∷ is)))
   unfolding word
   endif_ends true b l is fs name line code h =
-      after_word (codes "ENDIF") _ _ (take_endif lang b (word (codes "ENDIF")) fs name line code l is (endif_head lang)) (h _)
+      after_word
+      (codes "ENDIF") _ _ (take_endif lang b (word (codes "ENDIF")) fs name line code l is (endif_head lang))
+      (h _)
   endif_ends false b l is fs name line code h =
-      after_word (codes "ENDIF") _ _ (take_endif_alone lang b (word (codes "ENDIF")) fs name line code l is (endif_head lang)) (h _)
+      after_word
+      (codes "ENDIF")
+      _ _ (take_endif_alone lang b (word (codes "ENDIF")) fs name line code l is (endif_head lang)) (h _)
 
-  ifs_end : (ifs : List OpenIf) (b : Bool) (fs : List Function) (name : List ℕ) (line : ℕ) (code : List CodeLine) → Ends (within lang b (opened fs name line code ifs))
+  ifs_end : (ifs : List OpenIf) (b : Bool) (fs : List Function) (name : List ℕ) (line : ℕ) (code : List CodeLine) →
+      Ends (within lang b (opened fs name line code ifs))
   unfolding word
-  ifs_end [] b fs name line code = after_word (codes "RET") _ _ (take_return lang b (word (codes "RET")) fs name line code (return_head lang)) (at_end _)
-  ifs_end (i ∷ is) b fs name line code = endif_ends i.has_else b i.line is fs name line code (λ more. ifs_end is false fs name line more)
+  ifs_end [] b fs name line code =
+      after_word (codes "RET") _ _ (take_return lang b (word (codes "RET")) fs name line code (return_head lang))
+      (at_end _)
+  ifs_end (i ∷ is) b fs name line code =
+      endif_ends i.has_else b i.line is fs name line code (λ more. ifs_end is false fs name line more)
 
   inside_ends : (b : Bool) (o : Open) → Ends (within lang b o)
   inside_ends b o = ifs_end o.ifs b o.functions o.name o.line o.code
 
-  going_ends : (slots : List Slot) (k : Keyword) (begun : ℕ) (q : Gathered) (o : Open) → Ends (going lang k begun slots q o)
+  going_ends : (slots : List Slot) (k : Keyword) (begun : ℕ) (q : ItemParts) (o : Open) →
+      Ends (going lang k begun slots q o)
   unfolding going
   going_ends [] k begun q o = inside_ends (takes_int k) (with_item o (instruction_of k q) begun)
   going_ends (s ∷ slots) k begun q o =
@@ -107,20 +121,24 @@ module _ (lang : Language) where
   ends p ws (at_inside b o e h m) = ends_at p _ e (inside_ends b o)
   ends p ws (at_words k s slots q o first done e h) = ends_at p _ e (going_ends (s ∷ slots) k first.line q o)
   ends p ws (at_elements k slots before ns o first opened done inner e u f h t m le) =
-      ends_at p _ e (after_word (codes ")") _ _ (take_close lang k first.line opened.line 0 slots _ o) (going_ends slots k first.line _ o))
+      ends_at p _ e
+      (after_word (codes ")") _ _ (take_close lang k first.line opened.line 0 slots _ o)
+      (going_ends slots k first.line _ o))
 
   inside_not_outside : (b : Bool) (o : Open) (p : Parse) → p ≡ within lang b o → p.place ≡ Outside → ⊥
   unfolding within
   inside_not_outside true o p e h = let d = ap (λ (q : Parse). q.place) e in cc
   inside_not_outside false o p e h = let d = ap (λ (q : Parse). q.place) e in cc
 
-  outside_gram : (p : Parse) (ws : List Word) → Stands lang p ws → p.place ≡ Outside → (fs : List Function) × (p ≡ between lang fs) × Gram lang fs ws
+  outside_gram : (p : Parse) (ws : List Word) → Stands lang p ws → p.place ≡ Outside →
+      (fs : List Function) × (p ≡ between lang fs) × Gram lang fs ws
   unfolding naming_at within going in_elements
   outside_gram p ws (at_outside fs e g) h = (fs, e, g)
   outside_gram p ws (at_name fs u func e f t g r) h = absurd (let d = ap (λ (q : Parse). q.place) e in cc)
   outside_gram p ws (at_inside b o e g m) h = absurd (inside_not_outside b o p e h)
   outside_gram p ws (at_words k s slots ns o first done e g) h = absurd (let d = ap (λ (q : Parse). q.place) e in cc)
-  outside_gram p ws (at_elements k slots before ns o first opened done inner e u f g t m le) h = absurd (let d = ap (λ (q : Parse). q.place) e in cc)
+  outside_gram p ws (at_elements k slots before ns o first opened done inner e u f g t m le) h =
+      absurd (let d = ap (λ (q : Parse). q.place) e in cc)
 
   -- what stands can be completed
   pub stands_good : (p : Parse) (ws : List Word) → Stands lang p ws → IsGood lang ws
@@ -136,36 +154,52 @@ module _ (lang : Language) where
   unfolding between
   faulty_not_good ws x h (more, fs, g) =
       some_none (run (start lang) ws).fault x h
-      (ap (λ (q : Parse). q.fault) (sym (faulty_run more (run (start lang) ws) x h) ∙ (sym (run-append (start lang) ws more) ∙ gram_run lang fs (ws ++ more) g)))
+      (ap (λ (q : Parse). q.fault)
+      (sym (faulty_run more (run (start lang) ws) x h)
+      ∙ (sym (run-append (start lang) ws more) ∙ gram_run lang fs (ws ++ more) g)))
 
   -- the words so far, where they have no fault
   pub run_stands : (ws : List Word) → (run (start lang) ws).fault ≡ None → Stands lang (run (start lang) ws) ws
   run_stands ws h = run_sound lang ws (start lang) [] (at_start lang) h
 
-  pub run_gram : (ws : List Word) → (run (start lang) ws).fault ≡ None → (run (start lang) ws).place ≡ Outside → (fs : List Function) × (run (start lang) ws ≡ between lang fs) × Gram lang fs ws
+  pub run_gram : (ws : List Word) → (run (start lang) ws).fault ≡ None → (run (start lang) ws).place ≡ Outside →
+      (fs : List Function) × (run (start lang) ws ≡ between lang fs) × Gram lang fs ws
   run_gram ws h k = outside_gram (run (start lang) ws) ws (run_stands ws h) k
 
   -- the word w makes the fault
-  faulty_word : (before ws : List Word) (w : Word) (fault : Fault) → (run (start lang) before).fault ≡ None → (take w.text w.line (run (start lang) before)).fault ≡ Some fault → FirstFault lang (before ++ w ∷ ws) fault
+  faulty_word : (before ws : List Word) (w : Word) (fault : Fault) → (run (start lang) before).fault ≡ None →
+      (take w.text w.line (run (start lang) before)).fault ≡ Some fault → FirstFault lang (before ++ w ∷ ws) fault
   faulty_word before ws w fault h k = record {
     before = before;
     word = w;
     after = ws;
     words_are = refl;
     good = stands_good _ before (run_stands before h);
-    not_good = faulty_not_good (before ++ w ∷ []) fault (ap (λ (q : Parse). q.fault) (run-last before w (start lang)) ∙ k);
+    not_good =
+        faulty_not_good (before ++ w ∷ []) fault (ap (λ (q : Parse). q.fault) (run-last before w (start lang)) ∙ k);
     refusal = k;
   }
 
   -- where the words have a fault, one of them is the first that has one
-  pub faulty : (ws before : List Word) (fault : Fault) → (run (start lang) before).fault ≡ None → (run (run (start lang) before) ws).fault ≡ Some fault → FirstFault lang (before ++ ws) fault
-  faulty [] before fault h k = some_none (run (start lang) before).fault fault (ap (λ (q : Parse). q.fault) (sym (no_run _)) ∙ k) h
-  faulty (w ∷ ws) before fault h k = by_fault (take w.text w.line (run (start lang) before)).fault w ws before fault refl h (ap (λ (q : Parse). q.fault) (sym (word_run _ _ _ w ws refl refl)) ∙ k) (faulty ws (before ++ w ∷ []) fault)
+  pub faulty : (ws before : List Word) (fault : Fault) → (run (start lang) before).fault ≡ None →
+      (run (run (start lang) before) ws).fault ≡ Some fault → FirstFault lang (before ++ ws) fault
+  faulty [] before fault h k =
+      some_none (run (start lang) before).fault fault (ap (λ (q : Parse). q.fault) (sym (no_run _)) ∙ k) h
+  faulty (w ∷ ws) before fault h k =
+      by_fault (take w.text w.line (run (start lang) before)).fault w ws before fault refl h
+      (ap (λ (q : Parse). q.fault) (sym (word_run _ _ _ w ws refl refl)) ∙ k) (faulty ws (before ++ w ∷ []) fault)
     where
-      by_fault : (o : Option Fault) (w : Word) (ws before : List Word) (fault : Fault) → (take w.text w.line (run (start lang) before)).fault ≡ o → (run (start lang) before).fault ≡ None → (run (take w.text w.line (run (start lang) before)) ws).fault ≡ Some fault →
-          ((run (start lang) (before ++ w ∷ [])).fault ≡ None → (run (run (start lang) (before ++ w ∷ [])) ws).fault ≡ Some fault → FirstFault lang ((before ++ w ∷ []) ++ ws) fault) → FirstFault lang (before ++ w ∷ ws) fault
+      by_fault : (o : Option Fault) (w : Word) (ws before : List Word) (fault : Fault) →
+          (take w.text w.line (run (start lang) before)).fault ≡ o → (run (start lang) before).fault ≡ None →
+          (run (take w.text w.line (run (start lang) before)) ws).fault ≡ Some fault →
+          ((run (start lang) (before ++ w ∷ [])).fault ≡ None →
+          (run (run (start lang) (before ++ w ∷ [])) ws).fault ≡ Some fault →
+          FirstFault lang ((before ++ w ∷ []) ++ ws) fault) → FirstFault lang (before ++ w ∷ ws) fault
       by_fault (Some x) w ws before fault e h k more =
-          faulty_word before ws w fault h (ap (λ (q : Parse). q.fault) (sym (faulty_run ws (take w.text w.line (run (start lang) before)) x e)) ∙ k)
+          faulty_word before ws w fault h
+          (ap (λ (q : Parse). q.fault) (sym (faulty_run ws (take w.text w.line (run (start lang) before)) x e))
+          ∙ k)
       by_fault None w ws before fault e h k more =
           subst (λ z. FirstFault lang z fault) (append_assoc before (w ∷ []) ws)
-          (more (ap (λ (q : Parse). q.fault) (run-last before w (start lang)) ∙ e) (ap (λ z. (run z ws).fault) (run-last before w (start lang)) ∙ k))
+          (more (ap (λ (q : Parse). q.fault) (run-last before w (start lang)) ∙ e)
+          (ap (λ z. (run z ws).fault) (run-last before w (start lang)) ∙ k))

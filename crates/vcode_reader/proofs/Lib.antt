@@ -1,4 +1,5 @@
 pub mod Answers
+pub mod Bodies
 pub mod Callees
 pub mod Codes
 pub mod Digits
@@ -12,3 +13,4 @@ pub mod Good
 pub mod Lines
 pub mod Runs
 pub mod Sound
+pub mod Spelling

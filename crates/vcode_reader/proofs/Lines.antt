@@ -1,9 +1,13 @@
 -- How many lines a text has.
-use Rattle.std.proofs.Common.{◌≡◌, ◌∙◌, ℕ, ◌+◌, ◌<◌, ◌≤◌, Bool, true, false, ◌||◌, ◌==◌, List, [], ◌∷◌, ◌++◌, Option, Some, None, cond, suc, refl, arith, ap, add-zero, sym, length, drop, get_or, add-one, drop-cons}
+use Rattle.std.proofs.Common.{◌≡◌, ◌∙◌, ℕ, ◌+◌, ◌<◌, ◌≤◌, Bool, true, false, ◌||◌, ◌==◌, List, [], ◌∷◌, ◌++◌, Option}
+use Rattle.std.proofs.Common.{Some, None, cond, suc, refl, arith, ap, add-zero, sym, length, drop, get_or, add-one}
+use Rattle.std.proofs.Common.{drop-cons}
 use Rattle.vcode_reader.specs.declared.class.Class.{Class}
-use Rattle.vcode_reader.specs.declared.class.Class.TheVariants.{LineFeed, Blank, OpenBrace, CloseBrace, Parenthesis, Plain, Refused}
+use Rattle.vcode_reader.specs.declared.class.Class.TheVariants.{LineFeed, Blank, OpenBrace, CloseBrace, Parenthesis}
+use Rattle.vcode_reader.specs.declared.class.Class.TheVariants.{Plain, Refused}
 use Rattle.vcode_reader.specs.Classes.{class_of}
-use Rattle.vcode_reader.specs.Scan.{Scan, Emit, end_word, ends_word, lone, by_comment, scan_byte, scan_all, line_feeds}
+use Rattle.vcode_reader.specs.Scan.{Scan, Emit, end_word, ends_word, lone_word, by_comment, scan_byte, scan_all}
+use Rattle.vcode_reader.specs.Scan.{line_feeds}
 
 feeds : Class → ℕ
 feeds LineFeed = 1
@@ -35,8 +39,9 @@ end_word-line : {P : Type 0} (emit : Emit P) (r : Scan P) → (end_word emit r).
 unfolding end_word
 end_word-line emit r = ends_word-line emit r.word r
 
-by_comment-line : {P : Type 0} (emit : Emit P) (o : Option ℕ) (c : Class) (b : ℕ) (r : Scan P) → (by_comment emit o c b r).line ≡ r.line + feeds c
-unfolding feeds lone
+by_comment-line : {P : Type 0} (emit : Emit P) (o : Option ℕ) (c : Class) (b : ℕ) (r : Scan P) →
+    (by_comment emit o c b r).line ≡ r.line + feeds c
+unfolding feeds lone_word
 by_comment-line emit None LineFeed b r = ap (λ n. n + 1) (end_word-line emit r)
 by_comment-line emit None Blank b r = rw (add-zero r.line) (end_word-line emit r)
 by_comment-line emit None OpenBrace b r = rw (add-zero r.line) (end_word-line emit r)
@@ -52,11 +57,13 @@ by_comment-line emit (Some l) Parenthesis b r = rw (add-zero r.line) refl
 by_comment-line emit (Some l) Refused b r = rw (add-zero r.line) refl
 by_comment-line emit (Some l) Plain b r = rw (add-zero r.line) refl
 
-scan_byte-line : {P : Type 0} (emit : Emit P) (r : Scan P) (b : ℕ) → (scan_byte emit r b).line ≡ r.line + feeds (class_of b)
+scan_byte-line : {P : Type 0} (emit : Emit P) (r : Scan P) (b : ℕ) →
+    (scan_byte emit r b).line ≡ r.line + feeds (class_of b)
 unfolding scan_byte
 scan_byte-line emit r b = by_comment-line emit r.comment (class_of b) b r
 
-scan_all_lines : {P : Type 0} (emit : Emit P) (r : Scan P) (b : ℕ) (bs : List ℕ) → (scan_byte emit r b).line + line_feeds bs ≡ r.line + line_feeds (b ∷ bs)
+scan_all_lines : {P : Type 0} (emit : Emit P) (r : Scan P) (b : ℕ) (bs : List ℕ) →
+    (scan_byte emit r b).line + line_feeds bs ≡ r.line + line_feeds (b ∷ bs)
 scan_all_lines emit r b bs = omega (arith, scan_byte-line emit r b, feeds-class_of b)
 
 line_feed_is-at : (b : ℕ) → class_of b ≡ LineFeed → feeds (class_of b) ≡ 1
@@ -69,23 +76,29 @@ line_feed_counts b bs h = omega (arith, feeds-class_of b, line_feed_is-at b h)
 pub drop_next : (s : List ℕ) (i : ℕ) → i < length s → drop i s ≡ get_or s i 0 ∷ drop (i + 1) s
 drop_next s i h = rw (add-one i) (drop-cons s i 0 h)
 
-pub next_room : {P : Type 0} (r : Scan P) (b m : ℕ) (rest all : List ℕ) → all ≡ b ∷ rest → r.line + line_feeds all < m → class_of b ≡ LineFeed → r.line + 1 < m
+pub next_room : {P : Type 0} (r : Scan P) (b m : ℕ) (rest all : List ℕ) → all ≡ b ∷ rest →
+    r.line + line_feeds all < m → class_of b ≡ LineFeed → r.line + 1 < m
 next_room r b m rest all e h f = omega (arith, ap line_feeds e, line_feed_counts b rest f, h)
 
-pub later_room : {P : Type 0} (emit : Emit P) (r n : Scan P) (b m : ℕ) (rest all : List ℕ) → all ≡ b ∷ rest → n ≡ scan_byte emit r b → r.line + line_feeds all < m → n.line + line_feeds rest < m
-later_room {P = P} emit r n b m rest all e f h = omega (arith, ap line_feeds e, scan_all_lines emit r b rest, ap (λ (x : Scan P). x.line) f, h)
+pub later_room : {P : Type 0} (emit : Emit P) (r n : Scan P) (b m : ℕ) (rest all : List ℕ) → all ≡ b ∷ rest →
+    n ≡ scan_byte emit r b → r.line + line_feeds all < m → n.line + line_feeds rest < m
+later_room {P = P} emit r n b m rest all e f h =
+    omega (arith, ap line_feeds e, scan_all_lines emit r b rest, ap (λ (x : Scan P). x.line) f, h)
 
-pub later_same : {P : Type 0} (emit : Emit P) (r n : Scan P) (b : ℕ) (rest all : List ℕ) → all ≡ b ∷ rest → n ≡ scan_byte emit r b → scan_all emit r all ≡ scan_all emit n rest
+pub later_same : {P : Type 0} (emit : Emit P) (r n : Scan P) (b : ℕ) (rest all : List ℕ) → all ≡ b ∷ rest →
+    n ≡ scan_byte emit r b → scan_all emit r all ≡ scan_all emit n rest
 unfolding scan_all
 later_same emit r n b rest all e f = ap (scan_all emit r) e ∙ sym (ap (λ x. scan_all emit x rest) f)
 
 -- each byte of a text moves the line on where it is an LF
-pub scan_all-line : {P : Type 0} (emit : Emit P) (bs : List ℕ) (r : Scan P) → (scan_all emit r bs).line ≡ r.line + line_feeds bs
+pub scan_all-line : {P : Type 0} (emit : Emit P) (bs : List ℕ) (r : Scan P) →
+    (scan_all emit r bs).line ≡ r.line + line_feeds bs
 unfolding scan_all
 scan_all-line emit [] r = sym (add-zero r.line)
 scan_all-line emit (b ∷ bs) r = scan_all-line emit bs (scan_byte emit r b) ∙ scan_all_lines emit r b bs
 
-pub scan_all-append : {P : Type 0} (emit : Emit P) (xs ys : List ℕ) (r : Scan P) → scan_all emit r (xs ++ ys) ≡ scan_all emit (scan_all emit r xs) ys
+pub scan_all-append : {P : Type 0} (emit : Emit P) (xs ys : List ℕ) (r : Scan P) →
+    scan_all emit r (xs ++ ys) ≡ scan_all emit (scan_all emit r xs) ys
 unfolding scan_all
 scan_all-append emit [] ys r = refl
 scan_all-append emit (b ∷ xs) ys r = scan_all-append emit xs ys (scan_byte emit r b)

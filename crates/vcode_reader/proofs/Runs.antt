@@ -1,5 +1,6 @@
 -- What the words of the grammar come to: the program that it relates to them.
-use Rattle.std.proofs.Common.{◌≡◌, ◌≢◌, ℕ, suc, ℤ, ◌<◌, ◌≤◌, Bool, true, false, inl, inr, List, [], ◌∷◌, ◌++◌, length, Some, None, Ok, refl, arith, ap, ◌∙◌, sym, codes, append_assoc, length-append}
+use Rattle.std.proofs.Common.{◌≡◌, ◌≢◌, ℕ, suc, ℤ, ◌<◌, ◌≤◌, Bool, true, false, inl, inr, List, [], ◌∷◌, ◌++◌, length}
+use Rattle.std.proofs.Common.{Some, None, Ok, refl, arith, ap, ◌∙◌, sym, codes, append_assoc, length-append}
 use Rattle.std.specs.Prelude.{nat_lt}
 use Rattle.std.specs.List.{AllByRecursion}
 use Rattle.std.specs.Str.{bytes_eq}
@@ -7,26 +8,31 @@ use Rattle.std.proofs.lemmas.Bool.Decides.{nat_tests}
 use Rattle.std.proofs.lemmas.Slice.Eq.{bytes_eq-Decides}
 use Rattle.vcode_base.specs.declared.kind.Scalar.{Scalar}
 use Rattle.vcode_base.specs.declared.kind.Scalar.TheVariants as scalar
+use Rattle.vcode_base.specs.declared.limits.TheConstants.{LONGEST_NAME, MOST_FUNCTIONS, MOST_OPEN_IFS, MOST_ELEMENTS}
+use Rattle.vcode_base.specs.declared.limits.TheConstants.{MOST_MOVED}
 use Rattle.vcode_reader.specs.declared.head.Head.TheVariants as head
 use Rattle.vcode_reader.specs.declared.keyword.Keyword.{Keyword}
 use Rattle.vcode_reader.specs.declared.keyword.Slot.{Slot}
-use Rattle.vcode_reader.specs.declared.keyword.Slot.TheVariants.{Int, Kind, Values, Lower, Upper, Callee}
+use Rattle.vcode_reader.specs.declared.keyword.Slot.TheVariants.{Int, Kind, Values, Count, Callee}
 use Rattle.vcode_reader.specs.declared.language.Language.{Language}
 use Rattle.vcode_reader.specs.declared.language.Language.TheVariants.{First, Whole}
 use Rattle.vcode_reader.specs.declared.place.Place.{Place}
 use Rattle.vcode_reader.specs.declared.place.Place.TheVariants.{Name, Words, Elements}
-use Rattle.vcode_reader.specs.Decode.{tree_of, tree_of-flat}
-use Rattle.vcode_reader.specs.declared.line.Part.TheVariants as part
+use Rattle.vcode_reader.specs.Decode.{tree_of, tree_of-body_lines}
+use Rattle.vcode_reader.specs.declared.line.CodeItem.TheVariants as code_item
 use Rattle.vcode_reader.specs.declared.place.OpenIf.{OpenIf}
 use Rattle.vcode_reader.specs.Drafts.{open_if}
 use Rattle.vcode_reader.specs.First.{run}
-use Rattle.vcode_reader.specs.Gram.{IsName, IsCount, Fits, AreValues, AreListed, FillOne, Fill, MayBeInt, IsHead, IsInstruction, IsElse, IsBody, IsFunction, AreFunctions, NamesDiffer, Gram}
-use Rattle.vcode_reader.specs.Heads.{first_head, of_three, whole_head, head_of}
-use Rattle.vcode_reader.specs.Keywords.{Gathered, no_parts, slots_of, takes_int, instruction_of}
+use Rattle.vcode_reader.specs.Gram.{IsName, IsCount, Fits, AreValues, AreListed, FillOne, Fill, MayBeInt, IsHead}
+use Rattle.vcode_reader.specs.Gram.{IsInstruction, IsElse, IsBody, IsFunction, AreFunctions, NamesDiffer, Gram}
+use Rattle.vcode_reader.specs.Heads.{rows, head_of, slots_of}
+use Rattle.vcode_reader.specs.Keywords.{ItemParts, no_parts, takes_int, instruction_of}
 use Rattle.vcode_reader.specs.Numbers.{number_of, natural, natural_of, truth_of, value_of}
-use Rattle.vcode_reader.specs.Parsing.{Parse, start, take, item_place, goes_on, with_value, with_lower, with_upper, count_in, word_in, begins_list, inside, outside, has_name}
+use Rattle.vcode_reader.specs.Parsing.{Parse, start, take, item_place, after_slot, with_value, with_count, count_in}
+use Rattle.vcode_reader.specs.Parsing.{word_in, begins_list, inside, outside, has_name}
 use Rattle.vcode_reader.specs.Scan.{Word}
-use Rattle.vcode_reader.specs.Trees.{Item, Body, End, Do, Choice, CodeLine, Function, line_of, doing, flat}
+use Rattle.vcode_reader.specs.Trees.{Item, Body, End, Do, Choice, CodeLine, Function, line_of, instruction_line}
+use Rattle.vcode_reader.specs.Trees.{body_lines}
 
 -- ---- runs
 
@@ -42,7 +48,8 @@ no_run p = refl
 pub then_run : (p q r : Parse) (u v : List Word) → run p u ≡ q → run q v ≡ r → run p (u ++ v) ≡ r
 then_run p q r u v e f = run-append p u v ∙ (ap (λ x. run x v) e ∙ f)
 
-pub word_run : (p q r : Parse) (w : Word) (ws : List Word) → take w.text w.line p ≡ q → run q ws ≡ r → run p (w ∷ ws) ≡ r
+pub word_run : (p q r : Parse) (w : Word) (ws : List Word) → take w.text w.line p ≡ q → run q ws ≡ r →
+    run p (w ∷ ws) ≡ r
 unfolding run
 word_run p q r w ws e f = ap (λ x. run x ws) e ∙ f
 
@@ -68,9 +75,11 @@ not_less a b h = grind (arith, nat_tests)
 
 -- ---- one word that fills a slot
 
-paren_is_no_value : (k : Scalar) (c : ℕ) → value_of k (c ∷ []) ≡ None → (t : List ℕ) (n : ℤ) → value_of k t ≡ Some n → bytes_eq t (c ∷ []) ≡ false
+paren_is_no_value : (k : Scalar) (c : ℕ) → value_of k (c ∷ []) ≡ None → (t : List ℕ) (n : ℤ) → value_of k t ≡ Some n →
+    bytes_eq t (c ∷ []) ≡ false
 paren_is_no_value k c h t n e =
-    not_true (bytes_eq t (c ∷ [])) (λ b. some_none n (sym e ∙ (ap (value_of k) ((bytes_eq-Decides t (c ∷ [])).0 b) ∙ h)))
+    not_true (bytes_eq t (c ∷ []))
+    (λ b. some_none n (sym e ∙ (ap (value_of k) ((bytes_eq-Decides t (c ∷ [])).0 b) ∙ h)))
   where
     some_none : (n : ℤ) → Some n ≡ None → ⊥
     some_none n h = cc
@@ -86,29 +95,27 @@ close_is_no_value scalar.Int = refl
 close_is_no_value scalar.Bool = refl
 
 -- a word that fills a slot begins no list there
-fits_no_list : (s : Slot) (t : List ℕ) (q r : Gathered) → Fits s t q r → begins_list s t ≡ false
+fits_no_list : (s : Slot) (t : List ℕ) (q r : ItemParts) → Fits s t q r → begins_list s t ≡ false
 fits_no_list Int t q r h = refl
 fits_no_list Kind t q r h = refl
 fits_no_list Values t q r (n, h, e) = paren_is_no_value q.kind 40 (open_is_no_value q.kind) t n h
-fits_no_list Lower t q r h = refl
-fits_no_list Upper t q r h = refl
+fits_no_list (Count which) t q r h = refl
 fits_no_list Callee t q r h = refl
 
 counted : (t : List ℕ) (n : ℕ) → IsCount t n → count_in (natural_of t) t ≡ Ok n
 unfolding natural_of
 counted t n (h, le) =
     let same : natural (number_of t) ≡ Some n = ap natural h in
-    ap (λ o. count_in o t) same ∙ rw (not_less 4096 n le) refl
+    ap (λ o. count_in o t) same ∙ rw (not_less MOST_MOVED n le) refl
 
 -- it gives what the grammar says
-fits_given : (s : Slot) (t : List ℕ) (q r : Gathered) → Fits s t q r → word_in s t q ≡ Ok r
+fits_given : (s : Slot) (t : List ℕ) (q r : ItemParts) → Fits s t q r → word_in s t q ≡ Ok r
 fits_given Int t q r (h, e) = ap (λ z. word_in Int z q) h ∙ ap Ok (sym e)
 fits_given Kind t q r (inl (h, e)) = ap (λ z. word_in Kind z q) h ∙ ap Ok (sym e)
 fits_given Kind t q r (inr (h, e)) = ap (λ z. word_in Kind z q) h ∙ ap Ok (sym e)
 fits_given Values t q r (n, h, e) = ap (λ o. with_value o t q) h ∙ ap Ok (sym e)
-fits_given Lower t q r (n, h, e) = ap (λ o. with_lower o q) (counted t n h) ∙ ap Ok (sym e)
-fits_given Upper t q r (n, h, e) = ap (λ o. with_upper o q) (counted t n h) ∙ ap Ok (sym e)
-fits_given Callee t q r (h, e) = rw (h.bare, h.good, not_less 64 (length t) h.short) (ap Ok (sym e))
+fits_given (Count which) t q r (n, h, e) = ap (λ o. with_count which o q) (counted t n h) ∙ ap Ok (sym e)
+fits_given Callee t q r (h, e) = rw (h.bare, h.good, not_less LONGEST_NAME (length t) h.short) (ap Ok (sym e))
 
 -- ---- the states that the grammar leads to
 
@@ -121,14 +128,14 @@ pub record Open : Type 0 where
   pub ifs : List OpenIf
 
 unfoldable pub with_item : Open → Item → ℕ → Open
-with_item o i l = record o { code = o.code ++ doing i l ∷ [] }
+with_item o i l = record o { code = o.code ++ instruction_line i l ∷ [] }
 
 unfoldable pub with_code : Open → List CodeLine → Open
 with_code o code = record o { code = code }
 
 -- an IF begins on this line
 unfoldable pub if_at : Open → ℕ → Open
-if_at o l = record o { code = o.code ++ line_of part.If l ∷ []; ifs = open_if l false ∷ o.ifs }
+if_at o l = record o { code = o.code ++ line_of code_item.If l ∷ []; ifs = open_if l false ∷ o.ifs }
 
 abbrev pub opened : List Function → List ℕ → ℕ → List CodeLine → List OpenIf → Open
 opened fs name line code ifs = record { functions = fs; name = name; line = line; code = code; ifs = ifs }
@@ -137,13 +144,15 @@ opened fs name line code ifs = record { functions = fs; name = name; line = line
 unfoldable pub closed_at : Open → ℕ → Function
 closed_at o l = record { name = o.name; line = o.line; body = tree_of o.code; ret = l }
 
-whole : (f : Function) (fs : List Function) (l : ℕ) → l ≡ f.ret → closed_at (record { functions = fs; name = f.name; line = f.line; code = flat f.body; ifs = [] }) l ≡ f
+whole : (f : Function) (fs : List Function) (l : ℕ) → l ≡ f.ret →
+    closed_at (record { functions = fs; name = f.name; line = f.line; code = body_lines f.body; ifs = [] }) l ≡ f
 unfolding closed_at
 whole f fs l e =
-    ap (λ z. let g : Function = record f { body = tree_of (flat f.body); ret = z } in g) e ∙ ap (λ b. let g : Function = record f { body = b } in g) (tree_of-flat f.body)
+    ap (λ z. let g : Function = record f { body = tree_of (body_lines f.body); ret = z } in g) e
+    ∙ ap (λ b. let g : Function = record f { body = b } in g) (tree_of-body_lines f.body)
 
 int_begins_nothing : (lang : Language) → head_of lang (codes "INT") ≡ head.Other
-unfolding head_of first_head whole_head of_three
+unfolding head_of rows
 int_begins_nothing First = refl
 int_begins_nothing Whole = refl
 
@@ -163,10 +172,11 @@ endif_not_other : head.Endif ≡ head.Other → ⊥
 endif_not_other h = cc
 
 -- the lines of a choice, put together
-regroup : (a x y b : List CodeLine) (i m n : CodeLine) → (((((a ++ i ∷ []) ++ x) ++ m ∷ []) ++ y) ++ n ∷ []) ++ b ≡ a ++ (i ∷ (x ++ (m ∷ (y ++ (n ∷ b)))))
+regroup : (a x y b : List CodeLine) (i m n : CodeLine) →
+    (((((a ++ i ∷ []) ++ x) ++ m ∷ []) ++ y) ++ n ∷ []) ++ b ≡ a ++ (i ∷ (x ++ (m ∷ (y ++ (n ∷ b)))))
 regroup a x y b i m n = simp append_assoc
 
-room : (done : List ℤ) (n : ℤ) (ns : List ℤ) → length (done ++ n ∷ ns) ≤ 65536 → length done < 65536
+room : (done : List ℤ) (n : ℤ) (ns : List ℤ) → length (done ++ n ∷ ns) ≤ MOST_ELEMENTS → length done < MOST_ELEMENTS
 room done n ns h = omega (arith, length-append done (n ∷ ns))
 
 module _ (lang : Language) where
@@ -192,176 +202,240 @@ module _ (lang : Language) where
   }
 
   -- behind some words of an instruction
-  unfoldable pub going : Keyword → ℕ → List Slot → Gathered → Open → Parse
+  unfoldable pub going : Keyword → ℕ → List Slot → ItemParts → Open → Parse
   going k begun [] q o = within (takes_int k) (with_item o (instruction_of k q) begun)
   going k begun (s ∷ slots) q o = record (within false o) { place = Words k s begun; slots = slots; parts = q }
 
   -- in a list
-  unfoldable pub in_elements : Keyword → ℕ → ℕ → List Slot → Gathered → Open → Parse
-  in_elements k begun opened slots q o = record (within false o) { place = Elements k begun opened; slots = slots; parts = q }
+  unfoldable pub in_elements : Keyword → ℕ → ℕ → List Slot → ItemParts → Open → Parse
+  in_elements k begun opened slots q o =
+      record (within false o) { place = Elements k begun opened; slots = slots; parts = q }
 
-  pub goes_on-going : (k : Keyword) (begun : ℕ) (slots : List Slot) (place : Place) (left : List Slot) (q : Gathered) (o : Open) →
-      goes_on k begun slots (record (within false o) { place = place; slots = left; parts = q }) ≡ going k begun slots q o
+  pub after_slot-going : (k : Keyword) (begun : ℕ) (slots : List Slot) (place : Place) (left : List Slot)
+      (q : ItemParts) (o : Open) →
+      after_slot k begun slots (record (within false o) { place = place; slots = left; parts = q })
+      ≡ going k begun slots q o
   unfolding within going with_item
-  goes_on-going k begun [] place left q o = refl
-  goes_on-going k begun (s ∷ slots) place left q o = refl
+  after_slot-going k begun [] place left q o = refl
+  after_slot-going k begun (s ∷ slots) place left q o = refl
 
   -- ---- the words of an instruction
 
   known_not_int : (t : List ℕ) → (head_of lang t ≡ head.Other → ⊥) → bytes_eq t (codes "INT") ≡ false
   known_not_int t h =
-      not_true (bytes_eq t (codes "INT")) (λ b. h (ap (head_of lang) ((bytes_eq-Decides t (codes "INT")).0 b) ∙ int_begins_nothing lang))
+      not_true (bytes_eq t (codes "INT"))
+      (λ b. h (ap (head_of lang) ((bytes_eq-Decides t (codes "INT")).0 b) ∙ int_begins_nothing lang))
 
-  take_item : (b : Bool) (w : Word) (o : Open) → (head_of lang w.text ≡ head.Other → ⊥) → take w.text w.line (within b o) ≡ inside (head_of lang w.text) w.line (within b o)
+  take_item : (b : Bool) (w : Word) (o : Open) → (head_of lang w.text ≡ head.Other → ⊥) →
+      take w.text w.line (within b o) ≡ inside (head_of lang w.text) (slots_of lang w.text) w.line (within b o)
   unfolding take within
   take_item true w o h = rw (known_not_int w.text h) refl
   take_item false w o h = refl
 
-  pub take_first : (b : Bool) (w : Word) (k : Keyword) (o : Open) → head_of lang w.text ≡ head.Start k → take w.text w.line (within b o) ≡ going k w.line (slots_of lang k) no_parts o
+  pub take_first : (b : Bool) (w : Word) (k : Keyword) (o : Open) → head_of lang w.text ≡ head.Start k →
+      take w.text w.line (within b o) ≡ going k w.line (slots_of lang w.text) no_parts o
   unfolding within
   take_first b w k o h =
       take_item b w o (λ e. start_not_other k (sym h ∙ e))
-      ∙ (ap (λ x. inside x w.line (within b o)) h ∙ goes_on-going k w.line (slots_of lang k) (item_place b) [] no_parts o)
+      ∙ (ap (λ x. inside x (slots_of lang w.text) w.line (within b o)) h
+      ∙ after_slot-going k w.line (slots_of lang w.text) (item_place b) [] no_parts o)
 
   pub take_int : (l : ℕ) (o : Open) → take (codes "INT") l (within true o) ≡ within false o
   unfolding take within
   take_int l o = refl
 
-  pub take_word : (s : Slot) (t : List ℕ) (q r : Gathered) (k : Keyword) (begun l : ℕ) (slots : List Slot) (o : Open) → Fits s t q r →
+  pub take_word : (s : Slot) (t : List ℕ) (q r : ItemParts) (k : Keyword) (begun l : ℕ) (slots : List Slot)
+      (o : Open) → Fits s t q r →
       take t l (going k begun (s ∷ slots) q o) ≡ going k begun slots r o
   unfolding take going within
   take_word s t q r k begun l slots o h =
-      rw (fits_no_list s t q r h, fits_given s t q r h) (goes_on-going k begun slots (Words k s begun) slots r o)
+      rw (fits_no_list s t q r h, fits_given s t q r h) (after_slot-going k begun slots (Words k s begun) slots r o)
 
-  pub take_open : (k : Keyword) (begun l : ℕ) (slots : List Slot) (q : Gathered) (o : Open) →
-      take (codes "(") l (going k begun (Values ∷ slots) q o) ≡ in_elements k begun l slots (record q { numbers = [] }) o
+  pub take_open : (k : Keyword) (begun l : ℕ) (slots : List Slot) (q : ItemParts) (o : Open) →
+      take (codes "(") l (going k begun (Values ∷ slots) q o)
+      ≡ in_elements k begun l slots (record q { numbers = [] }) o
   unfolding take going within in_elements
   take_open k begun l slots q o = refl
 
-  pub take_close : (k : Keyword) (begun opened l : ℕ) (slots : List Slot) (q : Gathered) (o : Open) →
+  pub take_close : (k : Keyword) (begun opened l : ℕ) (slots : List Slot) (q : ItemParts) (o : Open) →
       take (codes ")") l (in_elements k begun opened slots q o) ≡ going k begun slots q o
   unfolding take within in_elements
-  take_close k begun opened l slots q o = goes_on-going k begun slots (Elements k begun opened) slots q o
+  take_close k begun opened l slots q o = after_slot-going k begun slots (Elements k begun opened) slots q o
 
-  take_element : (t : List ℕ) (n : ℤ) (k : Keyword) (begun opened l : ℕ) (slots : List Slot) (q : Gathered) (o : Open) → value_of q.kind t ≡ Some n → length q.numbers < 65536 →
-      take t l (in_elements k begun opened slots q o) ≡ in_elements k begun opened slots (record q { numbers = q.numbers ++ n ∷ [] }) o
+  take_element : (t : List ℕ) (n : ℤ) (k : Keyword) (begun opened l : ℕ) (slots : List Slot) (q : ItemParts)
+      (o : Open) → value_of q.kind t ≡ Some n → length q.numbers < MOST_ELEMENTS →
+      take t l (in_elements k begun opened slots q o)
+      ≡ in_elements k begun opened slots (record q { numbers = q.numbers ++ n ∷ [] }) o
   unfolding take within in_elements
   take_element t n k begun opened l slots q o h lt =
-      rw (paren_is_no_value q.kind 41 (close_is_no_value q.kind) t n h, h, less (length q.numbers) 65536 lt) refl
+      rw (paren_is_no_value q.kind 41 (close_is_no_value q.kind) t n h, h, less (length q.numbers) MOST_ELEMENTS lt)
+      refl
 
-  elements_run : (ns : List ℤ) (ws : List Word) (k : Keyword) (begun opened : ℕ) (slots : List Slot) (q : Gathered) (o : Open) (done : List ℤ) → AreValues q.kind ns ws → length (done ++ ns) ≤ 65536 →
-      run (in_elements k begun opened slots (record q { numbers = done }) o) ws ≡ in_elements k begun opened slots (record q { numbers = done ++ ns }) o
+  elements_run : (ns : List ℤ) (ws : List Word) (k : Keyword) (begun opened : ℕ) (slots : List Slot) (q : ItemParts)
+      (o : Open) (done : List ℤ) → AreValues q.kind ns ws → length (done ++ ns) ≤ MOST_ELEMENTS →
+      run (in_elements k begun opened slots (record q { numbers = done }) o) ws
+      ≡ in_elements k begun opened slots (record q { numbers = done ++ ns }) o
   elements_run [] [] k begun opened slots q o done h le =
       no_run _ ∙ ap (λ z. in_elements k begun opened slots (record q { numbers = z }) o) (sym (add_nil done))
   elements_run [] (w ∷ ws) k begun opened slots q o done h le = absurd h
   elements_run (n ∷ ns) [] k begun opened slots q o done h le = absurd h
   elements_run (n ∷ ns) (w ∷ ws) k begun opened slots q o done h le =
       let regroup : (done ++ n ∷ []) ++ ns ≡ done ++ n ∷ ns = append_assoc done (n ∷ []) ns in
-      word_run _ _ _ w ws (take_element w.text n k begun opened w.line slots (record q { numbers = done }) o h.0 (room done n ns le))
-      (elements_run ns ws k begun opened slots q o (done ++ n ∷ []) h.1 (rw regroup le) ∙ ap (λ z. in_elements k begun opened slots (record q { numbers = z }) o) regroup)
+      word_run _ _ _ w ws
+      (take_element w.text n k begun opened w.line slots (record q { numbers = done }) o h.0 (room done n ns le))
+      (elements_run ns ws k begun opened slots q o (done ++ n ∷ []) h.1 (rw regroup le)
+      ∙ ap (λ z. in_elements k begun opened slots (record q { numbers = z }) o) regroup)
 
-  list_run : (before after : Gathered) (ws : List Word) (k : Keyword) (begun : ℕ) (slots : List Slot) (o : Open) → AreListed before after ws →
+  list_run : (before after : ItemParts) (ws : List Word) (k : Keyword) (begun : ℕ) (slots : List Slot) (o : Open) →
+      AreListed before after ws →
       run (going k begun (Values ∷ slots) before o) ws ≡ going k begun slots after o
   list_run before after ws k begun slots o (opened, closed, inner, ns, e, f, g, le, h, r) =
       from_words _ _ _ _ e
       (word_run _ _ _ opened _ (of_text (codes "(") opened _ _ f (take_open k begun opened.line slots before o))
       (then_run _ _ _ inner (closed ∷ []) (elements_run ns inner k begun opened.line slots before o [] h le)
-      (word_run _ _ _ closed [] (of_text (codes ")") closed _ _ g (take_close k begun opened.line closed.line slots (record before { numbers = ns }) o)) (no_run _ ∙ ap (λ z. going k begun slots z o) (sym r)))))
+      (word_run _ _ _ closed []
+      (of_text (codes ")") closed _ _ g
+      (take_close k begun opened.line closed.line slots (record before { numbers = ns }) o))
+      (no_run _ ∙ ap (λ z. going k begun slots z o) (sym r)))))
 
-  one_run : (s : Slot) (before after : Gathered) (ws : List Word) (k : Keyword) (begun : ℕ) (slots : List Slot) (o : Open) → FillOne s before after ws →
+  one_run : (s : Slot) (before after : ItemParts) (ws : List Word) (k : Keyword) (begun : ℕ) (slots : List Slot)
+      (o : Open) → FillOne s before after ws →
       run (going k begun (s ∷ slots) before o) ws ≡ going k begun slots after o
   one_run s before after ws k begun slots o (inl (w, e, h)) =
       from_words _ _ _ _ e (word_run _ _ _ w [] (take_word s w.text before after k begun w.line slots o h) (no_run _))
   one_run s before after ws k begun slots o (inr (e, h)) =
       ap (λ z. run (going k begun (z ∷ slots) before o) ws) e ∙ list_run before after ws k begun slots o h
 
-  fill_run : (slots : List Slot) (before after : Gathered) (ws : List Word) (k : Keyword) (begun : ℕ) (o : Open) → Fill slots before after ws →
+  fill_run : (slots : List Slot) (before after : ItemParts) (ws : List Word) (k : Keyword) (begun : ℕ) (o : Open) →
+      Fill slots before after ws →
       run (going k begun slots before o) ws ≡ within (takes_int k) (with_item o (instruction_of k after) begun)
   unfolding going
   fill_run [] before after ws k begun o (e, f) =
       from_words _ _ ws [] f (no_run _ ∙ ap (λ z. within (takes_int k) (with_item o (instruction_of k z) begun)) e)
   fill_run (s ∷ slots) before after ws k begun o (next, u, rest, e, i, h) =
-      from_words _ _ _ _ e (then_run _ _ _ u rest (one_run s before next u k begun slots o i) (fill_run slots next after rest k begun o h))
+      from_words _ _ _ _ e
+      (then_run _ _ _ u rest (one_run s before next u k begun slots o i)
+      (fill_run slots next after rest k begun o h))
 
   int_run : (b : Bool) (ws : List Word) (o : Open) → MayBeInt b ws → (c : Bool) × (run (within b o) ws ≡ within c o)
   int_run b ws o (inl e) = (b, from_words _ _ ws [] e (no_run _))
-  int_run b ws o (inr (t, w, e, h)) =
-      (false, from_words _ _ _ _ e (word_run _ _ _ w [] (ap (λ z. take w.text w.line (within z o)) t ∙ of_text (codes "INT") w _ _ h (take_int w.line o)) (no_run _)))
+  int_run b ws o (inr (t, w, e, h)) = (
+    false,
+    from_words _ _ _ _ e
+        (word_run _ _ _ w []
+        (ap (λ z. take w.text w.line (within z o)) t ∙ of_text (codes "INT") w _ _ h (take_int w.line o))
+        (no_run _)),
+  )
 
-  pub instruction_run : (b : Bool) (i : Item) (l : ℕ) (ws : List Word) (o : Open) → IsInstruction lang i l ws → (c : Bool) × (run (within b o) ws ≡ within c (with_item o i l))
+  pub instruction_run : (b : Bool) (i : Item) (l : ℕ) (ws : List Word) (o : Open) → IsInstruction lang i l ws →
+      (c : Bool) × (run (within b o) ws ≡ within c (with_item o i l))
   instruction_run b i l ws o (k, first, rest, last, q, e, h, f, g, m) =
       let (c, r) = int_run (takes_int k) last (with_item o (instruction_of k q) first.line) m in (
         c,
         from_words _ _ _ _ e
             (word_run _ _ _ first _ (take_first b first k o h.0)
-            (then_run _ _ _ rest last (fill_run (slots_of lang k) no_parts q rest k first.line o g)
-            (r ∙ (ap (λ z. within c (with_item o z first.line)) (sym f) ∙ ap (λ z. within c (with_item o i z)) h.1)))),
+            (then_run _ _ _ rest last (fill_run (slots_of lang first.text) no_parts q rest k first.line o g)
+            (r ∙ (ap (λ z. within c (with_item o z first.line)) (sym f)
+            ∙ ap (λ z. within c (with_item o i z)) h.1)))),
       )
 
   -- ---- bodies and functions
 
-  pub take_if : (b : Bool) (w : Word) (o : Open) → head_of lang w.text ≡ head.If → length o.ifs < 64 → take w.text w.line (within b o) ≡ within false (if_at o w.line)
+  pub take_if : (b : Bool) (w : Word) (o : Open) → head_of lang w.text ≡ head.If → length o.ifs < MOST_OPEN_IFS →
+      take w.text w.line (within b o) ≡ within false (if_at o w.line)
   unfolding within if_at
   take_if b w o h lt =
-      take_item b w o (λ e. if_not_other (sym h ∙ e)) ∙ (ap (λ x. inside x w.line (within b o)) h ∙ rw (less (length o.ifs) 64 lt) refl)
+      take_item b w o (λ e. if_not_other (sym h ∙ e))
+      ∙ (ap (λ x. inside x (slots_of lang w.text) w.line (within b o)) h
+      ∙ rw (less (length o.ifs) MOST_OPEN_IFS lt) refl)
 
-  pub take_else : (b : Bool) (w : Word) (fs : List Function) (name : List ℕ) (line : ℕ) (code : List CodeLine) (l : ℕ) (is : List OpenIf) → head_of lang w.text ≡ head.Else →
-      take w.text w.line (within b (opened fs name line code (open_if l false ∷ is))) ≡ within false (opened fs name line (code ++ line_of part.Else l ∷ []) (open_if l true ∷ is))
+  pub take_else : (b : Bool) (w : Word) (fs : List Function) (name : List ℕ) (line : ℕ) (code : List CodeLine) (l : ℕ)
+      (is : List OpenIf) → head_of lang w.text ≡ head.Else →
+      take w.text w.line (within b (opened fs name line code (open_if l false ∷ is)))
+      ≡ within false (opened fs name line (code ++ line_of code_item.Else l ∷ []) (open_if l true ∷ is))
   unfolding within
   take_else b w fs name line code l is h =
       take_item b w (opened fs name line code (open_if l false ∷ is)) (λ e. else_not_other (sym h ∙ e))
-      ∙ ap (λ x. inside x w.line (within b (opened fs name line code (open_if l false ∷ is)))) h
+      ∙ ap (λ x. inside x (slots_of lang w.text) w.line (within b (opened fs name line code (open_if l false ∷ is))))
+      h
 
-  pub take_endif : (b : Bool) (w : Word) (fs : List Function) (name : List ℕ) (line : ℕ) (code : List CodeLine) (l : ℕ) (is : List OpenIf) → head_of lang w.text ≡ head.Endif →
-      take w.text w.line (within b (opened fs name line code (open_if l true ∷ is))) ≡ within false (opened fs name line (code ++ line_of part.Endif w.line ∷ []) is)
+  pub take_endif : (b : Bool) (w : Word) (fs : List Function) (name : List ℕ) (line : ℕ) (code : List CodeLine)
+      (l : ℕ) (is : List OpenIf) → head_of lang w.text ≡ head.Endif →
+      take w.text w.line (within b (opened fs name line code (open_if l true ∷ is)))
+      ≡ within false (opened fs name line (code ++ line_of code_item.Endif w.line ∷ []) is)
   unfolding within
   take_endif b w fs name line code l is h =
       take_item b w (opened fs name line code (open_if l true ∷ is)) (λ e. endif_not_other (sym h ∙ e))
-      ∙ ap (λ x. inside x w.line (within b (opened fs name line code (open_if l true ∷ is)))) h
+      ∙ ap (λ x. inside x (slots_of lang w.text) w.line (within b (opened fs name line code (open_if l true ∷ is)))) h
 
-  pub take_endif_alone : (b : Bool) (w : Word) (fs : List Function) (name : List ℕ) (line : ℕ) (code : List CodeLine) (l : ℕ) (is : List OpenIf) → head_of lang w.text ≡ head.Endif →
-      take w.text w.line (within b (opened fs name line code (open_if l false ∷ is))) ≡ within false (opened fs name line ((code ++ line_of part.Else l ∷ []) ++ line_of part.Endif w.line ∷ []) is)
+  pub take_endif_alone : (b : Bool) (w : Word) (fs : List Function) (name : List ℕ) (line : ℕ) (code : List CodeLine)
+      (l : ℕ) (is : List OpenIf) → head_of lang w.text ≡ head.Endif →
+      take w.text w.line (within b (opened fs name line code (open_if l false ∷ is)))
+      ≡ within false
+      (opened fs name line ((code ++ line_of code_item.Else l ∷ []) ++ line_of code_item.Endif w.line ∷ []) is)
   unfolding within
   take_endif_alone b w fs name line code l is h =
       take_item b w (opened fs name line code (open_if l false ∷ is)) (λ e. endif_not_other (sym h ∙ e))
-      ∙ ap (λ x. inside x w.line (within b (opened fs name line code (open_if l false ∷ is)))) h
+      ∙ ap (λ x. inside x (slots_of lang w.text) w.line (within b (opened fs name line code (open_if l false ∷ is))))
+      h
 
   -- a body behind these lines
   abbrev Runs : Bool → Body → List Word → Open → Type 0
-  Runs b body ws o = (c : Bool) × (run (within b o) ws ≡ within c (with_code o (o.code ++ flat body)))
+  Runs b body ws o = (c : Bool) × (run (within b o) ws ≡ within c (with_code o (o.code ++ body_lines body)))
 
   -- what follows the first part of an IF, up to its ENDIF
-  second_run : (c : Bool) (l e : ℕ) (second : Body) (m : List Word) (end : Word) (fs : List Function) (name : List ℕ) (line : ℕ) (code : List CodeLine) (is : List OpenIf) →
+  second_run : (c : Bool) (l e : ℕ) (second : Body) (m : List Word) (end : Word) (fs : List Function) (name : List ℕ)
+      (line : ℕ) (code : List CodeLine) (is : List OpenIf) →
       IsElse lang (IsBody lang (suc (length is)) second) second m → IsHead lang head.Endif e end →
       ((u : List Word) (o : Open) → IsBody lang (length o.ifs) second u → Runs false second u o) →
-      run (within c (opened fs name line code (open_if l false ∷ is))) (m ++ end ∷ []) ≡ within false (opened fs name line (((code ++ line_of part.Else l ∷ []) ++ flat second) ++ line_of part.Endif e ∷ []) is)
+      run (within c (opened fs name line code (open_if l false ∷ is))) (m ++ end ∷ [])
+      ≡ within false
+      (opened fs name line
+      (((code ++ line_of code_item.Else l ∷ []) ++ body_lines second) ++ line_of code_item.Endif e ∷ []) is)
   unfolding with_code
   second_run c l e second m end fs name line code is (inl (none, f)) he more =
       from_words _ _ _ _ (ap (λ z. z ++ end ∷ []) none)
       (word_run _ _ _ end [] (take_endif_alone c end fs name line code l is he.0)
       (no_run _
-      ∙ (ap (λ z. within false (opened fs name line ((code ++ line_of part.Else l ∷ []) ++ line_of part.Endif z ∷ []) is)) he.1
-      ∙ ap (λ z. within false (opened fs name line (z ++ line_of part.Endif e ∷ []) is)) (sym (ap (λ z. (code ++ line_of part.Else l ∷ []) ++ flat z) f ∙ add_nil (code ++ line_of part.Else l ∷ []))))))
+      ∙ (ap (λ z. within false
+      (opened fs name line ((code ++ line_of code_item.Else l ∷ []) ++ line_of code_item.Endif z ∷ []) is)) he.1
+      ∙ ap (λ z. within false (opened fs name line (z ++ line_of code_item.Endif e ∷ []) is))
+      (sym (ap (λ z. (code ++ line_of code_item.Else l ∷ []) ++ body_lines z) f
+      ∙ add_nil (code ++ line_of code_item.Else l ∷ []))))))
   second_run c l e second m end fs name line code is (inr (w, u, f, hw, hb)) he more =
-      let (d, r) = more u (opened fs name line (code ++ line_of part.Else l ∷ []) (open_if l true ∷ is)) hb in
+      let (d, r) = more u (opened fs name line (code ++ line_of code_item.Else l ∷ []) (open_if l true ∷ is)) hb in
       from_words _ _ _ _ (ap (λ z. z ++ end ∷ []) f)
       (word_run _ _ _ w (u ++ end ∷ []) (take_else c w fs name line code l is hw)
       (then_run _ _ _ u (end ∷ []) r
-      (word_run _ _ _ end [] (take_endif d end fs name line ((code ++ line_of part.Else l ∷ []) ++ flat second) l is he.0)
-      (no_run _ ∙ ap (λ z. within false (opened fs name line (((code ++ line_of part.Else l ∷ []) ++ flat second) ++ line_of part.Endif z ∷ []) is)) he.1))))
+      (word_run _ _ _ end []
+      (take_endif d end fs name line ((code ++ line_of code_item.Else l ∷ []) ++ body_lines second) l is he.0)
+      (no_run _
+      ∙ ap (λ z. within false
+      (opened fs name line
+      (((code ++ line_of code_item.Else l ∷ []) ++ body_lines second) ++ line_of code_item.Endif z ∷ []) is))
+      he.1))))
 
-  pub body_run : (b : Bool) (body : Body) (ws : List Word) (o : Open) → IsBody lang (length o.ifs) body ws → Runs b body ws o
+  pub body_run : (b : Bool) (body : Body) (ws : List Word) (o : Open) → IsBody lang (length o.ifs) body ws →
+      Runs b body ws o
   unfolding with_item with_code if_at
-  body_run b End ws o h = (b, from_words _ _ ws [] h (no_run _ ∙ ap (λ z. within b (with_code o z)) (sym (add_nil o.code))))
+  body_run b End ws o h =
+      (b, from_words _ _ ws [] h (no_run _ ∙ ap (λ z. within b (with_code o z)) (sym (add_nil o.code))))
   body_run b (Do i l body) ws o (u, v, e, h, t) =
       let (c, r) = instruction_run b i l u o h in
-      let (d, s) = body_run c body v (with_item o i l) t in
-      (d, from_words _ _ _ _ e (then_run _ _ _ u v r (s ∙ ap (λ z. within d (with_code o z)) (append_assoc o.code (doing i l ∷ []) (flat body)))))
+      let (d, s) = body_run c body v (with_item o i l) t in (
+        d,
+        from_words _ _ _ _ e
+            (then_run _ _ _ u v r
+            (s ∙ ap (λ z. within d (with_code o z))
+            (append_assoc o.code (instruction_line i l ∷ []) (body_lines body)))),
+      )
   body_run b (Choice l first second e body) ws o (begun, end, u, m, v, q, lt, hi, he, hf, hs, hr) =
       let (c, r) = body_run false first u (if_at o l) hf in
-      let code : List CodeLine = (o.code ++ line_of part.If l ∷ []) ++ flat first in
-      let s = second_run c l e second m end o.functions o.name o.line code o.ifs hs he (λ u2 o2 h2. body_run false second u2 o2 h2) in
-      let last : List CodeLine = ((code ++ line_of part.Else l ∷ []) ++ flat second) ++ line_of part.Endif e ∷ [] in
+      let code : List CodeLine = (o.code ++ line_of code_item.If l ∷ []) ++ body_lines first in
+      let s = second_run c l e second m end o.functions o.name o.line code o.ifs hs he
+      (λ u2 o2 h2. body_run false second u2 o2 h2) in
+      let last : List CodeLine =
+      ((code ++ line_of code_item.Else l ∷ []) ++ body_lines second) ++ line_of code_item.Endif e ∷ [] in
       let (d, t) = body_run false body v (with_code o last) hr in (
         d,
         from_words _ _ _ _ q
@@ -369,51 +443,67 @@ module _ (lang : Language) where
             (then_run _ _ _ u (m ++ (end ∷ v)) r
             (from_words _ _ _ _ (sym (append_assoc m (end ∷ []) v))
             (then_run _ _ _ (m ++ end ∷ []) v s
-            (t ∙ ap (λ z. within d (with_code o z)) (regroup o.code (flat first) (flat second) (flat body) (line_of part.If l) (line_of part.Else l) (line_of part.Endif e))))))),
+            (t ∙ ap (λ z. within d (with_code o z))
+            (regroup o.code (body_lines first) (body_lines second) (body_lines body) (line_of code_item.If l)
+            (line_of code_item.Else l) (line_of code_item.Endif e))))))),
       )
 
-  pub take_func : (w : Word) (fs : List Function) → head_of lang w.text ≡ head.Func → length fs < 512 → take w.text w.line (between fs) ≡ naming_at fs w.line
+  pub take_func : (w : Word) (fs : List Function) → head_of lang w.text ≡ head.Func → length fs < MOST_FUNCTIONS →
+      take w.text w.line (between fs) ≡ naming_at fs w.line
   unfolding take between naming_at
-  take_func w fs h lt = ap (λ x. outside x w.line (between fs)) h ∙ rw (less (length fs) 512 lt) refl
+  take_func w fs h lt = ap (λ x. outside x w.line (between fs)) h ∙ rw (less (length fs) MOST_FUNCTIONS lt) refl
 
   pub take_name : (t : List ℕ) (l k : ℕ) (fs : List Function) → IsName t → has_name t fs ≡ false →
       take t k (naming_at fs l) ≡ within false (record { functions = fs; name = t; line = l; code = []; ifs = [] })
   unfolding take naming_at within
-  take_name t l k fs h new = rw (h.bare, h.good, not_less 64 (length t) h.short, new) refl
+  take_name t l k fs h new = rw (h.bare, h.good, not_less LONGEST_NAME (length t) h.short, new) refl
 
-  pub take_return : (b : Bool) (w : Word) (fs : List Function) (name : List ℕ) (line : ℕ) (code : List CodeLine) → head_of lang w.text ≡ head.Return →
-      take w.text w.line (within b (opened fs name line code [])) ≡ between (fs ++ closed_at (opened fs name line code []) w.line ∷ [])
+  pub take_return : (b : Bool) (w : Word) (fs : List Function) (name : List ℕ) (line : ℕ) (code : List CodeLine) →
+      head_of lang w.text ≡ head.Return →
+      take w.text w.line (within b (opened fs name line code []))
+      ≡ between (fs ++ closed_at (opened fs name line code []) w.line ∷ [])
   unfolding within between closed_at
   take_return b w fs name line code h =
-      take_item b w (opened fs name line code []) (λ e. return_not_other (sym h ∙ e)) ∙ ap (λ x. inside x w.line (within b (opened fs name line code []))) h
+      take_item b w (opened fs name line code []) (λ e. return_not_other (sym h ∙ e))
+      ∙ ap (λ x. inside x (slots_of lang w.text) w.line (within b (opened fs name line code []))) h
 
-  function_run : (f : Function) (ws : List Word) (fs : List Function) → IsFunction lang f ws → has_name f.name fs ≡ false → length fs < 512 →
+  function_run : (f : Function) (ws : List Word) (fs : List Function) → IsFunction lang f ws →
+      has_name f.name fs ≡ false → length fs < MOST_FUNCTIONS →
       run (between fs) ws ≡ between (fs ++ f ∷ [])
   unfolding with_code
   function_run f ws fs (func, name, ret, u, e, wf, wn, good, hb, wr) new lt =
-      let (c, r) = body_run false f.body u (record { functions = fs; name = f.name; line = f.line; code = []; ifs = [] }) hb in
+      let (c, r) =
+      body_run false f.body u (record { functions = fs; name = f.name; line = f.line; code = []; ifs = [] }) hb in
       from_words _ _ _ _ e
       (word_run _ _ _ func _ (take_func func fs wf.0 lt ∙ ap (naming_at fs) wf.1)
       (word_run _ _ _ name _ (of_text f.name name _ _ wn (take_name f.name f.line name.line fs good new))
       (then_run _ _ _ u (ret ∷ []) r
-      (word_run _ _ _ ret [] (take_return c ret fs f.name f.line (flat f.body) wr.0 ∙ ap (λ g. between (fs ++ g ∷ [])) (whole f fs ret.line wr.1)) (no_run _)))))
+      (word_run _ _ _ ret []
+      (take_return c ret fs f.name f.line (body_lines f.body) wr.0
+      ∙ ap (λ g. between (fs ++ g ∷ [])) (whole f fs ret.line wr.1)) (no_run _)))))
 
 all_at : {A : Type 0} (P : A → Type 0) (xs : List A) (y : A) (zs : List A) → AllByRecursion P (xs ++ y ∷ zs) → P y
 all_at P [] y zs h = h.0
 all_at P (x ∷ xs) y zs h = all_at P xs y zs h.1
 
 -- a function among others whose names differ has none of the earlier names
-new_name : (done : List Function) (f : Function) (fs : List Function) → NamesDiffer (done ++ f ∷ fs) → has_name f.name done ≡ false
+new_name : (done : List Function) (f : Function) (fs : List Function) → NamesDiffer (done ++ f ∷ fs) →
+    has_name f.name done ≡ false
 new_name [] f fs h = refl
 new_name (d ∷ done) f fs h =
-    let other : bytes_eq f.name d.name ≡ false = not_true (bytes_eq f.name d.name) (λ b. all_at (λ g. d.name ≢ g.name) done f fs h.0 (sym ((bytes_eq-Decides f.name d.name).0 b))) in
+    let other : bytes_eq f.name d.name
+    ≡ false =
+    not_true (bytes_eq f.name d.name)
+    (λ b. all_at (λ g. d.name ≢ g.name) done f fs h.0 (sym ((bytes_eq-Decides f.name d.name).0 b))) in
     rw (other, new_name done f fs h.1) refl
 
-fewer : (done : List Function) (f : Function) (fs : List Function) → length (done ++ f ∷ fs) ≤ 512 → length done < 512
+fewer : (done : List Function) (f : Function) (fs : List Function) → length (done ++ f ∷ fs) ≤ MOST_FUNCTIONS →
+    length done < MOST_FUNCTIONS
 fewer done f fs h = omega (arith, length-append done (f ∷ fs))
 
 module _ (lang : Language) where
-  functions_run : (fs done : List Function) (ws : List Word) → AreFunctions lang fs ws → NamesDiffer (done ++ fs) → length (done ++ fs) ≤ 512 →
+  functions_run : (fs done : List Function) (ws : List Word) → AreFunctions lang fs ws → NamesDiffer (done ++ fs) →
+      length (done ++ fs) ≤ MOST_FUNCTIONS →
       run (between lang done) ws ≡ between lang (done ++ fs)
   functions_run [] done ws h n l = from_words _ _ ws [] h (no_run _ ∙ ap (between lang) (sym (add_nil done)))
   functions_run (f ∷ fs) done ws (u, v, e, g, h) n l =

@@ -2,14 +2,14 @@
 use Rattle.std.specs.Prelude.{◌≡◌, ◌≢◌, ◌<◌, ℕ, List, map, position, Option, Some, None, slice_get}
 use Rattle.std.specs.Str.{bytes_eq}
 use Rattle.vcode_base.specs.declared.instr.Instr.TheVariants.{Call}
-use Rattle.vcode_reader.specs.declared.line.Part.{Part}
-use Rattle.vcode_reader.specs.declared.line.Part.TheVariants as part
+use Rattle.vcode_reader.specs.declared.line.CodeItem.{CodeItem}
+use Rattle.vcode_reader.specs.declared.line.CodeItem.TheVariants as code_item
 use Rattle.vcode_reader.specs.Targets.{target_in}
-use Rattle.vcode_reader.specs.Trees.{Item, Function, doing, lines_of}
+use Rattle.vcode_reader.specs.Trees.{Item, Function, instruction_line, lines_of}
 
 -- the place of the first function that a CALL names, where there is one
-abbrev pub callee_of : List Function → Part Item → Option ℕ
-callee_of fs (part.Do (Call name)) = position (λ f. bytes_eq f.name name) fs
+abbrev pub callee_of : List Function → CodeItem Item → Option ℕ
+callee_of fs (code_item.Do (Call name)) = position (λ f. bytes_eq f.name name) fs
 callee_of fs _ = None
 
 unfoldable pub callees_of : List Function → List (List (Option ℕ))
@@ -34,5 +34,6 @@ IsFirstNamed fs name place =
 abbrev pub EachCallIsFound : Type 0
 EachCallIsFound =
     (fs : List Function) (function place number called : ℕ) (f g : Function) →
-    slice_get fs function ≡ Some f → slice_get (lines_of f) place ≡ Some (doing (Call g.name) number) → slice_get fs called ≡ Some g →
+    slice_get fs function ≡ Some f → slice_get (lines_of f) place ≡ Some (instruction_line (Call g.name) number) →
+    slice_get fs called ≡ Some g →
     (first : ℕ) × (callee_at fs function place ≡ Some first) × IsFirstNamed fs g.name first

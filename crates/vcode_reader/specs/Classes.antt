@@ -1,7 +1,8 @@
 -- What a byte does in a text.
 use Rattle.std.specs.Prelude.{ℕ, if◌then◌else◌, ◌==◌, ◌||◌, nat_lt}
 use Rattle.vcode_reader.specs.declared.class.Class.{Class}
-use Rattle.vcode_reader.specs.declared.class.Class.TheVariants.{LineFeed, Blank, OpenBrace, CloseBrace, Parenthesis, Plain, Refused}
+use Rattle.vcode_reader.specs.declared.class.Class.TheVariants.{LineFeed, Blank, OpenBrace, CloseBrace, Parenthesis}
+use Rattle.vcode_reader.specs.declared.class.Class.TheVariants.{Plain, Refused}
 
 unfoldable pub class_of : ℕ → Class
 class_of b =

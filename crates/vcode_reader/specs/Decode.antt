@@ -3,9 +3,10 @@ use Rattle.std.specs.Prelude.{◌≡◌, ℕ, List, [], ◌∷◌, ◌++◌, Opt
 use Rattle.std.specs.Coded.{Coded, code_by, coded_ℕ, coded×, coded_list}
 use Rattle.std.proofs.Common.{ap, sym, ◌∙◌, append_assoc}
 use Rattle.vcode_base.specs.declared.instr.Instr.TheVariants.{Return}
-use Rattle.vcode_reader.specs.declared.line.Part.{Part}
-use Rattle.vcode_reader.specs.declared.line.Part.TheVariants as part
-use Rattle.vcode_reader.specs.Trees.{Item, Body, End, Do, Choice, CodeLine, Function, Program, line_of, doing, flat, lines_of}
+use Rattle.vcode_reader.specs.declared.line.CodeItem.{CodeItem}
+use Rattle.vcode_reader.specs.declared.line.CodeItem.TheVariants as code_item
+use Rattle.vcode_reader.specs.Trees.{Item, Body, End, Do, Choice, CodeLine, Function, Program, line_of}
+use Rattle.vcode_reader.specs.Trees.{instruction_line, body_lines, lines_of}
 
 -- what waits for the front of an IF: its second body, or both, with the line of its ENDIF and the body behind it
 pub data Waits : Type 0 where
@@ -26,11 +27,11 @@ before_if l b (ForIf second e rest ∷ ws) = record { body = Choice l b second e
 before_if l b _ = record { body = b; waits = [] }
 
 -- one line more in front
-abbrev pub before : Part Item → ℕ → Tail → Tail
-before (part.Do i) l t = record { body = Do i l t.body; waits = t.waits }
-before part.If l t = before_if l t.body t.waits
-before part.Else l t = before_else t.body t.waits
-before part.Endif l t = record { body = End; waits = ForElse l t.body ∷ t.waits }
+abbrev pub before : CodeItem Item → ℕ → Tail → Tail
+before (code_item.Do i) l t = record { body = Do i l t.body; waits = t.waits }
+before code_item.If l t = before_if l t.body t.waits
+before code_item.Else l t = before_else t.body t.waits
+before code_item.Endif l t = record { body = End; waits = ForElse l t.body ∷ t.waits }
 
 unfoldable pub tail_of : List CodeLine → Tail
 tail_of [] = record { body = End; waits = [] }
@@ -41,8 +42,8 @@ unfoldable pub tree_of : List CodeLine → Body
 tree_of xs = (tail_of xs).body
 
 -- the lines are those of a body
-abbrev pub IsFlat : List CodeLine → Type 0
-IsFlat xs = flat (tree_of xs) ≡ xs
+abbrev pub AreBodyLines : List CodeLine → Type 0
+AreBodyLines xs = body_lines (tree_of xs) ≡ xs
 
 -- one body after another
 unfoldable pub then_body : Body → Body → Body
@@ -87,19 +88,26 @@ then_end End = refl
 then_end (Do i l b) = ap (Do i l) (then_end b)
 then_end (Choice l x y e b) = ap (Choice l x y e) (then_end b)
 
-regroup : (x y b rest : List CodeLine) (i m n : CodeLine) → (i ∷ (x ++ (m ∷ (y ++ (n ∷ b))))) ++ rest ≡ i ∷ (x ++ (m ∷ (y ++ (n ∷ (b ++ rest)))))
+regroup : (x y b rest : List CodeLine) (i m n : CodeLine) →
+    (i ∷ (x ++ (m ∷ (y ++ (n ∷ b))))) ++ rest ≡ i ∷ (x ++ (m ∷ (y ++ (n ∷ (b ++ rest)))))
 regroup x y b rest i m n = simp append_assoc
 
 choice : ℕ → Body → Body → ℕ → Body → List Waits → Tail
 choice l x y e b ws = record { body = Choice l x y e b; waits = ws }
 
-tail_of-flat : (b : Body) (xs : List CodeLine) → tail_of (flat b ++ xs) ≡ then_tail b (tail_of xs)
+tail_of-body_lines : (b : Body) (xs : List CodeLine) → tail_of (body_lines b ++ xs) ≡ then_tail b (tail_of xs)
 unfolding tail_of then_tail then_body choice
-tail_of-flat End xs = refl
-tail_of-flat (Do i l b) xs = ap (before (part.Do i) l) (tail_of-flat b xs)
-tail_of-flat (Choice l x y e b) xs =
-    ap tail_of (regroup (flat x) (flat y) (flat b) xs (line_of part.If l) (line_of part.Else l) (line_of part.Endif e))
-    ∙ (ap (before part.If l) (tail_of-flat x _ ∙ ap (then_tail x) (ap (before part.Else l) (tail_of-flat y _ ∙ ap (then_tail y) (ap (before part.Endif e) (tail_of-flat b xs)))))
+tail_of-body_lines End xs = refl
+tail_of-body_lines (Do i l b) xs = ap (before (code_item.Do i) l) (tail_of-body_lines b xs)
+tail_of-body_lines (Choice l x y e b) xs =
+    ap tail_of
+    (regroup (body_lines x) (body_lines y) (body_lines b) xs (line_of code_item.If l) (line_of code_item.Else l)
+    (line_of code_item.Endif e))
+    ∙ (ap (before code_item.If l)
+    (tail_of-body_lines x _
+    ∙ ap (then_tail x)
+    (ap (before code_item.Else l)
+    (tail_of-body_lines y _ ∙ ap (then_tail y) (ap (before code_item.Endif e) (tail_of-body_lines b xs)))))
     ∙ (ap (λ z. choice l z (then_body y End) e (then_body b (tail_of xs).body) (tail_of xs).waits) (then_end x)
     ∙ ap (λ z. choice l x z e (then_body b (tail_of xs).body) (tail_of xs).waits) (then_end y)))
 
@@ -107,13 +115,15 @@ add_nil : {A : Type 0} (xs : List A) → xs ++ [] ≡ xs
 add_nil [] = refl
 add_nil (x ∷ xs) = ap (λ ys. x ∷ ys) (add_nil xs)
 
-pub tree_of-flat : (b : Body) → tree_of (flat b) ≡ b
+pub tree_of-body_lines : (b : Body) → tree_of (body_lines b) ≡ b
 unfolding tree_of tail_of then_tail
-tree_of-flat b = ap tree_of (sym (add_nil (flat b))) ∙ (ap (λ (t : Tail). t.body) (tail_of-flat b []) ∙ then_end b)
+tree_of-body_lines b = ap tree_of (sym (add_nil (body_lines b)))
+    ∙ (ap (λ (t : Tail). t.body) (tail_of-body_lines b []) ∙ then_end b)
 
 -- ---- lines with a RET behind them
 
-pub split_last-then : (xs : List CodeLine) (ret : ℕ) → split_last (xs ++ doing Return ret ∷ []) ≡ Some (xs, ret)
+pub split_last-then : (xs : List CodeLine) (ret : ℕ) →
+    split_last (xs ++ instruction_line Return ret ∷ []) ≡ Some (xs, ret)
 unfolding split_last
 split_last-then [] ret = refl
 split_last-then (x ∷ xs) ret = ap (in_front x) (split_last-then xs ret)
@@ -122,16 +132,19 @@ abbrev made : List ℕ → ℕ → Option (List CodeLine × ℕ) → Function
 made name line o = record { name = name; line = line; body = body_in o; ret = ret_in o }
 
 pub function_of-then : (name : List ℕ) (line : ℕ) (xs : List CodeLine) (ret : ℕ) →
-    function_of name line (xs ++ doing Return ret ∷ []) ≡ record { name = name; line = line; body = tree_of xs; ret = ret }
+    function_of name line (xs ++ instruction_line Return ret ∷ [])
+    ≡ record { name = name; line = line; body = tree_of xs; ret = ret }
 function_of-then name line xs ret = ap (made name line) (split_last-then xs ret)
 
 pub function_of-lines_of : (f : Function) → function_of f.name f.line (lines_of f) ≡ f
 function_of-lines_of f =
-    function_of-then f.name f.line (flat f.body) f.ret ∙ ap (λ b. let g : Function = record f { body = b } in g) (tree_of-flat f.body)
+    function_of-then f.name f.line (body_lines f.body) f.ret
+    ∙ ap (λ b. let g : Function = record f { body = b } in g) (tree_of-body_lines f.body)
 
-pub AreLines-then : (name : List ℕ) (line : ℕ) (xs : List CodeLine) (ret : ℕ) → IsFlat xs → AreLines name line (xs ++ doing Return ret ∷ [])
+pub AreLines-then : (name : List ℕ) (line : ℕ) (xs : List CodeLine) (ret : ℕ) → AreBodyLines xs →
+    AreLines name line (xs ++ instruction_line Return ret ∷ [])
 AreLines-then name line xs ret h =
-    ap lines_of (function_of-then name line xs ret) ∙ ap (λ ys. ys ++ doing Return ret ∷ []) h
+    ap lines_of (function_of-then name line xs ret) ∙ ap (λ ys. ys ++ instruction_line Return ret ∷ []) h
 
 -- ---- what tells programs apart
 

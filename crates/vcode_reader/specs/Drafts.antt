@@ -1,32 +1,33 @@
 -- The lines of a function that is being read, with its open IFs.
 use Rattle.std.specs.Prelude.{ℕ, Bool, true, false, not, List, [], ◌∷◌, ◌++◌, refl, if◌then◌else◌}
 use Rattle.std.specs.Coded.{Coded, code_by, coded×, coded_list}
-use Rattle.vcode_reader.specs.declared.line.Part.TheVariants as part
+use Rattle.vcode_reader.specs.declared.line.CodeItem.TheVariants as code_item
 use Rattle.vcode_reader.specs.declared.place.OpenIf.{OpenIf}
-use Rattle.vcode_reader.specs.Decode.{IsFlat}
-use Rattle.vcode_reader.specs.Trees.{Item, Body, End, CodeLine, line_of, doing, flat}
+use Rattle.vcode_reader.specs.Decode.{AreBodyLines}
+use Rattle.vcode_reader.specs.Trees.{Item, Body, End, CodeLine, line_of, instruction_line, body_lines}
+use Rattle.vcode_reader.specs.Trees.{HaveBodyInstructions}
 
 -- the lines so far, and the IFs that wait for their ENDIF, the innermost first
-pub record Drafted : Type 0 where
+pub record DraftState : Type 0 where
   pub lines : List CodeLine
   pub ifs : List OpenIf
 
-abbrev pub no_lines : Drafted
+abbrev pub no_lines : DraftState
 no_lines = record { lines = []; ifs = [] }
 
 abbrev pub open_if : ℕ → Bool → OpenIf
 open_if l has_else = record { line = l; has_else = has_else }
 
-abbrev pub with_item : Item → ℕ → Drafted → Drafted
-with_item i l d = record d { lines = d.lines ++ doing i l ∷ [] }
+abbrev pub with_item : Item → ℕ → DraftState → DraftState
+with_item i l d = record d { lines = d.lines ++ instruction_line i l ∷ [] }
 
-abbrev pub with_if : ℕ → Drafted → Drafted
-with_if l d = record { lines = d.lines ++ line_of part.If l ∷ []; ifs = open_if l false ∷ d.ifs }
+abbrev pub with_if : ℕ → DraftState → DraftState
+with_if l d = record { lines = d.lines ++ line_of code_item.If l ∷ []; ifs = open_if l false ∷ d.ifs }
 
 -- the line of the innermost open IF, or that of the function
-abbrev pub innermost : List OpenIf → ℕ → ℕ
-innermost [] l = l
-innermost (i ∷ is) l = i.line
+abbrev pub innermost_line : List OpenIf → ℕ → ℕ
+innermost_line [] l = l
+innermost_line (i ∷ is) l = i.line
 
 -- the innermost IF has no ELSE yet
 abbrev pub takes_else : List OpenIf → Bool
@@ -37,27 +38,29 @@ abbrev pub is_open : List OpenIf → Bool
 is_open [] = false
 is_open (i ∷ is) = true
 
-abbrev pub else_in : List OpenIf → List CodeLine → Drafted
+abbrev pub else_in : List OpenIf → List CodeLine → DraftState
 else_in [] lines = record { lines = lines; ifs = [] }
-else_in (i ∷ is) lines = record { lines = lines ++ line_of part.Else i.line ∷ []; ifs = open_if i.line true ∷ is }
+else_in (i ∷ is) lines =
+    record { lines = lines ++ line_of code_item.Else i.line ∷ []; ifs = open_if i.line true ∷ is }
 
-abbrev pub with_else : Drafted → Drafted
+abbrev pub with_else : DraftState → DraftState
 with_else d = else_in d.ifs d.lines
 
 -- an IF that has no ELSE gets one before its ENDIF
-abbrev pub closed : OpenIf → ℕ → List CodeLine → List CodeLine
-closed i e lines =
-    if i.has_else then lines ++ line_of part.Endif e ∷ []
-    else (lines ++ line_of part.Else i.line ∷ []) ++ line_of part.Endif e ∷ []
+abbrev pub lines_after_endif : OpenIf → ℕ → List CodeLine → List CodeLine
+lines_after_endif i e lines =
+    if i.has_else then lines ++ line_of code_item.Endif e ∷ []
+    else (lines ++ line_of code_item.Else i.line ∷ []) ++ line_of code_item.Endif e ∷ []
 
-abbrev pub endif_in : ℕ → List OpenIf → List CodeLine → Drafted
+abbrev pub endif_in : ℕ → List OpenIf → List CodeLine → DraftState
 endif_in e [] lines = record { lines = lines; ifs = [] }
-endif_in e (i ∷ is) lines = record { lines = closed i e lines; ifs = is }
+endif_in e (i ∷ is) lines = record { lines = lines_after_endif i e lines; ifs = is }
 
-abbrev pub with_endif : ℕ → Drafted → Drafted
+abbrev pub with_endif : ℕ → DraftState → DraftState
 with_endif e d = endif_in e d.ifs d.lines
 
--- what closes an open IF: its second part where it has no ELSE yet, the line of its ENDIF, and what stands behind that
+-- what closes an open IF: its second part where it has no ELSE yet, the line of its ENDIF, and what stands behind
+-- that
 pub record Closing : Type 0 where
   pub second : Body
   pub end : ℕ
@@ -65,7 +68,7 @@ pub record Closing : Type 0 where
 
 -- the lines of an ELSE and the part behind it, where the IF has none yet
 abbrev pub else_part : OpenIf → Body → List CodeLine
-else_part i second = if i.has_else then [] else line_of part.Else i.line ∷ flat second
+else_part i second = if i.has_else then [] else line_of code_item.Else i.line ∷ body_lines second
 
 -- the first of them; where none is given, an empty part
 abbrev pub first_closing : List Closing → Closing
@@ -78,15 +81,18 @@ other_closings (c ∷ cs) = cs
 
 -- the lines that close open IFs, behind a rest of the innermost part
 abbrev pub endings : List OpenIf → Body → List Closing → List CodeLine
-endings [] b cs = flat b
+endings [] b cs = body_lines b
 endings (i ∷ is) b cs =
-    flat b ++ (else_part i (first_closing cs).second ++ (line_of part.Endif (first_closing cs).end ∷ endings is (first_closing cs).after (other_closings cs)))
+    body_lines b ++ (else_part i
+    (first_closing cs).second ++ (line_of code_item.Endif (first_closing cs).end ∷ endings is
+    (first_closing cs).after (other_closings cs)))
 
--- however the open IFs are closed, the lines are then those of a body
-abbrev pub IsDraft : List OpenIf → List CodeLine → Type 0
-IsDraft ifs lines = (b : Body) (cs : List Closing) → IsFlat (lines ++ endings ifs b cs)
+-- however the open IFs are closed, the lines are then those of a body, and none is a RET or an instruction IF
+pub record IsDraft (ifs : List OpenIf) (lines : List CodeLine) : Type 0 where
+  pub closes : (b : Body) (cs : List Closing) → AreBodyLines (lines ++ endings ifs b cs)
+  pub proper : HaveBodyInstructions lines
 
-abbrev pub draft_code : Coded CodeLine → Coded OpenIf → Coded Drafted
+abbrev pub draft_code : Coded CodeLine → Coded OpenIf → Coded DraftState
 draft_code line ifs =
     code_by (List CodeLine × List OpenIf) (coded× (coded_list line) (coded_list ifs))
     (λ d. (d.lines, d.ifs)) (λ p. record { lines = p.0; ifs = p.1 }) (λ _. refl)

@@ -1,13 +1,12 @@
 -- The first fault of a text, and what a reader of the grammar answers.
 use Rattle.std.specs.Prelude.{◌≡◌, ◌⊎◌, ℕ, List, [], ◌∷◌, ◌++◌, Option, Some, None, Result, Ok, Err}
-use Rattle.vcode_reader.specs.declared.fault.Refusal.TheVariants.{Unfinished}
-use Rattle.vcode_reader.specs.declared.fault.ReadFault.{ReadFault}
-use Rattle.vcode_reader.specs.declared.fault.ReadFault.TheVariants.{Memory, At}
+use Rattle.vcode_reader.specs.declared.fault.CodeFault.TheVariants.{Unfinished}
+use Rattle.vcode_base.specs.declared.fault.TextFault.TheVariants.{Memory, At}
 use Rattle.vcode_reader.specs.declared.language.Language.{Language}
 use Rattle.vcode_reader.specs.Gram.{Gram}
 use Rattle.vcode_reader.specs.Parsing.{Parse, start, take}
-use Rattle.vcode_reader.specs.Reading.{ended, reading}
-use Rattle.vcode_reader.specs.Refusals.{Fault}
+use Rattle.vcode_reader.specs.Reading.{result_at_end, reading}
+use Rattle.vcode_reader.specs.Refusals.{Fault, ReadFault}
 use Rattle.vcode_reader.specs.Scan.{Word, words, open_comment}
 use Rattle.vcode_reader.specs.Trees.{Function, Program}
 
@@ -35,7 +34,7 @@ pub record IsUnfinished (language : Language) (ws : List Word) (comment : Option
   pub good : IsGood language ws
   pub not_whole : comment ≡ None → (fs : List Function) → Gram language fs ws → ⊥
   pub is_unfinished : fault.0 ≡ Unfinished
-  pub line : ended None comment (run (start language) ws) ≡ Err fault
+  pub line : result_at_end None comment (run (start language) ws) ≡ Err fault
 
 -- the functions that the grammar relates to the words, where they end in no comment, or the first fault
 abbrev pub IsWanted : Language → Result (List Function) Fault → List Word → Option ℕ → Type 0
@@ -46,7 +45,8 @@ IsWanted language (Err fault) ws comment = FirstFault language ws fault ⊎ IsUn
 abbrev pub IsReading : Language → Result Program Fault → ℕ → List ℕ → Type 0
 IsReading language (Ok p) first bytes =
     (p.first_line ≡ first) × IsWanted language (Ok p.functions) (words first bytes) (open_comment first bytes)
-IsReading language (Err fault) first bytes = IsWanted language (Err fault) (words first bytes) (open_comment first bytes)
+IsReading language (Err fault) first bytes =
+    IsWanted language (Err fault) (words first bytes) (open_comment first bytes)
 
 -- the same of an answer that may be want of memory
 abbrev pub IsAnswer : Language → Result Program ReadFault → ℕ → List ℕ → Type 0
@@ -56,15 +56,18 @@ IsAnswer language (Err (At refusal line)) first bytes = IsReading language (Err 
 
 -- every text has a reading by the grammar
 abbrev pub EveryTextIsRead : Type 0
-EveryTextIsRead = (language : Language) (first : ℕ) (bytes : List ℕ) → IsReading language (reading language first bytes) first bytes
+EveryTextIsRead = (language : Language) (first : ℕ) (bytes : List ℕ) →
+    IsReading language (reading language first bytes) first bytes
 
 -- what the grammar relates to the words of a text that leaves no comment open is what is read
 abbrev pub WholeTextsAreRead : Type 0
 WholeTextsAreRead =
-    (language : Language) (first : ℕ) (bytes : List ℕ) (fs : List Function) → Gram language fs (words first bytes) → open_comment first bytes ≡ None →
+    (language : Language) (first : ℕ) (bytes : List ℕ) (fs : List Function) → Gram language fs (words first bytes) →
+    open_comment first bytes ≡ None →
     reading language first bytes ≡ Ok (record { first_line = first; functions = fs })
 
 -- words are the words of one list of functions at most
 abbrev pub OneProgram : Type 0
 OneProgram =
-    (language : Language) (ws : List Word) (fs gs : List Function) → Gram language fs ws → Gram language gs ws → fs ≡ gs
+    (language : Language) (ws : List Word) (fs gs : List Function) → Gram language fs ws → Gram language gs ws →
+    fs ≡ gs

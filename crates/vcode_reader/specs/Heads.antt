@@ -1,131 +1,137 @@
--- What a word begins, where an item of a function or a function must stand.
-use Rattle.std.specs.Prelude.{ℕ, List, if◌then◌else◌, ◌==◌, length, codes}
+-- The table of words: what each begins where an item of a function or a function must stand, and what the words
+-- behind it must be.
+use Rattle.std.specs.Prelude.{ℕ, Bool, ◌==◌, nat_lt, List, [], ◌∷◌, if◌then◌else◌, length, codes}
 use Rattle.std.specs.Str.{bytes_eq}
-use Rattle.vcode_base.specs.declared.op.Arith.TheVariants as arith
-use Rattle.vcode_base.specs.declared.op.Comparison.TheVariants as comparison
-use Rattle.vcode_base.specs.declared.op.Logic.TheVariants as logic
-use Rattle.vcode_base.specs.declared.op.StackMove.TheVariants as motion
+use Rattle.vcode_base.specs.declared.op.Arith.TheVariants.{Add, Subtract, Multiply, Divide, Remainder, ShiftLeft}
+use Rattle.vcode_base.specs.declared.op.Arith.TheVariants.{ShiftRight}
+use Rattle.vcode_base.specs.declared.op.Comparison.TheVariants.{Less, LessOrEqual, Greater, GreaterOrEqual, Equal}
+use Rattle.vcode_base.specs.declared.op.Comparison.TheVariants.{NotEqual}
+use Rattle.vcode_base.specs.declared.op.Logic.TheVariants.{And, Or, Xor}
+use Rattle.vcode_base.specs.declared.op.StackMove.TheVariants.{Copy, Pop, MoveToTop}
 use Rattle.vcode_reader.specs.declared.head.Head.{Head}
 use Rattle.vcode_reader.specs.declared.head.Head.TheVariants.{Func, Return, If, Else, Endif, Start, Other}
-use Rattle.vcode_reader.specs.declared.keyword.Folding.TheVariants as folding
-use Rattle.vcode_reader.specs.declared.keyword.Keyword.TheVariants as keyword
+use Rattle.vcode_reader.specs.declared.keyword.Entries.TheVariants.{Lower, Upper}
+use Rattle.vcode_reader.specs.declared.keyword.Folding.TheVariants as by
+use Rattle.vcode_reader.specs.declared.keyword.Keyword.{Keyword}
+use Rattle.vcode_reader.specs.declared.keyword.Keyword.TheVariants.{Const, Arith, Compare, Logic, Not, Select}
+use Rattle.vcode_reader.specs.declared.keyword.Keyword.TheVariants.{IntToBool, BoolToInt, Scan, Reduce, Distribute}
+use Rattle.vcode_reader.specs.declared.keyword.Keyword.TheVariants.{Index, Permute, BackPermute, DefaultPermute}
+use Rattle.vcode_reader.specs.declared.keyword.Keyword.TheVariants.{Extract, Replace, Pack, MakeSegdes, Lengths, Move}
+use Rattle.vcode_reader.specs.declared.keyword.Keyword.TheVariants.{Call}
+use Rattle.vcode_reader.specs.declared.keyword.Slot.{Slot}
+use Rattle.vcode_reader.specs.declared.keyword.Slot.TheVariants.{Int, Kind, Values, Count, Callee}
 use Rattle.vcode_reader.specs.declared.language.Language.{Language}
 use Rattle.vcode_reader.specs.declared.language.Language.TheVariants.{First, Whole}
+use Rattle.vcode_reader.specs.Keywords.{keyword_slots}
 
--- the words of the first language
-unfoldable pub first_head : List ℕ → Head
-first_head word =
-    if bytes_eq word (codes "FUNC") then Func
-    else if bytes_eq word (codes "RET") then Return
-    else if bytes_eq word (codes "ELSE") then Else
-    else if bytes_eq word (codes "ENDIF") then Endif
-    else if bytes_eq word (codes "CONST") then Start keyword.Const
-    else if bytes_eq word (codes "+") then Start (keyword.Arith arith.Add)
-    else Other
+-- a word, what it begins, and what each word behind it must be
+pub record Row : Type 0 where
+  pub word : List ℕ
+  pub head : Head
+  pub slots : List Slot
 
--- the words of the whole language, by their length
-unfoldable pub of_one : List ℕ → Head
-of_one word =
-    if bytes_eq word (codes "+") then Start (keyword.Arith arith.Add)
-    else if bytes_eq word (codes "-") then Start (keyword.Arith arith.Subtract)
-    else if bytes_eq word (codes "*") then Start (keyword.Arith arith.Multiply)
-    else if bytes_eq word (codes "/") then Start (keyword.Arith arith.Divide)
-    else if bytes_eq word (codes "%") then Start (keyword.Arith arith.Remainder)
-    else if bytes_eq word (codes "<") then Start (keyword.Compare comparison.Less)
-    else if bytes_eq word (codes ">") then Start (keyword.Compare comparison.Greater)
-    else if bytes_eq word (codes "=") then Start (keyword.Compare comparison.Equal)
-    else Other
+-- a word of the frame of functions and IFs
+abbrev pub frame : List ℕ → Head → Row
+frame word head = record { word = word; head = head; slots = [] }
 
-unfoldable pub of_two : List ℕ → Head
-of_two word =
-    if bytes_eq word (codes "<=") then Start (keyword.Compare comparison.LessOrEqual)
-    else if bytes_eq word (codes ">=") then Start (keyword.Compare comparison.GreaterOrEqual)
-    else if bytes_eq word (codes "!=") then Start (keyword.Compare comparison.NotEqual)
-    else if bytes_eq word (codes "OR") then Start (keyword.Logic logic.Or)
-    else if bytes_eq word (codes "IF") then If
-    else Other
+-- the first word of an instruction
+abbrev pub row : List ℕ → Keyword → List Slot → Row
+row word keyword slots = record { word = word; head = Start keyword; slots = slots }
 
-unfoldable pub of_three : List ℕ → Head
-of_three word =
-    if bytes_eq word (codes "RET") then Return
-    else if bytes_eq word (codes "POP") then Start (keyword.Move motion.Pop)
-    else if bytes_eq word (codes "AND") then Start (keyword.Logic logic.And)
-    else if bytes_eq word (codes "XOR") then Start (keyword.Logic logic.Xor)
-    else if bytes_eq word (codes "NOT") then Start keyword.Not
-    else Other
+unfoldable pub rows : Language → List Row
+rows First =
+    frame (codes "FUNC") Func
+    ∷ frame (codes "RET") Return
+    ∷ frame (codes "ELSE") Else
+    ∷ frame (codes "ENDIF") Endif
+    ∷ row (codes "CONST") Const (Int ∷ Values ∷ [])
+    ∷ row (codes "+") (Arith Add) (Int ∷ [])
+    ∷ []
+rows Whole =
+    frame (codes "FUNC") Func
+    ∷ frame (codes "RET") Return
+    ∷ frame (codes "IF") If
+    ∷ frame (codes "ELSE") Else
+    ∷ frame (codes "ENDIF") Endif
+    ∷ row (codes "CONST") Const (Kind ∷ Values ∷ [])
+    ∷ row (codes "+") (Arith Add) (Int ∷ [])
+    ∷ row (codes "-") (Arith Subtract) (Int ∷ [])
+    ∷ row (codes "*") (Arith Multiply) (Int ∷ [])
+    ∷ row (codes "/") (Arith Divide) (Int ∷ [])
+    ∷ row (codes "%") (Arith Remainder) (Int ∷ [])
+    ∷ row (codes "LSHIFT") (Arith ShiftLeft) (Int ∷ [])
+    ∷ row (codes "RSHIFT") (Arith ShiftRight) (Int ∷ [])
+    ∷ row (codes "<") (Compare Less) (Int ∷ [])
+    ∷ row (codes "<=") (Compare LessOrEqual) (Int ∷ [])
+    ∷ row (codes ">") (Compare Greater) (Int ∷ [])
+    ∷ row (codes ">=") (Compare GreaterOrEqual) (Int ∷ [])
+    ∷ row (codes "=") (Compare Equal) (Int ∷ [])
+    ∷ row (codes "!=") (Compare NotEqual) (Int ∷ [])
+    ∷ row (codes "AND") (Logic And) (Kind ∷ [])
+    ∷ row (codes "OR") (Logic Or) (Kind ∷ [])
+    ∷ row (codes "XOR") (Logic Xor) (Kind ∷ [])
+    ∷ row (codes "NOT") Not (Kind ∷ [])
+    ∷ row (codes "SELECT") Select (Kind ∷ [])
+    ∷ row (codes "I_TO_B") IntToBool []
+    ∷ row (codes "B_TO_I") BoolToInt []
+    ∷ row (codes "+_SCAN") (Scan by.Sum) (Int ∷ [])
+    ∷ row (codes "*_SCAN") (Scan by.Product) (Int ∷ [])
+    ∷ row (codes "MAX_SCAN") (Scan by.Max) (Int ∷ [])
+    ∷ row (codes "MIN_SCAN") (Scan by.Min) (Int ∷ [])
+    ∷ row (codes "AND_SCAN") (Scan (by.Logic And)) (Kind ∷ [])
+    ∷ row (codes "OR_SCAN") (Scan (by.Logic Or)) (Kind ∷ [])
+    ∷ row (codes "XOR_SCAN") (Scan (by.Logic Xor)) (Kind ∷ [])
+    ∷ row (codes "+_REDUCE") (Reduce by.Sum) (Int ∷ [])
+    ∷ row (codes "*_REDUCE") (Reduce by.Product) (Int ∷ [])
+    ∷ row (codes "MAX_REDUCE") (Reduce by.Max) (Int ∷ [])
+    ∷ row (codes "MIN_REDUCE") (Reduce by.Min) (Int ∷ [])
+    ∷ row (codes "AND_REDUCE") (Reduce (by.Logic And)) (Kind ∷ [])
+    ∷ row (codes "OR_REDUCE") (Reduce (by.Logic Or)) (Kind ∷ [])
+    ∷ row (codes "XOR_REDUCE") (Reduce (by.Logic Xor)) (Kind ∷ [])
+    ∷ row (codes "DIST") Distribute (Kind ∷ [])
+    ∷ row (codes "INDEX") Index []
+    ∷ row (codes "PERMUTE") Permute (Kind ∷ [])
+    ∷ row (codes "BPERMUTE") BackPermute (Kind ∷ [])
+    ∷ row (codes "DPERMUTE") DefaultPermute (Kind ∷ [])
+    ∷ row (codes "EXTRACT") Extract (Kind ∷ [])
+    ∷ row (codes "REPLACE") Replace (Kind ∷ [])
+    ∷ row (codes "PACK") Pack (Kind ∷ [])
+    ∷ row (codes "MAKE_SEGDES") MakeSegdes []
+    ∷ row (codes "LENGTHS") Lengths []
+    ∷ row (codes "COPY") (Move Copy) (Count Lower ∷ Count Upper ∷ [])
+    ∷ row (codes "POP") (Move Pop) (Count Lower ∷ Count Upper ∷ [])
+    ∷ row (codes "CPOP") (Move MoveToTop) (Count Lower ∷ Count Upper ∷ [])
+    ∷ row (codes "CALL") Call (Callee ∷ [])
+    ∷ []
 
-unfoldable pub of_four : List ℕ → Head
-of_four word =
-    if bytes_eq word (codes "FUNC") then Func
-    else if bytes_eq word (codes "ELSE") then Else
-    else if bytes_eq word (codes "CALL") then Start keyword.Call
-    else if bytes_eq word (codes "COPY") then Start (keyword.Move motion.Copy)
-    else if bytes_eq word (codes "CPOP") then Start (keyword.Move motion.MoveToTop)
-    else if bytes_eq word (codes "DIST") then Start keyword.Distribute
-    else if bytes_eq word (codes "PACK") then Start keyword.Pack
-    else Other
+-- what the first row of a word has in a column; where no row has the word, this
+abbrev pub look_up : {A : Type 0} → (Row → A) → A → List Row → List ℕ → A
+look_up column missing [] word = missing
+look_up column missing (r ∷ rs) word = if bytes_eq word r.word then column r else look_up column missing rs word
 
-unfoldable pub of_five : List ℕ → Head
-of_five word =
-    if bytes_eq word (codes "CONST") then Start keyword.Const
-    else if bytes_eq word (codes "ENDIF") then Endif
-    else if bytes_eq word (codes "INDEX") then Start keyword.Index
-    else Other
-
-unfoldable pub of_six : List ℕ → Head
-of_six word =
-    if bytes_eq word (codes "LSHIFT") then Start (keyword.Arith arith.ShiftLeft)
-    else if bytes_eq word (codes "RSHIFT") then Start (keyword.Arith arith.ShiftRight)
-    else if bytes_eq word (codes "SELECT") then Start keyword.Select
-    else if bytes_eq word (codes "I_TO_B") then Start keyword.IntToBool
-    else if bytes_eq word (codes "B_TO_I") then Start keyword.BoolToInt
-    else if bytes_eq word (codes "+_SCAN") then Start (keyword.Scan folding.Sum)
-    else if bytes_eq word (codes "*_SCAN") then Start (keyword.Scan folding.Product)
-    else Other
-
-unfoldable pub of_seven : List ℕ → Head
-of_seven word =
-    if bytes_eq word (codes "PERMUTE") then Start keyword.Permute
-    else if bytes_eq word (codes "EXTRACT") then Start keyword.Extract
-    else if bytes_eq word (codes "REPLACE") then Start keyword.Replace
-    else if bytes_eq word (codes "LENGTHS") then Start keyword.Lengths
-    else if bytes_eq word (codes "OR_SCAN") then Start (keyword.Scan (folding.Logic logic.Or))
-    else Other
-
-unfoldable pub of_eight : List ℕ → Head
-of_eight word =
-    if bytes_eq word (codes "BPERMUTE") then Start keyword.BackPermute
-    else if bytes_eq word (codes "DPERMUTE") then Start keyword.DefaultPermute
-    else if bytes_eq word (codes "MAX_SCAN") then Start (keyword.Scan folding.Max)
-    else if bytes_eq word (codes "MIN_SCAN") then Start (keyword.Scan folding.Min)
-    else if bytes_eq word (codes "AND_SCAN") then Start (keyword.Scan (folding.Logic logic.And))
-    else if bytes_eq word (codes "XOR_SCAN") then Start (keyword.Scan (folding.Logic logic.Xor))
-    else if bytes_eq word (codes "+_REDUCE") then Start (keyword.Reduce folding.Sum)
-    else if bytes_eq word (codes "*_REDUCE") then Start (keyword.Reduce folding.Product)
-    else Other
-
-unfoldable pub of_more : List ℕ → Head
-of_more word =
-    if bytes_eq word (codes "OR_REDUCE") then Start (keyword.Reduce (folding.Logic logic.Or))
-    else if bytes_eq word (codes "MAX_REDUCE") then Start (keyword.Reduce folding.Max)
-    else if bytes_eq word (codes "MIN_REDUCE") then Start (keyword.Reduce folding.Min)
-    else if bytes_eq word (codes "AND_REDUCE") then Start (keyword.Reduce (folding.Logic logic.And))
-    else if bytes_eq word (codes "XOR_REDUCE") then Start (keyword.Reduce (folding.Logic logic.Xor))
-    else if bytes_eq word (codes "MAKE_SEGDES") then Start keyword.MakeSegdes
-    else Other
-
-unfoldable pub whole_head : List ℕ → Head
-whole_head word =
-    if length word == 1 then of_one word
-    else if length word == 2 then of_two word
-    else if length word == 3 then of_three word
-    else if length word == 4 then of_four word
-    else if length word == 5 then of_five word
-    else if length word == 6 then of_six word
-    else if length word == 7 then of_seven word
-    else if length word == 8 then of_eight word
-    else of_more word
-
+-- what a word begins
 unfoldable pub head_of : Language → List ℕ → Head
-head_of First word = first_head word
-head_of Whole word = whole_head word
+head_of language word = look_up (λ r. r.head) Other (rows language) word
+
+-- what each word behind it must be
+unfoldable pub slots_of : Language → List ℕ → List Slot
+slots_of language word = look_up (λ r. r.slots) [] (rows language) word
+
+-- ---- the same, sought among the words of a length, and by what a word begins
+
+-- the rows whose words have such a length
+abbrev pub rows_with : (ℕ → Bool) → List Row → List Row
+rows_with is_such [] = []
+rows_with is_such (r ∷ rs) = if is_such (length r.word) then r ∷ rows_with is_such rs else rows_with is_such rs
+
+-- what a word of this length begins, and what a longer one
+unfoldable pub head_of_length : ℕ → List ℕ → Head
+head_of_length n word = look_up (λ r. r.head) Other (rows_with (λ m. m == n) (rows Whole)) word
+
+unfoldable pub head_longer : ℕ → List ℕ → Head
+head_longer n word = look_up (λ r. r.head) Other (rows_with (nat_lt n) (rows Whole)) word
+
+-- what each word behind one that begins this must be
+abbrev pub head_slots : Language → Head → List Slot
+head_slots language (Start k) = keyword_slots language k
+head_slots language _ = []

@@ -7,6 +7,7 @@ use Rattle.vcode_base.specs.declared.op.Elementwise.TheVariants as elementwise
 use Rattle.vcode_base.specs.declared.op.Segmented.TheVariants as segmented
 use Rattle.vcode_base.specs.declared.op.Fold.{Fold}
 use Rattle.vcode_base.specs.declared.op.Fold.TheVariants as folds
+use Rattle.vcode_reader.specs.declared.keyword.Entries.TheVariants as entries
 use Rattle.vcode_reader.specs.declared.keyword.Folding.{Folding}
 use Rattle.vcode_reader.specs.declared.keyword.Folding.TheVariants as folding
 use Rattle.vcode_reader.specs.declared.keyword.Keyword.{Keyword}
@@ -19,10 +20,10 @@ use Rattle.vcode_reader.specs.declared.parts.Parts.{Parts}
 use Rattle.vcode_reader.specs.Trees.{Item}
 
 -- what the words of an instruction give, behind its first
-abbrev pub Gathered : Type 0
-Gathered = Parts (List ℤ) (List ℕ)
+abbrev pub ItemParts : Type 0
+ItemParts = Parts (List ℤ) (List ℕ)
 
-abbrev pub no_parts : Gathered
+abbrev pub no_parts : ItemParts
 no_parts = record { kind = scalar.Int; lower = 0; upper = 0; numbers = []; callee = [] }
 
 -- the kinds that CONST takes
@@ -37,30 +38,30 @@ folding_slots folding.Max = slot.Int ∷ []
 folding_slots folding.Min = slot.Int ∷ []
 folding_slots (folding.Logic op) = slot.Kind ∷ []
 
--- what the words behind the first must be
-abbrev pub slots_of : Language → Keyword → List Slot
-slots_of language keyword.Const = constant_slot language ∷ slot.Values ∷ []
-slots_of language (keyword.Arith op) = slot.Int ∷ []
-slots_of language (keyword.Compare op) = slot.Int ∷ []
-slots_of language (keyword.Logic op) = slot.Kind ∷ []
-slots_of language keyword.Not = slot.Kind ∷ []
-slots_of language keyword.Select = slot.Kind ∷ []
-slots_of language keyword.IntToBool = []
-slots_of language keyword.BoolToInt = []
-slots_of language (keyword.Scan f) = folding_slots f
-slots_of language (keyword.Reduce f) = folding_slots f
-slots_of language keyword.Distribute = slot.Kind ∷ []
-slots_of language keyword.Index = []
-slots_of language keyword.Permute = slot.Kind ∷ []
-slots_of language keyword.BackPermute = slot.Kind ∷ []
-slots_of language keyword.DefaultPermute = slot.Kind ∷ []
-slots_of language keyword.Extract = slot.Kind ∷ []
-slots_of language keyword.Replace = slot.Kind ∷ []
-slots_of language keyword.Pack = slot.Kind ∷ []
-slots_of language keyword.MakeSegdes = []
-slots_of language keyword.Lengths = []
-slots_of language (keyword.Move motion) = slot.Lower ∷ slot.Upper ∷ []
-slots_of language keyword.Call = slot.Callee ∷ []
+-- what each word behind the first must be, by the first: as the table of words says
+abbrev pub keyword_slots : Language → Keyword → List Slot
+keyword_slots language keyword.Const = constant_slot language ∷ slot.Values ∷ []
+keyword_slots language (keyword.Arith op) = slot.Int ∷ []
+keyword_slots language (keyword.Compare op) = slot.Int ∷ []
+keyword_slots language (keyword.Logic op) = slot.Kind ∷ []
+keyword_slots language keyword.Not = slot.Kind ∷ []
+keyword_slots language keyword.Select = slot.Kind ∷ []
+keyword_slots language keyword.IntToBool = []
+keyword_slots language keyword.BoolToInt = []
+keyword_slots language (keyword.Scan f) = folding_slots f
+keyword_slots language (keyword.Reduce f) = folding_slots f
+keyword_slots language keyword.Distribute = slot.Kind ∷ []
+keyword_slots language keyword.Index = []
+keyword_slots language keyword.Permute = slot.Kind ∷ []
+keyword_slots language keyword.BackPermute = slot.Kind ∷ []
+keyword_slots language keyword.DefaultPermute = slot.Kind ∷ []
+keyword_slots language keyword.Extract = slot.Kind ∷ []
+keyword_slots language keyword.Replace = slot.Kind ∷ []
+keyword_slots language keyword.Pack = slot.Kind ∷ []
+keyword_slots language keyword.MakeSegdes = []
+keyword_slots language keyword.Lengths = []
+keyword_slots language (keyword.Move motion) = slot.Count entries.Lower ∷ slot.Count entries.Upper ∷ []
+keyword_slots language keyword.Call = slot.Callee ∷ []
 
 -- behind these one word INT may stand, which means nothing
 abbrev pub takes_int : Keyword → Bool
@@ -77,7 +78,7 @@ fold_of folding.Min kind = folds.Min
 fold_of (folding.Logic op) kind = folds.Logic op kind
 
 -- the instruction of a first word and of what the other words gave
-abbrev pub instruction_of : Keyword → Gathered → Item
+abbrev pub instruction_of : Keyword → ItemParts → Item
 instruction_of keyword.Const p = instr.Const p.kind p.numbers
 instruction_of (keyword.Arith op) p = instr.Elementwise (elementwise.Arith op)
 instruction_of (keyword.Compare op) p = instr.Elementwise (elementwise.Compare op)

@@ -6,28 +6,46 @@ use Rattle.vcode_reader.specs.declared.language.Language.{Language}
 use Rattle.vcode_reader.specs.declared.place.OpenIf.{OpenIf}
 use Rattle.vcode_reader.specs.declared.place.Place.{Place}
 use Rattle.vcode_reader.specs.Decode.{function_code}
-use Rattle.vcode_reader.specs.Drafts.{Drafted, draft_code}
-use Rattle.vcode_reader.specs.Keywords.{Gathered}
+use Rattle.vcode_reader.specs.Drafts.{DraftState, draft_code}
+use Rattle.vcode_reader.specs.Keywords.{ItemParts}
 use Rattle.vcode_reader.specs.Parsing.{Parse}
-use Rattle.vcode_reader.specs.Reading.{Fed}
+use Rattle.vcode_reader.specs.Reading.{ReaderState}
 use Rattle.vcode_reader.specs.Refusals.{Fault}
 use Rattle.vcode_reader.specs.Scan.{Scan}
 use Rattle.vcode_reader.specs.Trees.{CodeLine, Function}
 
-abbrev pub parse_code : Coded Language → Coded CodeLine → Coded OpenIf → Coded Place → Coded Slot → Coded Gathered → Coded (Option Fault) → Coded Parse
+abbrev pub parse_code : Coded Language → Coded CodeLine → Coded OpenIf → Coded Place → Coded Slot → Coded ItemParts →
+    Coded (Option Fault) → Coded Parse
 parse_code language line ifs place slot parts fault =
-    code_by (Language × (List Function × (Place × (List ℕ × (ℕ × (Drafted × (List Slot × (Gathered × Option Fault))))))))
-    (coded× language (coded× (coded_list (function_code line)) (coded× place (coded× (coded_list coded_ℕ) (coded× coded_ℕ (coded× (draft_code line ifs) (coded× (coded_list slot) (coded× parts fault))))))))
+    code_by (Language ×
+    (List Function × (Place × (List ℕ × (ℕ × (DraftState × (List Slot × (ItemParts × Option Fault))))))))
+    (coded× language
+    (coded× (coded_list (function_code line))
+    (coded× place
+    (coded× (coded_list coded_ℕ)
+    (coded× coded_ℕ (coded× (draft_code line ifs) (coded× (coded_list slot) (coded× parts fault))))))))
     (λ p. (p.language, (p.functions, (p.place, (p.name, (p.line, (p.draft, (p.slots, (p.parts, p.fault)))))))))
-    (λ t. record { language = t.0; functions = t.1.0; place = t.1.1.0; name = t.1.1.1.0; line = t.1.1.1.1.0; draft = t.1.1.1.1.1.0; slots = t.1.1.1.1.1.1.0; parts = t.1.1.1.1.1.1.1.0; fault = t.1.1.1.1.1.1.1.1 })
+    (λ t. record {
+      language = t.0;
+      functions = t.1.0;
+      place = t.1.1.0;
+      name = t.1.1.1.0;
+      line = t.1.1.1.1.0;
+      draft = t.1.1.1.1.1.0;
+      slots = t.1.1.1.1.1.1.0;
+      parts = t.1.1.1.1.1.1.1.0;
+      fault = t.1.1.1.1.1.1.1.1;
+    })
     (λ _. refl)
 
 abbrev pub scan_code : {P : Type 0} → Coded P → Coded (Option ℕ) → Coded (Scan P)
 scan_code {P} found comment =
     code_by (P × (ℕ × (List ℕ × Option ℕ))) (coded× found (coded× coded_ℕ (coded× (coded_list coded_ℕ) comment)))
-    (λ s. (s.found, (s.line, (s.word, s.comment)))) (λ t. record { found = t.0; line = t.1.0; word = t.1.1.0; comment = t.1.1.1 }) (λ _. refl)
+    (λ s. (s.found, (s.line, (s.word, s.comment))))
+    (λ t. record { found = t.0; line = t.1.0; word = t.1.1.0; comment = t.1.1.1 }) (λ _. refl)
 
-abbrev pub fed_code : Coded (Scan Parse) → Coded Language → Coded Fed
+abbrev pub fed_code : Coded (Scan Parse) → Coded Language → Coded ReaderState
 fed_code scan language =
     code_by (Scan Parse × (Language × (ℕ × Bool))) (coded× scan (coded× language (coded× coded_ℕ coded_bool)))
-    (λ r. (r.scan, (r.language, (r.first_line, r.failed)))) (λ t. record { scan = t.0; language = t.1.0; first_line = t.1.1.0; failed = t.1.1.1 }) (λ _. refl)
+    (λ r. (r.scan, (r.language, (r.first_line, r.failed))))
+    (λ t. record { scan = t.0; language = t.1.0; first_line = t.1.1.0; failed = t.1.1.1 }) (λ _. refl)

@@ -1,15 +1,14 @@
 -- What a text comes to: its program, or its first fault with the line.
 use Rattle.std.specs.Prelude.{◌≡◌, ℕ, Bool, false, List, Option, Some, None, Result, Ok, Err, Vec}
-use Rattle.vcode_reader.specs.declared.fault.Refusal.TheVariants.{Unfinished}
-use Rattle.vcode_reader.specs.declared.fault.ReadFault.{ReadFault}
-use Rattle.vcode_reader.specs.declared.fault.ReadFault.TheVariants.{Memory, At}
+use Rattle.vcode_reader.specs.declared.fault.CodeFault.TheVariants.{Unfinished}
+use Rattle.vcode_base.specs.declared.fault.TextFault.TheVariants.{Memory, At}
 use Rattle.vcode_reader.specs.declared.language.Language.{Language}
 use Rattle.vcode_reader.specs.declared.language.Language.TheVariants.{First}
 use Rattle.vcode_reader.specs.declared.place.Place.{Place}
 use Rattle.vcode_reader.specs.declared.place.Place.TheVariants.{Outside, Name, Inside, InsideOrInt, Words, Elements}
-use Rattle.vcode_reader.specs.Drafts.{innermost}
+use Rattle.vcode_reader.specs.Drafts.{innermost_line}
 use Rattle.vcode_reader.specs.Parsing.{Parse, start, take}
-use Rattle.vcode_reader.specs.Refusals.{Fault}
+use Rattle.vcode_reader.specs.Refusals.{Fault, ReadFault}
 use Rattle.vcode_reader.specs.Scan.{Scan, beginning, end_word, scan_all}
 use Rattle.vcode_reader.specs.Trees.{Function, Program}
 
@@ -17,16 +16,16 @@ use Rattle.vcode_reader.specs.Trees.{Function, Program}
 abbrev pub at_end : Place → Parse → Result (List Function) Fault
 at_end Outside p = Ok p.functions
 at_end Name p = Err (Unfinished, p.line)
-at_end Inside p = Err (Unfinished, innermost p.draft.ifs p.line)
-at_end InsideOrInt p = Err (Unfinished, innermost p.draft.ifs p.line)
+at_end Inside p = Err (Unfinished, innermost_line p.draft.ifs p.line)
+at_end InsideOrInt p = Err (Unfinished, innermost_line p.draft.ifs p.line)
 at_end (Words k s begun) p = Err (Unfinished, begun)
 at_end (Elements k begun opened) p = Err (Unfinished, opened)
 
 -- what the words come to where the text ends behind them: in a comment that began at this line, or in none
-abbrev pub ended : Option Fault → Option ℕ → Parse → Result (List Function) Fault
-ended (Some fault) comment p = Err fault
-ended None (Some l) p = Err (Unfinished, l)
-ended None None p = at_end p.place p
+abbrev pub result_at_end : Option Fault → Option ℕ → Parse → Result (List Function) Fault
+result_at_end (Some fault) comment p = Err fault
+result_at_end None (Some l) p = Err (Unfinished, l)
+result_at_end None None p = at_end p.place p
 
 -- these functions, unless something is refused
 abbrev pub unless : Option Fault → List Function → Result (List Function) Fault
@@ -35,7 +34,7 @@ unless (Some fault) fs = Err fault
 
 -- what the bytes so far come to, if the text ends behind them
 unfoldable pub outcome : Scan Parse → Result (List Function) Fault
-outcome s = let e = end_word take s in ended e.found.fault e.comment e.found
+outcome s = let e = end_word take s in result_at_end e.found.fault e.comment e.found
 
 abbrev pub program_at : ℕ → Result (List Function) Fault → Result Program Fault
 program_at first (Ok fs) = Ok (record { first_line = first; functions = fs })
@@ -67,14 +66,15 @@ Gives (Err fault) wanted = Fails fault wanted
 abbrev pub HasScanned : Scan Parse → Language → ℕ → List ℕ → Type 0
 HasScanned s language first bytes = s ≡ scan_all take (beginning (start language) first) bytes
 
--- a reader of pieces: where its text stands, its language, the number of the first line, and whether it failed for want of memory
-pub record Fed : Type 0 where
+-- a reader of pieces: where its text stands, its language, the number of the first line, and whether it failed for
+-- want of memory
+pub record ReaderState : Type 0 where
   pub scan : Scan Parse
   pub language : Language
   pub first_line : ℕ
   pub failed : Bool
 
 -- the pieces so far are these bytes, and the reader hasn't failed
-pub record HasCome (r : Fed) (bytes : List ℕ) : Type 0 where
+pub record HasCome (r : ReaderState) (bytes : List ℕ) : Type 0 where
   pub going : r.failed ≡ false
   pub scanned : HasScanned r.scan r.language r.first_line bytes

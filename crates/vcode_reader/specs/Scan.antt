@@ -1,7 +1,8 @@
 -- The words of a text with their lines: what each byte does, whatever is made of a word.
 use Rattle.std.specs.Prelude.{ℕ, ◌+◌, ◌==◌, List, [], ◌∷◌, ◌++◌, Option, Some, None, if◌then◌else◌}
 use Rattle.vcode_reader.specs.declared.class.Class.{Class}
-use Rattle.vcode_reader.specs.declared.class.Class.TheVariants.{LineFeed, Blank, OpenBrace, CloseBrace, Parenthesis, Plain, Refused}
+use Rattle.vcode_reader.specs.declared.class.Class.TheVariants.{LineFeed, Blank, OpenBrace, CloseBrace, Parenthesis}
+use Rattle.vcode_reader.specs.declared.class.Class.TheVariants.{Plain, Refused}
 use Rattle.vcode_reader.specs.Classes.{class_of}
 
 -- a word with its line
@@ -9,7 +10,8 @@ pub record Word : Type 0 where
   pub text : List ℕ
   pub line : ℕ
 
--- where a text stands: what its whole words came to, the line, the bytes of the open word, the line where the open comment began
+-- where a text stands: what its whole words came to, the line, the bytes of the open word, the line where the open
+-- comment began
 pub record Scan (P : Type 0) : Type 0 where
   pub found : P
   pub line : ℕ
@@ -32,16 +34,16 @@ unfoldable pub end_word : {P : Type 0} → Emit P → Scan P → Scan P
 end_word emit s = ends_word emit s.word s
 
 -- a byte that is a word by itself
-unfoldable pub lone : {P : Type 0} → Emit P → ℕ → Scan P → Scan P
-lone emit b s = record s { found = emit (b ∷ []) s.line s.found }
+unfoldable pub lone_word : {P : Type 0} → Emit P → ℕ → Scan P → Scan P
+lone_word emit b s = record s { found = emit (b ∷ []) s.line s.found }
 
 abbrev pub in_text : {P : Type 0} → Emit P → Class → ℕ → Scan P → Scan P
 in_text emit LineFeed b s = let e = end_word emit s in record e { line = e.line + 1 }
 in_text emit Blank b s = end_word emit s
 in_text emit OpenBrace b s = let e = end_word emit s in record e { comment = Some e.line }
-in_text emit CloseBrace b s = lone emit b (end_word emit s)
-in_text emit Parenthesis b s = lone emit b (end_word emit s)
-in_text emit Refused b s = lone emit b (end_word emit s)
+in_text emit CloseBrace b s = lone_word emit b (end_word emit s)
+in_text emit Parenthesis b s = lone_word emit b (end_word emit s)
+in_text emit Refused b s = lone_word emit b (end_word emit s)
 in_text emit Plain b s = record s { word = s.word ++ b ∷ [] }
 
 abbrev pub in_comment : {P : Type 0} → Class → Scan P → Scan P

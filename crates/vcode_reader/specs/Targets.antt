@@ -1,8 +1,8 @@
 -- Where the code goes on, where that isn't the next line: an IF behind its ELSE, and an ELSE behind its ENDIF.
 use Rattle.std.specs.Prelude.{◌≡◌, ℕ, ◌+◌, List, [], ◌∷◌, ◌++◌, length, drop, Option, Some, None, slice_get}
-use Rattle.vcode_reader.specs.declared.line.Part.{Part}
-use Rattle.vcode_reader.specs.declared.line.Part.TheVariants as part
-use Rattle.vcode_reader.specs.Trees.{Item, Body, CodeLine, line_of, flat}
+use Rattle.vcode_reader.specs.declared.line.CodeItem.{CodeItem}
+use Rattle.vcode_reader.specs.declared.line.CodeItem.TheVariants as code_item
+use Rattle.vcode_reader.specs.Trees.{Item, Body, CodeLine, line_of, body_lines}
 
 -- the targets of a tail of the code, and the places behind its lines that an earlier IF or ELSE goes on at
 pub record Jumps : Type 0 where
@@ -18,11 +18,12 @@ others_of [] = []
 others_of (x ∷ xs) = xs
 
 -- one line more in front, at this place
-abbrev pub jumps_before : Part Item → ℕ → Jumps → Jumps
-jumps_before (part.Do i) place j = record { list = None ∷ j.list; waits = j.waits }
-jumps_before part.If place j = record { list = first_of j.waits ∷ j.list; waits = others_of j.waits }
-jumps_before part.Else place j = record { list = first_of j.waits ∷ j.list; waits = (place + 1) ∷ others_of j.waits }
-jumps_before part.Endif place j = record { list = None ∷ j.list; waits = (place + 1) ∷ j.waits }
+abbrev pub jumps_before : CodeItem Item → ℕ → Jumps → Jumps
+jumps_before (code_item.Do i) place j = record { list = None ∷ j.list; waits = j.waits }
+jumps_before code_item.If place j = record { list = first_of j.waits ∷ j.list; waits = others_of j.waits }
+jumps_before code_item.Else place j =
+    record { list = first_of j.waits ∷ j.list; waits = (place + 1) ∷ others_of j.waits }
+jumps_before code_item.Endif place j = record { list = None ∷ j.list; waits = (place + 1) ∷ j.waits }
 
 -- the lines from this place on
 unfoldable pub jumps_from : ℕ → List CodeLine → Jumps
@@ -40,10 +41,13 @@ target_in (Some target) = target
 abbrev pub target_at : List CodeLine → ℕ → Option ℕ
 target_at lines place = target_in (slice_get (targets_of lines) place)
 
--- The target at the place of a line that begins a part of an IF is the place behind the line that ends the part: for an
+-- The target at the place of a line that begins a part of an IF is the place behind the line that ends the part: for
+-- an
 -- IF the first line behind its ELSE, for an ELSE the first line behind its ENDIF.
 abbrev pub EachPartIsPassed : Type 0
 EachPartIsPassed =
     (lines : List CodeLine) (place line number : ℕ) (inner : Body) (rest : List CodeLine) →
-    (drop place lines ≡ line_of part.If line ∷ (flat inner ++ line_of part.Else number ∷ rest) → target_at lines place ≡ Some (place + length (flat inner) + 2))
-    × (drop place lines ≡ line_of part.Else line ∷ (flat inner ++ line_of part.Endif number ∷ rest) → target_at lines place ≡ Some (place + length (flat inner) + 2))
+    (drop place lines ≡ line_of code_item.If line ∷ (body_lines inner ++ line_of code_item.Else number ∷ rest) →
+    target_at lines place ≡ Some (place + length (body_lines inner) + 2))
+    × (drop place lines ≡ line_of code_item.Else line ∷ (body_lines inner ++ line_of code_item.Endif number ∷ rest) →
+    target_at lines place ≡ Some (place + length (body_lines inner) + 2))

@@ -1,16 +1,18 @@
 -- A program as the trees of its functions, and as their lines one after another.
 use Rattle.std.specs.Prelude.{ℕ, ℤ, List, [], ◌∷◌, ◌++◌}
+use Rattle.std.specs.List.{All, AllByRecursion}
 use Rattle.vcode_base.specs.declared.instr.Instr.{Instr}
-use Rattle.vcode_base.specs.declared.instr.Instr.TheVariants.{Return}
-use Rattle.vcode_reader.specs.declared.line.Line.{Line}
-use Rattle.vcode_reader.specs.declared.line.Part.{Part}
-use Rattle.vcode_reader.specs.declared.line.Part.TheVariants as part
+use Rattle.vcode_base.specs.declared.instr.Instr.TheVariants.{If, Return}
+use Rattle.vcode_reader.specs.declared.line.Numbered.{Numbered}
+use Rattle.vcode_reader.specs.declared.line.CodeItem.{CodeItem}
+use Rattle.vcode_reader.specs.declared.line.CodeItem.TheVariants as code_item
 
 -- an instruction with its list or with the name that it calls
 abbrev pub Item : Type 0
 Item = Instr (List ℤ) (List ℕ)
 
--- The items of a body one after another, each with its line. An IF is a choice of two bodies, with the line of its ENDIF;
+-- The items of a body one after another, each with its line. An IF is a choice of two bodies, with the line of its
+-- ENDIF;
 -- the second body is empty where there is no ELSE.
 pub data Body : Type 0 where
   End : Body
@@ -29,24 +31,49 @@ pub record Program : Type 0 where
   pub first_line : ℕ
   pub functions : List Function
 
-abbrev pub line_of : {I : Type 0} → I → ℕ → Line I
+abbrev pub line_of : {I : Type 0} → I → ℕ → Numbered I
 line_of i l = record { item = i; number = l }
 
 -- a line of the code
 abbrev pub CodeLine : Type 0
-CodeLine = Line (Part Item)
+CodeLine = Numbered (CodeItem Item)
 
 -- the line of an instruction
-abbrev pub doing : Item → ℕ → CodeLine
-doing i l = line_of (part.Do i) l
+abbrev pub instruction_line : Item → ℕ → CodeLine
+instruction_line i l = line_of (code_item.Do i) l
 
 -- the lines of a body: ELSE stands in every IF, on the line of the IF
-abbrev pub flat : Body → List CodeLine
-flat End = []
-flat (Do i l b) = doing i l ∷ flat b
-flat (Choice l first second e b) =
-    line_of part.If l ∷ (flat first ++ (line_of part.Else l ∷ (flat second ++ (line_of part.Endif e ∷ flat b))))
+abbrev pub body_lines : Body → List CodeLine
+body_lines End = []
+body_lines (Do i l b) = instruction_line i l ∷ body_lines b
+body_lines (Choice l first second e b) =
+    line_of code_item.If l
+    ∷ (body_lines first ++ (line_of code_item.Else l ∷ (body_lines second ++ (line_of code_item.Endif e ∷ body_lines b))))
 
 -- the lines of a function, RET among them
 abbrev pub lines_of : Function → List CodeLine
-lines_of f = flat f.body ++ doing Return f.ret ∷ []
+lines_of f = body_lines f.body ++ instruction_line Return f.ret ∷ []
+
+-- an instruction of a body: any but RET, which stands behind the body alone, and IF, which is a choice of two bodies
+abbrev pub IsBodyInstruction : Item → Type 0
+IsBodyInstruction Return = ⊥
+IsBodyInstruction If = ⊥
+IsBodyInstruction _ = Unit {0}
+
+-- the instructions of a body are such, in every part of its IFs
+abbrev pub IsProperBody : Body → Type 0
+IsProperBody End = Unit {0}
+IsProperBody (Do i l b) = IsBodyInstruction i × IsProperBody b
+IsProperBody (Choice l first second e b) = IsProperBody first × IsProperBody second × IsProperBody b
+
+-- the bodies of functions are
+abbrev pub HaveProperBodies : List Function → Type 0
+HaveProperBodies fs = All (λ f. IsProperBody f.body) fs
+
+-- the instructions of lines are those of a body
+abbrev pub IsBodyLine : CodeItem Item → Type 0
+IsBodyLine (code_item.Do i) = IsBodyInstruction i
+IsBodyLine _ = Unit {0}
+
+abbrev pub HaveBodyInstructions : List CodeLine → Type 0
+HaveBodyInstructions xs = AllByRecursion (λ x. IsBodyLine x.item) xs

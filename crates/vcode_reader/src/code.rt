@@ -1,12 +1,13 @@
 //! The lines of a function, and where they go on.
 
 ghost use Rattle.std.specs.Prelude.{◌≡◌, ◌+◌, ◌<◌, ◌^◌, ◌++◌, [], ◌∷◌, true, false, length, IfOk, OnOk, OnErr, IsErr, option_copied};
-ghost use Rattle.vcode_reader.specs.Trees.{line_of};
-ghost use Rattle.vcode_reader.specs.Drafts.{no_lines, with_item, with_if, with_else, closed, with_endif, takes_else, is_open, innermost};
+ghost use Rattle.vcode_reader.specs.Trees.{line_of, IsBodyInstruction, HaveBodyInstructions};
+ghost use Rattle.vcode_reader.specs.Drafts.{no_lines, with_item, with_if, with_else, lines_after_endif, with_endif};
+ghost use Rattle.vcode_reader.specs.Drafts.{takes_else, is_open, innermost_line};
 ghost use Rattle.vcode_reader.specs.Targets.{first_of, others_of, jumps_before, jumps_from, targets_of};
-ghost use Rattle.vcode_reader.specs.Decode.{IsFlat};
+ghost use Rattle.vcode_reader.specs.Decode.{AreBodyLines};
 
-use crate::line::{CodeLine, Line, Part};
+use crate::line::{CodeItem, CodeLine, Numbered};
 use crate::place::OpenIf;
 use std::alloc::{AllocError, Allocator};
 use std::marker::Model;
@@ -16,14 +17,14 @@ use vcode_base::Instruction;
 #[derive(Drop)]
 pub struct Draft<A: Allocator> {
     lines: Vec<CodeLine<A>, A>,
-    ifs: Stack<OpenIf, A>,
+    ifs: FrontList<OpenIf, A>,
 }
 
 impl<A: Allocator> Model for Draft<A> {
-    ghost use Rattle.vcode_reader.specs.Drafts.{Drafted, draft_code, IsDraft};
+    ghost use Rattle.vcode_reader.specs.Drafts.{DraftState, draft_code, IsDraft};
     ghost use Rattle.std.specs.Coded.{codes};
 
-    ghost Value = { Drafted };
+    ghost Value = { DraftState };
 
     ghost coded = { draft_code (Prim.hlevel codes) (Prim.hlevel codes) };
 
@@ -39,7 +40,7 @@ impl<A: Allocator + Clone> Draft<A> {
     {
         Ok(Draft {
             lines: Vec::new(alloc.clone()?),
-            ifs: Stack::new(alloc),
+            ifs: FrontList::new(alloc),
         })
     }
 }
@@ -47,10 +48,11 @@ impl<A: Allocator + Clone> Draft<A> {
 impl<A: Allocator> Draft<A> {
     /// One instruction more, which stands on this line.
     pub fn push(&mut self, instruction: Instruction<A>, line: u64) -> Result<(), AllocError>
+        requires { IsBodyInstruction instruction }
         ensures { OnOk result (self.new ≡ with_item instruction line self.old) }
     {
-        self.lines.push(Line {
-            item: Part::Do(instruction),
+        self.lines.push(Numbered {
+            item: CodeItem::Do(instruction),
             number: line,
         })?;
         Ok(())
@@ -64,7 +66,7 @@ impl<A: Allocator> Draft<A> {
             line,
             has_else: false,
         };
-        add_open(&mut self.lines, &mut self.ifs, Part::If, open)?;
+        add_open(&mut self.lines, &mut self.ifs, CodeItem::If, open)?;
         Ok(())
     }
 
@@ -93,8 +95,8 @@ impl<A: Allocator> Draft<A> {
     }
 
     /// The line of the innermost open IF, or else this one.
-    pub fn innermost(&self, line: u64) -> u64
-        ensures { result ≡ innermost self.now.ifs line }
+    pub fn innermost_line(&self, line: u64) -> u64
+        ensures { result ≡ innermost_line self.now.ifs line }
     {
         match self.ifs.first() {
             None => line,
@@ -112,7 +114,7 @@ impl<A: Allocator> Draft<A> {
                 line: opened.line,
                 has_else: true,
             };
-            add_open(&mut self.lines, &mut self.ifs, Part::Else, passed)?;
+            add_open(&mut self.lines, &mut self.ifs, CodeItem::Else, passed)?;
         }
         Ok(())
     }
@@ -130,7 +132,8 @@ impl<A: Allocator> Draft<A> {
     /// The lines.
     pub fn into_vec(self) -> Vec<CodeLine<A>, A>
         ensures same { result.items ≡ self.lines }
-        ensures flat { is_open self.ifs ≡ false → IsFlat result.items }
+        ensures body { is_open self.ifs ≡ false → AreBodyLines result.items }
+        ensures instructions { HaveBodyInstructions result.items }
     {
         let Draft { lines, ifs: _ } = self;
         lines
@@ -140,7 +143,7 @@ impl<A: Allocator> Draft<A> {
 /// After want of memory: no line and no open IF.
 fn give_up<A: Allocator>(
     lines: &mut Vec<CodeLine<A>, A>,
-    ifs: &mut Stack<OpenIf, A>,
+    ifs: &mut FrontList<OpenIf, A>,
 ) -> Result<(), AllocError>
     ensures err { IsErr result }
     ensures lines { lines.new.items ≡ [] }
@@ -154,8 +157,8 @@ fn give_up<A: Allocator>(
 /// One open IF more, and this item on its line.
 fn add_open<A: Allocator>(
     lines: &mut Vec<CodeLine<A>, A>,
-    ifs: &mut Stack<OpenIf, A>,
-    item: Part<Instruction<A>>,
+    ifs: &mut FrontList<OpenIf, A>,
+    item: CodeItem<Instruction<A>>,
     opened: OpenIf,
 ) -> Result<(), AllocError>
     ensures lines { OnOk result (lines.new.items ≡ lines.old.items ++ line_of item opened.line ∷ []) }
@@ -163,7 +166,7 @@ fn add_open<A: Allocator>(
     ensures no_lines { OnErr result (lines.new.items ≡ []) }
     ensures no_ifs { OnErr result (ifs.new ≡ []) }
 {
-    let line = Line {
+    let line = Numbered {
         item,
         number: opened.line,
     };
@@ -176,21 +179,21 @@ fn add_open<A: Allocator>(
 /// The `ENDIF` of an IF that was taken off, behind an `ELSE` where the IF has none.
 fn close<A: Allocator>(
     lines: &mut Vec<CodeLine<A>, A>,
-    ifs: &mut Stack<OpenIf, A>,
+    ifs: &mut FrontList<OpenIf, A>,
     opened: OpenIf,
     line: u64,
 ) -> Result<(), AllocError>
-    ensures lines { OnOk result (lines.new.items ≡ closed opened line lines.old.items) }
+    ensures lines { OnOk result (lines.new.items ≡ lines_after_endif opened line lines.old.items) }
     ensures ifs { OnOk result (ifs.new ≡ ifs.old) }
     ensures no_lines { OnErr result (lines.new.items ≡ []) }
     ensures no_ifs { OnErr result (ifs.new ≡ []) }
 {
-    let between = Line {
-        item: Part::Else,
+    let between = Numbered {
+        item: CodeItem::Else,
         number: opened.line,
     };
-    let last = Line {
-        item: Part::Endif,
+    let last = Numbered {
+        item: CodeItem::Endif,
         number: line,
     };
     if !opened.has_else && lines.push(between).is_err() {
@@ -204,11 +207,11 @@ fn close<A: Allocator>(
 
 /// A list that grows and shrinks at its front.
 #[derive(Drop)]
-struct Stack<T, A: Allocator> {
+struct FrontList<T, A: Allocator> {
     elements: Vec<T, A>,
 }
 
-impl<T, A: Allocator> Model for Stack<T, A> {
+impl<T, A: Allocator> Model for FrontList<T, A> {
     ghost use Rattle.std.specs.Prelude.{List, reverse};
 
     ghost Value = { List T };
@@ -216,11 +219,11 @@ impl<T, A: Allocator> Model for Stack<T, A> {
     ghost view = { λ s. reverse s.elements.items };
 }
 
-impl<T: Drop, A: Allocator> Stack<T, A> {
-    fn new(alloc: A) -> Stack<T, A>
+impl<T: Drop, A: Allocator> FrontList<T, A> {
+    fn new(alloc: A) -> FrontList<T, A>
         ensures { result ≡ [] }
     {
-        Stack {
+        FrontList {
             elements: Vec::new(alloc),
         }
     }
@@ -260,7 +263,7 @@ impl<T: Drop, A: Allocator> Stack<T, A> {
     fn into_vec(self) -> Vec<T, A>
         ensures { result.items ≡ self }
     {
-        let Stack { mut elements } = self;
+        let FrontList { mut elements } = self;
         elements.reverse();
         elements
     }
@@ -269,8 +272,8 @@ impl<T: Drop, A: Allocator> Stack<T, A> {
 /// The targets from a place on, and the places that wait for an earlier IF or ELSE.
 #[derive(Drop)]
 struct Finder<A: Allocator> {
-    targets: Stack<Option<usize>, A>,
-    waits: Stack<usize, A>,
+    targets: FrontList<Option<usize>, A>,
+    waits: FrontList<usize, A>,
 }
 
 impl<A: Allocator> Model for Finder<A> {
@@ -282,22 +285,22 @@ impl<A: Allocator> Model for Finder<A> {
 }
 
 impl<A: Allocator> Finder<A> {
-    fn before(&mut self, item: &Part<Instruction<A>>, place: usize) -> Result<(), AllocError>
+    fn before(&mut self, item: &CodeItem<Instruction<A>>, place: usize) -> Result<(), AllocError>
         requires { place + 1 < 2 ^ 64 }
         ensures { OnOk result (self.new ≡ jumps_before item.now place self.old) }
     {
         match item {
-            Part::Do(_) => self.targets.push(None)?,
-            Part::If => {
+            CodeItem::Do(_) => self.targets.push(None)?,
+            CodeItem::If => {
                 let target = self.waits.pop();
                 self.targets.push(target)?;
             }
-            Part::Else => {
+            CodeItem::Else => {
                 let target = self.waits.pop();
                 self.targets.push(target)?;
                 self.waits.push(place + 1)?;
             }
-            Part::Endif => {
+            CodeItem::Endif => {
                 self.targets.push(None)?;
                 self.waits.push(place + 1)?;
             }
@@ -328,8 +331,8 @@ pub fn targets_of<A: Allocator + Clone>(
     ensures { IfOk result (λ found. found.items ≡ targets_of lines.now) }
 {
     let mut finder = Finder {
-        targets: Stack::new(alloc.clone()?),
-        waits: Stack::new(alloc),
+        targets: FrontList::new(alloc.clone()?),
+        waits: FrontList::new(alloc),
     };
     finder.find(lines)?;
     let Finder { targets, waits: _ } = finder;

@@ -1,11 +1,11 @@
 ghost use Rattle.std.specs.Prelude.{◌≡◌};
 ghost use Rattle.vcode_reader.specs.Refusals.{refusal_text};
 
-use std::alloc::AllocError;
+use vcode_base::TextFault;
 
 /// What is wrong with a text.
 #[derive(Clone, Copy, PartialEq, Eq, Debug)]
-pub enum Refusal {
+pub enum CodeFault {
     /// A word that may not stand where it does, or a byte that no text has.
     BadWord,
     /// A word that is no number where one must stand.
@@ -20,36 +20,21 @@ pub enum Refusal {
     TooLarge,
 }
 
-/// Why a text gives no program: there was no memory for it, or the text is refused at this line.
-#[derive(Clone, Copy, PartialEq, Eq, Debug)]
-pub enum ReadFault {
-    Memory,
-    At(Refusal, u64),
-}
+/// Why a text gives no program: there was no memory for it, or it has this fault at this line.
+pub type ReadFault = TextFault<CodeFault>;
 
-impl Refusal {
+impl CodeFault {
     /// The name that the report prints.
     pub fn text(self) -> &'static str
         ensures { result.now ≡ refusal_text self }
     {
         match self {
-            Refusal::BadWord => "S1 BAD_WORD",
-            Refusal::BadNumber => "S2 BAD_NUMBER",
-            Refusal::Unfinished => "S3 UNFINISHED",
-            Refusal::Misplaced => "S4 MISPLACED",
-            Refusal::FunctionTwice => "S5 FUNCTION_TWICE",
-            Refusal::TooLarge => "S6 TOO_LARGE",
+            CodeFault::BadWord => "S1 BAD_WORD",
+            CodeFault::BadNumber => "S2 BAD_NUMBER",
+            CodeFault::Unfinished => "S3 UNFINISHED",
+            CodeFault::Misplaced => "S4 MISPLACED",
+            CodeFault::FunctionTwice => "S5 FUNCTION_TWICE",
+            CodeFault::TooLarge => "S6 TOO_LARGE",
         }
-    }
-}
-
-impl From<AllocError> for ReadFault {
-    ghost use Rattle.std.specs.Prelude.{◌≡◌};
-    ghost use Rattle.vcode_reader.specs.declared.fault.ReadFault.TheVariants.{Memory};
-
-    ghost from_gives = { λ _ fault. fault ≡ Memory };
-
-    fn from(_: AllocError) -> ReadFault {
-        ReadFault::Memory
     }
 }

@@ -1,7 +1,8 @@
 //! What a word begins.
 
 ghost use Rattle.std.specs.Prelude.{◌≡◌};
-ghost use Rattle.vcode_reader.specs.Heads.{first_head, of_one, of_two, of_three, of_four, of_five, of_six, of_seven, of_eight, of_more, whole_head, head_of};
+ghost use Rattle.vcode_reader.specs.declared.language.Language.TheVariants.{First, Whole};
+ghost use Rattle.vcode_reader.specs.Heads.{head_of_length, head_longer, head_of};
 
 use crate::keyword::{Folding, Keyword};
 use crate::language::Language;
@@ -20,9 +21,9 @@ pub enum Head {
     Other,
 }
 
-#[tactic(auto, unfolding(crate::specs::Heads::first_head))]
+#[tactic(auto, unfolding(crate::specs::Heads::head_of, crate::specs::Heads::rows))]
 fn first_head(word: &[u8]) -> Head
-    ensures { result ≡ first_head word.now }
+    ensures { result ≡ head_of First word.now }
 {
     if word == b"FUNC".as_slice() {
         Head::Func
@@ -42,9 +43,9 @@ fn first_head(word: &[u8]) -> Head
 }
 
 /// Words of one byte.
-#[tactic(auto, unfolding(crate::specs::Heads::of_one))]
+#[tactic(auto, unfolding(crate::specs::Heads::head_of_length, crate::specs::Heads::rows))]
 fn of_one(word: &[u8]) -> Head
-    ensures { result ≡ of_one word.now }
+    ensures { result ≡ head_of_length 1 word.now }
 {
     match word {
         b"+" => Head::Start(Keyword::Arith(Arith::Add)),
@@ -60,68 +61,68 @@ fn of_one(word: &[u8]) -> Head
 }
 
 /// Words of two bytes.
-#[tactic(auto, unfolding(crate::specs::Heads::of_two))]
+#[tactic(auto, unfolding(crate::specs::Heads::head_of_length, crate::specs::Heads::rows))]
 fn of_two(word: &[u8]) -> Head
-    ensures { result ≡ of_two word.now }
+    ensures { result ≡ head_of_length 2 word.now }
 {
     match word {
+        b"IF" => Head::If,
         b"<=" => Head::Start(Keyword::Compare(Comparison::LessOrEqual)),
         b">=" => Head::Start(Keyword::Compare(Comparison::GreaterOrEqual)),
         b"!=" => Head::Start(Keyword::Compare(Comparison::NotEqual)),
         b"OR" => Head::Start(Keyword::Logic(Logic::Or)),
-        b"IF" => Head::If,
         _ => Head::Other,
     }
 }
 
 /// Words of three bytes.
-#[tactic(auto, unfolding(crate::specs::Heads::of_three))]
+#[tactic(auto, unfolding(crate::specs::Heads::head_of_length, crate::specs::Heads::rows))]
 fn of_three(word: &[u8]) -> Head
-    ensures { result ≡ of_three word.now }
+    ensures { result ≡ head_of_length 3 word.now }
 {
     match word {
         b"RET" => Head::Return,
-        b"POP" => Head::Start(Keyword::Move(StackMove::Pop)),
         b"AND" => Head::Start(Keyword::Logic(Logic::And)),
         b"XOR" => Head::Start(Keyword::Logic(Logic::Xor)),
         b"NOT" => Head::Start(Keyword::Not),
+        b"POP" => Head::Start(Keyword::Move(StackMove::Pop)),
         _ => Head::Other,
     }
 }
 
 /// Words of four bytes.
-#[tactic(auto, unfolding(crate::specs::Heads::of_four))]
+#[tactic(auto, unfolding(crate::specs::Heads::head_of_length, crate::specs::Heads::rows))]
 fn of_four(word: &[u8]) -> Head
-    ensures { result ≡ of_four word.now }
+    ensures { result ≡ head_of_length 4 word.now }
 {
     if word == b"FUNC".as_slice() {
         Head::Func
     } else if word == b"ELSE".as_slice() {
         Head::Else
-    } else if word == b"CALL".as_slice() {
-        Head::Start(Keyword::Call)
-    } else if word == b"COPY".as_slice() {
-        Head::Start(Keyword::Move(StackMove::Copy))
-    } else if word == b"CPOP".as_slice() {
-        Head::Start(Keyword::Move(StackMove::MoveToTop))
     } else if word == b"DIST".as_slice() {
         Head::Start(Keyword::Distribute)
     } else if word == b"PACK".as_slice() {
         Head::Start(Keyword::Pack)
+    } else if word == b"COPY".as_slice() {
+        Head::Start(Keyword::Move(StackMove::Copy))
+    } else if word == b"CPOP".as_slice() {
+        Head::Start(Keyword::Move(StackMove::MoveToTop))
+    } else if word == b"CALL".as_slice() {
+        Head::Start(Keyword::Call)
     } else {
         Head::Other
     }
 }
 
 /// Words of five bytes.
-#[tactic(auto, unfolding(crate::specs::Heads::of_five))]
+#[tactic(auto, unfolding(crate::specs::Heads::head_of_length, crate::specs::Heads::rows))]
 fn of_five(word: &[u8]) -> Head
-    ensures { result ≡ of_five word.now }
+    ensures { result ≡ head_of_length 5 word.now }
 {
-    if word == b"CONST".as_slice() {
-        Head::Start(Keyword::Const)
-    } else if word == b"ENDIF".as_slice() {
+    if word == b"ENDIF".as_slice() {
         Head::Endif
+    } else if word == b"CONST".as_slice() {
+        Head::Start(Keyword::Const)
     } else if word == b"INDEX".as_slice() {
         Head::Start(Keyword::Index)
     } else {
@@ -130,9 +131,9 @@ fn of_five(word: &[u8]) -> Head
 }
 
 /// Words of six bytes.
-#[tactic(auto, unfolding(crate::specs::Heads::of_six))]
+#[tactic(auto, unfolding(crate::specs::Heads::head_of_length, crate::specs::Heads::rows))]
 fn of_six(word: &[u8]) -> Head
-    ensures { result ≡ of_six word.now }
+    ensures { result ≡ head_of_length 6 word.now }
 {
     if word == b"LSHIFT".as_slice() {
         Head::Start(Keyword::Arith(Arith::ShiftLeft))
@@ -154,11 +155,13 @@ fn of_six(word: &[u8]) -> Head
 }
 
 /// Words of seven bytes.
-#[tactic(auto, unfolding(crate::specs::Heads::of_seven))]
+#[tactic(auto, unfolding(crate::specs::Heads::head_of_length, crate::specs::Heads::rows))]
 fn of_seven(word: &[u8]) -> Head
-    ensures { result ≡ of_seven word.now }
+    ensures { result ≡ head_of_length 7 word.now }
 {
-    if word == b"PERMUTE".as_slice() {
+    if word == b"OR_SCAN".as_slice() {
+        Head::Start(Keyword::Scan(Folding::Logic(Logic::Or)))
+    } else if word == b"PERMUTE".as_slice() {
         Head::Start(Keyword::Permute)
     } else if word == b"EXTRACT".as_slice() {
         Head::Start(Keyword::Extract)
@@ -166,23 +169,17 @@ fn of_seven(word: &[u8]) -> Head
         Head::Start(Keyword::Replace)
     } else if word == b"LENGTHS".as_slice() {
         Head::Start(Keyword::Lengths)
-    } else if word == b"OR_SCAN".as_slice() {
-        Head::Start(Keyword::Scan(Folding::Logic(Logic::Or)))
     } else {
         Head::Other
     }
 }
 
 /// Words of eight bytes.
-#[tactic(auto, unfolding(crate::specs::Heads::of_eight))]
+#[tactic(auto, unfolding(crate::specs::Heads::head_of_length, crate::specs::Heads::rows))]
 fn of_eight(word: &[u8]) -> Head
-    ensures { result ≡ of_eight word.now }
+    ensures { result ≡ head_of_length 8 word.now }
 {
-    if word == b"BPERMUTE".as_slice() {
-        Head::Start(Keyword::BackPermute)
-    } else if word == b"DPERMUTE".as_slice() {
-        Head::Start(Keyword::DefaultPermute)
-    } else if word == b"MAX_SCAN".as_slice() {
+    if word == b"MAX_SCAN".as_slice() {
         Head::Start(Keyword::Scan(Folding::Max))
     } else if word == b"MIN_SCAN".as_slice() {
         Head::Start(Keyword::Scan(Folding::Min))
@@ -194,24 +191,28 @@ fn of_eight(word: &[u8]) -> Head
         Head::Start(Keyword::Reduce(Folding::Sum))
     } else if word == b"*_REDUCE".as_slice() {
         Head::Start(Keyword::Reduce(Folding::Product))
+    } else if word == b"BPERMUTE".as_slice() {
+        Head::Start(Keyword::BackPermute)
+    } else if word == b"DPERMUTE".as_slice() {
+        Head::Start(Keyword::DefaultPermute)
     } else {
         Head::Other
     }
 }
 
 /// Words of nine to eleven bytes.
-#[tactic(auto, unfolding(crate::specs::Heads::of_more))]
+#[tactic(auto, unfolding(crate::specs::Heads::head_longer, crate::specs::Heads::rows))]
 fn of_more(word: &[u8]) -> Head
-    ensures { result ≡ of_more word.now }
+    ensures { result ≡ head_longer 8 word.now }
 {
-    if word == b"OR_REDUCE".as_slice() {
-        Head::Start(Keyword::Reduce(Folding::Logic(Logic::Or)))
-    } else if word == b"MAX_REDUCE".as_slice() {
+    if word == b"MAX_REDUCE".as_slice() {
         Head::Start(Keyword::Reduce(Folding::Max))
     } else if word == b"MIN_REDUCE".as_slice() {
         Head::Start(Keyword::Reduce(Folding::Min))
     } else if word == b"AND_REDUCE".as_slice() {
         Head::Start(Keyword::Reduce(Folding::Logic(Logic::And)))
+    } else if word == b"OR_REDUCE".as_slice() {
+        Head::Start(Keyword::Reduce(Folding::Logic(Logic::Or)))
     } else if word == b"XOR_REDUCE".as_slice() {
         Head::Start(Keyword::Reduce(Folding::Logic(Logic::Xor)))
     } else if word == b"MAKE_SEGDES".as_slice() {
@@ -221,11 +222,12 @@ fn of_more(word: &[u8]) -> Head
     }
 }
 
-#[tactic(auto, unfolding(crate::specs::Heads::whole_head))]
+#[tactic(auto, using(crate::proofs::Spelling::no_word, crate::proofs::Spelling::among_length))]
 fn whole_head(word: &[u8]) -> Head
-    ensures { result ≡ whole_head word.now }
+    ensures { result ≡ head_of Whole word.now }
 {
     match word.len() {
+        0 => Head::Other,
         1 => of_one(word),
         2 => of_two(word),
         3 => of_three(word),
@@ -239,7 +241,6 @@ fn whole_head(word: &[u8]) -> Head
 }
 
 /// What a word begins in a language.
-#[tactic(auto, unfolding(crate::specs::Heads::head_of))]
 pub fn head_of(language: Language, word: &[u8]) -> Head
     ensures { result ≡ head_of language word.now }
 {

@@ -2,10 +2,11 @@
 
 ghost use Rattle.std.specs.Prelude.{◌≡◌, []};
 ghost use Rattle.vcode_reader.specs.Firsts.{TakesOff};
-ghost use Rattle.vcode_reader.specs.Keywords.{fold_of, folding_slots, slots_of, takes_int, instruction_of};
+ghost use Rattle.vcode_reader.specs.Trees.{IsBodyInstruction};
+ghost use Rattle.vcode_reader.specs.Keywords.{fold_of, folding_slots, keyword_slots, takes_int, instruction_of};
 
 use crate::language::Language;
-use crate::parts::Gathered;
+use crate::parts::InstructionParts;
 use std::alloc::Allocator;
 use std::marker::Model;
 use vcode_base::{
@@ -50,6 +51,15 @@ pub enum Keyword {
     Call,
 }
 
+/// Which of the entries that a motion of the stack takes.
+#[derive(Clone, Copy)]
+pub enum Entries {
+    /// The lower ones, whose count is `i`.
+    Lower,
+    /// The upper ones, whose count is `j`.
+    Upper,
+}
+
 /// What some words of an instruction must be.
 #[derive(Clone, Copy)]
 pub enum Slot {
@@ -59,10 +69,8 @@ pub enum Slot {
     Kind,
     /// A value of the instruction's kind, or such values in parentheses.
     Values,
-    /// The count `i` of a motion of the stack.
-    Lower,
-    /// The count `j` of a motion of the stack.
-    Upper,
+    /// A count of a motion of the stack.
+    Count(Entries),
     /// The name of the function that is called.
     Callee,
 }
@@ -93,7 +101,7 @@ impl Folding {
 impl Keyword {
     /// What the words behind it must be.
     pub fn slots(self, language: Language) -> Slots
-        ensures { result ≡ slots_of language self }
+        ensures { result ≡ keyword_slots language self }
     {
         let left: &'static [Slot] = match self {
             Keyword::Const => match language {
@@ -107,7 +115,7 @@ impl Keyword {
             | Keyword::Index
             | Keyword::MakeSegdes
             | Keyword::Lengths => &[],
-            Keyword::Move(_) => &[Slot::Lower, Slot::Upper],
+            Keyword::Move(_) => &[Slot::Count(Entries::Lower), Slot::Count(Entries::Upper)],
             Keyword::Call => &[Slot::Callee],
             Keyword::Logic(_)
             | Keyword::Not
@@ -134,13 +142,14 @@ impl Keyword {
     }
 
     /// The instruction of this first word and of what the words behind it gave.
-    pub fn instruction<A: Allocator>(self, parts: Gathered<A>) -> Instruction<A>
-        ensures { result ≡ instruction_of self parts }
+    pub fn instruction<A: Allocator>(self, parts: InstructionParts<A>) -> Instruction<A>
+        ensures meaning { result ≡ instruction_of self parts }
+        ensures of_a_body { IsBodyInstruction result }
     {
         let kind = parts.kind;
         let segmented = match self {
             Keyword::Const => {
-                return Instr::Const(kind, Words::from_vec(parts.numbers.into_vec()));
+                return Instr::Const(kind, parts.numbers);
             }
             Keyword::Arith(op) => return Instr::Elementwise(Elementwise::Arith(op)),
             Keyword::Compare(op) => return Instr::Elementwise(Elementwise::Compare(op)),

@@ -1,10 +1,10 @@
 //! The reader of the code: bytes in, a program or its first fault with the line out.
 //!
-//! **Words.** Blank, tab, CR and LF separate words, and a line ends at its LF. `{` outside a comment
-//! begins one that ends at the next `}`, on whatever line; a comment separates words and holds any
-//! bytes. `(` and `)` are words by themselves. Every other word is a run of the bytes 33 to 126 without
-//! braces and parentheses. A number is decimal digits, with one `-` before them or none, whose value
-//! fits 64 bits with a sign.
+//! **Words.** Words stand apart by blanks, tabs, CRs and LFs, and each LF ends a line. Where no comment is
+//! open, `{` opens one, and the first `}` after it closes it, be it lines later; whatever bytes it has, it
+//! counts for a separator. Each parenthesis is a word of its own; any other word is made of printable
+//! ASCII bytes other than the blank, braces and parentheses. A number is a row of decimal digits, or `-`
+//! and such a row, and its value must fit an `i64`.
 //!
 //! **Grammar:**
 //!
@@ -34,20 +34,24 @@
 //! other instruction word is nothing known.
 //!
 //! **Refusals.** The first word that no words behind it could make a program is refused, on its line:
-//! [`Refusal::BadWord`] for one that is nothing known where an item or `FUNC` must stand, a kind that
+//! [`CodeFault::BadWord`] for one that is nothing known where an item or `FUNC` must stand, a kind that
 //! the instruction doesn't take, no truth value where one must stand, a parenthesis for a name, or a
-//! byte that no text has; [`Refusal::BadNumber`] for one that isn't the number that must stand, or is
-//! negative where a count must; [`Refusal::Misplaced`] for a known word in another's place;
-//! [`Refusal::TooLarge`] past a limit; [`Refusal::FunctionTwice`] for a name again; in this order where
+//! byte that no text has; [`CodeFault::BadNumber`] for one that isn't the number that must stand, or is
+//! negative where a count must; [`CodeFault::Misplaced`] for a known word in another's place;
+//! [`CodeFault::TooLarge`] past a limit; [`CodeFault::FunctionTwice`] for a name again; in this order where
 //! two could be. Where every word is good and the text ends inside something, it is
-//! [`Refusal::Unfinished`] where the innermost begins: a comment, then a list, then an instruction, then
+//! [`CodeFault::Unfinished`] where the innermost begins: a comment, then a list, then an instruction, then
 //! an IF, then a function. An instruction that a word `INT` may follow, which means nothing, is whole
 //! without it.
 //!
-//! `specs/Gram` has the grammar as a relation, by cases; `specs/Keywords` what each instruction takes;
-//! `specs/Heads` how each is spelled; `specs/Parsing` the table of refusals; `specs/Scan` the words of a
-//! text; `specs/First` what the first fault is. That each text is read so stands in [`laws`] and on
-//! [`read`].
+//! **What is read** is a [`Program`]: its functions with their lines. `RET` stands behind the body of each
+//! function alone, and `IF` only as the begin of a choice: no other line of a body is one of them, which
+//! is a fact of the type that [`Function::lines`] and [`Program::functions`] tell.
+//!
+//! `specs/Heads` is the table of words: what each begins, and what must stand behind it; `specs/Keywords`
+//! the instruction that comes of it; `specs/Gram` the grammar as a relation, by cases; `specs/Parsing` the
+//! table of refusals; `specs/Scan` the words of a text; `specs/First` what the first fault is. That each
+//! text is read so stands in [`laws`] and on [`read`].
 #![tactic(auto)]
 
 mod class;
@@ -65,11 +69,10 @@ mod parts;
 mod place;
 mod program;
 mod reader;
-mod sequence;
 mod word;
 
-pub use fault::{ReadFault, Refusal};
+pub use fault::{CodeFault, ReadFault};
 pub use language::Language;
-pub use line::{CodeLine, Line, Part};
+pub use line::{CodeItem, CodeLine, Numbered};
 pub use program::{Function, Program};
 pub use reader::{read, read_first};

@@ -4,7 +4,7 @@ use vcode_base::Instruction;
 ///
 /// An `ELSE` stands in the code of every IF, between its two parts, and has the line of its `IF`.
 #[derive(PartialEq, Eq, Debug, Drop)]
-pub enum Part<I> {
+pub enum CodeItem<I> {
     Do(I),
     If,
     Else,
@@ -13,10 +13,10 @@ pub enum Part<I> {
 
 /// An item of the code and the number of its line: that of its first word.
 #[derive(PartialEq, Eq, Debug, Drop)]
-pub struct Line<I> {
+pub struct Numbered<I> {
     pub item: I,
     pub number: u64,
 }
 
 /// A line that owns the list or the name of its instruction.
-pub type CodeLine<A> = Line<Part<Instruction<A>>>;
+pub type CodeLine<A> = Numbered<CodeItem<Instruction<A>>>;

@@ -1,15 +1,15 @@
 //! The function that each CALL of a program goes to.
 
-ghost use Rattle.std.specs.Prelude.{◌≡◌, IfOk, map};
+ghost use Rattle.std.specs.Prelude.{◌≡◌, IfOk, OnOk, map};
 ghost use Rattle.vcode_reader.specs.Callees.{callee_of, callees_of};
+ghost use Rattle.vcode_reader.specs.Trees.{HaveProperBodies};
 
-use crate::line::{CodeLine, Part};
+use crate::line::{CodeItem, CodeLine};
 use crate::program::Function;
-use crate::sequence::Sequence;
 use std::alloc::{AllocError, Allocator};
 use std::collections::BTreeMap;
 use std::marker::Model;
-use vcode_base::{Instr, Instruction};
+use vcode_base::{Instr, Instruction, Sequence};
 
 /// The functions of a program, and the place of the first of each name.
 #[derive(Drop)]
@@ -54,11 +54,11 @@ impl<'a, A: Allocator + Clone> Linker<'a, A> {
 
 impl<A: Allocator> Linker<'_, A> {
     /// The place of the function that this item calls, where there is one.
-    fn callee(&self, item: &Part<Instruction<A>>) -> Option<usize>
+    fn callee(&self, item: &CodeItem<Instruction<A>>) -> Option<usize>
         ensures { result ≡ callee_of self.now item.now }
     {
         match item {
-            Part::Do(Instr::Call(name)) => self.places.get(name.as_bytes()).copied(),
+            CodeItem::Do(Instr::Call(name)) => self.places.get(name.as_slice()).copied(),
             _ => None,
         }
     }
@@ -80,7 +80,8 @@ pub fn callees_of<A: Allocator + Clone>(
     alloc: A,
     functions: &[Function<A>],
 ) -> Result<Vec<Sequence<Option<usize>, A>, A>, AllocError>
-    ensures { IfOk result (λ found. found.items ≡ callees_of functions.now) }
+    ensures callees { IfOk result (λ found. found.items ≡ callees_of functions.now) }
+    ensures proper { OnOk result (HaveProperBodies functions.now) }
 {
     let linker = Linker::new(alloc.clone()?, functions)?;
     let mut found = Vec::with_capacity(alloc.clone()?, functions.len())?;

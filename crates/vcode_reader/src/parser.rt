@@ -1,36 +1,31 @@
 //! A text, word by word.
 
-ghost use Rattle.std.specs.Prelude.{◌≡◌, false, OnOk, IfOk};
+ghost use Rattle.std.specs.Prelude.{◌≡◌, [], false, OnOk, IfOk};
 ghost use Rattle.vcode_reader.specs.declared.head.Head.TheVariants.{Return, If, Else, Endif};
 ghost use Rattle.vcode_reader.specs.Drafts.{is_open};
-ghost use Rattle.vcode_reader.specs.Parsing.{start, refused, goes_on, item_place, settled, with_kind, with_value, with_lower, with_upper, with_callee, in_slot, one_element, in_list, outside, has_name, naming, returned, inside, take};
+ghost use Rattle.vcode_reader.specs.Heads.{head_slots};
+ghost use Rattle.vcode_reader.specs.Parsing.{start, with_fault, after_slot, item_place, after_part, with_kind, with_value};
+ghost use Rattle.vcode_reader.specs.Parsing.{with_count, with_callee, in_slot, one_element, in_list, outside, has_name};
+ghost use Rattle.vcode_reader.specs.Parsing.{after_name, after_return, inside, take};
 ghost use Rattle.vcode_reader.specs.Parsing.{is_no_name, no_value, int_of, kind_of, count_in};
 ghost use Rattle.vcode_reader.specs.Numbers.{natural_of, value_of};
-ghost use Rattle.vcode_reader.specs.Reading.{ended, unless, Gives};
+ghost use Rattle.vcode_reader.specs.Reading.{result_at_end, unless, Gives};
 
 use crate::code::Draft;
-use crate::fault::{ReadFault, Refusal};
+use crate::fault::{CodeFault, ReadFault};
 use crate::head::{Head, head_of};
-use crate::keyword::{Keyword, Slot, Slots};
+use crate::keyword::{Entries, Keyword, Slot, Slots};
 use crate::language::Language;
 use crate::number::value_of;
-use crate::parts::{Gathered, no_parts};
+use crate::parts::{InstructionParts, no_parts};
 use crate::place::Place;
 use crate::program::Function;
-use crate::word::{GREATEST_NAME, count_in, int_of, is_no_name, kind_of, no_value};
+use crate::word::{count_in, int_of, is_no_name, kind_of, no_value};
 use std::alloc::{AllocError, Allocator};
 use std::marker::Model;
 use std::mem;
+use vcode_base::limits::{LONGEST_NAME, MOST_ELEMENTS, MOST_FUNCTIONS, MOST_OPEN_IFS};
 use vcode_base::{FunctionName, Scalar};
-
-/// The most functions of a program.
-const MOST_FUNCTIONS: usize = 512;
-
-/// The most IFs that are open at a time.
-const MOST_IFS: usize = 64;
-
-/// The most elements of a constant.
-const MOST_ELEMENTS: usize = 65_536;
 
 /// What the words so far come to, and what stands open behind them.
 #[derive(Drop)]
@@ -42,8 +37,8 @@ pub struct Parser<A: Allocator> {
     line: u64,
     draft: Draft<A>,
     slots: Slots,
-    parts: Gathered<A>,
-    fault: Option<(Refusal, u64)>,
+    parts: InstructionParts<A>,
+    fault: Option<(CodeFault, u64)>,
     alloc: A,
 }
 
@@ -117,14 +112,14 @@ impl<A: Allocator + Clone> Parser<A> {
         })
     }
 
-    fn refuse(&mut self, refusal: Refusal, line: u64)
-        ensures { self.new ≡ refused refusal line self.old }
+    fn refuse(&mut self, fault: CodeFault, line: u64)
+        ensures { self.new ≡ with_fault fault line self.old }
     {
-        self.fault = Some((refusal, line));
+        self.fault = Some((fault, line));
     }
 
-    fn go_on(&mut self, keyword: Keyword, begun: u64) -> Result<(), AllocError>
-        ensures { OnOk result (self.new ≡ goes_on keyword begun self.old.slots self.old) }
+    fn next_slot(&mut self, keyword: Keyword, begun: u64) -> Result<(), AllocError>
+        ensures { OnOk result (self.new ≡ after_slot keyword begun self.old.slots self.old) }
     {
         match self.slots.next() {
             Some(slot) => self.place = Place::Words(keyword, slot, begun),
@@ -146,13 +141,13 @@ impl<A: Allocator + Clone> Parser<A> {
         begun: u64,
         line: u64,
     ) -> Result<(), AllocError>
-        ensures { OnOk result (self.new ≡ settled (with_kind kind self.old.parts) keyword begun line self.old) }
+        ensures { OnOk result (self.new ≡ after_part (with_kind kind self.old.parts) keyword begun line self.old) }
     {
         match kind {
-            None => self.refuse(Refusal::BadWord, line),
+            None => self.refuse(CodeFault::BadWord, line),
             Some(kind) => {
                 self.parts.kind = kind;
-                self.go_on(keyword, begun)?;
+                self.next_slot(keyword, begun)?;
             }
         }
         Ok(())
@@ -166,57 +161,46 @@ impl<A: Allocator + Clone> Parser<A> {
         word: &[u8],
         line: u64,
     ) -> Result<(), AllocError>
-        ensures { OnOk result (self.new ≡ settled (with_value (value_of self.old.parts.kind word.now) word.now self.old.parts) keyword begun line self.old) }
+        ensures { let given = with_value (value_of self.old.parts.kind word.now) word.now self.old.parts in
+            OnOk result (self.new ≡ after_part given keyword begun line self.old) }
     {
         match value_of(self.parts.kind, word) {
             None => self.refuse(no_value(self.parts.kind, word), line),
             Some(n) => {
                 self.parts.numbers.clear();
                 self.parts.numbers.push(n)?;
-                self.go_on(keyword, begun)?;
+                self.next_slot(keyword, begun)?;
             }
         }
         Ok(())
     }
 
-    fn lower(
+    /// Takes the word that gives a count of a motion of the stack.
+    fn count(
         &mut self,
+        entries: Entries,
         keyword: Keyword,
         begun: u64,
         word: &[u8],
         line: u64,
     ) -> Result<(), AllocError>
-        ensures { OnOk result (self.new ≡ settled (with_lower (count_in (natural_of word.now) word.now) self.old.parts) keyword begun line self.old) }
+        ensures { let given = with_count entries (count_in (natural_of word.now) word.now) self.old.parts in
+            OnOk result (self.new ≡ after_part given keyword begun line self.old) }
     {
         match count_in(word) {
-            Err(refusal) => self.refuse(refusal, line),
+            Err(fault) => self.refuse(fault, line),
             Ok(count) => {
-                self.parts.lower = count;
-                self.go_on(keyword, begun)?;
+                match entries {
+                    Entries::Lower => self.parts.lower = count,
+                    Entries::Upper => self.parts.upper = count,
+                }
+                self.next_slot(keyword, begun)?;
             }
         }
         Ok(())
     }
 
-    fn upper(
-        &mut self,
-        keyword: Keyword,
-        begun: u64,
-        word: &[u8],
-        line: u64,
-    ) -> Result<(), AllocError>
-        ensures { OnOk result (self.new ≡ settled (with_upper (count_in (natural_of word.now) word.now) self.old.parts) keyword begun line self.old) }
-    {
-        match count_in(word) {
-            Err(refusal) => self.refuse(refusal, line),
-            Ok(count) => {
-                self.parts.upper = count;
-                self.go_on(keyword, begun)?;
-            }
-        }
-        Ok(())
-    }
-
+    /// Takes the name of the function that is called.
     fn callee(
         &mut self,
         keyword: Keyword,
@@ -224,15 +208,15 @@ impl<A: Allocator + Clone> Parser<A> {
         word: &[u8],
         line: u64,
     ) -> Result<(), AllocError>
-        ensures { OnOk result (self.new ≡ settled (with_callee word.now self.old.parts) keyword begun line self.old) }
+        ensures { OnOk result (self.new ≡ after_part (with_callee word.now self.old.parts) keyword begun line self.old) }
     {
         if is_no_name(word) {
-            self.refuse(Refusal::BadWord, line);
-        } else if word.len() > GREATEST_NAME {
-            self.refuse(Refusal::TooLarge, line);
+            self.refuse(CodeFault::BadWord, line);
+        } else if word.len() > LONGEST_NAME {
+            self.refuse(CodeFault::TooLarge, line);
         } else {
             self.parts.callee = name_of(self.alloc.clone()?, word)?;
-            self.go_on(keyword, begun)?;
+            self.next_slot(keyword, begun)?;
         }
         Ok(())
     }
@@ -259,8 +243,7 @@ impl<A: Allocator + Clone> Parser<A> {
                     self.one_value(keyword, begun, word, line)
                 }
             }
-            Slot::Lower => self.lower(keyword, begun, word, line),
-            Slot::Upper => self.upper(keyword, begun, word, line),
+            Slot::Count(entries) => self.count(entries, keyword, begun, word, line),
             Slot::Callee => self.callee(keyword, begun, word, line),
         }
     }
@@ -274,7 +257,7 @@ impl<A: Allocator + Clone> Parser<A> {
                 if self.parts.numbers.len() < MOST_ELEMENTS {
                     self.parts.numbers.push(n)?;
                 } else {
-                    self.refuse(Refusal::TooLarge, line);
+                    self.refuse(CodeFault::TooLarge, line);
                 }
             }
         }
@@ -291,7 +274,7 @@ impl<A: Allocator + Clone> Parser<A> {
         ensures { OnOk result (self.new ≡ in_list keyword begun word.now line self.old) }
     {
         if word == b")".as_slice() {
-            self.go_on(keyword, begun)
+            self.next_slot(keyword, begun)
         } else {
             self.one_element(word, line)
         }
@@ -306,23 +289,23 @@ impl<A: Allocator + Clone> Parser<A> {
                     self.place = Place::Name;
                     self.line = line;
                 } else {
-                    self.refuse(Refusal::TooLarge, line);
+                    self.refuse(CodeFault::TooLarge, line);
                 }
             }
-            Head::Other => self.refuse(Refusal::BadWord, line),
-            _ => self.refuse(Refusal::Misplaced, line),
+            Head::Other => self.refuse(CodeFault::BadWord, line),
+            _ => self.refuse(CodeFault::Misplaced, line),
         }
     }
 
-    fn naming(&mut self, word: &[u8], line: u64) -> Result<(), AllocError>
-        ensures { OnOk result (self.new ≡ naming word.now line self.old) }
+    fn name_function(&mut self, word: &[u8], line: u64) -> Result<(), AllocError>
+        ensures { OnOk result (self.new ≡ after_name word.now line self.old) }
     {
         if is_no_name(word) {
-            self.refuse(Refusal::BadWord, line);
-        } else if word.len() > GREATEST_NAME {
-            self.refuse(Refusal::TooLarge, line);
+            self.refuse(CodeFault::BadWord, line);
+        } else if word.len() > LONGEST_NAME {
+            self.refuse(CodeFault::TooLarge, line);
         } else if has_name(word, self.functions.as_slice()) {
-            self.refuse(Refusal::FunctionTwice, line);
+            self.refuse(CodeFault::FunctionTwice, line);
         } else {
             self.name = name_of(self.alloc.clone()?, word)?;
             self.place = Place::Inside;
@@ -330,9 +313,9 @@ impl<A: Allocator + Clone> Parser<A> {
         Ok(())
     }
 
-    fn returned(&mut self, line: u64) -> Result<(), AllocError>
+    fn end_function(&mut self, line: u64) -> Result<(), AllocError>
         requires { is_open self.old.draft.ifs ≡ false }
-        ensures { OnOk result (self.new ≡ returned line self.old) }
+        ensures { OnOk result (self.new ≡ after_return line self.old) }
     {
         let no_name = FunctionName::from_vec(Vec::new(self.alloc.clone()?));
         let no_lines = Draft::new(self.alloc.clone()?)?;
@@ -346,53 +329,53 @@ impl<A: Allocator + Clone> Parser<A> {
     }
 
     fn at_return(&mut self, line: u64) -> Result<(), AllocError>
-        ensures { OnOk result (self.new ≡ inside Return line self.old) }
+        ensures { OnOk result (self.new ≡ inside Return [] line self.old) }
     {
         if self.draft.is_open() {
-            self.refuse(Refusal::Misplaced, line);
+            self.refuse(CodeFault::Misplaced, line);
             return Ok(());
         }
-        self.returned(line)
+        self.end_function(line)
     }
 
     fn at_if(&mut self, line: u64) -> Result<(), AllocError>
-        ensures { OnOk result (self.new ≡ inside If line self.old) }
+        ensures { OnOk result (self.new ≡ inside If [] line self.old) }
     {
-        if self.draft.depth() < MOST_IFS {
+        if self.draft.depth() < MOST_OPEN_IFS {
             self.draft.begin_if(line)?;
             self.place = Place::Inside;
         } else {
-            self.refuse(Refusal::TooLarge, line);
+            self.refuse(CodeFault::TooLarge, line);
         }
         Ok(())
     }
 
     fn at_else(&mut self, line: u64) -> Result<(), AllocError>
-        ensures { OnOk result (self.new ≡ inside Else line self.old) }
+        ensures { OnOk result (self.new ≡ inside Else [] line self.old) }
     {
         if self.draft.takes_else() {
             self.draft.begin_else()?;
             self.place = Place::Inside;
         } else {
-            self.refuse(Refusal::Misplaced, line);
+            self.refuse(CodeFault::Misplaced, line);
         }
         Ok(())
     }
 
     fn at_endif(&mut self, line: u64) -> Result<(), AllocError>
-        ensures { OnOk result (self.new ≡ inside Endif line self.old) }
+        ensures { OnOk result (self.new ≡ inside Endif [] line self.old) }
     {
         if self.draft.is_open() {
             self.draft.end_if(line)?;
             self.place = Place::Inside;
         } else {
-            self.refuse(Refusal::Misplaced, line);
+            self.refuse(CodeFault::Misplaced, line);
         }
         Ok(())
     }
 
     fn inside(&mut self, head: Head, line: u64) -> Result<(), AllocError>
-        ensures { OnOk result (self.new ≡ inside head line self.old) }
+        ensures { OnOk result (self.new ≡ inside head (head_slots self.old.language head) line self.old) }
     {
         match head {
             Head::Return => self.at_return(line)?,
@@ -401,16 +384,16 @@ impl<A: Allocator + Clone> Parser<A> {
             Head::Endif => self.at_endif(line)?,
             Head::Start(keyword) => {
                 self.slots = keyword.slots(self.language);
-                self.go_on(keyword, line)?;
+                self.next_slot(keyword, line)?;
             }
-            Head::Other => self.refuse(Refusal::BadWord, line),
-            Head::Func => self.refuse(Refusal::Misplaced, line),
+            Head::Other => self.refuse(CodeFault::BadWord, line),
+            Head::Func => self.refuse(CodeFault::Misplaced, line),
         }
         Ok(())
     }
 
     /// Takes the next word, which stands on this line.
-    #[tactic(auto, unfolding(crate::specs::Parsing::take))]
+    #[tactic(auto, unfolding(crate::specs::Parsing::take), using(crate::proofs::Spelling::slots_by_head))]
     pub fn take(&mut self, word: &[u8], line: u64) -> Result<(), AllocError>
         ensures { OnOk result (self.new ≡ take word.now line self.old) }
     {
@@ -419,7 +402,7 @@ impl<A: Allocator + Clone> Parser<A> {
         }
         match self.place {
             Place::Outside => self.outside(head_of(self.language, word), line),
-            Place::Name => self.naming(word, line)?,
+            Place::Name => self.name_function(word, line)?,
             Place::Inside => self.inside(head_of(self.language, word), line)?,
             Place::InsideOrInt => {
                 if word == b"INT".as_slice() {
@@ -437,8 +420,8 @@ impl<A: Allocator + Clone> Parser<A> {
     }
 
     /// What is refused where the text ends here: in a comment that begins at this line, or in none.
-    fn refused_at_end(&self, comment: Option<u64>) -> Option<(Refusal, u64)>
-        ensures { ended self.now.fault comment self.now ≡ unless result self.now.functions }
+    fn refused_at_end(&self, comment: Option<u64>) -> Option<(CodeFault, u64)>
+        ensures { result_at_end self.now.fault comment self.now ≡ unless result self.now.functions }
     {
         if let Some(fault) = self.fault {
             return Some(fault);
@@ -447,19 +430,19 @@ impl<A: Allocator + Clone> Parser<A> {
             (Some(line), _) => line,
             (None, Place::Outside) => return None,
             (None, Place::Name) => self.line,
-            (None, Place::Inside | Place::InsideOrInt) => self.draft.innermost(self.line),
+            (None, Place::Inside | Place::InsideOrInt) => self.draft.innermost_line(self.line),
             (None, Place::Words(_, _, begun)) => begun,
             (None, Place::Elements(_, _, opened)) => opened,
         };
-        Some((Refusal::Unfinished, line))
+        Some((CodeFault::Unfinished, line))
     }
 
     /// What the text comes to, where it ends here: in a comment that begins at this line, or in none.
-    pub fn ended(self, comment: Option<u64>) -> Result<Vec<Function<A>, A>, ReadFault>
-        ensures { Gives result (ended self.fault comment self) }
+    pub fn result_at_end(self, comment: Option<u64>) -> Result<Vec<Function<A>, A>, ReadFault>
+        ensures { Gives result (result_at_end self.fault comment self) }
     {
         match self.refused_at_end(comment) {
-            Some((refusal, line)) => Err(ReadFault::At(refusal, line)),
+            Some((fault, line)) => Err(ReadFault::At(fault, line)),
             None => Ok(self.into_functions()),
         }
     }

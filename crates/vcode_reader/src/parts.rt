@@ -3,9 +3,8 @@
 ghost use Rattle.std.specs.Prelude.{◌≡◌, IfOk};
 ghost use Rattle.vcode_reader.specs.Keywords.{no_parts};
 
-use crate::sequence::Sequence;
 use std::alloc::{AllocError, Allocator};
-use vcode_base::{FunctionName, Scalar};
+use vcode_base::{FunctionName, Scalar, Words};
 
 /// What the words so far gave, over the types of a list and of a name.
 #[derive(Drop)]
@@ -23,17 +22,17 @@ pub struct Parts<L, N> {
 }
 
 /// Parts that own their list and their name.
-pub type Gathered<A> = Parts<Sequence<i64, A>, FunctionName<A>>;
+pub type InstructionParts<A> = Parts<Words<A>, FunctionName<A>>;
 
 /// Before the first of the words.
-pub fn no_parts<A: Allocator + Clone>(alloc: &A) -> Result<Gathered<A>, AllocError>
+pub fn no_parts<A: Allocator + Clone>(alloc: &A) -> Result<InstructionParts<A>, AllocError>
     ensures { IfOk result (λ parts. parts ≡ no_parts) }
 {
     Ok(Parts {
         kind: Scalar::Int,
         lower: 0,
         upper: 0,
-        numbers: Sequence::from_vec(Vec::new(alloc.clone()?)),
+        numbers: Words::from_vec(Vec::new(alloc.clone()?)),
         callee: FunctionName::from_vec(Vec::new(alloc.clone()?)),
     })
 }

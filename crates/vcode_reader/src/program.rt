@@ -3,17 +3,16 @@ ghost use Rattle.std.specs.List.{slice_get};
 ghost use Rattle.std.specs.Str.{bytes_eq};
 ghost use Rattle.vcode_reader.specs.Callees.{callee_at};
 ghost use Rattle.vcode_reader.specs.Targets.{target_at};
-ghost use Rattle.vcode_reader.specs.Trees.{lines_of};
+ghost use Rattle.vcode_reader.specs.Trees.{lines_of, IsProperBody, HaveProperBodies};
 ghost use Rattle.vcode_reader.specs.Decode.{tree_of};
 ghost use Rattle.vcode_reader.specs.Drafts.{is_open};
 
 use crate::code::{Draft, targets_of};
-use crate::line::{CodeLine, Line, Part};
+use crate::line::{CodeItem, CodeLine, Numbered};
 use crate::link::callees_of;
-use crate::sequence::Sequence;
 use std::alloc::{AllocError, Allocator};
 use std::marker::Model;
-use vcode_base::{FunctionName, Instr};
+use vcode_base::{FunctionName, Instr, Sequence};
 
 /// A function of a program: its name, the line of its `FUNC`, and its items up to its `RET`, each
 /// with its line.
@@ -35,18 +34,19 @@ impl<A: Allocator> Model for Function<A> {
     ghost use Rattle.std.specs.Coded.{codes};
     ghost use Rattle.std.proofs.Common.{ap, sym, ◌∙◌};
     ghost use Rattle.vcode_reader.specs.Trees.{CodeLine, lines_of};
-    ghost use Rattle.vcode_reader.specs.Decode.{function_of, function_code, AreLines};
+    ghost use Rattle.vcode_reader.specs.Decode.{function_of, function_code};
+    ghost use Rattle.vcode_reader.specs.Programs.{HoldsFunction};
     ghost use Rattle.vcode_reader.specs.Targets.{targets_of};
 
     ghost coded = { function_code (Prim.hlevel codes) };
 
     ghost view = { λ f. function_of f.name f.begun f.lines };
 
-    ghost invariant = { λ f. AreLines f.name f.begun f.lines × (f.targets ≡ targets_of f.lines) };
+    ghost invariant = { λ f. HoldsFunction f.name f.begun f.lines f.targets };
 
     ghost inverse = { λ f. record { name = f.name; begun = f.line; lines = lines_of f; targets = targets_of (lines_of f) } };
 
-    ghost inverse_ok = { λ f h. ap (λ (ls : List CodeLine). record f { lines = ls; targets = targets_of ls }) h.0 ∙ ap (λ (ts : List (Option ℕ)). record f { targets = ts }) (sym h.1) };
+    ghost inverse_ok = { λ f h. ap (λ (ls : List CodeLine). record f { lines = ls; targets = targets_of ls }) h.lines ∙ ap (λ (ts : List (Option ℕ)). record f { targets = ts }) (sym h.targets) };
 }
 
 impl<A: Allocator> Function<A> {
@@ -63,8 +63,8 @@ impl<A: Allocator> Function<A> {
         ensures { IfOk result (λ f. f ≡ record { name = name; line = line; body = tree_of draft.lines; ret = ret }) }
     {
         let mut lines = draft.into_vec();
-        lines.push(Line {
-            item: Part::Do(Instr::Return),
+        lines.push(Numbered {
+            item: CodeItem::Do(Instr::Return),
             number: ret,
         })?;
         let targets = targets_of(lines.allocator().clone()?, lines.as_slice())?;
@@ -80,7 +80,7 @@ impl<A: Allocator> Function<A> {
     pub fn name(&self) -> &[u8]
         ensures { result.now ≡ self.now.name }
     {
-        self.name.as_bytes()
+        self.name.as_slice()
     }
 
     /// The line of its `FUNC`.
@@ -92,7 +92,9 @@ impl<A: Allocator> Function<A> {
 
     /// Its lines in the order of the text, the last of which is its `RET`.
     pub fn lines(&self) -> &[CodeLine<A>]
-        ensures { result.now ≡ lines_of self.now }
+        ensures lines { result.now ≡ lines_of self.now }
+        // No item before the last is a RET or an instruction IF.
+        ensures proper_body { IsProperBody self.now.body }
     {
         self.lines.as_slice()
     }
@@ -132,16 +134,17 @@ impl<A: Allocator> Model for Program<A> {
     ghost use Rattle.std.proofs.Common.{ap, sym};
     ghost use Rattle.vcode_reader.specs.Callees.{callees_of};
     ghost use Rattle.vcode_reader.specs.Decode.{program_code};
+    ghost use Rattle.vcode_reader.specs.Programs.{HoldsProgram};
 
     ghost coded = { program_code (Prim.hlevel codes) };
 
     ghost view = { λ p. record { first_line = p.first_line; functions = p.functions } };
 
-    ghost invariant = { λ p. p.callees ≡ callees_of p.functions };
+    ghost invariant = { λ p. HoldsProgram p.functions p.callees };
 
     ghost inverse = { λ p. record { first_line = p.first_line; functions = p.functions; callees = callees_of p.functions } };
 
-    ghost inverse_ok = { λ p h. ap (λ (cs : List (List (Option ℕ))). record p { callees = cs }) (sym h) };
+    ghost inverse_ok = { λ p h. ap (λ (cs : List (List (Option ℕ))). record p { callees = cs }) (sym h.callees) };
 }
 
 impl<A: Allocator> Program<A> {
@@ -171,7 +174,9 @@ impl<A: Allocator> Program<A> {
 
     /// Its functions in the order of the text.
     pub fn functions(&self) -> &[Function<A>]
-        ensures { result.now ≡ self.now.functions }
+        ensures functions { result.now ≡ self.now.functions }
+        // The body of none holds a RET or an instruction IF.
+        ensures proper_bodies { HaveProperBodies self.now.functions }
     {
         self.functions.as_slice()
     }

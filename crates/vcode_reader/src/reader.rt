@@ -2,13 +2,13 @@
 
 ghost use Rattle.std.specs.Prelude.{◌≡◌, ◌+◌, ◌<◌, ◌^◌, OnOk, OnErr, IsErr, IsErrOf, IfOk, IsTrue, false, ℕ, List, [], ◌++◌};
 ghost use Rattle.vcode_reader.specs.declared.class.Class.TheVariants.{LineFeed};
-ghost use Rattle.vcode_reader.specs.declared.fault.ReadFault.TheVariants.{Memory};
+ghost use Rattle.vcode_base.specs.declared.fault.TextFault.TheVariants.{Memory};
 ghost use Rattle.vcode_reader.specs.declared.language.Language.TheVariants.{First, Whole};
 ghost use Rattle.vcode_reader.specs.Classes.{class_of};
 ghost use Rattle.vcode_reader.specs.First.{IsAnswer};
 ghost use Rattle.vcode_reader.specs.Parsing.{start, take};
 ghost use Rattle.vcode_reader.specs.Reading.{outcome, reading, first_reading, Answers, Gives, HasCome};
-ghost use Rattle.vcode_reader.specs.Scan.{beginning, end_word, lone, in_text, in_comment, scan_byte, scan_all, line_feeds};
+ghost use Rattle.vcode_reader.specs.Scan.{beginning, end_word, lone_word, in_text, in_comment, scan_byte, scan_all, line_feeds};
 
 use crate::class::{Class, class_of};
 use crate::fault::ReadFault;
@@ -65,9 +65,9 @@ impl<A: Allocator + Clone> Scanner<A> {
         Ok(())
     }
 
-    #[tactic(auto, unfolding(crate::specs::Scan::lone))]
-    fn lone(&mut self, byte: u8) -> Result<(), AllocError>
-        ensures { OnOk result (self.new ≡ lone take byte self.old) }
+    #[tactic(auto, unfolding(crate::specs::Scan::lone_word))]
+    fn lone_word(&mut self, byte: u8) -> Result<(), AllocError>
+        ensures { OnOk result (self.new ≡ lone_word take byte self.old) }
     {
         self.parser.take(&[byte], self.line)?;
         Ok(())
@@ -89,7 +89,7 @@ impl<A: Allocator + Clone> Scanner<A> {
             }
             Class::CloseBrace | Class::Parenthesis | Class::Refused => {
                 self.end_word()?;
-                self.lone(byte)?;
+                self.lone_word(byte)?;
             }
             Class::Plain => self.word.push(byte)?,
         }
@@ -136,7 +136,7 @@ impl<A: Allocator + Clone> Scanner<A> {
         ensures { Gives result (outcome self) }
     {
         self.end_word()?;
-        self.parser.ended(self.comment)
+        self.parser.result_at_end(self.comment)
     }
 }
 
@@ -150,9 +150,9 @@ pub(crate) struct CodeReader<A: Allocator> {
 }
 
 impl<A: Allocator> Model for CodeReader<A> {
-    ghost use Rattle.vcode_reader.specs.Reading.{Fed};
+    ghost use Rattle.vcode_reader.specs.Reading.{ReaderState};
 
-    ghost Value = { Fed };
+    ghost Value = { ReaderState };
 
     ghost use Rattle.std.specs.Coded.{codes};
     ghost use Rattle.vcode_reader.specs.ParseCode.{parse_code, scan_code, fed_code};
@@ -186,7 +186,7 @@ impl<A: Allocator + Clone> CodeReader<A> {
     /// Takes the next piece of the text. After an `Err` the reader has failed, and answers it again.
     pub(crate) fn feed(&mut self, piece: &[u8]) -> Result<(), AllocError>
         requires { self.old.failed ≡ false → self.old.scan.line + line_feeds piece.now < 2 ^ 64 }
-        // The bytes so far are those before, followed by the piece.
+        // Behind the bytes before stand those of the piece.
         ensures fed { OnOk result ((before : List ℕ) → HasCome self.old before → HasCome self.new (before ++ piece.now)) }
         ensures language { self.new.language ≡ self.old.language }
         ensures first_line { self.new.first_line ≡ self.old.first_line }

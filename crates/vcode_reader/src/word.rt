@@ -4,15 +4,10 @@ ghost use Rattle.std.specs.Prelude.{◌≡◌};
 ghost use Rattle.vcode_reader.specs.Numbers.{natural_of};
 ghost use Rattle.vcode_reader.specs.Parsing.{is_bad_byte, is_bad, is_parenthesis, is_no_name, no_number, no_value, int_of, kind_of, count_in};
 
-use crate::fault::Refusal;
+use crate::fault::CodeFault;
 use crate::number::natural_of;
 use vcode_base::Scalar;
-
-/// The most bytes of a name.
-pub const GREATEST_NAME: usize = 64;
-
-/// The greatest count of a motion of the stack.
-const GREATEST_COUNT: u64 = 4_096;
+use vcode_base::limits::MOST_MOVED;
 
 fn is_bad_byte(byte: u8) -> bool
     ensures { result ≡ is_bad_byte byte }
@@ -43,23 +38,23 @@ pub fn is_no_name(word: &[u8]) -> bool
 }
 
 /// What is wrong with a word that is not the number that must stand.
-fn no_number(word: &[u8]) -> Refusal
+fn no_number(word: &[u8]) -> CodeFault
     ensures { result ≡ no_number word.now }
 {
     if is_bad(word) {
-        Refusal::BadWord
+        CodeFault::BadWord
     } else {
-        Refusal::BadNumber
+        CodeFault::BadNumber
     }
 }
 
 /// What is wrong with a word that is no value of this kind where one must stand.
-pub fn no_value(kind: Scalar, word: &[u8]) -> Refusal
+pub fn no_value(kind: Scalar, word: &[u8]) -> CodeFault
     ensures { result ≡ no_value kind word.now }
 {
     match kind {
         Scalar::Int => no_number(word),
-        Scalar::Bool => Refusal::BadWord,
+        Scalar::Bool => CodeFault::BadWord,
     }
 }
 
@@ -86,14 +81,14 @@ pub fn kind_of(word: &[u8]) -> Option<Scalar>
 }
 
 /// The count of a motion of the stack that a word is, or what is wrong with it.
-pub fn count_in(word: &[u8]) -> Result<u16, Refusal>
+pub fn count_in(word: &[u8]) -> Result<u16, CodeFault>
     ensures { result ≡ count_in (natural_of word.now) word.now }
 {
     match natural_of(word) {
         None => Err(no_number(word)),
         Some(count) => {
-            if count > GREATEST_COUNT {
-                return Err(Refusal::TooLarge);
+            if count > MOST_MOVED {
+                return Err(CodeFault::TooLarge);
             }
             Ok(count as u16)
         }

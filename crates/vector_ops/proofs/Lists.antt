@@ -3,7 +3,7 @@ use Rattle.std.proofs.Common.{◌≡◌, ℕ, ◌<◌, ℤ, pos, Bool, false, �
 use Rattle.std.specs.List.{list_any}
 use Rattle.std.proofs.lemmas.List.{ext_get_or, get_or-map, length-map}
 use Rattle.vcode_base.specs.Elements.{is_set}
-use Rattle.vcode_base.specs.Meaning.{two_by_two, selected}
+use Rattle.vcode_base.specs.Meaning.{two_by_two, selection_of}
 
 length-two_by_two : (f : ℤ → ℤ → ℤ) (xs ys : List ℤ) → length ys ≡ length xs → length (two_by_two f xs ys) ≡ length xs
 length-two_by_two f [] ys e = refl
@@ -18,46 +18,55 @@ get_or-two_by_two f (x ∷ xs) (y ∷ ys) zero e h = refl
 get_or-two_by_two f (x ∷ xs) (y ∷ ys) (suc k) e h = get_or-two_by_two f xs ys k (omega arith) (omega arith)
 
 pub two_by_two_made : (f : ℤ → ℤ → ℤ) (out xs ys : List ℤ) → length out ≡ length xs → length ys ≡ length xs
-    → ((k : ℕ) → k < length xs → get_or out k (pos 0) ≡ f (get_or xs k (pos 0)) (get_or ys k (pos 0))) → out ≡ two_by_two f xs ys
+    → ((k : ℕ) → k < length xs → get_or out k (pos 0) ≡ f (get_or xs k (pos 0)) (get_or ys k (pos 0)))
+    → out ≡ two_by_two f xs ys
 two_by_two_made f out xs ys long same each =
     let made = length-two_by_two f xs ys same in
     ext_get_or (pos 0) out (two_by_two f xs ys) (omega arith)
-    (λ k h. let inside : k < length xs = omega arith in each k inside ∙ (let e = get_or-two_by_two f xs ys k same inside in cc))
+    (λ k h. let inside : k < length xs = omega arith in each k inside
+    ∙ (let e = get_or-two_by_two f xs ys k same inside in cc))
 
 pub map_made : (f : ℤ → ℤ) (out xs : List ℤ) → length out ≡ length xs
     → ((k : ℕ) → k < length xs → get_or out k (pos 0) ≡ f (get_or xs k (pos 0))) → out ≡ map f xs
 map_made f out xs long each =
     let made = length-map xs f in
     ext_get_or (pos 0) out (map f xs) (omega arith)
-    (λ k h. let inside : k < length xs = omega arith in each k inside ∙ (let e = get_or-map f xs k (pos 0) (pos 0) inside in cc))
+    (λ k h. let inside : k < length xs = omega arith in each k inside
+    ∙ (let e = get_or-map f xs k (pos 0) (pos 0) inside in cc))
 
-length-selected : (bs xs ys : List ℤ) → length xs ≡ length bs → length ys ≡ length bs → length (selected bs xs ys) ≡ length bs
+length-selected : (bs xs ys : List ℤ) → length xs ≡ length bs → length ys ≡ length bs
+    → length (selection_of bs xs ys) ≡ length bs
 length-selected [] xs ys e f = refl
 length-selected (b ∷ bs) [] ys e f = absurd (omega arith)
 length-selected (b ∷ bs) (x ∷ xs) [] e f = absurd (omega arith)
 length-selected (b ∷ bs) (x ∷ xs) (y ∷ ys) e f = ap suc (length-selected bs xs ys (omega arith) (omega arith))
 
 get_or-selected : (bs xs ys : List ℤ) (k : ℕ) → length xs ≡ length bs → length ys ≡ length bs → k < length bs
-    → get_or (selected bs xs ys) k (pos 0) ≡ (if is_set (get_or bs k (pos 0)) then get_or xs k (pos 0) else get_or ys k (pos 0))
+    → get_or (selection_of bs xs ys) k (pos 0)
+    ≡ (if is_set (get_or bs k (pos 0)) then get_or xs k (pos 0) else get_or ys k (pos 0))
 get_or-selected [] xs ys k e f h = absurd (omega arith)
 get_or-selected (b ∷ bs) [] ys k e f h = absurd (omega arith)
 get_or-selected (b ∷ bs) (x ∷ xs) [] k e f h = absurd (omega arith)
 get_or-selected (b ∷ bs) (x ∷ xs) (y ∷ ys) zero e f h = refl
-get_or-selected (b ∷ bs) (x ∷ xs) (y ∷ ys) (suc k) e f h = get_or-selected bs xs ys k (omega arith) (omega arith) (omega arith)
+get_or-selected (b ∷ bs) (x ∷ xs) (y ∷ ys) (suc k) e f h =
+    get_or-selected bs xs ys k (omega arith) (omega arith) (omega arith)
 
 pub selected_made : (out bs xs ys : List ℤ) → length out ≡ length bs → length xs ≡ length bs → length ys ≡ length bs
-    → ((k : ℕ) → k < length bs → get_or out k (pos 0) ≡ (if is_set (get_or bs k (pos 0)) then get_or xs k (pos 0) else get_or ys k (pos 0)))
-    → out ≡ selected bs xs ys
+    → ((k : ℕ) → k < length bs → get_or out k (pos 0)
+    ≡ (if is_set (get_or bs k (pos 0)) then get_or xs k (pos 0) else get_or ys k (pos 0)))
+    → out ≡ selection_of bs xs ys
 selected_made out bs xs ys long e f each =
     let made = length-selected bs xs ys e f in
-    ext_get_or (pos 0) out (selected bs xs ys) (omega arith)
-    (λ k h. let inside : k < length bs = omega arith in each k inside ∙ (let at = get_or-selected bs xs ys k e f inside in cc))
+    ext_get_or (pos 0) out (selection_of bs xs ys) (omega arith)
+    (λ k h. let inside : k < length bs = omega arith in each k inside
+    ∙ (let at = get_or-selected bs xs ys k e f inside in cc))
 
 -- a test that never holds
 pub none_refused : (xs : List ℤ) → list_any (λ _. false) xs ≡ false
 none_refused [] = refl
 none_refused (x ∷ xs) = none_refused xs
 
-pub list_any-map : {X Y : Type 0} (p : Y → Bool) (f : X → Y) (xs : List X) → list_any p (map f xs) ≡ list_any (λ x. p (f x)) xs
+pub list_any-map : {X Y : Type 0} (p : Y → Bool) (f : X → Y) (xs : List X)
+    → list_any p (map f xs) ≡ list_any (λ x. p (f x)) xs
 list_any-map p f [] = refl
 list_any-map p f (x ∷ xs) = ap (λ rest. p (f x) || rest) (list_any-map p f xs)

@@ -30,13 +30,16 @@ unsigned_abs-fits (pos n) h = omega (arith, h.sfits)
 unsigned_abs-fits (negsuc n) h = omega (arith, h.sfits)
 
 -- r is the quotient's lowest 64 bits
-pub wrap-int_div : (a b r : ℤ) → FitsSigned w64 a → FitsSigned w64 r → r ≡ to_z w64 (of_z w64 (int_div a b)) → to_z w64 (of_z w64 r) ≡ wrap (int_div a b)
+pub wrap-int_div : (a b r : ℤ) → FitsSigned w64 a → FitsSigned w64 r → r ≡ to_z w64 (of_z w64 (int_div a b))
+    → to_z w64 (of_z w64 r) ≡ wrap (int_div a b)
 wrap-int_div a b r a_fits r_fits e =
-    to_z-of_z w64 r r_fits ∙ e
-    ∙ wrap-below (int_div a b) (let q = unsigned_abs-int_div a b in let m = unsigned_abs-fits a a_fits in omega (arith, q, m))
+    let quotient = unsigned_abs-int_div a b in
+    let dividend = unsigned_abs-fits a a_fits in
+    to_z-of_z w64 r r_fits ∙ e ∙ wrap-below (int_div a b) (omega (arith, quotient, dividend))
 
 -- r is what `<<` makes of a and k
-pub wrap-int_shl : (a r : ℤ) (k : ℕ) → FitsSigned w64 a → FitsSigned w64 r → 2 ^ k < 2 ^ 64 → of_z w64 a < 2 ^ 64 → r ≡ int_shl w64 a k → to_z w64 (of_z w64 r) ≡ wrap (a *ℤ pos (2 ^ k))
+pub wrap-int_shl : (a r : ℤ) (k : ℕ) → FitsSigned w64 a → FitsSigned w64 r → 2 ^ k < 2 ^ 64 → of_z w64 a < 2 ^ 64
+    → r ≡ int_shl w64 a k → to_z w64 (of_z w64 r) ≡ wrap (a *ℤ pos (2 ^ k))
 wrap-int_shl a r k a_fits r_fits power bits e =
     to_z-of_z w64 r r_fits ∙ e
     ∙ wrapping_mul-bits w64 (of_z w64 a) (2 ^ k) bits power

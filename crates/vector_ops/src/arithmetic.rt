@@ -3,9 +3,10 @@
 ghost use Rattle.std.specs.Prelude.{◌≡◌, length, MatchResult, None, Some};
 ghost use Rattle.vcode_base.specs.Meaning.{two_by_two};
 ghost use Rattle.vcode_base.specs.Elements.{arithmetic, arithmetic_fault, is_outside, is_zero};
-ghost use Rattle.vcode_base.specs.declared.op.Arith.TheVariants.{Add, Subtract, Multiply, Divide, Remainder, ShiftLeft, ShiftRight};
+ghost use Rattle.vcode_base.specs.declared.op.Arith.TheVariants.{Subtract, Divide, Remainder as ArithRemainder, ShiftLeft, ShiftRight};
 
-use crate::steps::{ElementTest, PairStep, any, fill_pairs};
+use crate::steps::{ElementTest, PairStep, fill_pairs, fill_pairs_unless};
+use vcode_base::element::{Combine, Product, Sum};
 use vcode_base::{Arith, DataFault};
 
 /// Writes the elements of an arithmetic instruction.
@@ -20,95 +21,34 @@ pub fn fill_arith(op: Arith, left: &[i64], right: &[i64], out: &mut [i64]) -> Re
         × (out.new ≡ two_by_two (arithmetic op) left.now right.now))
         (λ fault. arithmetic_fault op right.now ≡ Some fault) }
 {
+    let (zero, shift) = (DataFault::ZeroDivisor, DataFault::BadShift);
     match op {
-        Arith::Add => add(left, right, out),
-        Arith::Subtract => subtract(left, right, out),
-        Arith::Multiply => multiply(left, right, out),
-        Arith::Divide => divide(left, right, out)?,
-        Arith::Remainder => remainder(left, right, out)?,
-        Arith::ShiftLeft => shift_left(left, right, out)?,
-        Arith::ShiftRight => shift_right(left, right, out)?,
+        Arith::Add => fill_pairs::<Sum>(left, right, out),
+        Arith::Subtract => fill_pairs::<Difference>(left, right, out),
+        Arith::Multiply => fill_pairs::<Product>(left, right, out),
+        Arith::Divide => fill_pairs_unless::<IsZero, Quotient>(zero, left, right, out)?,
+        Arith::Remainder => fill_pairs_unless::<IsZero, Remainder>(zero, left, right, out)?,
+        Arith::ShiftLeft => fill_pairs_unless::<IsBadShift, LeftShift>(shift, left, right, out)?,
+        Arith::ShiftRight => fill_pairs_unless::<IsBadShift, RightShift>(shift, left, right, out)?,
     }
     Ok(())
 }
 
-/// Writes the sums, wrapped.
-fn add(left: &[i64], right: &[i64], out: &mut [i64])
-    requires same { length right.now ≡ length left.now }
-    requires room { length out.old ≡ length left.now }
-    ensures { out.new ≡ two_by_two (arithmetic Add) left.now right.now }
-{
-    fill_pairs::<AddStep>(left, right, out);
-}
+/// The difference, modulo 2^64.
+struct Difference;
 
-struct AddStep;
+impl Combine for Difference {
+    ghost combination = { arithmetic Subtract };
 
-impl PairStep for AddStep {
-    ghost gives = { arithmetic Add };
-
-    fn apply(left: i64, right: i64) -> i64 {
-        left.wrapping_add(right)
-    }
-}
-
-/// Writes the differences, wrapped.
-fn subtract(left: &[i64], right: &[i64], out: &mut [i64])
-    requires same { length right.now ≡ length left.now }
-    requires room { length out.old ≡ length left.now }
-    ensures { out.new ≡ two_by_two (arithmetic Subtract) left.now right.now }
-{
-    fill_pairs::<SubtractStep>(left, right, out);
-}
-
-struct SubtractStep;
-
-impl PairStep for SubtractStep {
-    ghost gives = { arithmetic Subtract };
-
-    fn apply(left: i64, right: i64) -> i64 {
+    fn combine(left: i64, right: i64) -> i64 {
         left.wrapping_sub(right)
     }
 }
 
-/// Writes the products, wrapped.
-fn multiply(left: &[i64], right: &[i64], out: &mut [i64])
-    requires same { length right.now ≡ length left.now }
-    requires room { length out.old ≡ length left.now }
-    ensures { out.new ≡ two_by_two (arithmetic Multiply) left.now right.now }
-{
-    fill_pairs::<MultiplyStep>(left, right, out);
-}
+/// The quotient, rounded towards zero. That of the least number by -1 is the least number.
+struct Quotient;
 
-struct MultiplyStep;
-
-impl PairStep for MultiplyStep {
-    ghost gives = { arithmetic Multiply };
-
-    fn apply(left: i64, right: i64) -> i64 {
-        left.wrapping_mul(right)
-    }
-}
-
-/// Writes the quotients, rounded towards zero, unless a divisor is 0. That of the least number by
-/// -1 is the least number.
-fn divide(left: &[i64], right: &[i64], out: &mut [i64]) -> Result<(), DataFault>
-    requires same { length right.now ≡ length left.now }
-    requires room { length out.old ≡ length left.now }
-    ensures { MatchResult result
-        (λ _. (arithmetic_fault Divide right.now ≡ None)
-        × (out.new ≡ two_by_two (arithmetic Divide) left.now right.now))
-        (λ fault. arithmetic_fault Divide right.now ≡ Some fault) }
-{
-    if any::<IsZero>(right) {
-        return Err(DataFault::ZeroDivisor);
-    }
-    fill_pairs::<DivideStep>(left, right, out);
-    Ok(())
-}
-
-struct DivideStep;
-
-impl PairStep for DivideStep {
+impl PairStep for Quotient {
     ghost gives = { arithmetic Divide };
 
     ghost refuses = { is_zero };
@@ -118,26 +58,11 @@ impl PairStep for DivideStep {
     }
 }
 
-/// Writes the remainders, which have the sign of the dividend, unless a divisor is 0.
-fn remainder(left: &[i64], right: &[i64], out: &mut [i64]) -> Result<(), DataFault>
-    requires same { length right.now ≡ length left.now }
-    requires room { length out.old ≡ length left.now }
-    ensures { MatchResult result
-        (λ _. (arithmetic_fault Remainder right.now ≡ None)
-        × (out.new ≡ two_by_two (arithmetic Remainder) left.now right.now))
-        (λ fault. arithmetic_fault Remainder right.now ≡ Some fault) }
-{
-    if any::<IsZero>(right) {
-        return Err(DataFault::ZeroDivisor);
-    }
-    fill_pairs::<RemainderStep>(left, right, out);
-    Ok(())
-}
+/// The remainder, which has the sign of the dividend.
+struct Remainder;
 
-struct RemainderStep;
-
-impl PairStep for RemainderStep {
-    ghost gives = { arithmetic Remainder };
+impl PairStep for Remainder {
+    ghost gives = { arithmetic ArithRemainder };
 
     ghost refuses = { is_zero };
 
@@ -146,25 +71,10 @@ impl PairStep for RemainderStep {
     }
 }
 
-/// Writes the left elements times 2 to the right ones, wrapped, unless a shift is outside 0..=63.
-fn shift_left(left: &[i64], right: &[i64], out: &mut [i64]) -> Result<(), DataFault>
-    requires same { length right.now ≡ length left.now }
-    requires room { length out.old ≡ length left.now }
-    ensures { MatchResult result
-        (λ _. (arithmetic_fault ShiftLeft right.now ≡ None)
-        × (out.new ≡ two_by_two (arithmetic ShiftLeft) left.now right.now))
-        (λ fault. arithmetic_fault ShiftLeft right.now ≡ Some fault) }
-{
-    if any::<IsBadShift>(right) {
-        return Err(DataFault::BadShift);
-    }
-    fill_pairs::<ShiftLeftStep>(left, right, out);
-    Ok(())
-}
+/// The left number times 2 to the right one, modulo 2^64.
+struct LeftShift;
 
-struct ShiftLeftStep;
-
-impl PairStep for ShiftLeftStep {
+impl PairStep for LeftShift {
     ghost gives = { arithmetic ShiftLeft };
 
     ghost refuses = { is_outside 64 };
@@ -174,26 +84,10 @@ impl PairStep for ShiftLeftStep {
     }
 }
 
-/// Writes the left elements divided by 2 to the right ones, rounded down so that the sign stays,
-/// unless a shift is outside 0..=63.
-fn shift_right(left: &[i64], right: &[i64], out: &mut [i64]) -> Result<(), DataFault>
-    requires same { length right.now ≡ length left.now }
-    requires room { length out.old ≡ length left.now }
-    ensures { MatchResult result
-        (λ _. (arithmetic_fault ShiftRight right.now ≡ None)
-        × (out.new ≡ two_by_two (arithmetic ShiftRight) left.now right.now))
-        (λ fault. arithmetic_fault ShiftRight right.now ≡ Some fault) }
-{
-    if any::<IsBadShift>(right) {
-        return Err(DataFault::BadShift);
-    }
-    fill_pairs::<ShiftRightStep>(left, right, out);
-    Ok(())
-}
+/// The left number divided by 2 to the right one, rounded down so that the sign stays.
+struct RightShift;
 
-struct ShiftRightStep;
-
-impl PairStep for ShiftRightStep {
+impl PairStep for RightShift {
     ghost gives = { arithmetic ShiftRight };
 
     ghost refuses = { is_outside 64 };
@@ -203,6 +97,7 @@ impl PairStep for ShiftRightStep {
     }
 }
 
+/// Whether a divisor is 0.
 struct IsZero;
 
 impl ElementTest for IsZero {
@@ -213,6 +108,7 @@ impl ElementTest for IsZero {
     }
 }
 
+/// Whether a shift is outside 0..=63.
 struct IsBadShift;
 
 impl ElementTest for IsBadShift {

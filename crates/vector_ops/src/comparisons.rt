@@ -5,8 +5,9 @@ ghost use Rattle.vcode_base.specs.Meaning.{two_by_two};
 ghost use Rattle.vcode_base.specs.Elements.{comparison};
 ghost use Rattle.vcode_base.specs.declared.op.Comparison.TheVariants.{Less, LessOrEqual, Greater, GreaterOrEqual, Equal, NotEqual};
 
-use crate::steps::{PairStep, fill_pairs};
+use crate::steps::fill_pairs;
 use vcode_base::Comparison;
+use vcode_base::element::Combine;
 
 /// Writes 1 where the comparison holds, and 0 where it doesn't.
 pub fn fill_comparison(op: Comparison, left: &[i64], right: &[i64], out: &mut [i64])
@@ -15,125 +16,77 @@ pub fn fill_comparison(op: Comparison, left: &[i64], right: &[i64], out: &mut [i
     ensures { out.new ≡ two_by_two (comparison op) left.now right.now }
 {
     match op {
-        Comparison::Less => less(left, right, out),
-        Comparison::LessOrEqual => less_or_equal(left, right, out),
-        Comparison::Greater => greater(left, right, out),
-        Comparison::GreaterOrEqual => greater_or_equal(left, right, out),
-        Comparison::Equal => equal(left, right, out),
-        Comparison::NotEqual => not_equal(left, right, out),
+        Comparison::Less => fill_pairs::<IsLess>(left, right, out),
+        Comparison::LessOrEqual => fill_pairs::<IsLessOrEqual>(left, right, out),
+        Comparison::Greater => fill_pairs::<IsGreater>(left, right, out),
+        Comparison::GreaterOrEqual => fill_pairs::<IsGreaterOrEqual>(left, right, out),
+        Comparison::Equal => fill_pairs::<IsEqual>(left, right, out),
+        Comparison::NotEqual => fill_pairs::<IsNotEqual>(left, right, out),
     }
 }
 
-/// Writes T where the left element is less than the right one, else F.
-fn less(left: &[i64], right: &[i64], out: &mut [i64])
-    requires same { length right.now ≡ length left.now }
-    requires room { length out.old ≡ length left.now }
-    ensures { out.new ≡ two_by_two (comparison Less) left.now right.now }
-{
-    fill_pairs::<LessStep>(left, right, out);
-}
+/// Whether the left number is less than the right one.
+struct IsLess;
 
-struct LessStep;
+impl Combine for IsLess {
+    ghost combination = { comparison Less };
 
-impl PairStep for LessStep {
-    ghost gives = { comparison Less };
-
-    fn apply(left: i64, right: i64) -> i64 {
+    fn combine(left: i64, right: i64) -> i64 {
         i64::from(left < right)
     }
 }
 
-/// Writes T where the left element is at most the right one, else F.
-fn less_or_equal(left: &[i64], right: &[i64], out: &mut [i64])
-    requires same { length right.now ≡ length left.now }
-    requires room { length out.old ≡ length left.now }
-    ensures { out.new ≡ two_by_two (comparison LessOrEqual) left.now right.now }
-{
-    fill_pairs::<LessOrEqualStep>(left, right, out);
-}
+/// Whether the left number is at most the right one.
+struct IsLessOrEqual;
 
-struct LessOrEqualStep;
+impl Combine for IsLessOrEqual {
+    ghost combination = { comparison LessOrEqual };
 
-impl PairStep for LessOrEqualStep {
-    ghost gives = { comparison LessOrEqual };
-
-    fn apply(left: i64, right: i64) -> i64 {
+    fn combine(left: i64, right: i64) -> i64 {
         i64::from(left <= right)
     }
 }
 
-/// Writes T where the left element is greater than the right one, else F.
-fn greater(left: &[i64], right: &[i64], out: &mut [i64])
-    requires same { length right.now ≡ length left.now }
-    requires room { length out.old ≡ length left.now }
-    ensures { out.new ≡ two_by_two (comparison Greater) left.now right.now }
-{
-    fill_pairs::<GreaterStep>(left, right, out);
-}
+/// Whether the left number is greater than the right one.
+struct IsGreater;
 
-struct GreaterStep;
+impl Combine for IsGreater {
+    ghost combination = { comparison Greater };
 
-impl PairStep for GreaterStep {
-    ghost gives = { comparison Greater };
-
-    fn apply(left: i64, right: i64) -> i64 {
+    fn combine(left: i64, right: i64) -> i64 {
         i64::from(left > right)
     }
 }
 
-/// Writes T where the left element is at least the right one, else F.
-fn greater_or_equal(left: &[i64], right: &[i64], out: &mut [i64])
-    requires same { length right.now ≡ length left.now }
-    requires room { length out.old ≡ length left.now }
-    ensures { out.new ≡ two_by_two (comparison GreaterOrEqual) left.now right.now }
-{
-    fill_pairs::<GreaterOrEqualStep>(left, right, out);
-}
+/// Whether the left number is at least the right one.
+struct IsGreaterOrEqual;
 
-struct GreaterOrEqualStep;
+impl Combine for IsGreaterOrEqual {
+    ghost combination = { comparison GreaterOrEqual };
 
-impl PairStep for GreaterOrEqualStep {
-    ghost gives = { comparison GreaterOrEqual };
-
-    fn apply(left: i64, right: i64) -> i64 {
+    fn combine(left: i64, right: i64) -> i64 {
         i64::from(left >= right)
     }
 }
 
-/// Writes T where the left element equals the right one, else F.
-fn equal(left: &[i64], right: &[i64], out: &mut [i64])
-    requires same { length right.now ≡ length left.now }
-    requires room { length out.old ≡ length left.now }
-    ensures { out.new ≡ two_by_two (comparison Equal) left.now right.now }
-{
-    fill_pairs::<EqualStep>(left, right, out);
-}
+/// Whether the two are equal.
+struct IsEqual;
 
-struct EqualStep;
+impl Combine for IsEqual {
+    ghost combination = { comparison Equal };
 
-impl PairStep for EqualStep {
-    ghost gives = { comparison Equal };
-
-    fn apply(left: i64, right: i64) -> i64 {
+    fn combine(left: i64, right: i64) -> i64 {
         i64::from(left == right)
     }
 }
 
-/// Writes T where the left element differs from the right one, else F.
-fn not_equal(left: &[i64], right: &[i64], out: &mut [i64])
-    requires same { length right.now ≡ length left.now }
-    requires room { length out.old ≡ length left.now }
-    ensures { out.new ≡ two_by_two (comparison NotEqual) left.now right.now }
-{
-    fill_pairs::<NotEqualStep>(left, right, out);
-}
+/// Whether the two differ.
+struct IsNotEqual;
 
-struct NotEqualStep;
+impl Combine for IsNotEqual {
+    ghost combination = { comparison NotEqual };
 
-impl PairStep for NotEqualStep {
-    ghost gives = { comparison NotEqual };
-
-    fn apply(left: i64, right: i64) -> i64 {
+    fn combine(left: i64, right: i64) -> i64 {
         i64::from(left != right)
     }
 }

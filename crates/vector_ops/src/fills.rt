@@ -7,7 +7,8 @@ ghost use Rattle.vector_ops.specs.Served.{IsServed};
 use crate::arithmetic::fill_arith;
 use crate::comparisons::fill_comparison;
 use crate::logic::{fill_logic, fill_not};
-use crate::selection::{copy, int_to_bool, select};
+use crate::selection::{IsSet, select};
+use crate::steps::fill_each;
 use vcode_base::{DataFault, Elementwise, Op};
 
 /// Writes the result of the instruction to `first`.
@@ -34,7 +35,7 @@ pub fn fill(op: Op, ops: &[&[i64]], first: &mut [i64], second: &mut [i64]) -> Re
 {
     match op {
         Op::Const(_) => {
-            copy(ops[0], first);
+            first.copy_from_slice(ops[0]);
             Ok(())
         }
         Op::Elementwise(op) => fill_elementwise(op, ops, first),
@@ -58,8 +59,8 @@ fn fill_elementwise(op: Elementwise, ops: &[&[i64]], first: &mut [i64]) -> Resul
         Elementwise::Logic(op, _) => fill_logic(op, ops[0], ops[1], first),
         Elementwise::Not(elements) => fill_not(elements, ops[0], first),
         Elementwise::Select(_) => select(ops[0], ops[1], ops[2], first),
-        Elementwise::IntToBool => int_to_bool(ops[0], first),
-        Elementwise::BoolToInt => copy(ops[0], first),
+        Elementwise::IntToBool => fill_each::<IsSet>(ops[0], first),
+        Elementwise::BoolToInt => first.copy_from_slice(ops[0]),
     }
     Ok(())
 }

@@ -4,8 +4,9 @@
 //! [`need`] how many words its results have, and [`fill`] writes them. None of them takes memory,
 //! and each goes at most twice over the elements.
 //!
-//! What the instructions mean is defined in `vcode_base`. One function a row of its table stands in
-//! the module of the row's family, and what it ensures is that row.
+//! What the instructions mean is defined in `vcode_base`. What a row of its table makes of the
+//! elements at one place is a type of its own: those that segments use too are in
+//! `vcode_base::element`, the others in the module of the row's family. `steps` has the loops.
 #![tactic(auto)]
 
 mod arithmetic;

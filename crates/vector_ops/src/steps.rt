@@ -1,6 +1,9 @@
-ghost use Rattle.std.specs.Prelude.{◌≡◌, ℤ, length, map, Bool, false};
+ghost use Rattle.std.specs.Prelude.{◌≡◌, ℤ, length, map, Bool, true, false, MatchResult};
 ghost use Rattle.std.specs.List.{list_any};
 ghost use Rattle.vcode_base.specs.Meaning.{two_by_two};
+
+use vcode_base::DataFault;
+use vcode_base::element::Combine;
 
 /// What makes one element of the two at its place.
 pub trait PairStep {
@@ -12,6 +15,15 @@ pub trait PairStep {
     fn apply(left: i64, right: i64) -> i64
         requires { refuses right ≡ false }
         ensures { result ≡ gives left right };
+}
+
+/// What any two numbers make refuses none.
+impl<C: Combine> PairStep for C {
+    ghost gives = { C.combination };
+
+    fn apply(left: i64, right: i64) -> i64 {
+        C::combine(left, right)
+    }
 }
 
 /// What makes one element of the one at its place.
@@ -42,6 +54,28 @@ pub fn fill_pairs<S: PairStep>(left: &[i64], right: &[i64], out: &mut [i64])
     }
 }
 
+/// The same, but where the test holds at some right element: then there is the fault.
+pub fn fill_pairs_unless<T: ElementTest, S: PairStep>(
+    fault: DataFault,
+    left: &[i64],
+    right: &[i64],
+    out: &mut [i64],
+) -> Result<(), DataFault>
+    requires same { length right.now ≡ length left.now }
+    requires room { length out.old ≡ length left.now }
+    requires tested { list_any S.refuses right.now ≡ list_any T.holds right.now }
+    ensures { MatchResult result
+        (λ _. (list_any T.holds right.now ≡ false)
+        × (out.new ≡ two_by_two S.gives left.now right.now))
+        (λ found. (list_any T.holds right.now ≡ true) × (found ≡ fault)) }
+{
+    if any::<T>(right) {
+        return Err(fault);
+    }
+    fill_pairs::<S>(left, right, out);
+    Ok(())
+}
+
 /// Writes the step's element of each element.
 pub fn fill_each<S: ElementStep>(elements: &[i64], out: &mut [i64])
     requires room { length out.old ≡ length elements.now }
@@ -53,7 +87,7 @@ pub fn fill_each<S: ElementStep>(elements: &[i64], out: &mut [i64])
 }
 
 /// Whether the test holds at some element. It goes over all of them, without leaving early.
-pub fn any<T: ElementTest>(elements: &[i64]) -> bool
+fn any<T: ElementTest>(elements: &[i64]) -> bool
     ensures { result ≡ list_any T.holds elements.now }
 {
     let mut found = false;

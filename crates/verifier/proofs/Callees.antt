@@ -1,5 +1,6 @@
 -- The callee of each line of a function.
-use Rattle.std.proofs.Common.{◌≡◌, ◌∙◌, ℕ, zero, suc, ◌<◌, List, [], ◌∷◌, ◌++◌, length, take, drop, get_or, Option, Some, refl, ap, sym}
+use Rattle.std.proofs.Common.{◌≡◌, ◌∙◌, ℕ, zero, suc, ◌<◌, Option, Some, refl, ap, sym}
+use Rattle.std.proofs.Common.{List, [], ◌∷◌, ◌++◌, length, take, drop, get_or}
 use Rattle.std.specs.List.{slice_get}
 use Rattle.std.specs.Prelude.{map, option_map}
 use Rattle.std.proofs.lemmas.List.{take-append-drop}
@@ -9,7 +10,8 @@ use Rattle.vcode_reader.specs.Targets.{target_in}
 use Rattle.vcode_reader.specs.Trees.{CodeLine, Function, lines_of}
 use Rattle.verifier.specs.Walk.{BeginsWith}
 
-callee_is : (fs : List Function) (function place : ℕ) (f : Function) (x : CodeLine) → slice_get fs function ≡ Some f → slice_get (lines_of f) place ≡ Some x → callee_at fs function place ≡ callee_of fs x.item
+callee_is : (fs : List Function) (function place : ℕ) (f : Function) (x : CodeLine) → slice_get fs function ≡ Some f
+    → slice_get (lines_of f) place ≡ Some x → callee_at fs function place ≡ callee_of fs x.item
 unfolding callees_of
 callee_is fs function place f x hf hx =
     let callee : CodeLine → Option ℕ = λ y. callee_of fs y.item in
@@ -23,11 +25,14 @@ in_front (y ∷ xs) ys zero x h = h
 in_front (y ∷ xs) ys (suc i) x h = in_front xs ys i x h
 
 -- the callee of a line with which a function begins
-pub callee_of_line : (fs : List Function) (function place : ℕ) (lines : List CodeLine) (x : CodeLine) → BeginsWith fs function lines → place < length lines → x ≡ get_or lines place x →
-    callee_at fs function place ≡ callee_of fs x.item
+pub callee_of_line : (fs : List Function) (function place : ℕ) (lines : List CodeLine) (x : CodeLine)
+    → BeginsWith fs function lines → place < length lines → x ≡ get_or lines place x
+    → callee_at fs function place ≡ callee_of fs x.item
 callee_of_line fs function place lines x (f, rest, at, same) lt is =
-    callee_is fs function place f x at (ap (λ (xs : List CodeLine). slice_get xs place) same ∙ in_front lines rest place x (slice_get_read lines (length lines) place x refl lt is))
+    let here = in_front lines rest place x (slice_get_read lines (length lines) place x refl lt is) in
+    callee_is fs function place f x at (ap (λ (xs : List CodeLine). slice_get xs place) same ∙ here)
 
 -- a function begins with some of its lines
-pub begins_with : (fs : List Function) (place n : ℕ) (f : Function) (lines : List CodeLine) → slice_get fs place ≡ Some f → lines ≡ lines_of f → BeginsWith fs place (take n lines)
+pub begins_with : (fs : List Function) (place n : ℕ) (f : Function) (lines : List CodeLine)
+    → slice_get fs place ≡ Some f → lines ≡ lines_of f → BeginsWith fs place (take n lines)
 begins_with fs place n f lines at same = (f, drop n lines, at, sym same ∙ sym (take-append-drop n lines))

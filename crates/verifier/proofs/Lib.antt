@@ -1,3 +1,4 @@
+pub mod Arrows
 pub mod Callees
 pub mod Equal
 pub mod Functions

@@ -1,89 +1,108 @@
--- The walk over the lines of a body is the check of the body.
-use Rattle.std.proofs.Common.{◌≡◌, ℕ, refl, sym, ap, ◌∙◌, List, [], ◌∷◌, ◌++◌, Result, Ok, Err, append_assoc}
+-- The walk over the lines of a body comes to what the body comes to.
+use Rattle.std.proofs.Common.{◌≡◌, ℕ, refl, sym, ap, ◌∙◌, List, [], ◌∷◌, ◌++◌, Result, Ok, Err, append_assoc, append-nil}
+use Rattle.vcode_base.specs.declared.fault.TextFault.{TextFault}
+use Rattle.vcode_base.specs.declared.fault.TextFault.TheVariants.{Memory, At}
 use Rattle.vcode_base.specs.declared.kind.Kind.{Kind}
 use Rattle.vcode_base.specs.declared.kind.Kind.TheVariants as kind
-use Rattle.vcode_reader.specs.declared.line.Part.TheVariants as part
-use Rattle.vcode_reader.specs.Trees.{Body, End, Do, Choice, CodeLine, line_of, flat}
-use Rattle.verifier.specs.declared.fault.VerifyFault.{VerifyFault}
-use Rattle.verifier.specs.declared.fault.VerifyFault.TheVariants.{Memory, At}
+use Rattle.vcode_reader.specs.declared.line.CodeItem.TheVariants as code_item
+use Rattle.vcode_reader.specs.Trees.{Body, End, Do, Choice, CodeLine, line_of, body_lines}
+use Rattle.verifier.specs.declared.fault.KindFault.{KindFault}
 use Rattle.verifier.specs.Faults.{Fault}
-use Rattle.verifier.specs.First.{check, replaced, done, joined, ◌>>=◌}
+use Rattle.verifier.specs.First.{stack_after_body, stack_after_arrow, stack_after_instruction, stack_after_endif, ◌>>=◌}
 use Rattle.verifier.specs.Kinded.{Scope}
-use Rattle.verifier.specs.Walk.{State, with_kept, at_if, step, walk, Fails}
+use Rattle.verifier.specs.Walk.{State, state_with, state_after_if, state_after_line, state_after_lines, Fails}
 
-pub walk_err : (scope : Scope) (f : Fault) (xs : List CodeLine) → walk scope (Err f) xs ≡ Err f
-walk_err scope f [] = refl
-walk_err scope f (x ∷ xs) = walk_err scope f xs
+pub fault_stays : (scope : Scope) (f : Fault) (xs : List CodeLine) → state_after_lines scope (Err f) xs ≡ Err f
+fault_stays scope f [] = refl
+fault_stays scope f (x ∷ xs) = fault_stays scope f xs
 
-regroup : (x y b rest : List CodeLine) (i m n : CodeLine) → (i ∷ (x ++ (m ∷ (y ++ (n ∷ b))))) ++ rest ≡ i ∷ (x ++ (m ∷ (y ++ (n ∷ (b ++ rest)))))
+regroup : (x y b rest : List CodeLine) (i m n : CodeLine)
+    → (i ∷ (x ++ (m ∷ (y ++ (n ∷ b))))) ++ rest ≡ i ∷ (x ++ (m ∷ (y ++ (n ∷ (b ++ rest)))))
 regroup x y b rest i m n = simp append_assoc
 
-begins : List Kind → List (List Kind) → Result State Fault
-begins ks kept = Ok (record { kinds = ks; kept = kept })
+-- the state after lines, with these lists kept before and behind an answer
+abbrev after : Scope → List (List Kind) → Result (List Kind) Fault → List CodeLine → Result State Fault
+after scope kept r lines = state_after_lines scope (state_with kept r) lines
 
--- a body walked from these entries, with these lists kept, is its check
+-- a body walked from these entries, with these lists kept, comes to what it comes to by itself
 abbrev IsWalked : Scope → Body → List Kind → List (List Kind) → List CodeLine → Type 0
-IsWalked scope b ks kept rest = walk scope (Ok (record { kinds = ks; kept = kept })) (flat b ++ rest) ≡ walk scope (with_kept kept (check scope b ks)) rest
+IsWalked scope b ks kept rest =
+    after scope kept (Ok ks) (body_lines b ++ rest) ≡ after scope kept (stack_after_body scope b ks) rest
 
--- what a walk goes on with
-after_do : (scope : Scope) (r : Result (List Kind) Fault) (b : Body) (kept : List (List Kind)) (rest : List CodeLine) → ((ks : List Kind) → IsWalked scope b ks kept rest) →
-    walk scope (with_kept kept r) (flat b ++ rest) ≡ walk scope (with_kept kept (r >>= check scope b)) rest
-after_do scope (Ok ks) b kept rest h = h ks
-after_do scope (Err f) b kept rest h = walk_err scope f (flat b ++ rest) ∙ sym (walk_err scope f rest)
+-- two lists of lines behind a fault
+same_fault : (scope : Scope) (f : Fault) (xs ys : List CodeLine)
+    → state_after_lines scope (Err f) xs ≡ state_after_lines scope (Err f) ys
+same_fault scope f xs ys = fault_stays scope f xs ∙ sym (fault_stays scope f ys)
 
--- after the second body
-after_second : (scope : Scope) (r : Result (List Kind) Fault) (one : List Kind) (end : ℕ) (b : Body) (kept : List (List Kind)) (rest : List CodeLine) → ((ks : List Kind) → IsWalked scope b ks kept rest) →
-    walk scope (with_kept (one ∷ kept) r) (line_of part.Endif end ∷ (flat b ++ rest)) ≡ walk scope (with_kept kept (r >>= λ other. joined end one other >>= check scope b)) rest
-after_second scope (Ok other) one end b kept rest h = after_do scope (joined end one other) b kept rest h
-after_second scope (Err f) one end b kept rest h = walk_err scope f (flat b ++ rest) ∙ sym (walk_err scope f rest)
+module _ (scope : Scope) (b : Body) (kept : List (List Kind)) (rest : List CodeLine)
+    (last : (ks : List Kind) → IsWalked scope b ks kept rest) where
+  -- what a walk goes on with
+  after_do : (r : Result (List Kind) Fault)
+      → after scope kept r (body_lines b ++ rest) ≡ after scope kept (r >>= stack_after_body scope b) rest
+  after_do (Ok ks) = last ks
+  after_do (Err f) = same_fault scope f (body_lines b ++ rest) rest
 
--- after the first body
-after_first : (scope : Scope) (r : Result (List Kind) Fault) (ks : List Kind) (line end : ℕ) (y b : Body) (kept : List (List Kind)) (rest : List CodeLine) →
-    ((one : List Kind) (more : List CodeLine) → IsWalked scope y ks (one ∷ kept) more) → ((ks : List Kind) → IsWalked scope b ks kept rest) →
-    walk scope (with_kept (ks ∷ kept) r) (line_of part.Else line ∷ (flat y ++ (line_of part.Endif end ∷ (flat b ++ rest)))) ≡
-    walk scope (with_kept kept (r >>= λ one. check scope y ks >>= λ other. joined end one other >>= check scope b)) rest
-after_first scope (Ok one) ks line end y b kept rest g h =
-    g one (line_of part.Endif end ∷ (flat b ++ rest)) ∙ after_second scope (check scope y ks) one end b kept rest h
-after_first scope (Err f) ks line end y b kept rest g h =
-    walk_err scope f (flat y ++ (line_of part.Endif end ∷ (flat b ++ rest))) ∙ sym (walk_err scope f rest)
+  module _ (end : ℕ) where
+    -- the lines from the ENDIF on
+    abbrev from_endif : List CodeLine
+    from_endif = line_of code_item.Endif end ∷ (body_lines b ++ rest)
 
--- after the flag
-after_flag : (scope : Scope) (r : Result (List Kind) Fault) (line end : ℕ) (x y b : Body) (kept : List (List Kind)) (rest : List CodeLine) →
-    ((ks : List Kind) (more : List CodeLine) → IsWalked scope x ks (ks ∷ kept) more) →
-    ((ks one : List Kind) (more : List CodeLine) → IsWalked scope y ks (one ∷ kept) more) →
-    ((ks : List Kind) → IsWalked scope b ks kept rest) →
-    walk scope (at_if kept r) (flat x ++ (line_of part.Else line ∷ (flat y ++ (line_of part.Endif end ∷ (flat b ++ rest))))) ≡
-    walk scope (with_kept kept (r >>= λ ks. check scope x ks >>= λ one. check scope y ks >>= λ other. joined end one other >>= check scope b)) rest
-after_flag scope (Ok ks) line end x y b kept rest f g h =
-    f ks (line_of part.Else line ∷ (flat y ++ (line_of part.Endif end ∷ (flat b ++ rest)))) ∙ after_first scope (check scope x ks) ks line end y b kept rest (g ks) h
-after_flag scope (Err q) line end x y b kept rest f g h =
-    walk_err scope q (flat x ++ (line_of part.Else line ∷ (flat y ++ (line_of part.Endif end ∷ (flat b ++ rest))))) ∙ sym (walk_err scope q rest)
+    after_second : (r : Result (List Kind) Fault) (one : List Kind) → after scope (one ∷ kept) r from_endif
+        ≡ after scope kept (r >>= λ other. stack_after_endif end one other >>= stack_after_body scope b) rest
+    after_second (Ok other) one = after_do (stack_after_endif end one other)
+    after_second (Err f) one = same_fault scope f (body_lines b ++ rest) rest
 
-walk-flat : (scope : Scope) (b : Body) (ks : List Kind) (kept : List (List Kind)) (rest : List CodeLine) → IsWalked scope b ks kept rest
-walk-flat scope End ks kept rest = refl
-walk-flat scope (Do item line b) ks kept rest = after_do scope (done scope item line ks) b kept rest (λ x. walk-flat scope b x kept rest)
-walk-flat scope (Choice line x y end b) ks kept rest =
-    ap (walk scope (Ok (record { kinds = ks; kept = kept }))) (regroup (flat x) (flat y) (flat b) rest (line_of part.If line) (line_of part.Else line) (line_of part.Endif end))
-    ∙ after_flag scope (replaced (kind.Bool ∷ []) [] line ks) line end x y b kept rest
-    (λ k more. walk-flat scope x k (k ∷ kept) more) (λ k one more. walk-flat scope y k (one ∷ kept) more) (λ z. walk-flat scope b z kept rest)
+    module _ (y : Body) (line : ℕ)
+        (second : (ks one : List Kind) (more : List CodeLine) → IsWalked scope y ks (one ∷ kept) more) where
+      -- the lines from the ELSE on
+      abbrev from_else : List CodeLine
+      from_else = line_of code_item.Else line ∷ (body_lines y ++ from_endif)
+
+      after_first : (r : Result (List Kind) Fault) (ks : List Kind) → after scope (ks ∷ kept) r from_else
+          ≡ after scope kept (r >>= λ one. stack_after_body scope y ks
+          >>= λ other. stack_after_endif end one other >>= stack_after_body scope b) rest
+      after_first (Ok one) ks = second ks one from_endif ∙ after_second (stack_after_body scope y ks) one
+      after_first (Err f) ks = same_fault scope f (body_lines y ++ from_endif) rest
+
+      after_flag : (x : Body) (r : Result (List Kind) Fault)
+          → ((ks : List Kind) (more : List CodeLine) → IsWalked scope x ks (ks ∷ kept) more)
+          → state_after_lines scope (state_after_if kept r) (body_lines x ++ from_else)
+          ≡ after scope kept (r >>= λ ks. stack_after_body scope x ks >>= λ one. stack_after_body scope y ks
+          >>= λ other. stack_after_endif end one other >>= stack_after_body scope b) rest
+      after_flag x (Ok ks) first = first ks from_else ∙ after_first (stack_after_body scope x ks) ks
+      after_flag x (Err q) first = same_fault scope q (body_lines x ++ from_else) rest
+
+is_walked : (scope : Scope) (b : Body) (ks : List Kind) (kept : List (List Kind)) (rest : List CodeLine)
+    → IsWalked scope b ks kept rest
+is_walked scope End ks kept rest = refl
+is_walked scope (Do item line b) ks kept rest =
+    after_do scope b kept rest (λ x. is_walked scope b x kept rest) (stack_after_instruction scope item line ks)
+is_walked scope (Choice line x y end b) ks kept rest =
+    let lines = regroup (body_lines x) (body_lines y) (body_lines b) rest (line_of code_item.If line)
+    (line_of code_item.Else line) (line_of code_item.Endif end) in
+    ap (after scope kept (Ok ks)) lines
+    ∙ after_flag scope b kept rest (λ z. is_walked scope b z kept rest) end y line
+    (λ k one more. is_walked scope y k (one ∷ kept) more) x (stack_after_arrow (kind.Bool ∷ []) [] line ks)
+    (λ k more. is_walked scope x k (k ∷ kept) more)
 
 -- the whole walk over a body
-pub walk_is_check : (scope : Scope) (b : Body) (ks : List Kind) → walk scope (Ok (record { kinds = ks; kept = [] })) (flat b) ≡ with_kept [] (check scope b ks)
-walk_is_check scope b ks = ap (walk scope (Ok (record { kinds = ks; kept = [] }))) (sym (add_nil (flat b))) ∙ walk-flat scope b ks [] []
-  where
-    add_nil : {A : Type 0} (xs : List A) → xs ++ [] ≡ xs
-    add_nil [] = refl
-    add_nil (x ∷ xs) = ap (λ ys. x ∷ ys) (add_nil xs)
+pub walk_over_body : (scope : Scope) (b : Body) (ks : List Kind)
+    → state_after_lines scope (Ok (record { kinds = ks; kept = [] })) (body_lines b)
+    ≡ state_with [] (stack_after_body scope b ks)
+walk_over_body scope b ks = ap (after scope [] (Ok ks)) (sym (append-nil (body_lines b))) ∙ is_walked scope b ks [] []
 
-pub with_kept_ok : (r : Result (List Kind) Fault) (s : State) → with_kept [] r ≡ Ok s → r ≡ Ok s.kinds
-with_kept_ok (Ok ks) s h = let e : record { kinds = ks; kept = [] } ≡ s = cc in ap (λ (z : State). Ok z.kinds) e
-with_kept_ok (Err f) s h = absurd (cc)
+pub state_with_ok : (r : Result (List Kind) Fault) (s : State) → state_with [] r ≡ Ok s → r ≡ Ok s.kinds
+state_with_ok (Ok ks) s h = let e : record { kinds = ks; kept = [] } ≡ s = cc in ap (λ (z : State). Ok z.kinds) e
+state_with_ok (Err f) s h = absurd (cc)
 
-pub with_kept_err : (r : Result (List Kind) Fault) (f : Fault) → with_kept [] r ≡ Err f → r ≡ Err f
-with_kept_err (Ok ks) f h = absurd (cc)
-with_kept_err (Err g) f h = let e : g ≡ f = cc in ap (λ z. Err z) e
+pub state_with_err : (r : Result (List Kind) Fault) (f : Fault) → state_with [] r ≡ Err f → r ≡ Err f
+state_with_err (Ok ks) f h = absurd (cc)
+state_with_err (Err g) f h = let e : g ≡ f = cc in ap (λ z. Err z) e
 
-pub walk_fails : (v : VerifyFault) (scope : Scope) (all : Result State Fault) (xs rest : List CodeLine) (x : CodeLine) (s : State) →
-    all ≡ walk scope (Ok s) xs → xs ≡ x ∷ rest → Fails v (step scope x.item x.number s) → Fails v all
+pub walk_fails : (v : TextFault KindFault) (scope : Scope) (all : Result State Fault) (xs rest : List CodeLine)
+    (x : CodeLine) (s : State) → all ≡ state_after_lines scope (Ok s) xs → xs ≡ x ∷ rest
+    → Fails v (state_after_line scope x.item x.number s) → Fails v all
 walk_fails Memory scope all xs rest x s e f h = tt
-walk_fails (At fault line) scope all xs rest x s e f h = e ∙ (ap (walk scope (Ok s)) f ∙ (ap (λ z. walk scope z rest) h ∙ walk_err scope (fault, line) rest))
+walk_fails (At fault line) scope all xs rest x s e f h =
+    e ∙ (ap (state_after_lines scope (Ok s)) f
+    ∙ (ap (λ z. state_after_lines scope z rest) h ∙ fault_stays scope (fault, line) rest))

@@ -1,7 +1,8 @@
 -- The names of the kind faults as the report prints them.
 use Rattle.std.specs.Prelude.{ℕ, List, codes}
 use Rattle.verifier.specs.declared.fault.KindFault.{KindFault}
-use Rattle.verifier.specs.declared.fault.KindFault.TheVariants.{MissingOperand, WrongKind, UnknownFunction, ArmsDiffer, ResultDiffers, NoSignature, NoMain, MainTakes}
+use Rattle.verifier.specs.declared.fault.KindFault.TheVariants.{MissingOperand, WrongKind, UnknownFunction, ArmsDiffer}
+use Rattle.verifier.specs.declared.fault.KindFault.TheVariants.{ResultDiffers, NoSignature, NoMain, MainTakes}
 
 abbrev pub kind_fault_text : KindFault → List ℕ
 kind_fault_text MissingOperand = codes "V1 MISSING_OPERAND"

@@ -6,4 +6,6 @@ use Rattle.verifier.specs.First.{kind_fault}
 use Rattle.verifier.specs.Kinded.{IsWellKinded}
 
 abbrev pub NoFaultWhereWellKinded : Type 0
-NoFaultWhereWellKinded = (signatures : List Signature) (program : Program) → (kind_fault signatures program ≡ None) ↔ IsWellKinded signatures program
+NoFaultWhereWellKinded =
+    (signatures : List Signature) (program : Program)
+    → (kind_fault signatures program ≡ None) ↔ IsWellKinded signatures program

@@ -1,7 +1,7 @@
 ghost use Rattle.std.specs.Prelude.{◌≡◌};
 ghost use Rattle.verifier.specs.Faults.{kind_fault_text};
 
-use std::alloc::AllocError;
+use vcode_base::TextFault;
 
 /// Why a program is not well kinded.
 #[derive(Clone, Copy, PartialEq, Eq, Debug)]
@@ -25,11 +25,7 @@ pub enum KindFault {
 }
 
 /// Why a program was not verified: there was no memory for it, or it has this fault at this line.
-#[derive(Clone, Copy, PartialEq, Eq, Debug)]
-pub enum VerifyFault {
-    Memory,
-    At(KindFault, u64),
-}
+pub type VerifyFault = TextFault<KindFault>;
 
 impl KindFault {
     /// The name that the report prints.
@@ -46,16 +42,5 @@ impl KindFault {
             KindFault::NoMain => "V7 NO_MAIN",
             KindFault::MainTakes => "V8 MAIN_TAKES",
         }
-    }
-}
-
-impl From<AllocError> for VerifyFault {
-    ghost use Rattle.std.specs.Prelude.{◌≡◌};
-    ghost use Rattle.verifier.specs.declared.fault.VerifyFault.TheVariants.{Memory};
-
-    ghost from_gives = { λ _ fault. fault ≡ Memory };
-
-    fn from(_: AllocError) -> VerifyFault {
-        VerifyFault::Memory
     }
 }

@@ -11,7 +11,8 @@ pub fn no_fault_where_well_kinded()
     ensures { NoFaultWhereWellKinded }
 {}
 
-/// What was verified is `==` exactly where the programs and the kinds of what `MAIN` leaves are equal.
+/// What was verified is `==` exactly where the programs, and the kinds that their functions take and
+/// give, are equal.
 pub fn equal_verified<A: Allocator>(left: &Verified<A>, right: &Verified<A>) -> bool
     ensures { IsTrue result ↔ (left.now ≡ right.now) }
 {

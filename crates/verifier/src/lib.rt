@@ -1,5 +1,5 @@
-//! The verifier: a program and its signatures in; a well kinded program with the kinds of what its `MAIN`
-//! leaves, or its first kind fault with the line, out.
+//! The verifier: a program and its signatures in; a well kinded program with the kinds that its functions
+//! take and give, or its first kind fault with the line, out.
 //!
 //! **Kinds.** A function begins with the operands of its signature on its stack, and each instruction
 //! takes the entries at the top that it has as operands and leaves its results in their place; what lies
@@ -14,14 +14,14 @@
 //! before missing entries, before entries of other kinds.
 //!
 //! `specs/Kinded` says when a program is well kinded, as a relation by cases on its tree; `specs/First`
-//! what its first fault is. That there is none exactly where the program is well kinded stands in
-//! [`laws`].
+//! what its first fault is; `specs/Typed` what a [`Verified`] program keeps: for each function, by its
+//! place, the kinds that it takes and gives. That there is no fault exactly where the program is well
+//! kinded stands in [`laws`].
 #![tactic(auto)]
 
-mod check;
 mod fault;
-mod kinds;
 pub mod laws;
+mod lines;
 mod scope;
 mod stack;
 mod verified;

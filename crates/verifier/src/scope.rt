@@ -28,7 +28,8 @@ impl<'a, A: Allocator> Model for Scope<'a, A> {
 
     ghost Value = { ScopeOf };
 
-    ghost coded = { code_by (List FunctionTree × List Signature) (coded× (coded_list (function_code (Prim.hlevel codes))) (Prim.hlevel codes))
+    ghost coded = { code_by (List FunctionTree × List Signature)
+        (coded× (coded_list (function_code (Prim.hlevel codes))) (Prim.hlevel codes))
         (λ s. (s.functions, s.signatures)) (λ p. record { functions = p.0; signatures = p.1 }) (λ _. refl) };
 
     ghost view = { λ s. scope_of s.signatures.now s.program.now };
@@ -61,7 +62,8 @@ impl<'a, A: Allocator> Scope<'a, A> {
 
     /// What the function of this name takes and gives; `None` where it has no signature.
     pub fn signature(&self, name: &[u8]) -> Option<(&'a [Kind], &'a [Kind])>
-        ensures { MatchOption result (kinds_of self.now.signatures name.now ≡ None)
+        ensures { MatchOption result
+            (kinds_of self.now.signatures name.now ≡ None)
             (λ kinds. kinds_of self.now.signatures name.now ≡ Some (kinds.0.now, kinds.1.now)) }
     {
         self.signatures.get(name)

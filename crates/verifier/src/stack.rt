@@ -1,17 +1,18 @@
 //! The kinds of a function's entries, and those that are kept for its open IFs.
 
-ghost use Rattle.std.specs.Prelude.{◌≡◌, ◌-◌, ◌<◌, ◌≤◌, ◌++◌, [], ◌∷◌, IfOk, OnOk, OnErr, MatchOption, length, map, take};
-ghost use Rattle.verifier.specs.First.{same_kinds};
-ghost use Rattle.verifier.specs.Kept.{whole, ShareAtMost, Released};
-ghost use Rattle.verifier.specs.Walk.{swapped, is_kept, others_of};
+ghost use Rattle.std.specs.Prelude.{◌≡◌, ◌-◌, ◌<◌, ◌≤◌, ◌++◌, [], ◌∷◌, length, map, take};
+ghost use Rattle.std.specs.Prelude.{IfOk, OnOk, OnErr, MatchOption};
+ghost use Rattle.vcode_base.specs.Kinds.{are_same_kinds};
+ghost use Rattle.verifier.specs.Kept.{whole_list, ShareAtMost, Releases};
+ghost use Rattle.verifier.specs.Walk.{state_after_else, is_kept_last, others_of};
 
 use std::alloc::{AllocError, Allocator};
 use std::marker::Model;
 use vcode_base::Kind;
 
 /// Whether two lists of kinds are one.
-pub fn same_kinds(left: &[Kind], right: &[Kind]) -> bool
-    ensures { result ≡ same_kinds left.now right.now }
+pub fn are_same_kinds(left: &[Kind], right: &[Kind]) -> bool
+    ensures { result ≡ are_same_kinds left.now right.now }
 {
     left == right
 }
@@ -19,27 +20,27 @@ pub fn same_kinds(left: &[Kind], right: &[Kind]) -> bool
 /// A list of entries that is kept for an open IF: how many of the stack's lowest entries it begins
 /// with, and its entries above them, from the top down.
 #[derive(Drop)]
-struct Kept<A: Allocator> {
+struct KeptList<A: Allocator> {
     shared: usize,
     above: Vec<Kind, A>,
 }
 
-impl<A: Allocator> Model for Kept<A> {
+impl<A: Allocator> Model for KeptList<A> {
     ghost use Rattle.std.specs.Prelude.{reverse};
-    ghost use Rattle.verifier.specs.Kept.{Memo};
+    ghost use Rattle.verifier.specs.Kept.{KeptList as KeptListOf};
 
-    ghost Value = { Memo };
+    ghost Value = { KeptListOf };
 
     ghost view = { λ k. record { shared = k.shared; above = reverse k.above.items } };
 }
 
-impl<A: Allocator> Kept<A> {
+impl<A: Allocator> KeptList<A> {
     /// The list of so many of the stack's entries and of these above them, from the bottom up.
-    fn new(shared: usize, mut above: Vec<Kind, A>) -> Kept<A>
+    fn new(shared: usize, mut above: Vec<Kind, A>) -> KeptList<A>
         ensures { result ≡ record { shared = shared; above = above.items } }
     {
         above.reverse();
-        Kept { shared, above }
+        KeptList { shared, above }
     }
 
     /// How many of the stack's entries the list begins with.
@@ -53,7 +54,7 @@ impl<A: Allocator> Kept<A> {
     fn into_above(self) -> Vec<Kind, A>
         ensures { result.items ≡ self.above }
     {
-        let Kept {
+        let KeptList {
             shared: _,
             mut above,
         } = self;
@@ -64,8 +65,9 @@ impl<A: Allocator> Kept<A> {
     /// Takes over the stack's entry that is the last shared.
     fn take_over(&mut self, kind: Kind) -> Result<(), AllocError>
         requires { 0 < self.old.shared }
-        ensures ok { OnOk result (self.new ≡ record { shared = self.old.shared - 1; above = kind ∷ self.old.above }) }
-        ensures err { OnErr result (self.new ≡ self.old) }
+        ensures taken { OnOk result (self.new
+            ≡ record { shared = self.old.shared - 1; above = kind ∷ self.old.above }) }
+        ensures unchanged { OnErr result (self.new ≡ self.old) }
     {
         self.above.push(kind)?;
         self.shared -= 1;
@@ -73,9 +75,9 @@ impl<A: Allocator> Kept<A> {
     }
 
     /// Takes over the stack's entries above the first `len`, which are to go.
-    fn part(&mut self, len: usize, kinds: &[Kind]) -> Result<(), AllocError>
+    fn take_over_above(&mut self, len: usize, kinds: &[Kind]) -> Result<(), AllocError>
         requires { self.old.shared ≤ length kinds.now }
-        ensures same { whole kinds.now self.new ≡ whole kinds.now self.old }
+        ensures same { whole_list kinds.now self.new ≡ whole_list kinds.now self.old }
         ensures fewer { self.new.shared ≤ self.old.shared }
         ensures below { OnOk result (self.new.shared ≤ len) }
     {
@@ -88,18 +90,18 @@ impl<A: Allocator> Kept<A> {
 }
 
 /// Takes over the stack's entries above the first `len` into each list.
-fn part_all<A: Allocator>(
-    kept: &mut [Kept<A>],
+fn take_over_all<A: Allocator>(
+    kept: &mut [KeptList<A>],
     len: usize,
     kinds: &[Kind],
 ) -> Result<(), AllocError>
     requires { ShareAtMost (length kinds.now) kept.old }
-    ensures same { map (whole kinds.now) kept.new ≡ map (whole kinds.now) kept.old }
+    ensures same { map (whole_list kinds.now) kept.new ≡ map (whole_list kinds.now) kept.old }
     ensures within { ShareAtMost (length kinds.now) kept.new }
     ensures below { OnOk result (ShareAtMost len kept.new) }
 {
     for list in kept.iter_mut() {
-        list.part(len, kinds)?;
+        list.take_over_above(len, kinds)?;
     }
     Ok(())
 }
@@ -109,30 +111,29 @@ fn part_all<A: Allocator>(
 /// A kept list shares the entries at the bottom with the stack: those that are taken off while an IF is
 /// open go over into it, so that nothing is copied where an IF begins.
 #[derive(Drop)]
-pub struct Stack<A: Allocator> {
+pub struct KindStack<A: Allocator> {
     kinds: Vec<Kind, A>,
-    kept: Vec<Kept<A>, A>,
+    kept: Vec<KeptList<A>, A>,
 }
 
-impl<A: Allocator> Model for Stack<A> {
+impl<A: Allocator> Model for KindStack<A> {
     ghost use Rattle.std.specs.Prelude.{length, map, reverse};
-    ghost use Rattle.verifier.specs.Kept.{whole, ShareAtMost};
-    ghost use Rattle.verifier.specs.Kept.{whole, ShareAtMost, Released};
+    ghost use Rattle.verifier.specs.Kept.{whole_list, ShareAtMost};
     ghost use Rattle.verifier.specs.Walk.{State};
 
     ghost Value = { State };
 
-    ghost view = { λ s. record { kinds = s.kinds.items; kept = map (whole s.kinds.items) (reverse s.kept.items) } };
+    ghost view = { λ s. record { kinds = s.kinds.items; kept = map (whole_list s.kinds.items) (reverse s.kept.items) } };
 
     ghost invariant = { λ s. ShareAtMost (length s.kinds.items) s.kept.items };
 }
 
-impl<A: Allocator + Clone> Stack<A> {
+impl<A: Allocator + Clone> KindStack<A> {
     /// These entries, and no open IF.
-    pub fn new(alloc: A, kinds: &[Kind]) -> Result<Stack<A>, AllocError>
+    pub fn new(alloc: A, kinds: &[Kind]) -> Result<KindStack<A>, AllocError>
         ensures { IfOk result (λ s. s ≡ record { kinds = kinds.now; kept = [] }) }
     {
-        Ok(Stack {
+        Ok(KindStack {
             kinds: kinds.to_vec(alloc.clone()?)?,
             kept: Vec::new(alloc),
         })
@@ -156,7 +157,7 @@ impl<A: Allocator + Clone> Stack<A> {
     pub fn truncate(&mut self, len: usize) -> Result<(), AllocError>
         ensures { OnOk result (self.new ≡ record self.old { kinds = take len self.old.kinds }) }
     {
-        part_all(self.kept.as_mut_slice(), len, self.kinds.as_slice())?;
+        take_over_all(self.kept.as_mut_slice(), len, self.kinds.as_slice())?;
         self.kinds.truncate(len);
         Ok(())
     }
@@ -172,15 +173,18 @@ impl<A: Allocator + Clone> Stack<A> {
     /// Keeps the list of the first `shared` entries and of these above them.
     fn push_kept(&mut self, shared: usize, above: Vec<Kind, A>) -> Result<(), AllocError>
         requires { shared ≤ length self.old.kinds }
-        ensures { OnOk result (self.new ≡ record self.old { kept = (take shared self.old.kinds ++ above.items) ∷ self.old.kept }) }
+        ensures { OnOk result (self.new
+            ≡ record self.old { kept = (take shared self.old.kinds ++ above.items) ∷ self.old.kept }) }
     {
-        self.kept.push(Kept::new(shared, above))?;
+        self.kept.push(KeptList::new(shared, above))?;
         Ok(())
     }
 
     /// Takes the list that was kept last.
-    fn pop_kept(&mut self) -> Option<Kept<A>>
-        ensures { MatchOption result ((self.old.kept ≡ []) × (self.new ≡ self.old)) (λ memo. Released self.old self.new memo) }
+    fn pop_kept(&mut self) -> Option<KeptList<A>>
+        ensures { MatchOption result
+            ((self.old.kept ≡ []) × (self.new ≡ self.old))
+            (λ list. Releases self.old self.new list) }
     {
         self.kept.pop()
     }
@@ -196,7 +200,7 @@ impl<A: Allocator + Clone> Stack<A> {
 
     /// The entries, and those that were kept last, change places.
     pub fn swap(&mut self) -> Result<(), AllocError>
-        ensures { OnOk result (self.new ≡ swapped self.old.kinds self.old.kept) }
+        ensures { OnOk result (self.new ≡ state_after_else self.old.kinds self.old.kept) }
     {
         let Some(kept) = self.pop_kept() else {
             return Ok(());
@@ -212,7 +216,7 @@ impl<A: Allocator + Clone> Stack<A> {
 
     /// Forgets the entries that were kept last, and tells whether they are those that there are.
     pub fn forget(&mut self) -> bool
-        ensures same { result ≡ is_kept self.old.kinds self.old.kept }
+        ensures same { result ≡ is_kept_last self.old.kinds self.old.kept }
         ensures rest { self.new ≡ record self.old { kept = others_of self.old.kept } }
     {
         let Some(kept) = self.pop_kept() else {
@@ -220,6 +224,6 @@ impl<A: Allocator + Clone> Stack<A> {
         };
         let shared = kept.shared();
         let above = kept.into_above();
-        same_kinds(above.as_slice(), &self.kinds[shared..])
+        are_same_kinds(above.as_slice(), &self.kinds[shared..])
     }
 }

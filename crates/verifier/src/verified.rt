@@ -1,47 +1,53 @@
 //! A whole program.
 
-ghost use Rattle.std.specs.Prelude.{◌≡◌, List, [], Ok, Some, IfOk, MatchResult};
+ghost use Rattle.std.specs.Prelude.{◌≡◌, List, [], None, Ok, Some, IfOk, MatchOption, MatchResult};
 ghost use Rattle.std.specs.List.{slice_get};
 ghost use Rattle.vcode_base.specs.declared.kind.Kind.{Kind as KindOf};
+ghost use Rattle.vcode_base.specs.Names.{main_name};
 ghost use Rattle.signatures.specs.Signatures.{kinds_of};
-ghost use Rattle.verifier.specs.Checked.{IsVerified, IsVerifiedBy};
-ghost use Rattle.verifier.specs.First.{check, returned, main_takes, function_fault, functions_fault, kind_fault, FaultIs, Finds};
-ghost use Rattle.verifier.specs.Kinded.{main_name};
+ghost use Rattle.verifier.specs.First.{stack_after_body, is_main_with_operands, fault_at_return, function_fault};
+ghost use Rattle.verifier.specs.First.{functions_fault, kind_fault, FaultIs, Finds};
+ghost use Rattle.verifier.specs.Kinded.{IsWellKinded};
+ghost use Rattle.verifier.specs.Typed.{IsVerified, IsVerifiedBy, AreArrows};
 
-use crate::check::walk;
 use crate::fault::{KindFault, VerifyFault};
-use crate::kinds::Kinds;
+use crate::lines::check_lines;
 use crate::scope::Scope;
-use crate::stack::{Stack, same_kinds};
+use crate::stack::{KindStack, are_same_kinds};
 use signatures::Signatures;
 use std::alloc::{AllocError, Allocator};
 use std::marker::Model;
-use vcode_base::Kind;
+use vcode_base::{Kind, Sequence};
 use vcode_reader::{Function, Program};
 
-/// A program that is well kinded by some signatures, with the kinds of what its `MAIN` leaves by them.
+/// The kinds that a function takes, and those that it gives.
+type Arrow<A> = (Sequence<Kind, A>, Sequence<Kind, A>);
+
+/// A well kinded program. It keeps, for each function, the kinds that the signatures by which it was
+/// verified let this function take and give.
 #[derive(Drop)]
 #[derive_where(PartialEq, Eq)]
 pub struct Verified<A: Allocator> {
     program: Program<A>,
-    results: Kinds<A>,
+    arrows: Sequence<Arrow<A>, A>,
+    results: Sequence<Kind, A>,
 }
 
 impl<A: Allocator> Model for Verified<A> {
     ghost use Rattle.std.specs.Coded.{codes};
-    ghost use Rattle.verifier.specs.Checked.{Checked, checked_code};
+    ghost use Rattle.verifier.specs.Typed.{TypedProgram, typed_program_code};
 
-    ghost Value = { Checked };
+    ghost Value = { TypedProgram };
 
-    ghost coded = { checked_code (Prim.hlevel codes) (Prim.hlevel codes) };
+    ghost coded = { typed_program_code (Prim.hlevel codes) (Prim.hlevel codes) };
 
-    ghost use Rattle.verifier.specs.Checked.{IsVerified};
+    ghost use Rattle.verifier.specs.Typed.{IsVerified};
 
-    ghost view = { λ v. record { program = v.program; results = v.results } };
+    ghost view = { λ v. record { program = v.program; arrows = v.arrows; results = v.results } };
 
-    ghost invariant = { λ v. IsVerified (record { program = v.program; results = v.results }) };
+    ghost invariant = { λ v. IsVerified (record { program = v.program; arrows = v.arrows; results = v.results }) };
 
-    ghost inverse = { λ c. record { program = c.program; results = c.results } };
+    ghost inverse = { λ t. record { program = t.program; arrows = t.arrows; results = t.results } };
 }
 
 impl<A: Allocator> Verified<A> {
@@ -53,6 +59,17 @@ impl<A: Allocator> Verified<A> {
         &self.program
     }
 
+    /// The kinds that the function at a place takes and those that it gives, from the bottom of the
+    /// stack up; `None` past the last function. Places count from 0 in the order of the text.
+    pub fn signature(&self, place: usize) -> Option<(&[Kind], &[Kind])>
+        ensures { MatchOption result
+            (slice_get self.now.arrows place ≡ None)
+            (λ kinds. slice_get self.now.arrows place ≡ Some (kinds.0.now, kinds.1.now)) }
+    {
+        let (takes, gives) = self.arrows.as_slice().get(place)?;
+        Some((takes.as_slice(), gives.as_slice()))
+    }
+
     /// The kinds of what `MAIN` leaves, from the bottom of the stack up.
     pub fn results(&self) -> &[Kind]
         ensures same { result.now ≡ self.now.results }
@@ -62,8 +79,8 @@ impl<A: Allocator> Verified<A> {
     }
 }
 
-/// The program, where it is well kinded by the signatures, with the kinds of what they let `MAIN`
-/// leave; else its first fault, or want of memory: that it has no `MAIN`, at its first line, and after
+/// The program, where it is well kinded by the signatures, with what they let its functions take and
+/// give; else its first fault, or want of memory: that it has no `MAIN`, at its first line, and after
 /// that the first in the order of its text. The program is spent in both cases.
 pub fn verify<A: Allocator + Clone>(
     alloc: A,
@@ -76,23 +93,58 @@ pub fn verify<A: Allocator + Clone>(
 {
     match check_program(alloc.clone()?, &program, signatures) {
         Ok(()) => {
+            let arrows = arrows_of(alloc.clone()?, &program, signatures)?;
             let results = results_of_main(alloc, signatures)?;
-            Ok(Verified { program, results })
+            Ok(Verified {
+                program,
+                arrows,
+                results,
+            })
         }
         Err(fault) => Err(fault),
     }
+}
+
+/// The kinds that each function takes and gives, in the order of the text.
+fn arrows_of<A: Allocator + Clone>(
+    alloc: A,
+    program: &Program<A>,
+    signatures: &Signatures<A>,
+) -> Result<Sequence<Arrow<A>, A>, AllocError>
+    requires { IsWellKinded signatures.now program.now }
+    ensures { IfOk result (AreArrows signatures.now program.now.functions) }
+{
+    let mut arrows = Vec::new(alloc.clone()?);
+    for function in program.functions() {
+        let (takes, gives) = signatures.get(function.name()).unwrap();
+        arrows.push(arrow_of(alloc.clone()?, takes, gives)?)?;
+    }
+    Ok(Sequence::from_vec(arrows))
+}
+
+/// Copies of what a function takes and gives.
+fn arrow_of<A: Allocator + Clone>(
+    alloc: A,
+    takes: &[Kind],
+    gives: &[Kind],
+) -> Result<Arrow<A>, AllocError>
+    ensures { IfOk result (λ arrow. (arrow.0 ≡ takes.now) × (arrow.1 ≡ gives.now)) }
+{
+    let takes = takes.to_vec(alloc.clone()?)?;
+    let gives = gives.to_vec(alloc)?;
+    Ok((Sequence::from_vec(takes), Sequence::from_vec(gives)))
 }
 
 /// The kinds of what `MAIN` leaves, which takes nothing.
 fn results_of_main<A: Allocator>(
     alloc: A,
     signatures: &Signatures<A>,
-) -> Result<Kinds<A>, AllocError>
+) -> Result<Sequence<Kind, A>, AllocError>
     requires { (results : List KindOf) × (kinds_of signatures.now main_name ≡ Some ([], results)) }
     ensures { IfOk result (λ results. kinds_of signatures.now main_name ≡ Some ([], results)) }
 {
     let (_, results) = signatures.get(b"MAIN").unwrap();
-    Ok(Kinds::from_vec(results.to_vec(alloc)?))
+    Ok(Sequence::from_vec(results.to_vec(alloc)?))
 }
 
 #[tactic(auto, unfolding(crate::specs::First::kind_fault))]
@@ -136,15 +188,15 @@ fn check_function<A: Allocator + Clone>(
     let Some((takes, gives)) = scope.signature(function.name()) else {
         return Err(VerifyFault::At(KindFault::NoSignature, function.line()));
     };
-    if main_takes(function, takes) {
+    if is_main_with_operands(function, takes) {
         Err(VerifyFault::At(KindFault::MainTakes, function.line()))
     } else {
         check_body(alloc, scope, place, function, takes, gives)
     }
 }
 
-fn main_takes<A: Allocator>(function: &Function<A>, takes: &[Kind]) -> bool
-    ensures { result ≡ main_takes function.now takes.now }
+fn is_main_with_operands<A: Allocator>(function: &Function<A>, takes: &[Kind]) -> bool
+    ensures { result ≡ is_main_with_operands function.now takes.now }
 {
     match takes {
         [] => false,
@@ -162,12 +214,13 @@ fn check_body<A: Allocator + Clone>(
     gives: &[Kind],
 ) -> Result<(), VerifyFault>
     requires { slice_get scope.now.functions place ≡ Some function.now }
-    ensures { Finds result (returned gives.now function.now.ret (check scope.now function.now.body takes.now)) }
+    ensures { Finds result
+        (fault_at_return gives.now function.now.ret (stack_after_body scope.now function.now.body takes.now)) }
 {
-    let mut stack = Stack::new(alloc, takes)?;
+    let mut stack = KindStack::new(alloc, takes)?;
     let lines = function.lines();
     let last = lines.len() - 1;
-    match walk(&mut stack, scope, place, &lines[..last]) {
+    match check_lines(&mut stack, scope, place, &lines[..last]) {
         Ok(()) => check_results(stack.as_slice(), gives, lines[last].number),
         Err(fault) => Err(fault),
     }
@@ -175,9 +228,9 @@ fn check_body<A: Allocator + Clone>(
 
 /// The entries at the `RET` of this line are those that the signature gives.
 fn check_results(entries: &[Kind], gives: &[Kind], ret: u64) -> Result<(), VerifyFault>
-    ensures { Finds result (returned gives.now ret (Ok entries.now)) }
+    ensures { Finds result (fault_at_return gives.now ret (Ok entries.now)) }
 {
-    if same_kinds(entries, gives) {
+    if are_same_kinds(entries, gives) {
         Ok(())
     } else {
         Err(VerifyFault::At(KindFault::ResultDiffers, ret))

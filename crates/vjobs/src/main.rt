@@ -2,7 +2,8 @@
 #![tactic(auto)]
 
 use batch_front::{
-    Device, FrontFault, Line, LineFault, Options, Status, exit_status, read_line, run_alone,
+    Device, FrontFault, Line, LineFault, Options, Status, arguments_fault, exit_status, read_line,
+    run_alone,
 };
 use std::env;
 use std::fs::File;
@@ -11,7 +12,10 @@ use std::process::ExitCode;
 
 /// Reads the command line.
 fn line_of(rt: &HostRuntime) -> Result<Line, LineFault> {
-    let words = env::args(rt).map_err(|_| LineFault::Memory)?;
+    let words = match env::args(rt) {
+        Ok(words) => words,
+        Err(error) => return Err(arguments_fault(rt.alloc(), error.kind())),
+    };
     let words: Vec<String> = words.collect(rt.alloc()).map_err(|_| LineFault::Memory)?;
     let mut texts = Vec::new(rt.alloc());
     for word in &words {

@@ -31,7 +31,7 @@ fn names_are_equal_by_their_bytes(rt: HostRuntime) -> Result<(), Fail> {
     let other = name(rt.alloc(), b"main")?;
     assert!(rt; main == also_main);
     assert!(rt; main != other);
-    assert!(rt; main.as_bytes() == b"MAIN".as_slice());
+    assert!(rt; main.as_slice() == b"MAIN".as_slice());
     Ok(())
 }
 

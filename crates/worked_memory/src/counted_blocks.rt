@@ -1,5 +1,5 @@
 //! Blocks that live while references name them.
-use block_memory::{BlockId, PlainMemory, RegionMemory, VectorMemory};
+use block_memory::{BlockId, PlainMemory, RegionMemory, SlidingMemory, VectorMemory};
 use refcounts::SharedMemory;
 use std::alloc::Global;
 use std::process::Abort;
@@ -15,21 +15,21 @@ fn holds<M: VectorMemory>(
     assert_eq!(rt; (shared.used(), shared.blocks()), (words, blocks));
 }
 
-/// A block has this owner, so many words, and this word at this place.
+/// A block has this owner and these words.
 fn reads<M: VectorMemory>(
     rt: &impl Abort,
     shared: &SharedMemory<M, Global>,
     id: BlockId,
     owner: usize,
-    len: usize,
-    place: usize,
-    word: i64,
+    expected: &[i64],
 ) {
     assert!(rt; shared.count(id) > 0);
     assert_eq!(rt; shared.owner(id), owner);
-    assert_eq!(rt; shared.len(id), len);
-    assert!(rt; place < len);
-    assert_eq!(rt; shared.word(id, place), word);
+    assert_eq!(rt; shared.words(id), expected);
+    assert_eq!(rt; shared.len(id), expected.len());
+    if let Some(last) = expected.last() {
+        assert_eq!(rt; shared.word(id, expected.len() - 1), *last);
+    }
 }
 
 /// One reference more, to a block that so many name then.
@@ -72,7 +72,7 @@ fn lives_while_named<M: VectorMemory + Drop>(
     assert_eq!(rt; shared.count(id), 1);
     shares(rt, &mut shared, id, 2);
     shares(rt, &mut shared, id, 3);
-    reads(rt, &shared, id, 7, 3, 1, 5);
+    reads(rt, &shared, id, 7, &[4, 5, 6]);
     holds(rt, &shared, 3, 1);
     releases(rt, &mut shared, id, false, 2);
     releases(rt, &mut shared, id, false, 1);
@@ -90,5 +90,11 @@ fn plain_blocks_live_while_named(rt: HostRuntime) -> Result<(), Fail> {
 #[test]
 fn region_blocks_live_while_named(rt: HostRuntime) -> Result<(), Fail> {
     let memory = RegionMemory::new(rt.alloc(), 10, 4)?;
+    lives_while_named(&rt, rt.alloc(), memory)
+}
+
+#[test]
+fn sliding_blocks_live_while_named(rt: HostRuntime) -> Result<(), Fail> {
+    let memory = SlidingMemory::new(rt.alloc(), 10, 4)?;
     lives_while_named(&rt, rt.alloc(), memory)
 }

@@ -1,12 +1,13 @@
 //! Blocks that are placed, freed and packed.
-use block_memory::{BlockId, NoRoom, PlainMemory, RegionMemory, VectorMemory};
+use block_memory::{BlockId, NoRoom, PlainMemory, RegionMemory, SlidingMemory, VectorMemory};
 use std::alloc::{AllocError, Global};
 use std::process::Abort;
 use std::test::Fail;
+use vcode_base::limits::MOST_WORDS;
 
-/// The words of the largest region, a number that a proof doesn't compute with.
+/// The words of the largest region, as a number that a proof doesn't compute with.
 fn largest_region() -> usize {
-    1_048_576
+    MOST_WORDS
 }
 
 /// The blocks of 128 words that fill it.
@@ -42,6 +43,7 @@ fn reads<M: VectorMemory>(
     assert!(rt; memory.is_live(id));
     assert_eq!(rt; memory.owner(id), owner);
     assert_eq!(rt; memory.len(id), expected.len());
+    assert_eq!(rt; memory.words(id), expected);
     let mut words = vec![in alloc; 0; memory.len(id)]?;
     memory.read_into(id, &mut words);
     assert_eq!(rt; words.as_slice(), expected);
@@ -175,7 +177,8 @@ fn places_no_words<M: VectorMemory>(
 #[test]
 fn a_freed_block_leaves_room(rt: HostRuntime) -> Result<(), Fail> {
     fills_a_gap(&rt, rt.alloc(), &mut PlainMemory::new(rt.alloc(), 10, 4)?)?;
-    fills_a_gap(&rt, rt.alloc(), &mut RegionMemory::new(rt.alloc(), 10, 4)?)
+    fills_a_gap(&rt, rt.alloc(), &mut RegionMemory::new(rt.alloc(), 10, 4)?)?;
+    fills_a_gap(&rt, rt.alloc(), &mut SlidingMemory::new(rt.alloc(), 10, 4)?)
 }
 
 #[test]
@@ -193,17 +196,49 @@ fn all_holes_together_are_filled(rt: HostRuntime) -> Result<(), Fail> {
         &mut RegionMemory::new(rt.alloc(), 70, 10)?,
         10,
         7,
+    )?;
+    fills_all_holes(
+        &rt,
+        rt.alloc(),
+        &mut SlidingMemory::new(rt.alloc(), 70, 10)?,
+        10,
+        7,
     )
 }
 
 #[test]
 fn the_largest_region_is_filled(rt: HostRuntime) -> Result<(), Fail> {
     let mut region = RegionMemory::new(rt.alloc(), largest_region(), blocks_of_128())?;
-    fills_all_holes(&rt, rt.alloc(), &mut region, blocks_of_128(), 128)
+    fills_all_holes(&rt, rt.alloc(), &mut region, blocks_of_128(), 128)?;
+    let mut sliding = SlidingMemory::new(rt.alloc(), largest_region(), blocks_of_128())?;
+    fills_all_holes(&rt, rt.alloc(), &mut sliding, blocks_of_128(), 128)
 }
 
 #[test]
 fn blocks_of_no_words_need_no_room(rt: HostRuntime) -> Result<(), Fail> {
     places_no_words(&rt, rt.alloc(), &mut PlainMemory::new(rt.alloc(), 0, 2)?)?;
-    places_no_words(&rt, rt.alloc(), &mut RegionMemory::new(rt.alloc(), 0, 2)?)
+    places_no_words(&rt, rt.alloc(), &mut RegionMemory::new(rt.alloc(), 0, 2)?)?;
+    places_no_words(&rt, rt.alloc(), &mut SlidingMemory::new(rt.alloc(), 0, 2)?)
+}
+
+/// Two words of one block slide down, and the hole that they leave is wide enough.
+#[test]
+fn blocks_slide_until_a_hole_is_wide_enough(rt: HostRuntime) -> Result<(), Fail> {
+    let mut memory = SlidingMemory::new(rt.alloc(), 12, 6)?;
+    let a = put(&rt, &mut memory, 1, &[1, 2])?;
+    let b = put(&rt, &mut memory, 2, &[3, 4])?;
+    let c = put(&rt, &mut memory, 1, &[5, 6])?;
+    let d = put(&rt, &mut memory, 2, &[7, 8])?;
+    let e = put(&rt, &mut memory, 1, &[9, 10])?;
+    take_away(&rt, &mut memory, a);
+    take_away(&rt, &mut memory, c);
+    let wide = put(&rt, &mut memory, 3, &[-1, -2, -3, -4])?;
+    assert_eq!(rt; memory.moved(), 2);
+    reads(&rt, rt.alloc(), &memory, b, 2, &[3, 4])?;
+    reads(&rt, rt.alloc(), &memory, d, 2, &[7, 8])?;
+    reads(&rt, rt.alloc(), &memory, e, 1, &[9, 10])?;
+    reads(&rt, rt.alloc(), &memory, wide, 3, &[-1, -2, -3, -4])?;
+    put(&rt, &mut memory, 1, &[11, 12])?;
+    assert_eq!(rt; (memory.moved(), memory.used()), (0, 12));
+    Ok(())
 }

@@ -1,5 +1,6 @@
 //! Command lines.
-use batch_front::{Line, LineFault, read_line};
+use batch_front::{Line, LineFault, arguments_fault, read_line};
+use std::io::ErrorKind;
 use std::test::Fail;
 
 #[test]
@@ -39,4 +40,27 @@ fn refuses_lines_that_it_does_not_know(rt: HostRuntime) {
 fn helps(rt: HostRuntime) {
     let line = read_line(rt.alloc(), &["vjobs", "--help"]);
     assert!(rt; matches!(&line, Ok(Line::Help(text)) if text.contains("--region <N>")));
+}
+
+#[test]
+fn tells_its_version(rt: HostRuntime) {
+    let line = read_line(rt.alloc(), &["vjobs", "--version"]);
+    assert!(rt; matches!(&line, Ok(Line::Help(text)) if text.as_str() == "vjobs 0.1.0\n"));
+}
+
+#[test]
+fn refuses_an_argument_that_is_no_text(rt: HostRuntime) {
+    let fault = arguments_fault(rt.alloc(), ErrorKind::InvalidData);
+    assert!(rt;
+        matches!(&fault, LineFault::Usage(text)
+        if text.starts_with("error: invalid UTF-8") && text.contains("Usage: vjobs"))
+    );
+    assert_eq!(rt; fault.exit_status(), 2);
+}
+
+#[test]
+fn wants_memory_for_arguments(rt: HostRuntime) {
+    let fault = arguments_fault(rt.alloc(), ErrorKind::OutOfMemory);
+    assert!(rt; matches!(&fault, LineFault::Memory));
+    assert_eq!(rt; fault.exit_status(), 3);
 }

@@ -24,7 +24,7 @@ impl From<ReadFault> for CaseFault {
     fn from(fault: ReadFault) -> CaseFault {
         match fault {
             ReadFault::Memory => CaseFault::Memory(AllocError),
-            ReadFault::At(refusal, line) => CaseFault::At(refusal.text(), line),
+            ReadFault::At(fault, line) => CaseFault::At(fault.text(), line),
         }
     }
 }
@@ -33,7 +33,7 @@ impl From<SigFault> for CaseFault {
     fn from(fault: SigFault) -> CaseFault {
         match fault {
             SigFault::Memory => CaseFault::Memory(AllocError),
-            SigFault::At(error, line) => CaseFault::At(error.text(), line),
+            SigFault::At(fault, line) => CaseFault::At(fault.text(), line),
         }
     }
 }

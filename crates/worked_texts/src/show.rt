@@ -4,7 +4,7 @@ use bstr::ByteSlice;
 use signatures::Signatures;
 use std::alloc::{AllocError, Global};
 use vcode_base::{Instr, Instruction, Kind};
-use vcode_reader::{CodeLine, Function, Part, Program};
+use vcode_reader::{CodeItem, CodeLine, Function, Program};
 use verifier::Verified;
 
 /// The bytes of the longest text that is shown whole.
@@ -52,10 +52,10 @@ fn put_line(
 ) -> Result<(), AllocError> {
     write!(text, "{} ", line.number)?;
     match &line.item {
-        Part::Do(instruction) => put_instruction(text, instruction)?,
-        Part::If => text.push_str("If")?,
-        Part::Else => text.push_str("Else")?,
-        Part::Endif => text.push_str("Endif")?,
+        CodeItem::Do(instruction) => put_instruction(text, instruction)?,
+        CodeItem::If => text.push_str("If")?,
+        CodeItem::Else => text.push_str("Else")?,
+        CodeItem::Endif => text.push_str("Endif")?,
     }
     if let Some(target) = function.target(place) {
         write!(text, " -> {target}")?;
@@ -75,7 +75,7 @@ fn put_callee(text: &mut String, callee: Option<usize>) -> Result<(), AllocError
 fn put_instruction(text: &mut String, instruction: &Instruction<Global>) -> Result<(), AllocError> {
     match instruction {
         Instr::Const(kind, list) => write!(text, "Const({kind:?}, {:?})", list.as_slice()),
-        Instr::Call(name) => write!(text, "Call({})", name.as_bytes().as_bstr()),
+        Instr::Call(name) => write!(text, "Call({})", name.as_slice().as_bstr()),
         other => write!(text, "{:?}", other.op()),
     }
 }

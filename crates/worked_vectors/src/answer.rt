@@ -1,6 +1,6 @@
 use std::fmt;
 use vcode_base::{DataFault, Kind};
-use vcode_reader::Refusal;
+use vcode_reader::CodeFault;
 
 /// A result: its kind and its words.
 #[derive(Drop)]
@@ -19,7 +19,7 @@ pub enum Answer {
     /// The words that the results need, which are too many to be made.
     Needs(u64),
     /// The line is no code.
-    Refused(Refusal),
+    Refused(CodeFault),
     /// The line isn't CONSTs and one instruction of the vectors and segments.
     NoCase,
     /// The operands aren't of the instruction's kinds.
@@ -50,7 +50,7 @@ impl fmt::Display for Answer {
             Answer::Two(lower, upper) => write!(f, "{lower} {upper}"),
             Answer::Fault(fault) => f.write_str(fault.text()),
             Answer::Needs(words) => write!(f, "needs {words} words"),
-            Answer::Refused(refusal) => f.write_str(refusal.text()),
+            Answer::Refused(fault) => f.write_str(fault.text()),
             Answer::NoCase => f.write_str("not a case"),
             Answer::NotOfItsKinds => f.write_str("not of its kinds"),
         }

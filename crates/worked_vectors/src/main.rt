@@ -7,6 +7,7 @@
 #![tactic(auto)]
 
 mod answer;
+mod instructions;
 mod runs;
 
 use crate::answer::Answer;
@@ -14,13 +15,13 @@ use crate::runs::run;
 use std::alloc::{AllocError, Global};
 use std::io;
 use vcode_base::Instr;
-use vcode_reader::{CodeLine, Part, ReadFault, read};
+use vcode_reader::{CodeItem, CodeLine, ReadFault, read};
 
 /// The lists of these lines. None where one isn't a CONST.
 fn lists_of(alloc: Global, lines: &[CodeLine<Global>]) -> Result<Option<Vec<&[i64]>>, AllocError> {
     let mut lists = Vec::new(alloc);
     for line in lines {
-        let Part::Do(Instr::Const(_, list)) = &line.item else {
+        let CodeItem::Do(Instr::Const(_, list)) = &line.item else {
             return Ok(None);
         };
         lists.push(list.as_slice())?;
@@ -33,7 +34,7 @@ fn answer_of(alloc: Global, lines: &[CodeLine<Global>]) -> Result<Answer, AllocE
     let Some((last, operands)) = lines.split_last() else {
         return Ok(Answer::NoCase);
     };
-    let (Part::Do(instr), Some(mut ops)) = (&last.item, lists_of(alloc, operands)?) else {
+    let (CodeItem::Do(instr), Some(mut ops)) = (&last.item, lists_of(alloc, operands)?) else {
         return Ok(Answer::NoCase);
     };
     if let Instr::Const(_, list) = instr {
@@ -48,7 +49,7 @@ fn read_case(alloc: Global, line: &str) -> Result<Answer, AllocError> {
     let text = format!(in alloc; "FUNC f {line} RET")?;
     let program = match read(alloc, text.as_bytes(), 1) {
         Ok(program) => program,
-        Err(ReadFault::At(refusal, _)) => return Ok(Answer::Refused(refusal)),
+        Err(ReadFault::At(fault, _)) => return Ok(Answer::Refused(fault)),
         Err(ReadFault::Memory) => return Err(AllocError),
     };
     let [function] = program.functions() else {

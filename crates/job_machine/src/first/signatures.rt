@@ -1,10 +1,10 @@
 //! The signature text of a job, where `MAIN` takes nothing and gives one INT.
 
-ghost use Rattle.std.specs.Prelude.{◌≡◌, ℕ, ◌+◌, ◌<◌, ◌^◌, ◌==◌, List, [], ◌∷◌, ◌++◌, false, true, length, count_by, MatchOption, unwrap_or, None, Some};
-ghost use Rattle.job_machine.specs.FirstSignatures.{after_line, are_words, is_main_line, is_parenthesis, is_separator, lines, signature_error_text, signature_of, signatures_in, begins_with_word, words};
+ghost use Rattle.std.specs.Prelude.{◌≡◌, ℕ, ◌+◌, ◌<◌, ◌^◌, ◌==◌, List, [], ◌∷◌, ◌++◌, false, true, length, count_by, MatchOption, MatchResult, unwrap_or, None, Some, Ok};
+ghost use Rattle.job_machine.specs.FirstSignatures.{SignatureFaultIs, after_line, are_words, is_main_line, is_parenthesis, is_separator, lines, signature_fault_text, signature_of, signatures_in, begins_with_word, words};
 
 use std::marker::Model;
-use vcode_base::Kind;
+use vcode_base::{Kind, TextFault};
 
 /// What a signature text says: here only whether it has the line `MAIN () -> (INT)`.
 #[derive(Clone, Copy, Debug, PartialEq, Eq)]
@@ -46,33 +46,28 @@ impl Signatures {
 
 /// What is wrong with a line of a signature text.
 #[derive(Clone, Copy, Debug, PartialEq, Eq)]
-pub enum SignatureError {
+pub enum SignatureFault {
     /// It is not the line of `MAIN`.
     BadLine,
     /// `MAIN` has a line before.
     NameTwice,
 }
 
-impl SignatureError {
+impl SignatureFault {
     /// The name that the report prints.
     pub fn text(self) -> &'static str
-        ensures { result.now ≡ signature_error_text self }
+        ensures { result.now ≡ signature_fault_text self }
     {
         match self {
-            SignatureError::BadLine => "G1 BAD_LINE",
-            SignatureError::NameTwice => "G2 NAME_TWICE",
+            SignatureFault::BadLine => "G1 BAD_LINE",
+            SignatureFault::NameTwice => "G2 NAME_TWICE",
         }
     }
 }
 
-/// Why a signature text was not read.
-#[derive(Clone, Copy, Debug, PartialEq, Eq)]
-pub enum SigFault {
-    /// A growth was refused. Here it never comes, since reading keeps no name.
-    Memory,
-    /// The first bad line, and its number.
-    At(SignatureError, u64),
-}
+/// Why a signature text was not read: the fault of the first bad line, at its number. Here want of
+/// memory never comes, since reading keeps no name.
+pub type SigFault = TextFault<SignatureFault>;
 
 /// Reads a signature text whose first line has this number.
 ///
@@ -80,7 +75,9 @@ pub enum SigFault {
 /// once; the first that is not is answered.
 pub fn read(text: &[u8], first_line: u64) -> Result<Signatures, SigFault>
     requires { first_line + count_by (λ b. b == 10) text.now < 2 ^ 64 }
-    ensures { result ≡ signatures_in first_line text.now }
+    ensures { MatchResult result
+        (λ s. signatures_in first_line text.now ≡ Ok s)
+        (λ fault. SignatureFaultIs fault (signatures_in first_line text.now)) }
 {
     let mut has_main = false;
     let mut number = first_line;
@@ -89,7 +86,7 @@ pub fn read(text: &[u8], first_line: u64) -> Result<Signatures, SigFault>
         let (line, after) = split_line(rest);
         match after_line(has_main, line) {
             Ok(known) => has_main = known,
-            Err(error) => return Err(SigFault::At(error, number)),
+            Err(fault) => return Err(SigFault::At(fault, number)),
         }
         rest = after;
         if !rest.is_empty() {
@@ -100,15 +97,15 @@ pub fn read(text: &[u8], first_line: u64) -> Result<Signatures, SigFault>
 }
 
 /// Whether `MAIN` has a signature after this line, where `known` says whether it had one before.
-fn after_line(known: bool, line: &[u8]) -> Result<bool, SignatureError>
+fn after_line(known: bool, line: &[u8]) -> Result<bool, SignatureFault>
     ensures { result ≡ after_line known line.now }
 {
     if first_word(line).is_none() {
         Ok(known)
     } else if !is_main_line(line) {
-        Err(SignatureError::BadLine)
+        Err(SignatureFault::BadLine)
     } else if known {
-        Err(SignatureError::NameTwice)
+        Err(SignatureFault::NameTwice)
     } else {
         Ok(true)
     }

@@ -1,11 +1,12 @@
 use Rattle.std.proofs.Common.{◌≡◌, ◌+◌, ◌≤◌, length, take, drop}
-use Rattle.batch_front.specs.Blocks.{before, block_of}
-use Rattle.batch_front.specs.Cursors.{ahead}
+use Rattle.batch_front.specs.Blocks.{longer_block, block_of}
+use Rattle.batch_front.specs.Cursors.{lines_ahead}
 use Rattle.batch_front.proofs.block.take_block.Given as goal
 
 abbrev pub invariant-lines : goal.invariant-lines
 invariant-lines l = record {
-  joined : before (take l.length l.start.bytes.now) (block_of l.part (ahead l.rest)) ≡ block_of l.part (ahead l.start);
+  joined : longer_block (take l.length l.start.bytes.now) (block_of l.part (lines_ahead l.rest)) ≡ block_of l.part
+      (lines_ahead l.start);
   left : drop l.length l.start.bytes.now ≡ l.rest.bytes.now;
   within : l.length ≤ length l.start.bytes.now;
   room : l.length + l.rest.left ≤ l.start.left;

@@ -9,4 +9,4 @@ returns c =
     let w = c.args.word.now in
     let all : all_within 48 57 w ≡ true = sym c.all_within.ensures ∙ c.if-not-all_within.false in
     let whole : take c.loop-b.b-index w ≡ w = take_all c.loop-b.b-index w (omega arith) in
-    ap Some (c.loop-b.invariant.value ∙ ap value_of whole) ∙ sym (number_is w c.if-word-gt10.false all)
+    ap Some (c.loop-b.invariant.value ∙ ap value_of whole) ∙ sym (number_is w c.if-word-gt-MOST_DIGITS.false all)

@@ -4,4 +4,5 @@ use Rattle.batch_front.specs.Reports.{next_word_text}
 use Rattle.batch_front.proofs.report.put_other_words.Given as goal
 
 abbrev pub invariant-loop-word : goal.invariant-loop-word
-invariant-loop-word g l = l.report.items ≡ l.fn.report.items ++ flat_map (next_word_text l.kind) (take l.word-index l.words)
+invariant-loop-word g l =
+    l.report.items ≡ l.fn.report.items ++ flat_map (next_word_text l.kind) (take l.word-index l.words)

@@ -9,7 +9,9 @@ pub returns : goal.returns
 returns g c =
     let first = c.in-Some.first.now in
     let fits : FitsSigned w64 first = search rules in
-    let put : c.put_word.new.report.items ≡ c.args.report.now.items ++ word_text c.args.kind first = rw (to_z-of_z fits) at c.in_ok-put_word.ensures in
+    let put : c.put_word.new.report.items ≡ c.args.report.now.items ++ word_text c.args.kind first = rw
+    (to_z-of_z fits) at c.in_ok-put_word.ensures in
     let whole : c.args.words.now ≡ first ∷ c.in-Some.others.now = search rules in
-    words_joined c.args.kind c.args.report.now.items c.put_other_words.new.report.items c.args.words.now c.in-Some.others.now first whole
+    words_joined c.args.kind c.args.report.now.items c.put_other_words.new.report.items c.args.words.now
+    c.in-Some.others.now first whole
     (c.in_ok-put_other_words.ensures ∙ ap (λ t. t ++ flat_map (next_word_text c.args.kind) c.in-Some.others.now) put)

@@ -1,41 +1,88 @@
 use Rattle.std.proofs.Common.{length, ap, ◌∙◌, arith}
-use Rattle.block_memory.specs.Layout.{words_of, at_place, with_placed}
-use Rattle.block_memory.proofs.PackLemmas.{IsPacking-inside, IsPacking-skip, IsPacking-slide, slide_clear}
+use Rattle.block_memory.specs.Layout.{words_of, block_at_place, with_slot}
+use Rattle.block_memory.proofs.PackLemmas.{IsPacking-start, IsPacking-inside, IsPacking-skip, IsPacking-slide}
+use Rattle.block_memory.proofs.PackLemmas.{ArePacked-end, slide_clear}
 use Rattle.block_memory.proofs.pack.pack_blocks.Goals as goal
+
+pub loop-packed-init : goal.loop-packed-init
+loop-packed-init g c = record {
+  packing = IsPacking-start c.args.blocks.now c.args.used c.requires.apart c.requires.within c.requires.counted;
+  few = omega arith;
+}
 
 pub beginning_at-requires : goal.beginning_at-requires
 beginning_at-requires g c =
     let l = c.loop-packed in
-    IsPacking-inside c.args.blocks.now l.blocks l.packed l.place c.args.used l.invariant c.loop-packed-test.true
+    IsPacking-inside c.args.blocks.now l.blocks l.packed l.place c.args.used l.invariant.packing
+    c.loop-packed-test.true
 
-pub slide-requires-clause-clear : goal.slide-requires-clause-clear
-slide-requires-clause-clear g c =
+pub slide-moved-requires-clause-clear : goal.slide-moved-requires-clause-clear
+slide-moved-requires-clause-clear g c =
     let l = c.loop-packed in
     let b = c.in-Some.ensures.found in
-    rw (ap words_of b.there) (slide_clear c.args.blocks.now l.blocks l.packed l.place c.args.used c.in-Some.number b.block l.invariant b.there b.here b.some)
+    rw (ap words_of b.there)
+    (slide_clear c.args.blocks.now l.blocks l.packed l.place c.args.used c.in-Some.number b.block l.invariant.packing
+    b.there b.here b.some)
+
+pub overflow_add-moved : goal.overflow_add-moved
+overflow_add-moved g c =
+    let l = c.loop-packed in
+    let b = c.in-Some.ensures.found in
+    let i = l.invariant.packing in
+    let long = ap (λ o. length (words_of o)) b.there in
+    omega (
+      arith,
+      l.invariant.few,
+      i.order,
+      i.within c.in-Some.number b.block b.there,
+      b.here,
+      long,
+      c.slide-moved.ensures.few,
+      c.beginning_at.ensures.in_memory,
+    )
 
 pub loop-packed-preserved-in-Some : goal.loop-packed-preserved-in-Some
 loop-packed-preserved-in-Some g c =
     let l = c.loop-packed in
     let b = c.in-Some.ensures.found in
-    let moved = c.slide.ensures ∙ ap (λ o. with_placed l.blocks c.in-Some.number (at_place l.packed o)) b.there in
-    rw (moved, ap length (c.words-len.ensures ∙ ap words_of b.there))
-    (IsPacking-slide c.args.blocks.now l.blocks l.packed l.place c.args.used c.in-Some.number b.block l.invariant b.there b.here b.some)
+    let moved =
+    c.slide-moved.ensures.moved ∙ ap (λ o. with_slot l.blocks c.in-Some.number (block_at_place l.packed o)) b.there in
+    let long = ap length (c.words-len.ensures ∙ ap words_of b.there) in
+    let same = ap (λ o. length (words_of o)) b.there in
+    record {
+      packing = rw (moved, long)
+          (IsPacking-slide c.args.blocks.now l.blocks l.packed l.place c.args.used c.in-Some.number b.block
+          l.invariant.packing b.there b.here b.some);
+      few = omega (arith, l.invariant.few, c.slide-moved.ensures.few, long, same);
+    }
 
 pub loop-packed-preserved : goal.loop-packed-preserved
 loop-packed-preserved g c =
     let l = c.loop-packed in
-    IsPacking-skip c.args.blocks.now l.blocks l.packed l.place c.args.used l.invariant c.in-None.ensures.none
+    record {
+      packing =
+          IsPacking-skip c.args.blocks.now l.blocks l.packed l.place c.args.used l.invariant.packing
+          c.in-None.ensures.none;
+      few = l.invariant.few;
+    }
 
 pub overflow_add-place-in-None : goal.overflow_add-place-in-None
 overflow_add-place-in-None g c =
     let l = c.loop-packed in
-    let inside = IsPacking-inside c.args.blocks.now l.blocks l.packed l.place c.args.used l.invariant c.loop-packed-test.true in
-    let in_memory = c.beginning_at.ensures.in_memory in
-    omega (arith, inside, in_memory)
+    let inside =
+    IsPacking-inside c.args.blocks.now l.blocks l.packed l.place c.args.used l.invariant.packing
+    c.loop-packed-test.true in
+    omega (arith, inside, c.beginning_at.ensures.in_memory)
 
 pub loop-packed-smaller : goal.loop-packed-smaller
 loop-packed-smaller g c =
     let l = c.loop-packed in
-    let inside = IsPacking-inside c.args.blocks.now l.blocks l.packed l.place c.args.used l.invariant c.loop-packed-test.true in
+    let inside =
+    IsPacking-inside c.args.blocks.now l.blocks l.packed l.place c.args.used l.invariant.packing
+    c.loop-packed-test.true in
     omega (arith, inside)
+
+pub returns-clause-packed : goal.returns-clause-packed
+returns-clause-packed g c =
+    let l = c.loop-packed in
+    ArePacked-end c.args.blocks.now l.blocks l.packed l.place c.args.used l.invariant.packing c.loop-packed-test.false

@@ -8,6 +8,8 @@ use Rattle.holes.proofs.Holes.widest.Goals as goal
 pub returns : goal.returns
 returns g c =
     let most : c.widest.result ≡ max 0 (most_len c.self.inside.holes.items) =
-    c.widest.ensures ∙ (ap (fold (λ widest hole. max widest hole.len) 0) c.deref.ensures.value ∙ most_len-fold 0 c.self.inside.holes.items) in
+    c.widest.ensures ∙ (ap (fold (λ widest hole. max widest hole.len) 0) c.deref.ensures.value ∙ most_len-fold 0
+    c.self.inside.holes.items) in
     let is : c.widest.result ≡ most_len c.self.inside.holes.items = omega arith in
-    is ∙ (sym (widest-words_from 0 0 c.self.inside.size c.self.inside.holes.items c.self.invariant.apart) ∙ ap (λ (r : Region). widest r.free) c.self.view_is)
+    is ∙ (sym (widest-words_from 0 0 c.self.inside.size c.self.inside.holes.items c.self.invariant.apart) ∙ ap
+    (λ (r : Region). widest r.free) c.self.view_is)

@@ -10,7 +10,7 @@ returns-then-is_some g c =
     let has : is_none c.position.result ≡ false = search rules in
     let main = faults_of signed c.args.program.now (ap is_none (sym c.position.ensures) ∙ has) in
     let f = c.function-item.result in
-    let items : c.functions-function-items.result.now ≡ fs = c.functions-function-items.ensures in
+    let items : c.functions-function-items.result.now ≡ fs = c.functions-function-items.ensures.functions in
     let within : c.loop-function.function-index < length fs = let same = ap length items in omega arith in
     let is : f ≡ get_or fs c.loop-function.function-index f = c.function-item.is ∙ ap (λ xs. get_or xs c.loop-function.function-index f) items in
     let some : is_some c.fault_of-fault.result ≡ true = search rules in
@@ -22,7 +22,7 @@ loop-function-preserved g c =
     let fs = c.args.program.now.functions in
     let signed = c.args.signatures.now in
     let f = c.function-item.result in
-    let items : c.functions-function-items.result.now ≡ fs = c.functions-function-items.ensures in
+    let items : c.functions-function-items.result.now ≡ fs = c.functions-function-items.ensures.functions in
     let within : c.loop-function.function-index < length fs = let same = ap length items in omega arith in
     let is : f ≡ get_or fs c.loop-function.function-index f = c.function-item.is ∙ ap (λ xs. get_or xs c.loop-function.function-index f) items in
     let none : is_some c.fault_of-fault.result ≡ false = search rules in
@@ -35,6 +35,6 @@ returns g c =
     let signed = c.args.signatures.now in
     let has : is_none c.position.result ≡ false = search rules in
     let main = faults_of signed c.args.program.now (ap is_none (sym c.position.ensures) ∙ has) in
-    let items : c.functions-function-items.result.now ≡ fs = c.functions-function-items.ensures in
+    let items : c.functions-function-items.result.now ≡ fs = c.functions-function-items.ensures.functions in
     let past : length fs ≤ c.loop-function.function-index = let same = ap length items in omega arith in
     sym (main ∙ (c.loop-function.invariant ∙ no_functions signed fs c.loop-function.function-index past))

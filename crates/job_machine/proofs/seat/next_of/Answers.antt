@@ -1,7 +1,7 @@
 use Rattle.std.proofs.Common.{◌≡◌, [], Some, sym, ◌∙◌, ap, subst, arith}
 use Rattle.std.specs.Prelude.{slice_get, option_copied}
-use Rattle.vcode_reader.specs.declared.line.Part.{Part}
-use Rattle.vcode_reader.specs.Trees.{Item, CodeLine, line_of, doing}
+use Rattle.vcode_reader.specs.declared.line.CodeItem.{CodeItem}
+use Rattle.vcode_reader.specs.Trees.{Item, CodeLine, line_of, instruction_line}
 use Rattle.job_machine.specs.States.{main_lines}
 use Rattle.job_machine.specs.declared.desk.FirstOp.TheVariants.{Constant, Add}
 use Rattle.job_machine.specs.Traces.{NextIs, words_at}
@@ -25,8 +25,8 @@ words-requires g c =
     let t = c.args.track.now in
     let line : CodeLine = c.in-Some.line.now in
     let there : slice_get (main_lines task.program) t.executed ≡ Some line = ap (slice_get (main_lines task.program)) (sym c.executed.ensures) ∙ (sym c.item.ensures ∙ ap (λ o. option_copied o) c.in-Some.is) in
-    let here : slice_get (main_lines task.program) t.executed ≡ Some (doing c.in-Do.instruction line.number) = there ∙ ap (λ (i : Part Item). Some (line_of i line.number)) c.in-Do.is in
-    let two = (two_there task c.requires.kinded t c.requires.at c.in-Elementwise._op line.number (here ∙ ap (λ (i : Item). Some (doing i line.number)) c.in-Elementwise.is)).1 in
+    let here : slice_get (main_lines task.program) t.executed ≡ Some (instruction_line c.in-Do.instruction line.number) = there ∙ ap (λ (i : CodeItem Item). Some (line_of i line.number)) c.in-Do.is in
+    let two = (two_there task c.requires.kinded t c.requires.at c.in-Elementwise._op line.number (here ∙ ap (λ (i : Item). Some (instruction_line i line.number)) c.in-Elementwise.is)).1 in
     omega (arith, two)
 
 pub words-requires-in-Elementwise : goal.words-requires-in-Elementwise
@@ -35,8 +35,8 @@ words-requires-in-Elementwise g c =
     let t = c.args.track.now in
     let line : CodeLine = c.in-Some.line.now in
     let there : slice_get (main_lines task.program) t.executed ≡ Some line = ap (slice_get (main_lines task.program)) (sym c.executed.ensures) ∙ (sym c.item.ensures ∙ ap (λ o. option_copied o) c.in-Some.is) in
-    let here : slice_get (main_lines task.program) t.executed ≡ Some (doing c.in-Do.instruction line.number) = there ∙ ap (λ (i : Part Item). Some (line_of i line.number)) c.in-Do.is in
-    let two = (two_there task c.requires.kinded t c.requires.at c.in-Elementwise._op line.number (here ∙ ap (λ (i : Item). Some (doing i line.number)) c.in-Elementwise.is)).1 in
+    let here : slice_get (main_lines task.program) t.executed ≡ Some (instruction_line c.in-Do.instruction line.number) = there ∙ ap (λ (i : CodeItem Item). Some (line_of i line.number)) c.in-Do.is in
+    let two = (two_there task c.requires.kinded t c.requires.at c.in-Elementwise._op line.number (here ∙ ap (λ (i : Item). Some (instruction_line i line.number)) c.in-Elementwise.is)).1 in
     omega (arith, two)
 
 pub returns-in-Const : goal.returns-in-Const
@@ -45,9 +45,9 @@ returns-in-Const g c =
     let t = c.args.track.now in
     let line : CodeLine = c.in-Some.line.now in
     let there : slice_get (main_lines task.program) t.executed ≡ Some line = ap (slice_get (main_lines task.program)) (sym c.executed.ensures) ∙ (sym c.item.ensures ∙ ap (λ o. option_copied o) c.in-Some.is) in
-    let here : slice_get (main_lines task.program) t.executed ≡ Some (doing c.in-Do.instruction line.number) = there ∙ ap (λ (i : Part Item). Some (line_of i line.number)) c.in-Do.is in
+    let here : slice_get (main_lines task.program) t.executed ≡ Some (instruction_line c.in-Do.instruction line.number) = there ∙ ap (λ (i : CodeItem Item). Some (line_of i line.number)) c.in-Do.is in
     subst (λ l. NextIs task t Constant l [] line.number) (sym c.as_slice.ensures)
-    (next_const task c.requires.kinded t c.requires.at c.in-Const._kind c.in-Const.list line.number (here ∙ ap (λ (i : Item). Some (doing i line.number)) c.in-Const.is))
+    (next_const task c.requires.kinded t c.requires.at c.in-Const._kind c.in-Const.list line.number (here ∙ ap (λ (i : Item). Some (instruction_line i line.number)) c.in-Const.is))
 
 pub returns-in-Elementwise : goal.returns-in-Elementwise
 returns-in-Elementwise g c =
@@ -55,8 +55,8 @@ returns-in-Elementwise g c =
     let t = c.args.track.now in
     let line : CodeLine = c.in-Some.line.now in
     let there : slice_get (main_lines task.program) t.executed ≡ Some line = ap (slice_get (main_lines task.program)) (sym c.executed.ensures) ∙ (sym c.item.ensures ∙ ap (λ o. option_copied o) c.in-Some.is) in
-    let here : slice_get (main_lines task.program) t.executed ≡ Some (doing c.in-Do.instruction line.number) = there ∙ ap (λ (i : Part Item). Some (line_of i line.number)) c.in-Do.is in
-    let next = next_add task c.requires.kinded t c.requires.at c.in-Elementwise._op line.number (here ∙ ap (λ (i : Item). Some (doing i line.number)) c.in-Elementwise.is) in
+    let here : slice_get (main_lines task.program) t.executed ≡ Some (instruction_line c.in-Do.instruction line.number) = there ∙ ap (λ (i : CodeItem Item). Some (line_of i line.number)) c.in-Do.is in
+    let next = next_add task c.requires.kinded t c.requires.at c.in-Elementwise._op line.number (here ∙ ap (λ (i : Item). Some (instruction_line i line.number)) c.in-Elementwise.is) in
     subst (λ l. NextIs task t Add l c.words-in-Elementwise.result.now line.number) (sym c.words.ensures)
     (subst (λ r. NextIs task t Add (words_at t.stack 1) r line.number) (sym c.words-in-Elementwise.ensures) next)
 
@@ -66,5 +66,5 @@ returns-in_default-instruction g c =
     let t = c.args.track.now in
     let line : CodeLine = c.in-Some.line.now in
     let there : slice_get (main_lines task.program) t.executed ≡ Some line = ap (slice_get (main_lines task.program)) (sym c.executed.ensures) ∙ (sym c.item.ensures ∙ ap (λ o. option_copied o) c.in-Some.is) in
-    let here : slice_get (main_lines task.program) t.executed ≡ Some (doing c.in-Do.instruction line.number) = there ∙ ap (λ (i : Part Item). Some (line_of i line.number)) c.in-Do.is in
+    let here : slice_get (main_lines task.program) t.executed ≡ Some (instruction_line c.in-Do.instruction line.number) = there ∙ ap (λ (i : CodeItem Item). Some (line_of i line.number)) c.in-Do.is in
     next_return task c.requires.kinded t c.requires.at (line_of c.in-Do.instruction line.number) here c.in_default-instruction.not-Const c.in_default-instruction.not-Elementwise

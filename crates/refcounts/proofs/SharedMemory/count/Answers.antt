@@ -1,5 +1,5 @@
 use Rattle.std.proofs.Common.{rules, ◌≡◌, ℕ, List, get_or, sym, ap, ◌∙◌, subst}
-use Rattle.refcounts.specs.Shared.{Shared, slot_at, IsTidy}
+use Rattle.refcounts.specs.SharedState.{SharedState, slot_at, IsTidy}
 use Rattle.refcounts.proofs.Slots.{count_is, tidy_is}
 use Rattle.refcounts.proofs.SharedMemory.count.Goals as goal
 
@@ -9,8 +9,10 @@ returns-clause-value g c =
     read
     ∙ (ap (λ (counts : List ℕ). get_or counts c.number.result 0) c.deref.ensures.value
     ∙ (ap (λ n. get_or c.self.inside.counts.items n 0) c.number.ensures
-    ∙ (sym (count_is (g.M.VectorMemory.content c.self.inside.memory) c.self.inside.counts.items c.args.id c.self.invariant) ∙ ap (λ (m : Shared). (slot_at m c.args.id).count) c.self.view_is)))
+    ∙ (sym (count_is (g.M.VectorMemory.content c.self.inside.memory) c.self.inside.counts.items c.args.id
+    c.self.invariant) ∙ ap (λ (m : SharedState). (slot_at m c.args.id).count) c.self.view_is)))
 
 pub returns-clause-tidy : goal.returns-clause-tidy
 returns-clause-tidy g c =
-    subst IsTidy c.self.view_is (λ id. tidy_is (g.M.VectorMemory.content c.self.inside.memory) c.self.inside.counts.items id c.self.invariant)
+    subst IsTidy c.self.view_is (λ id. tidy_is (g.M.VectorMemory.content c.self.inside.memory)
+    c.self.inside.counts.items id c.self.invariant)

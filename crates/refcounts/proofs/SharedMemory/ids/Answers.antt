@@ -1,7 +1,6 @@
-use Rattle.std.proofs.Common.{length, sym, ap, ◌∙◌}
-use Rattle.refcounts.specs.Shared.{Shared}
-use Rattle.refcounts.proofs.Slots.{length-slots_of}
+use Rattle.std.proofs.Common.{◌∙◌}
+use Rattle.refcounts.proofs.States.{totals}
 use Rattle.refcounts.proofs.SharedMemory.ids.Goals as goal
 
 pub returns : goal.returns
-returns g c = c.ids.ensures ∙ (sym (length-slots_of (g.M.VectorMemory.content c.self.inside.memory) c.self.inside.counts.items c.self.invariant.ids) ∙ ap (λ (m : Shared). length m.slots) c.self.view_is)
+returns g c = c.ids.ensures ∙ (totals _ _ _ _ c.self.invariant c.self.view_is).ids

@@ -1,7 +1,6 @@
-use Rattle.std.proofs.Common.{sym, ap, ◌∙◌}
-use Rattle.refcounts.specs.Shared.{Shared, used_words}
-use Rattle.refcounts.proofs.Slots.{words_in-slots_of}
+use Rattle.std.proofs.Common.{◌∙◌}
+use Rattle.refcounts.proofs.States.{totals}
 use Rattle.refcounts.proofs.SharedMemory.used.Goals as goal
 
 pub returns-clause-value : goal.returns-clause-value
-returns-clause-value g c = c.used.ensures.value ∙ (sym (words_in-slots_of (g.M.VectorMemory.content c.self.inside.memory) c.self.inside.counts.items c.self.invariant.ids) ∙ ap (λ (m : Shared). used_words m) c.self.view_is)
+returns-clause-value g c = c.used.ensures.value ∙ (totals _ _ _ _ c.self.invariant c.self.view_is).used

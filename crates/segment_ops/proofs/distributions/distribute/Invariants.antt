@@ -7,5 +7,6 @@ abbrev pub invariant-loop-segment : goal.invariant-loop-segment
 invariant-loop-segment l = record {
   left : l.begin + total (drop l.segment l.descriptor) ≡ length l.fn.out;
   written : flat_map (λ (n, x). replicate n x) (zip (sizes l.descriptor) l.elements)
-      ≡ take l.begin l.out ++ flat_map (λ (n, x). replicate n x) (zip (sizes (drop l.segment l.descriptor)) (drop l.segment l.elements));
+      ≡ take l.begin l.out ++ flat_map (λ (n, x). replicate n x)
+      (zip (sizes (drop l.segment l.descriptor)) (drop l.segment l.elements));
 }

@@ -8,5 +8,6 @@ invariant-loop-segment l = record {
   left : l.begin + total (drop l.segment l.descriptor) ≡ length l.fn.out;
   written : flat_map (λ (n, p). progression n p.0 p.1) (zip (sizes l.descriptor) (zip l.firsts l.strides))
       ≡ take l.begin l.out
-      ++ flat_map (λ (n, p). progression n p.0 p.1) (zip (sizes (drop l.segment l.descriptor)) (zip (drop l.segment l.firsts) (drop l.segment l.strides)));
+      ++ flat_map (λ (n, p). progression n p.0 p.1) (zip (sizes (drop l.segment l.descriptor))
+      (zip (drop l.segment l.firsts) (drop l.segment l.strides)));
 }

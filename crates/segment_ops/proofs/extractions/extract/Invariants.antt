@@ -11,5 +11,6 @@ invariant-loop-segment l = record {
       ≡ list_any (λ (n, i). is_outside n i) (zip (sizes (drop l.segment l.descriptor)) (drop l.segment l.indices));
   written : map (λ (v, i). element v i) (zip (segments l.descriptor l.elements) l.indices)
       ≡ take l.segment l.out
-      ++ map (λ (v, i). element v i) (zip (segments (drop l.segment l.descriptor) (drop l.begin l.elements)) (drop l.segment l.indices));
+      ++ map (λ (v, i). element v i) (zip (segments (drop l.segment l.descriptor) (drop l.begin l.elements))
+      (drop l.segment l.indices));
 }

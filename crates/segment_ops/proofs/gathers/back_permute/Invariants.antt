@@ -7,9 +7,12 @@ abbrev pub invariant-loop-segment : goal.invariant-loop-segment
 invariant-loop-segment l = record {
   left : l.begin + total (drop l.segment l.source) ≡ length l.elements;
   target_left : l.target_begin + total (drop l.segment l.target) ≡ length l.indices;
-  inside : any_outside (sizes (drop l.segment l.source)) (segments (drop l.segment l.target) (drop l.target_begin l.indices)) ≡ false;
-  written : flat_map (λ (v, is). map (element v) is) (zip (segments l.source l.elements) (segments l.target l.indices))
+  inside : any_outside (sizes (drop l.segment l.source)) (segments (drop l.segment l.target)
+      (drop l.target_begin l.indices)) ≡ false;
+  written : flat_map (λ (v, is). map (element v) is) (zip (segments l.source l.elements)
+      (segments l.target l.indices))
       ≡ take l.target_begin l.out
       ++ flat_map (λ (v, is). map (element v) is)
-      (zip (segments (drop l.segment l.source) (drop l.begin l.elements)) (segments (drop l.segment l.target) (drop l.target_begin l.indices)));
+      (zip (segments (drop l.segment l.source) (drop l.begin l.elements))
+      (segments (drop l.segment l.target) (drop l.target_begin l.indices)));
 }

@@ -7,5 +7,7 @@ pub returns : goal.returns
 returns c =
     let elements = c.args.elements.now in
     let indices = c.args.indices.now in
-    ext_get_or (pos 0) c.loop-place.out (map (element elements) indices) (omega (arith, length-map indices (element elements)))
-    (λ k h. c.loop-place.invariant k (omega arith) ∙ sym (get_or-map (element elements) indices k (pos 0) (pos 0) (omega arith)))
+    ext_get_or (pos 0) c.loop-place.out (map (element elements) indices)
+    (omega (arith, length-map indices (element elements)))
+    (λ k h. c.loop-place.invariant k (omega arith)
+    ∙ sym (get_or-map (element elements) indices k (pos 0) (pos 0) (omega arith)))

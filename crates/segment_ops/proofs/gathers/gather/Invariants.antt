@@ -3,4 +3,5 @@ use Rattle.vcode_base.specs.Segments.{element}
 use Rattle.segment_ops.proofs.gathers.gather.Given as goal
 
 abbrev pub invariant-loop-place : goal.invariant-loop-place
-invariant-loop-place l = (k : ℕ) → k < l.place → get_or l.out k (pos 0) ≡ element l.elements (get_or l.indices k (pos 0))
+invariant-loop-place l = (k : ℕ) → k < l.place
+    → get_or l.out k (pos 0) ≡ element l.elements (get_or l.indices k (pos 0))

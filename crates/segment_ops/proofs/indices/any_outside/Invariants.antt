@@ -6,5 +6,6 @@ abbrev pub invariant-loop-segment : goal.invariant-loop-segment
 invariant-loop-segment l = record {
   left : l.begin + total (drop l.segment l.descriptor) ≡ length l.indices;
   seen : any_outside (sizes l.bounds) (segments l.descriptor l.indices)
-      ≡ l.outside || any_outside (sizes (drop l.segment l.bounds)) (segments (drop l.segment l.descriptor) (drop l.begin l.indices));
+      ≡ l.outside || any_outside (sizes (drop l.segment l.bounds))
+      (segments (drop l.segment l.descriptor) (drop l.begin l.indices));
 }

@@ -1,6 +1,6 @@
 use Rattle.std.proofs.Common.{◌≡◌, ◌+◌, ◌++◌, pos, length, take, drop, map, count_by}
 use Rattle.vcode_base.specs.Elements.{is_set}
-use Rattle.vcode_base.specs.Meaning.{packed}
+use Rattle.vcode_base.specs.Meaning.{flagged_elements}
 use Rattle.vcode_base.specs.Segments.{total, segments}
 use Rattle.segment_ops.proofs.packs.pack.Given as goal
 
@@ -8,7 +8,8 @@ abbrev pub invariant-loop-segment : goal.invariant-loop-segment
 invariant-loop-segment l = record {
   left : l.begin + total (drop l.segment l.descriptor) ≡ length l.flags;
   kept : l.kept ≡ count_by is_set (take l.begin l.flags);
-  packed : take l.kept l.out ≡ packed (take l.begin l.elements) (take l.begin l.flags);
+  packed : take l.kept l.out ≡ flagged_elements (take l.begin l.elements) (take l.begin l.flags);
   counted : map (λ bs. pos (count_by is_set bs)) (segments l.descriptor l.flags)
-      ≡ take l.segment l.counts ++ map (λ bs. pos (count_by is_set bs)) (segments (drop l.segment l.descriptor) (drop l.begin l.flags));
+      ≡ take l.segment l.counts ++ map (λ bs. pos (count_by is_set bs))
+      (segments (drop l.segment l.descriptor) (drop l.begin l.flags));
 }

@@ -17,19 +17,22 @@ loop-place-preserved c =
     let fits : FitsSigned w64 (get_or flags k (pos 0)) = search rules in
     elim c.if-flags-place-ne0.branch [
       | then-flags-place-ne0 w ↦
-          (let is : is_set (get_or flags k (pos 0)) ≡ true = set_from_bits (get_or flags k (pos 0)) w.if-flags-place-ne0.true in
+          (let is : is_set (get_or flags k (pos 0))
+          ≡ true = set_from_bits (get_or flags k (pos 0)) w.if-flags-place-ne0.true in
           let room = count_room flags k here is in
           let one = one_if (is_set (get_or flags k (pos 0))) is in
           let element_fits : FitsSigned w64 (get_or elements k (pos 0)) = search rules in
           record {
             count = omega (arith, count, one, w.kept-is, c.loop-place.invariant.count);
             written = rw (w.kept-is, w.out-is, to_z-of_z w64 (get_or elements k (pos 0)) element_fits)
-                (take_more_set c.loop-place.out c.loop-place.kept (get_or elements k (pos 0)) (omega (arith, room, c.loop-place.invariant.count))
+                (take_more_set c.loop-place.out c.loop-place.kept (get_or elements k (pos 0))
+                (omega (arith, room, c.loop-place.invariant.count))
                 ∙ ap (λ front. front ++ get_or elements k (pos 0) ∷ []) c.loop-place.invariant.written
                 ∙ sym (rw is at more));
           })
       | else-flags-place-ne0 w ↦
-          (let is : is_set (get_or flags k (pos 0)) ≡ false = clear_from_bits (get_or flags k (pos 0)) fits w.if-flags-place-ne0.false in
+          (let is : is_set (get_or flags k (pos 0))
+          ≡ false = clear_from_bits (get_or flags k (pos 0)) fits w.if-flags-place-ne0.false in
           let none = none_if (is_set (get_or flags k (pos 0))) is in
           record {
             count = omega (arith, count, none, w.kept-is, c.loop-place.invariant.count);

@@ -1,10 +1,10 @@
 use Rattle.std.proofs.Common.{◌≡◌, take, count_by}
 use Rattle.vcode_base.specs.Elements.{is_set}
-use Rattle.vcode_base.specs.Meaning.{packed}
+use Rattle.vcode_base.specs.Meaning.{flagged_elements}
 use Rattle.segment_ops.proofs.packs.pack_segment.Given as goal
 
 abbrev pub invariant-loop-place : goal.invariant-loop-place
 invariant-loop-place l = record {
   count : l.kept ≡ count_by is_set (take l.place l.flags);
-  written : take l.kept l.out ≡ packed (take l.place l.elements) (take l.place l.flags);
+  written : take l.kept l.out ≡ flagged_elements (take l.place l.elements) (take l.place l.flags);
 }

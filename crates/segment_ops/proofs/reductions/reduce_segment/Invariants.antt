@@ -2,4 +2,4 @@ use Rattle.std.proofs.Common.{◌≡◌, take, fold}
 use Rattle.segment_ops.proofs.reductions.reduce_segment.Given as goal
 
 abbrev pub invariant-loop-element : goal.invariant-loop-element
-invariant-loop-element g l = l.so_far ≡ fold g.S.Step.combine l.fn.start (take l.element-index l.elements)
+invariant-loop-element g l = l.so_far ≡ fold g.S.Combine.combination l.fn.start (take l.element-index l.elements)

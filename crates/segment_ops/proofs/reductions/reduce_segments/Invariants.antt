@@ -5,6 +5,7 @@ use Rattle.segment_ops.proofs.reductions.reduce_segments.Given as goal
 abbrev pub invariant-loop-segment : goal.invariant-loop-segment
 invariant-loop-segment g l = record {
   left : l.begin + total (drop l.segment l.descriptor) ≡ length l.elements;
-  written : map (fold g.S.Step.combine l.fn.start) (segments l.descriptor l.elements)
-      ≡ take l.segment l.out ++ map (fold g.S.Step.combine l.fn.start) (segments (drop l.segment l.descriptor) (drop l.begin l.elements));
+  written : map (fold g.S.Combine.combination l.fn.start) (segments l.descriptor l.elements)
+      ≡ take l.segment l.out ++ map (fold g.S.Combine.combination l.fn.start)
+      (segments (drop l.segment l.descriptor) (drop l.begin l.elements));
 }

@@ -10,8 +10,10 @@ invariant-loop-segment l = record {
   outside : list_any (λ (n, i). is_outside n i) (zip (sizes l.descriptor) l.indices)
       ≡ list_any (λ (n, i). is_outside n i) (zip (sizes (drop l.segment l.descriptor)) (drop l.segment l.indices));
   kept : drop l.begin l.out ≡ drop l.begin l.elements;
-  written : flat_map (λ (v, p). slice_set v (unsigned_abs p.0) p.1) (zip (segments l.descriptor l.elements) (zip l.indices l.replacements))
+  written : flat_map (λ (v, p). slice_set v (unsigned_abs p.0) p.1)
+      (zip (segments l.descriptor l.elements) (zip l.indices l.replacements))
       ≡ take l.begin l.out
       ++ flat_map (λ (v, p). slice_set v (unsigned_abs p.0) p.1)
-      (zip (segments (drop l.segment l.descriptor) (drop l.begin l.elements)) (zip (drop l.segment l.indices) (drop l.segment l.replacements)));
+      (zip (segments (drop l.segment l.descriptor) (drop l.begin l.elements))
+      (zip (drop l.segment l.indices) (drop l.segment l.replacements)));
 }

@@ -14,14 +14,18 @@ loop-index-preserved c =
     let i = c.loop-index.index-index in
     let marks = c.loop-index.marks in
     let fits : FitsSigned w64 (get_or indices i (pos 0)) = search rules in
-    let within : unsigned_abs (get_or indices i (pos 0)) < length marks = omega (arith, ints, c.requires i c.loop-index-test.true) in
+    let within : unsigned_abs (get_or indices i (pos 0)) < length marks =
+    omega (arith, ints, c.requires i c.loop-index-test.true) in
     rw (to_z-of_z w64 (get_or indices i (pos 0)) fits)
     record {
-      twice = twice_step indices i marks c.loop-index.twice c.loop-index-test.true within c.loop-index.invariant.marked c.loop-index.invariant.twice;
+      twice = twice_step indices i marks c.loop-index.twice c.loop-index-test.true within
+          c.loop-index.invariant.marked c.loop-index.invariant.twice;
       marked = mark_step indices i marks c.loop-index-test.true c.loop-index.invariant.marked;
     }
 
 pub returns-clause-marked : goal.returns-clause-marked
 returns-clause-marked c =
-    fill_by_all (λ q. flag (list_any (names q) c.args.indices.now)) c.loop-index.marks (length c.args.marks.now) (pos 0) (omega arith)
-    (λ q h. rw (take_all c.loop-index.index-index c.args.indices.now c.loop-index-test.false) at (c.loop-index.invariant.marked q (omega arith)))
+    fill_by_all (λ q. flag (list_any (names q) c.args.indices.now)) c.loop-index.marks (length c.args.marks.now)
+    (pos 0) (omega arith)
+    (λ q h. rw (take_all c.loop-index.index-index c.args.indices.now c.loop-index-test.false) at
+    (c.loop-index.invariant.marked q (omega arith)))

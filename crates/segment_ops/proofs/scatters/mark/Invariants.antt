@@ -7,5 +7,6 @@ use Rattle.segment_ops.proofs.scatters.mark.Given as goal
 abbrev pub invariant-loop-index : goal.invariant-loop-index
 invariant-loop-index l = record {
   twice : l.twice ≡ has_twice (take l.index-index l.indices);
-  marked : (q : ℕ) → q < length l.marks → get_or l.marks q (pos 0) ≡ flag (list_any (names q) (take l.index-index l.indices));
+  marked : (q : ℕ) → q < length l.marks → get_or l.marks q (pos 0)
+      ≡ flag (list_any (names q) (take l.index-index l.indices));
 }

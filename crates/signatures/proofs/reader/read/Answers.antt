@@ -1,5 +1,6 @@
 use Rattle.std.proofs.Common.{rules}
-use Rattle.signatures.specs.Reading.{reading, Answers}
+use Rattle.signatures.specs.Faults.{Answers}
+use Rattle.signatures.specs.Reading.{reading}
 use Rattle.signatures.proofs.Readings.{is_answer}
 use Rattle.signatures.proofs.reader.read.Goals as goal
 

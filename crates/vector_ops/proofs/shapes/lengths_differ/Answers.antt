@@ -11,6 +11,8 @@ pub returns : goal.returns
 returns c =
     let refs = c.args.ops.now in
     let first = length (operand (contents refs) 0) in
-    let same : (d : Bor (List ℤ)) → length (get_or refs 0 d).now ≡ first = λ d. sym (ap length (get_or-map (λ r. r.now) refs 0 d [] c.requires)) in
-    any_from_yields_List (λ r. wrong_length r.now first) _ _ c.any.result c.any.ensures.ran (YieldsList-from_slice refs cc) (λ x b q k. search (rules, tests, same))
+    let same : (d : Bor (List ℤ)) → length (get_or refs 0 d).now ≡ first =
+    λ d. sym (ap length (get_or-map (λ r. r.now) refs 0 d [] c.requires)) in
+    any_from_yields_List (λ r. wrong_length r.now first) _ _ c.any.result c.any.ensures.ran
+    (YieldsList-from_slice refs cc) (λ x b q k. search (rules, tests, same))
     ∙ sym (list_any-map (λ x. wrong_length x first) (λ r. r.now) refs)

@@ -12,4 +12,5 @@ gives-requires-2-clause-none_free g c =
     λ word from to.
     ap (λ (r : Region). is_free r.free word) c.gives.ensures
     ∙ (set_range_behind c.takes_none.new.holes.free 0 3 true word (omega arith) (omega arith)
-    ∙ (ap (λ (r : Region). is_free r.free word) (unchanged ∙ taken) ∙ set_range_inside c.takes-2.new.holes.free 7 3 false word (omega arith) from to))
+    ∙ (ap (λ (r : Region). is_free r.free word) (unchanged ∙ taken)
+    ∙ set_range_inside c.takes-2.new.holes.free 7 3 false word (omega arith) from to))

@@ -1,10 +1,11 @@
 use Rattle.std.proofs.Common.{◌∙◌, ap, length, None, refl}
-use Rattle.block_memory.specs.Layout.{with_placed}
-use Rattle.block_memory.proofs.BlocksLemmas.{placed_from-remove, same_layout}
+use Rattle.block_memory.specs.Layout.{with_slot}
+use Rattle.block_memory.proofs.BlocksLemmas.{slots_from-remove, same_layout}
 use Rattle.block_memory.proofs.blocks.Blocks.remove.Goals as goal
 
 pub returns-clause-removed : goal.returns-clause-removed
 returns-clause-removed g c =
     rw c.remove.ensures.removed
-    (same_layout (length c.self.inside.words.items) (length c.self.inside.words.items) _ _ refl (placed_from-remove c.self.inside.words.items c.self.inside.spans c.args.number))
-    ∙ ap (λ layout. with_placed layout c.args.number None) c.self.view_is
+    (same_layout (length c.self.inside.words.items) (length c.self.inside.words.items) _ _ refl
+    (slots_from-remove c.self.inside.words.items c.self.inside.spans c.args.number))
+    ∙ ap (λ layout. with_slot layout c.args.number None) c.self.view_is

@@ -1,25 +1,50 @@
-use Rattle.std.proofs.Common.{length, sym, ap, ◌∙◌}
-use Rattle.std.proofs.lemmas.List.{with_items_is}
-use Rattle.block_memory.specs.Layout.{moved}
-use Rattle.block_memory.proofs.BlocksLemmas.{AreSpans-moved, placed_from-moved, same_layout}
+use Rattle.std.proofs.Common.{length, ap, ◌∙◌, slice_set, arith}
+use Rattle.block_memory.specs.Layout.{layout_after_move}
+use Rattle.block_memory.specs.BlocksInside.{slots_from}
+use Rattle.block_memory.proofs.Lists.{items_after_write}
+use Rattle.block_memory.proofs.BlocksLemmas.{after_move, moved_block, same_layout, length-words_of-span}
 use Rattle.block_memory.proofs.blocks.Blocks.slide.Goals as goal
 
 pub invariant_of-self : goal.invariant_of-self
 invariant_of-self g c =
     let here = c.self.inside in
-    let words = with_items_is here.words c.move_words.new.region (c.move_words.ensures.same_size ∙ (ap length c.deref_mut.ensures.value ∙ sym here.words.ok.0)) in
-    let starts = with_items_is here.starts c.mark_start.new.starts (c.mark_start.ensures.same_size ∙ (ap length c.deref_mut-2.ensures.value ∙ sym here.starts.ok.0)) in
+    let moved = c.move_words-moved in
+    let words =
+    items_after_write here.words c.deref_mut.result.now moved.new.region c.deref_mut.ensures.value
+    moved.ensures.written.same_size in
+    let starts =
+    items_after_write here.starts c.deref_mut-2.result.now c.mark_start.new.starts c.deref_mut-2.ensures.value
+    c.mark_start.ensures.same_size in
     rw (words, starts, c.set.ensures)
-    (AreSpans-moved here.words.items c.move_words.new.region here.starts.items c.mark_start.new.starts here.spans c.args.number c.args.to c.value.result.now c.self.invariant c.value.ensures
+    (after_move here.words.items moved.new.region here.starts.items c.mark_start.new.starts here.spans c.args.number
+    c.args.to c.value.result.now c.self.invariant c.value.ensures
     (rw (← c.self.view_is) at c.requires.within) (rw (← c.self.view_is) at c.requires.clear)
-    (rw c.deref_mut.ensures.value at c.move_words.ensures) (rw c.deref_mut-2.ensures.value at c.mark_start.ensures))
+    (rw c.deref_mut.ensures.value at moved.ensures.written)
+    (rw c.deref_mut-2.ensures.value at c.mark_start.ensures)).are_spans
 
-pub returns : goal.returns
-returns g c =
+pub returns-clause-moved : goal.returns-clause-moved
+returns-clause-moved g c =
     let here = c.self.inside in
-    let words = with_items_is here.words c.move_words.new.region (c.move_words.ensures.same_size ∙ (ap length c.deref_mut.ensures.value ∙ sym here.words.ok.0)) in
+    let moved = c.move_words-moved in
+    let words =
+    items_after_write here.words c.deref_mut.result.now moved.new.region c.deref_mut.ensures.value
+    moved.ensures.written.same_size in
     rw (words, c.set.ensures)
-    (same_layout (length here.words.items) (length c.move_words.new.region) _ _ (c.move_words.ensures.same_size ∙ ap length c.deref_mut.ensures.value)
-    (placed_from-moved here.words.items c.move_words.new.region here.starts.items here.spans c.args.number c.args.to c.value.result.now c.self.invariant c.value.ensures
-    (rw (← c.self.view_is) at c.requires.within) (rw (← c.self.view_is) at c.requires.clear) (rw c.deref_mut.ensures.value at c.move_words.ensures)))
-    ∙ ap (λ layout. moved layout c.args.number c.args.to) c.self.view_is
+    (same_layout (length here.words.items) (length moved.new.region)
+    _ _ (moved.ensures.written.same_size ∙ ap length c.deref_mut.ensures.value)
+    ((after_move here.words.items moved.new.region here.starts.items c.mark_start.new.starts here.spans c.args.number
+    c.args.to c.value.result.now c.self.invariant c.value.ensures
+    (rw (← c.self.view_is) at c.requires.within) (rw (← c.self.view_is) at c.requires.clear)
+    (rw c.deref_mut.ensures.value at moved.ensures.written)
+    (rw c.deref_mut-2.ensures.value at c.mark_start.ensures)).slots
+    ∙ ap (λ o. slice_set (slots_from here.words.items here.spans) c.args.number o)
+    (moved_block here.words.items here.spans c.args.number c.args.to c.value.result.now c.value.ensures)))
+    ∙ ap (λ layout. layout_after_move layout c.args.number c.args.to) c.self.view_is
+
+pub returns-clause-few : goal.returns-clause-few
+returns-clause-few g c =
+    let here = c.self.inside in
+    let long =
+    length-words_of-span here.words.items here.starts.items here.spans c.args.number c.value.result.now
+    c.self.invariant c.value.ensures in
+    rw (← c.self.view_is) (omega (arith, long, c.move_words-moved.ensures.few))

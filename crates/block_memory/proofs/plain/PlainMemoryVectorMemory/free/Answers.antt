@@ -1,13 +1,14 @@
-use Rattle.block_memory.proofs.PlainLemmas.{IsPlain-remove, held_content-remove}
+use Rattle.block_memory.proofs.PlainLemmas.{IsPlain-remove, content_of-remove}
 use Rattle.block_memory.proofs.plain.PlainMemoryVectorMemory.free.Goals as goal
 
 pub invariant_of-self : goal.invariant_of-self
 invariant_of-self g c =
     let here = c.self.inside in
-    rw (c.remove-held.ensures.removed, c.len.ensures)
-    (IsPlain-remove here.size here.used _ c.number.result _ c.remove-held.result c.self.invariant c.remove-held.ensures.value c.remove-held.result.words.ok.0)
+    rw (c.remove-block.ensures.removed, c.len.ensures)
+    (IsPlain-remove here.size here.used _ c.number.result _ c.remove-block.result c.self.invariant
+    c.remove-block.ensures.value c.remove-block.result.words.ok.0)
 
 pub returns-clause-freed : goal.returns-clause-freed
 returns-clause-freed g c =
-    rw (c.remove-held.ensures.removed, c.number.ensures, ← c.self.view_is)
-    (held_content-remove c.self.inside.held c.args.id)
+    rw (c.remove-block.ensures.removed, c.number.ensures, ← c.self.view_is)
+    (content_of-remove c.self.inside.table c.args.id)

@@ -1,5 +1,5 @@
 use Rattle.std.proofs.Common.{◌+◌, ◌≤◌, length, arith}
-use Rattle.block_memory.proofs.PlainLemmas.{IsPlain-insert, held_content-insert}
+use Rattle.block_memory.proofs.PlainLemmas.{IsPlain-insert, content_of-insert}
 use Rattle.block_memory.proofs.plain.PlainMemoryVectorMemory.place.Goals as goal
 
 pub invariant_of-self : goal.invariant_of-self
@@ -8,9 +8,10 @@ invariant_of-self g c =
     let within = c.self.invariant.within in
     let fits : here.used + length c.args.words.now ≤ here.size = omega arith in
     rw (c.insert-number.ensures.inserted, ← c.in_ok-copy.ensures.ok)
-    (IsPlain-insert here.size here.used here.held c.insert-number.result _ c.self.invariant c.insert-number.ensures.in_range c.insert-number.ensures.vacant (rw c.in_ok-copy.ensures.ok fits))
+    (IsPlain-insert here.size here.used here.table c.insert-number.result _ c.self.invariant
+    c.insert-number.ensures.in_range c.insert-number.ensures.vacant (rw c.in_ok-copy.ensures.ok fits))
 
 pub returns-clause-placed : goal.returns-clause-placed
 returns-clause-placed g c =
     rw (c.insert-number.ensures.inserted, ← c.in_ok-copy.ensures.ok, c.new.ensures, ← c.self.view_is)
-    (held_content-insert c.self.inside.held c.insert-number.result _)
+    (content_of-insert c.self.inside.table c.insert-number.result _)

@@ -1,13 +1,15 @@
-use Rattle.std.proofs.Common.{◌∙◌, ap}
-use Rattle.std.proofs.Common.{slice_set, Some}
+use Rattle.std.proofs.Common.{◌∙◌, ap, slice_set, Some}
 use Rattle.block_memory.proofs.TableLemmas.{IsTable-insert, places-insert}
 use Rattle.block_memory.proofs.table.Table.insert.Goals as goal
 
 pub invariant_of-self : goal.invariant_of-self
 invariant_of-self g c =
-    rw c.pop.ensures.capacity (IsTable-insert c.self.inside.entries c.self.inside.keys.items c.self.inside.vacant.items c.pop.new.self.items _ c.in-Some.number c.index.result.now c.args.value c.self.invariant (c.in-Some.ensures.items) c.index.ensures)
+    rw c.pop.ensures.capacity (IsTable-insert c.self.inside.entries c.self.inside.keys.items
+    c.self.inside.vacant.items c.pop.new.self.items _ c.in-Some.number c.index.result.now c.args.value
+    c.self.invariant (c.in-Some.ensures.items) c.index.ensures)
 
 pub returns-clause-inserted : goal.returns-clause-inserted
 returns-clause-inserted g c =
-    places-insert c.self.inside.entries c.self.inside.keys.items c.self.inside.vacant.items c.pop.new.self.items _ c.in-Some.number c.index.result.now c.args.value c.self.invariant (c.in-Some.ensures.items) c.index.ensures
+    places-insert c.self.inside.entries c.self.inside.keys.items c.self.inside.vacant.items c.pop.new.self.items
+    _ c.in-Some.number c.index.result.now c.args.value c.self.invariant (c.in-Some.ensures.items) c.index.ensures
     ∙ ap (λ slots. slice_set slots c.in-Some.number (Some c.args.value)) c.self.view_is

@@ -1,6 +1,6 @@
 use Rattle.std.proofs.Common.{◌≡◌, ◌+◌, ◌<◌, ◌≤◌, ℕ, length, slice_index, None, vec_capacity}
 use Rattle.slab.specs.Slab.{slab_len}
-use Rattle.block_memory.specs.TableInside.{under_key, AreKeys}
+use Rattle.block_memory.specs.TableInside.{value_under_key, AreKeys}
 use Rattle.block_memory.proofs.table.Table.new.Given as goal
 
 -- so many keys are listed and so many numbers are empty, the last first, and there is room for the rest
@@ -13,6 +13,6 @@ invariant-loop-number g l = record {
   vacant_room : l.count ≤ vec_capacity l.vacant;
   entries_room : l.count ≤ l.entries.capacity;
   are_keys : AreKeys l.entries l.keys.items;
-  empty : (i : ℕ) → i < length l.keys.items → under_key l.entries (slice_index l.keys.items i) ≡ None;
+  empty : (i : ℕ) → i < length l.keys.items → value_under_key l.entries (slice_index l.keys.items i) ≡ None;
   descending : (i : ℕ) → i < l.number → slice_index l.vacant.items i + (i + 1) ≡ l.count;
 }

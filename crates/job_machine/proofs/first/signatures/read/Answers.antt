@@ -5,7 +5,7 @@ use Rattle.job_machine.proofs.first.signatures.read.Goals as goal
 
 pub returns-in-Err : goal.returns-in-Err
 returns-in-Err c =
-    sym (at_bad_line c.lines.has_main c.in-Err.error c.lines.number _ _ _ c.split_line.ensures.line c.in-Err.ensures) ∙ c.lines.invariant.answer
+    sym c.lines.invariant.answer ∙ at_bad_line c.lines.has_main c.in-Err.fault c.lines.number _ _ _ c.split_line.ensures.line c.in-Err.ensures
 
 pub lines-preserved-then-not-is_empty : goal.lines-preserved-then-not-is_empty
 lines-preserved-then-not-is_empty c =
@@ -27,4 +27,4 @@ lines-preserved c =
     }
 
 pub returns : goal.returns
-returns c = sym (at_end c.lines.has_main c.lines.number _ c.lines-test.ensures) ∙ c.lines.invariant.answer
+returns c = sym c.lines.invariant.answer ∙ at_end c.lines.has_main c.lines.number _ c.lines-test.ensures

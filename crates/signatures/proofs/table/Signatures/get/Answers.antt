@@ -6,10 +6,12 @@ use Rattle.signatures.proofs.table.Signatures.get.Goals as goal
 
 pub returns-in_err-arrow : goal.returns-in_err-arrow
 returns-in_err-arrow g c =
+    let known = ap (λ ss. kinds_of ss c.args.name.now) (sym c.self.view_is) in
     rw c.from_residual.ensures
-    (ap (λ ss. kinds_of ss c.args.name.now) (sym c.self.view_is) ∙ kinds_of-signatures_in _ c.args.name.now ∙ sym c.get.ensures.value ∙ ap option_copied c.in_err-arrow.was)
+    (known ∙ kinds_of-signatures_in _ c.args.name.now ∙ sym c.get.ensures.value ∙ ap option_copied c.in_err-arrow.was)
 
 pub returns : goal.returns
 returns g c =
-    ap (λ ss. kinds_of ss c.args.name.now) (sym c.self.view_is) ∙ kinds_of-signatures_in _ c.args.name.now ∙ sym c.get.ensures.value ∙ ap option_copied c.in_ok-arrow.was
+    let known = ap (λ ss. kinds_of ss c.args.name.now) (sym c.self.view_is) in
+    known ∙ kinds_of-signatures_in _ c.args.name.now ∙ sym c.get.ensures.value ∙ ap option_copied c.in_ok-arrow.was
     ∙ ap Some (sym c.arrow.view_is) ∙ (λ i. Some (sym c.as_slice.ensures.value i, sym c.as_slice-2.ensures.value i))

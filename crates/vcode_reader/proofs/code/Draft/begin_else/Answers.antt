@@ -1,5 +1,5 @@
 use Rattle.std.proofs.Common.{◌∷◌, true, ap, ◌∙◌}
-use Rattle.vcode_reader.specs.Drafts.{Drafted, open_if, takes_else}
+use Rattle.vcode_reader.specs.Drafts.{DraftState, open_if, takes_else}
 use Rattle.vcode_reader.proofs.Drafting.{draft_at, empty_draft, else_draft}
 use Rattle.vcode_reader.proofs.code.Draft.begin_else.Goals as goal
 
@@ -7,8 +7,10 @@ pub invariant_of-self : goal.invariant_of-self
 invariant_of-self g c =
     draft_at c.add_open.new.lines.items _ c.add_open.new.ifs _ c.in_ok-add_open.ensures.lines
     (c.in_ok-add_open.ensures.ifs ∙ ap (λ z. open_if c.in-Some.opened.line true ∷ z) c.pop.ensures.others)
-    (else_draft c.self.inside.ifs c.self.inside.lines.items c.in-Some.opened c.in-Some.ensures.first (ap (λ (d : Drafted). takes_else d.ifs) c.self.view_is ∙ c.requires) c.self.invariant)
+    (else_draft c.self.inside.ifs c.self.inside.lines.items c.in-Some.opened c.in-Some.ensures.first
+    (ap (λ (d : DraftState). takes_else d.ifs) c.self.view_is ∙ c.requires) c.self.invariant)
 
 pub invariant_of-self-in_err-add_open : goal.invariant_of-self-in_err-add_open
 invariant_of-self-in_err-add_open g c =
-    empty_draft c.add_open.new.lines.items c.add_open.new.ifs c.in_err-add_open.ensures.no_lines c.in_err-add_open.ensures.no_ifs
+    let after = c.add_open.new in
+    empty_draft after.lines.items after.ifs c.in_err-add_open.ensures.no_lines c.in_err-add_open.ensures.no_ifs

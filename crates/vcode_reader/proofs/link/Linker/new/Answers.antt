@@ -7,11 +7,15 @@ loop-place-preserved g c =
     let next : c.loop-place.place ≡ (c.loop-place.place - 1) + 1 = omega arith in
     record {
       within = omega arith;
-      found = finds_more c.args.functions.now (c.loop-place.place - 1) c.index-functions-place.result c.name.result.now c.loop-place.places c.insert.new.self
-          (omega arith) (sym c.index-functions-place.is) c.name.ensures c.in_ok-insert.ensures.updates (subst (λ z. Finds c.args.functions.now z c.loop-place.places) next c.loop-place.invariant.found);
+      found = finds_more c.args.functions.now
+          (c.loop-place.place - 1)
+          c.index-functions-place.result c.name.result.now c.loop-place.places c.insert.new.self
+          (omega arith) (sym c.index-functions-place.is) c.name.ensures c.in_ok-insert.ensures.updates
+          (subst (λ z. Finds c.args.functions.now z c.loop-place.places) next c.loop-place.invariant.found);
     }
 
 pub invariant_of-result : goal.invariant_of-result
 invariant_of-result g c = λ name.
     let none : c.loop-place.place ≡ 0 = omega arith in
-    subst (λ z. Finds c.args.functions.now z c.loop-place.places) none c.loop-place.invariant.found name ∙ position_from-zero _ c.args.functions.now
+    subst (λ z. Finds c.args.functions.now z c.loop-place.places) none c.loop-place.invariant.found name
+    ∙ position_from-zero _ c.args.functions.now

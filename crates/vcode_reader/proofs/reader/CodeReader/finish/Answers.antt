@@ -1,14 +1,19 @@
 use Rattle.std.proofs.Common.{◌∙◌, Ok, ap, sym, subst}
-use Rattle.vcode_reader.specs.Reading.{Fed, Fails, outcome}
+use Rattle.vcode_reader.specs.Reading.{ReaderState, Fails, outcome}
 use Rattle.vcode_reader.specs.Trees.{Program}
 use Rattle.vcode_reader.proofs.Fed.{answer_ok, answer_err}
 use Rattle.vcode_reader.proofs.reader.CodeReader.finish.Goals as goal
 
 pub returns-in-Err-clause-answer : goal.returns-in-Err-clause-answer
 returns-in-Err-clause-answer g c =
-    answer_err c.in-Err.fault c.args.self (subst (λ (r : Fed). Fails c.in-Err.fault (outcome r.scan)) c.self.view_is c.in-Err.ensures)
+    answer_err c.in-Err.fault c.args.self
+    (subst (λ (r : ReaderState). Fails c.in-Err.fault (outcome r.scan)) c.self.view_is c.in-Err.ensures)
 
 pub returns-in_ok-new-in-Ok-clause-answer : goal.returns-in_ok-new-in-Ok-clause-answer
 returns-in_ok-new-in-Ok-clause-answer g c =
-    λ bytes h. answer_ok c.args.self c.in-Ok.functions.items (ap (λ (r : Fed). outcome r.scan) (sym c.self.view_is) ∙ c.in-Ok.ensures) bytes h
-    ∙ ap Ok (ap (λ (r : Fed). let p : Program = record { first_line = r.first_line; functions = c.in-Ok.functions.items } in p) (sym c.self.view_is) ∙ sym c.in_ok-new-in-Ok.ensures)
+    λ bytes h. answer_ok c.args.self c.in-Ok.functions.items
+    (ap (λ (r : ReaderState). outcome r.scan) (sym c.self.view_is) ∙ c.in-Ok.ensures) bytes h
+    ∙ ap Ok (ap
+    (λ (r : ReaderState). let p : Program =
+    record { first_line = r.first_line; functions = c.in-Ok.functions.items } in p) (sym c.self.view_is)
+    ∙ sym c.in_ok-new-in-Ok.ensures)

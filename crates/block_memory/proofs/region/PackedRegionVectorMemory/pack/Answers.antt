@@ -1,0 +1,6 @@
+use Rattle.block_memory.proofs.FreeLemmas.{hole_count-free_from}
+use Rattle.block_memory.proofs.region.PackedRegionVectorMemory.pack.Goals as goal
+
+pub returns-clause-one_hole : goal.returns-clause-one_hole
+returns-clause-one_hole g c =
+    rw c.pack_region.ensures.packed (hole_count-free_from c.self.inside.used c.pack_region.new.blocks.size)

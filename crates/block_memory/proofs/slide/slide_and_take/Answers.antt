@@ -1,0 +1,130 @@
+use Rattle.std.proofs.Common.{◌-◌, length, is_some, ap, ◌∙◌, arith}
+use Rattle.block_memory.specs.Layout.{Layout, place_of, words_of, block_at_place, with_slot}
+use Rattle.block_memory.proofs.PackLemmas.{IsPacking-start, IsPacking-skip, IsPacking-slide}
+use Rattle.block_memory.proofs.SlideLemmas.{is_gap, place_inside, widest-ge}
+use Rattle.block_memory.proofs.slide.slide_and_take.Goals as goal
+
+pub loop-place-init : goal.loop-place-init
+loop-place-init g c =
+    let r = c.requires.region in
+    record {
+      packing = IsPacking-start c.args.blocks.now c.args.used r.cover.apart r.within r.counted;
+      region = r;
+      within = omega arith;
+      few = omega arith;
+    }
+
+pub beginning_at-requires : goal.beginning_at-requires
+beginning_at-requires g c =
+    let l = c.loop-place in
+    place_inside c.args.blocks.now l.blocks l.packed l.place c.args.used c.args.len l.invariant.packing
+    c.requires.fits c.loop-place-test.true
+
+pub slide_down-moved-requires-clause-down : goal.slide_down-moved-requires-clause-down
+slide_down-moved-requires-clause-down g c =
+    let b = c.in-Some.ensures.found in
+    let lies = ap place_of b.there in
+    let order = c.loop-place.invariant.packing.order in
+    omega (arith, lies, b.here, order)
+
+pub slide_down-moved-requires-clause-none_below : goal.slide_down-moved-requires-clause-none_below
+slide_down-moved-requires-clause-none_below g c =
+    let l = c.loop-place in
+    (is_gap c.args.blocks.now l.blocks l.holes l.packed l.place c.args.used l.invariant.packing l.invariant.region
+    l.invariant.within).none_below
+
+pub slide_down-moved-requires-clause-hole : goal.slide_down-moved-requires-clause-hole
+slide_down-moved-requires-clause-hole g c =
+    let l = c.loop-place in
+    let b = c.in-Some.ensures.found in
+    rw (ap place_of b.there ∙ b.here) (is_gap c.args.blocks.now l.blocks l.holes l.packed l.place c.args.used
+    l.invariant.packing l.invariant.region l.invariant.within).all_free
+
+pub overflow_add-moved : goal.overflow_add-moved
+overflow_add-moved g c =
+    let l = c.loop-place in
+    let b = c.in-Some.ensures.found in
+    let i = l.invariant.packing in
+    let long = ap (λ o. length (words_of o)) b.there in
+    omega (
+      arith,
+      l.invariant.few,
+      i.order,
+      i.within c.in-Some.number b.block b.there,
+      b.here,
+      long,
+      c.slide_down-moved.ensures.few,
+      c.beginning_at.ensures.in_memory,
+    )
+
+pub loop-place-preserved-in-Some : goal.loop-place-preserved-in-Some
+loop-place-preserved-in-Some g c =
+    let l = c.loop-place in
+    let b = c.in-Some.ensures.found in
+    let i = l.invariant.packing in
+    let moved =
+    c.slide_down-moved.ensures.moved ∙ ap (λ o. with_slot l.blocks c.in-Some.number (block_at_place l.packed o))
+    b.there in
+    let long = ap length (c.words-words.ensures ∙ ap words_of b.there) in
+    let same = ap (λ o. length (words_of o)) b.there in
+    let size = ap (λ (now : Layout). now.size) moved in
+    record {
+      packing =
+          rw (moved, long) (IsPacking-slide c.args.blocks.now l.blocks l.packed l.place c.args.used c.in-Some.number
+          b.block i b.there b.here b.some);
+      region = c.slide_down-moved.ensures.region;
+      within = omega (arith, i.within c.in-Some.number b.block b.there, b.here, long, size);
+      few = omega (arith, l.invariant.few, c.slide_down-moved.ensures.few, long, same);
+    }
+
+pub loop-place-preserved : goal.loop-place-preserved
+loop-place-preserved g c =
+    let l = c.loop-place in
+    let inside =
+    place_inside c.args.blocks.now l.blocks l.packed l.place c.args.used c.args.len l.invariant.packing
+    c.requires.fits c.loop-place-test.true in
+    record {
+      packing =
+          IsPacking-skip c.args.blocks.now l.blocks l.packed l.place c.args.used l.invariant.packing
+          c.in-None.ensures.none;
+      region = l.invariant.region;
+      within = omega (arith, inside);
+      few = l.invariant.few;
+    }
+
+pub overflow_add-place-in-None : goal.overflow_add-place-in-None
+overflow_add-place-in-None g c =
+    let l = c.loop-place in
+    let inside =
+    place_inside c.args.blocks.now l.blocks l.packed l.place c.args.used c.args.len l.invariant.packing
+    c.requires.fits c.loop-place-test.true in
+    omega (arith, inside, c.beginning_at.ensures.in_memory)
+
+pub loop-place-smaller-in-Some : goal.loop-place-smaller-in-Some
+loop-place-smaller-in-Some g c =
+    let l = c.loop-place in
+    let b = c.in-Some.ensures.found in
+    let inside =
+    place_inside c.args.blocks.now l.blocks l.packed l.place c.args.used c.args.len l.invariant.packing
+    c.requires.fits c.loop-place-test.true in
+    let long = ap length (c.words-words.ensures ∙ ap words_of b.there) in
+    let size = ap (λ (now : Layout). now.size) c.slide_down-moved.ensures.moved in
+    omega (arith, inside, long, size, b.some)
+
+pub loop-place-smaller : goal.loop-place-smaller
+loop-place-smaller g c =
+    let l = c.loop-place in
+    let inside =
+    place_inside c.args.blocks.now l.blocks l.packed l.place c.args.used c.args.len l.invariant.packing
+    c.requires.fits c.loop-place-test.true in
+    omega (arith, inside)
+
+pub unreachable-requires : goal.unreachable-requires
+unreachable-requires g c =
+    let l = c.loop-place in
+    let wide =
+    widest-ge l.holes.free l.packed (l.place - l.packed)
+    (is_gap c.args.blocks.now l.blocks l.holes l.packed l.place c.args.used l.invariant.packing l.invariant.region
+    l.invariant.within).all_free in
+    let narrow = c.take.ensures.none.0 (ap is_some c.in-None-take.is) in
+    omega (arith, wide, narrow, c.loop-place-test.false)

@@ -1,0 +1,38 @@
+//! Laws of memories of counted blocks. Each function does nothing, and its contract is the law.
+
+ghost use Rattle.refcounts.specs.Laws.{MakingChangesOnlyOwn, SharingChangesOnlyOwn, ReleasingChangesOnlyOwn, SharesAreCounted, ReleasesAreCounted, ReleasesKeepBlocks, ReleaseStaysTidy};
+
+/// A block that an owner makes changes no other owner's blocks.
+pub fn making_changes_only_own()
+    ensures { MakingChangesOnlyOwn }
+{}
+
+/// Blocks that an owner shares, one by one, change no other owner's blocks.
+pub fn sharing_changes_only_own()
+    ensures { SharingChangesOnlyOwn }
+{}
+
+/// Blocks that an owner releases, one by one, change no other owner's blocks.
+pub fn releasing_changes_only_own()
+    ensures { ReleasingChangesOnlyOwn }
+{}
+
+/// Each block that is shared has one reference more for each time that it is listed.
+pub fn shares_are_counted()
+    ensures { SharesAreCounted }
+{}
+
+/// Each block that is released has one reference less for each time that it is listed.
+pub fn releases_are_counted()
+    ensures { ReleasesAreCounted }
+{}
+
+/// A block that is released less often than references name it keeps its owner and its words.
+pub fn releases_keep_blocks()
+    ensures { ReleasesKeepBlocks }
+{}
+
+/// A number that no reference names has no block after a release either.
+pub fn release_stays_tidy()
+    ensures { ReleaseStaysTidy }
+{}

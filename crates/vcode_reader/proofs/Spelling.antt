@@ -1,0 +1,249 @@
+-- The table of words, looked up among the words of a length, and by what a word begins.
+use Rattle.std.proofs.Common.{◌≡◌, ◌<◌, ℕ, Bool, true, false, ◌==◌, List, [], ◌∷◌, length, cond, refl, ap, ◌∙◌, sym, arith}
+use Rattle.std.specs.Prelude.{nat_lt}
+use Rattle.std.specs.List.{AllByRecursion}
+use Rattle.std.specs.Str.{bytes_eq}
+use Rattle.std.proofs.lemmas.Bool.Decides.{nat_tests}
+use Rattle.std.proofs.lemmas.Slice.Eq.{bytes_eq-Decides}
+use Rattle.vcode_reader.specs.declared.head.Head.{Head}
+use Rattle.vcode_reader.specs.declared.head.Head.TheVariants.{Other}
+use Rattle.vcode_reader.specs.declared.keyword.Slot.{Slot}
+use Rattle.vcode_reader.specs.declared.language.Language.{Language}
+use Rattle.vcode_reader.specs.declared.language.Language.TheVariants.{First, Whole}
+use Rattle.vcode_reader.specs.Heads.{Row, rows, look_up, rows_with, head_of_length, head_longer, head_slots, head_of}
+use Rattle.vcode_reader.specs.Heads.{slots_of}
+
+not_true : (b : Bool) → (b ≡ true → ⊥) → b ≡ false
+not_true true h = absurd (h refl)
+not_true false h = refl
+
+true_not_false : true ≡ false → ⊥
+true_not_false h = cc
+
+-- a row of another length has another word
+look_up-row : {A : Type 0} (column : Row → A) (missing : A) (is_such : ℕ → Bool) (r : Row) (rest rs : List Row)
+    (word : List ℕ) (such : Bool) →
+    is_such (length word) ≡ true → is_such (length r.word) ≡ such →
+    look_up column missing rest word ≡ look_up column missing rs word →
+    look_up column missing (cond such (r ∷ rest) rest) word ≡ look_up column missing (r ∷ rs) word
+look_up-row column missing is_such r rest rs word true h e same = ap (cond (bytes_eq word r.word) (column r)) same
+look_up-row column missing is_such r rest rs word false h e same =
+    let length_of : bytes_eq word r.word ≡ true → is_such (length word) ≡ is_such (length r.word) =
+    λ t. ap (λ z. is_such (length z)) ((bytes_eq-Decides word r.word).0 t) in
+    let other : bytes_eq word r.word
+    ≡ false = not_true (bytes_eq word r.word) (λ t. true_not_false (sym h ∙ (length_of t ∙ e))) in
+    same ∙ sym (ap (λ b. cond b (column r) (look_up column missing rs word)) other)
+
+look_up-rows_with : {A : Type 0} (column : Row → A) (missing : A) (is_such : ℕ → Bool) (rs : List Row)
+    (word : List ℕ) → is_such (length word) ≡ true →
+    look_up column missing (rows_with is_such rs) word ≡ look_up column missing rs word
+look_up-rows_with column missing is_such [] word h = refl
+look_up-rows_with column missing is_such (r ∷ rs) word h =
+    look_up-row column missing is_such r (rows_with is_such rs) rs word (is_such (length r.word)) h refl
+    (look_up-rows_with column missing is_such rs word h)
+
+pub among_length : (n : ℕ) (word : List ℕ) → length word ≡ n → head_of_length n word ≡ head_of Whole word
+unfolding head_of_length head_of
+among_length n word h =
+    let same : (length word == n) ≡ true = grind (arith, nat_tests) in
+    look_up-rows_with (λ (r : Row). r.head) Other (λ m. m == n) (rows Whole) word same
+
+pub among_longer : (n : ℕ) (word : List ℕ) → n < length word → head_longer n word ≡ head_of Whole word
+unfolding head_longer head_of
+among_longer n word h =
+    let same : nat_lt n (length word) ≡ true = grind (arith, nat_tests) in
+    look_up-rows_with (λ (r : Row). r.head) Other (nat_lt n) (rows Whole) word same
+
+-- no row has the word of no bytes
+pub no_word : (word : List ℕ) → length word ≡ 0 → Other ≡ head_of Whole word
+unfolding head_of_length rows
+no_word word h = among_length 0 word h
+
+-- ---- what stands behind a word, by what the word begins
+
+abbrev agrees : Language → Row → Type 0
+agrees language r = r.slots ≡ head_slots language r.head
+
+look_up-slots : (language : Language) (rs : List Row) (word : List ℕ) → AllByRecursion (agrees language) rs →
+    look_up (λ (r : Row). r.slots) [] rs word ≡ head_slots language (look_up (λ (r : Row). r.head) Other rs word)
+look_up-slots language [] word h = refl
+look_up-slots language (r ∷ rs) word h =
+    chosen language (bytes_eq word r.word) r _ _ h.0 (look_up-slots language rs word h.1)
+  where
+    chosen : (language : Language) (t : Bool) (r : Row) (slots : List Slot) (head : Head) → agrees language r →
+        slots ≡ head_slots language head →
+        cond t r.slots slots ≡ head_slots language (cond t r.head head)
+    chosen language true r slots head e f = e
+    chosen language false r slots head e f = f
+
+rows_agree : (language : Language) → AllByRecursion (agrees language) (rows language)
+unfolding rows
+rows_agree First = (refl, (refl, (refl, (refl, (refl, (refl, tt))))))
+rows_agree Whole = (
+  refl,
+  (
+    refl,
+    (
+      refl,
+      (
+        refl,
+        (
+          refl,
+          (
+            refl,
+            (
+              refl,
+              (
+                refl,
+                (
+                  refl,
+                  (
+                    refl,
+                    (
+                      refl,
+                      (
+                        refl,
+                        (
+                          refl,
+                          (
+                            refl,
+                            (
+                              refl,
+                              (
+                                refl,
+                                (
+                                  refl,
+                                  (
+                                    refl,
+                                    (
+                                      refl,
+                                      (
+                                        refl,
+                                        (
+                                          refl,
+                                          (
+                                            refl,
+                                            (
+                                              refl,
+                                              (
+                                                refl,
+                                                (
+                                                  refl,
+                                                  (
+                                                    refl,
+                                                    (
+                                                      refl,
+                                                      (
+                                                        refl,
+                                                        (
+                                                          refl,
+                                                          (
+                                                            refl,
+                                                            (
+                                                              refl,
+                                                              (
+                                                                refl,
+                                                                (
+                                                                  refl,
+                                                                  (
+                                                                    refl,
+                                                                    (
+                                                                      refl,
+                                                                      (
+                                                                        refl,
+                                                                        (
+                                                                          refl,
+                                                                          (
+                                                                            refl,
+                                                                            (
+                                                                              refl,
+                                                                              (
+                                                                                refl,
+                                                                                (
+                                                                                  refl,
+                                                                                  (
+                                                                                    refl,
+                                                                                    (
+                                                                                      refl,
+                                                                                      (
+                                                                                        refl,
+                                                                                        (
+                                                                                          refl,
+                                                                                          (
+                                                                                            refl,
+                                                                                            (
+                                                                                              refl,
+                                                                                              (
+                                                                                                refl,
+                                                                                                (
+                                                                                                  refl,
+                                                                                                  (
+                                                                                                    refl,
+                                                                                                    (
+                                                                                                      refl,
+                                                                                                      (
+                                                                                                        refl,
+                                                                                                        (
+                                                                                                          refl,
+                                                                                                          (
+                                                                                                            refl,
+                                                                                                            tt,
+                                                                                                          ),
+                                                                                                        ),
+                                                                                                      ),
+                                                                                                    ),
+                                                                                                  ),
+                                                                                                ),
+                                                                                              ),
+                                                                                            ),
+                                                                                          ),
+                                                                                        ),
+                                                                                      ),
+                                                                                    ),
+                                                                                  ),
+                                                                                ),
+                                                                              ),
+                                                                            ),
+                                                                          ),
+                                                                        ),
+                                                                      ),
+                                                                    ),
+                                                                  ),
+                                                                ),
+                                                              ),
+                                                            ),
+                                                          ),
+                                                        ),
+                                                      ),
+                                                    ),
+                                                  ),
+                                                ),
+                                              ),
+                                            ),
+                                          ),
+                                        ),
+                                      ),
+                                    ),
+                                  ),
+                                ),
+                              ),
+                            ),
+                          ),
+                        ),
+                      ),
+                    ),
+                  ),
+                ),
+              ),
+            ),
+          ),
+        ),
+      ),
+    ),
+  ),
+)
+
+pub slots_by_head : (language : Language) (word : List ℕ) →
+    slots_of language word ≡ head_slots language (head_of language word)
+unfolding slots_of head_of
+slots_by_head language word = look_up-slots language (rows language) word (rows_agree language)

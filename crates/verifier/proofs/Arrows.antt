@@ -1,0 +1,61 @@
+-- The kinds that each function of a well kinded program takes and gives.
+use Rattle.std.proofs.Common.{◌≡◌, ◌∙◌, ℕ, ◌+◌, ◌<◌, Option, Some, None, refl, sym, ap, subst}
+use Rattle.std.proofs.Common.{List, [], ◌∷◌, ◌++◌, length, take, get_or, add-one}
+use Rattle.std.specs.Prelude.{map, All, IsSome, MatchOption}
+use Rattle.std.proofs.Math.Seq.{take-suc}
+use Rattle.std.proofs.lemmas.List.{map-append}
+use Rattle.std.proofs.lemmas.List.Elements.{All-get_or}
+use Rattle.vcode_base.specs.declared.kind.Kind.{Kind}
+use Rattle.vcode_reader.specs.Trees.{Function, Program}
+use Rattle.signatures.specs.Signatures.{Signature, kinds_of}
+use Rattle.verifier.specs.Kinded.{IsWellKinded, FitsSignature, scope_of}
+use Rattle.verifier.specs.Typed.{AreArrows}
+
+abbrev Arrow : Type 0
+Arrow = List Kind × List Kind
+
+-- the signature of the function at a place
+pub arrow_at : (signatures : List Signature) (program : Program) (fs : List Function) (i : ℕ) (f : Function)
+    → IsWellKinded signatures program → fs ≡ program.functions → i < length fs → f ≡ get_or fs i f
+    → (arrow : Arrow) × (kinds_of signatures f.name ≡ Some arrow)
+arrow_at signatures program fs i f h same lt is =
+    let scope = scope_of signatures program in
+    let all : All (FitsSignature scope) fs = subst (All (FitsSignature scope)) (sym same) h.functions in
+    let (takes, gives, signature, body) = All-get_or (FitsSignature scope) fs i f lt all in
+    ((takes, gives), ap (λ (g : Function). kinds_of signatures g.name) is ∙ signature)
+
+-- an answer that is none only where there is no signature
+pub is_known : {T : Type 0} (o : Option T) (P : T → Type 0) (known : Option Arrow) → MatchOption o (known ≡ None) P
+    → ((arrow : Arrow) × (known ≡ Some arrow)) → IsSome o
+is_known None P known h k = absurd (let e : Some k.0 ≡ None = sym k.1 ∙ h in cc)
+is_known (Some x) P known h k = refl
+
+-- and where there is an answer, it is the signature
+pub known_arrow : {T : Type 0} (o : Option T) (P : T → Type 0) (N : Type 0) (x : T) → MatchOption o N P → o ≡ Some x → P x
+known_arrow None P N x h e = absurd (cc)
+known_arrow (Some y) P N x h e = let same : y ≡ x = cc in subst P same h
+
+-- the arrows of the functions before a place, and the next one
+one_arrow_more : (signatures : List Signature) (fs : List Function) (i : ℕ) (f : Function)
+    (arrows new : List Arrow) (arrow : Arrow)
+    → i < length fs → f ≡ get_or fs i f → AreArrows signatures (take i fs) arrows
+    → kinds_of signatures f.name ≡ Some arrow → new ≡ arrows ++ arrow ∷ [] → AreArrows signatures (take (i + 1) fs) new
+one_arrow_more signatures fs i f arrows new arrow lt is before here e =
+    let row : Function → Option Arrow = λ g. kinds_of signatures g.name in
+    let front : take (i + 1) fs ≡ take i fs ++ f ∷ [] =
+    ap (λ n. take n fs) (add-one i) ∙ (take-suc fs i f lt ∙ ap (λ g. take i fs ++ g ∷ []) (sym is)) in
+    ap (map row) front
+    ∙ (map-append row (take i fs) (f ∷ [])
+    ∙ ((λ p. before p ++ here p ∷ [])
+    ∙ (sym (map-append (λ a. Some a) arrows (arrow ∷ [])) ∙ ap (map (λ a. Some a)) (sym e))))
+
+-- the same, of a program's functions as a slice gives them
+pub next_arrow : (signatures : List Signature) (program : Program) (fs : List Function) (i : ℕ) (f : Function)
+    (arrows new : List Arrow) (arrow : Arrow) → fs ≡ program.functions → i < length fs → f ≡ get_or fs i f
+    → AreArrows signatures (take i program.functions) arrows → kinds_of signatures f.name ≡ Some arrow
+    → new ≡ arrows ++ arrow ∷ [] → AreArrows signatures (take (i + 1) program.functions) new
+next_arrow signatures program fs i f arrows new arrow same lt is before here e =
+    let so_far : AreArrows signatures (take i fs) arrows =
+    subst (λ gs. AreArrows signatures (take i gs) arrows) (sym same) before in
+    subst (λ gs. AreArrows signatures (take (i + 1) gs) new) same
+    (one_arrow_more signatures fs i f arrows new arrow lt is so_far here e)

@@ -1,0 +1,212 @@
+//! The kinds of a body, line by line.
+
+ghost use Rattle.std.specs.Prelude.{◌≡◌, Ok, Err, OnOk, MatchResult, [], ◌∷◌};
+ghost use Rattle.vcode_base.specs.declared.instr.Instr.TheVariants.{Call};
+ghost use Rattle.vcode_base.specs.declared.kind.Kind.TheVariants as kind;
+ghost use Rattle.vcode_reader.specs.declared.line.CodeItem.TheVariants.{Do};
+ghost use Rattle.vcode_reader.specs.Callees.{callee_of};
+ghost use Rattle.verifier.specs.First.{stack_after_arrow, stack_after_move, stack_after_call};
+ghost use Rattle.verifier.specs.First.{arrow_of, stack_after_instruction};
+ghost use Rattle.verifier.specs.Walk.{state_with, state_after_if, state_after_endif, stack_after_place};
+ghost use Rattle.verifier.specs.Walk.{state_after_line, state_after_lines, Goes, BeginsWith};
+
+use crate::fault::{KindFault, VerifyFault};
+use crate::scope::Scope;
+use crate::stack::{KindStack, are_same_kinds};
+use std::alloc::{AllocError, Allocator};
+use vcode_base::{Instr, Instruction, Kind, StackMove};
+use vcode_reader::{CodeItem, CodeLine};
+
+/// An instruction that takes and gives these entries.
+#[tactic(auto, unfolding(crate::specs::First::stack_after_arrow))]
+fn replace<A: Allocator + Clone>(
+    stack: &mut KindStack<A>,
+    takes: &[Kind],
+    gives: &[Kind],
+    line: u64,
+) -> Result<(), VerifyFault>
+    ensures { Goes result stack.new
+        (state_with stack.old.kept (stack_after_arrow takes.now gives.now line stack.old.kinds)) }
+{
+    let entries = stack.as_slice();
+    if entries.len() < takes.len() {
+        return Err(VerifyFault::At(KindFault::MissingOperand, line));
+    }
+    let below = entries.len() - takes.len();
+    if !are_same_kinds(&entries[below..], takes) {
+        return Err(VerifyFault::At(KindFault::WrongKind, line));
+    }
+    stack.truncate(below)?;
+    stack.extend(gives)?;
+    Ok(())
+}
+
+/// Moves the lower and the upper entries, which lie on the first `below`.
+fn place<A: Allocator + Clone>(
+    stack: &mut KindStack<A>,
+    motion: StackMove,
+    below: usize,
+    lower: &[Kind],
+    upper: &[Kind],
+) -> Result<(), AllocError>
+    ensures { OnOk result (stack.new
+        ≡ record stack.old { kinds = stack_after_place motion below lower.now upper.now stack.old.kinds }) }
+{
+    match motion {
+        StackMove::Copy => stack.extend(lower),
+        StackMove::Pop => {
+            stack.truncate(below)?;
+            stack.extend(upper)
+        }
+        StackMove::MoveToTop => {
+            stack.truncate(below)?;
+            stack.extend(upper)?;
+            stack.extend(lower)
+        }
+    }
+}
+
+/// A motion of the lower entries and of the upper ones that lie on them.
+#[tactic(auto, unfolding(crate::specs::First::stack_after_move))]
+fn shift<A: Allocator + Clone>(
+    stack: &mut KindStack<A>,
+    motion: StackMove,
+    lower: u16,
+    upper: u16,
+    line: u64,
+) -> Result<(), VerifyFault>
+    ensures { Goes result stack.new
+        (state_with stack.old.kept (stack_after_move motion lower upper line stack.old.kinds)) }
+{
+    let entries = stack.as_slice();
+    let count = lower as usize + upper as usize;
+    if entries.len() < count {
+        return Err(VerifyFault::At(KindFault::MissingOperand, line));
+    }
+    let below = entries.len() - count;
+    let (low, up) = entries[below..].split_at(lower as usize);
+    let low = stack.copy(low)?;
+    let up = stack.copy(up)?;
+    place(stack, motion, below, low.as_slice(), up.as_slice())?;
+    Ok(())
+}
+
+/// What a `CALL` of this name takes and gives. Its callee is the place of the function that has the
+/// name, where there is one.
+#[tactic(auto, unfolding(crate::specs::First::arrow_of))]
+fn arrow_of<'a, A: Allocator>(
+    scope: &Scope<'a, A>,
+    callee: Option<usize>,
+    name: &[u8],
+) -> Result<(&'a [Kind], &'a [Kind]), KindFault>
+    requires { callee ≡ callee_of scope.now.functions (Do (Call name.now)) }
+    ensures { MatchResult result
+        (λ kinds. arrow_of scope.now name.now ≡ Ok (kinds.0.now, kinds.1.now))
+        (λ fault. arrow_of scope.now name.now ≡ Err fault) }
+{
+    if callee.is_none() {
+        return Err(KindFault::UnknownFunction);
+    }
+    match scope.signature(name) {
+        None => Err(KindFault::NoSignature),
+        Some(arrow) => Ok(arrow),
+    }
+}
+
+fn call<A: Allocator + Clone>(
+    stack: &mut KindStack<A>,
+    scope: &Scope<A>,
+    callee: Option<usize>,
+    name: &[u8],
+    line: u64,
+) -> Result<(), VerifyFault>
+    requires { callee ≡ callee_of scope.now.functions (Do (Call name.now)) }
+    ensures { Goes result stack.new
+        (state_with stack.old.kept (stack_after_call (arrow_of scope.now name.now) line stack.old.kinds)) }
+{
+    match arrow_of(scope, callee, name) {
+        Ok((takes, gives)) => replace(stack, takes, gives, line),
+        Err(fault) => Err(VerifyFault::At(fault, line)),
+    }
+}
+
+fn apply<A: Allocator + Clone>(
+    stack: &mut KindStack<A>,
+    scope: &Scope<A>,
+    callee: Option<usize>,
+    instruction: &Instruction<A>,
+    line: u64,
+) -> Result<(), VerifyFault>
+    requires { callee ≡ callee_of scope.now.functions (Do instruction.now) }
+    ensures { Goes result stack.new
+        (state_with stack.old.kept (stack_after_instruction scope.now instruction.now line stack.old.kinds)) }
+{
+    match instruction {
+        Instr::Move(motion, lower, upper) => shift(stack, *motion, *lower, *upper, line),
+        Instr::Call(name) => call(stack, scope, callee, name.as_slice(), line),
+        _ => {
+            let op = instruction.op();
+            replace(stack, op.operand_kinds(), op.result_kinds(), line)
+        }
+    }
+}
+
+fn begin_if<A: Allocator + Clone>(stack: &mut KindStack<A>, line: u64) -> Result<(), VerifyFault>
+    ensures { Goes result stack.new
+        (state_after_if stack.old.kept (stack_after_arrow (kind.Bool ∷ []) [] line stack.old.kinds)) }
+{
+    replace(stack, &[Kind::Bool], &[], line)?;
+    stack.keep()?;
+    Ok(())
+}
+
+#[tactic(auto, unfolding(crate::specs::First::stack_after_endif))]
+fn end_if<A: Allocator + Clone>(stack: &mut KindStack<A>, line: u64) -> Result<(), VerifyFault>
+    ensures { Goes result stack.new (state_after_endif stack.old.kept line stack.old.kinds) }
+{
+    if stack.forget() {
+        Ok(())
+    } else {
+        Err(VerifyFault::At(KindFault::ArmsDiffer, line))
+    }
+}
+
+/// A line, with the place of the function that it calls, where it calls one.
+fn check_line<A: Allocator + Clone>(
+    stack: &mut KindStack<A>,
+    scope: &Scope<A>,
+    callee: Option<usize>,
+    line: &CodeLine<A>,
+) -> Result<(), VerifyFault>
+    requires { callee ≡ callee_of scope.now.functions line.now.item }
+    ensures { Goes result stack.new (state_after_line scope.now line.now.item line.now.number stack.old) }
+{
+    match &line.item {
+        CodeItem::Do(instruction) => apply(stack, scope, callee, instruction, line.number),
+        CodeItem::If => begin_if(stack, line.number),
+        CodeItem::Else => {
+            stack.swap()?;
+            Ok(())
+        }
+        CodeItem::Endif => end_if(stack, line.number),
+    }
+}
+
+/// The entries after these lines, with which the function at this place of the program begins.
+pub fn check_lines<A: Allocator + Clone>(
+    stack: &mut KindStack<A>,
+    scope: &Scope<A>,
+    function: usize,
+    lines: &[CodeLine<A>],
+) -> Result<(), VerifyFault>
+    requires { BeginsWith scope.now.functions function lines.now }
+    ensures { Goes result stack.new (state_after_lines scope.now (Ok stack.old) lines.now) }
+{
+    for (place, line) in lines.iter().enumerate() {
+        match check_line(stack, scope, scope.callee(function, place), line) {
+            Ok(()) => {}
+            Err(fault) => return Err(fault),
+        }
+    }
+    Ok(())
+}
