@@ -1,0 +1,284 @@
+-- What holds of each state that a job reaches, whatever its program: counts and words within the limits, and tags.
+use Rattle.std.proofs.Common.{◌≡◌, ℕ, ◌+◌, ◌<◌, ◌≤◌, max, Bool, true, false, cond, eqb, ltb, List, [], ◌∷◌, length}
+use Rattle.std.proofs.Common.{get_or, Option, Some, None, refl, sym, ◌∙◌, ap, subst, arith, zero, suc}
+use Rattle.std.specs.Prelude.{All, ◌&&◌}
+use Rattle.std.proofs.Math.Nat.{max-le}
+use Rattle.std.proofs.lemmas.Bool.Decides.{nat_tests}
+use Rattle.std.proofs.lemmas.List.Elements.{All-nil, All-cons, All-weaker}
+use Rattle.vcode_base.specs.declared.fault.DataFault.{DataFault}
+use Rattle.vcode_base.specs.declared.fault.MemoryFault.{MemoryFault}
+use Rattle.vcode_base.specs.declared.instr.Instr.TheVariants.{Const, Elementwise, Segmented, If, Move, Call, Return}
+use Rattle.vcode_base.specs.declared.limits.Limits.{Limits}
+use Rattle.vcode_base.specs.declared.op.Op.{Op}
+use Rattle.vcode_base.specs.declared.outcome.Outcome.{Outcome}
+use Rattle.vcode_base.specs.Instructions.{op_of}
+use Rattle.vcode_base.specs.Laws.{ResultsHaveNeededLengths}
+use Rattle.vcode_base.specs.Meaning.{shape}
+use Rattle.vcode_base.specs.Names.{main_name}
+use Rattle.vcode_reader.specs.Trees.{Item, Body, End, Do, Choice}
+use Rattle.job_steps.specs.Motions.{stack_after, depth_after}
+use Rattle.job_steps.specs.Reached.{AreAlike}
+use Rattle.job_steps.specs.Runs.{progress_from, state_after}
+use Rattle.job_steps.specs.States.{Vector, Task, Entry, Active, State, Callee, callee_named, calls_with, first_state}
+use Rattle.job_steps.specs.States.{held_words, new_entries}
+use Rattle.job_steps.specs.Steps.{Progress, Running, Over, Stuck, next_item, sources_of, question_of, results_of}
+use Rattle.job_steps.specs.Steps.{words_at, is_call, memory_fault, ending_by, calls_past, calls_after}
+use Rattle.job_steps.specs.Steps.{progress_past, next_progress}
+use Rattle.job_steps.proofs.Held.{Agree}
+use Rattle.job_steps.proofs.Progresses.{item_of, calls_then, Passes, Goes, Ends, Idles, Blocks, Executes, goes}
+use Rattle.job_steps.proofs.StackLemmas.{deep_of, All-stack_after, length-stack_after, length-results}
+use Rattle.job_steps.proofs.StackLemmas.{held_after, total_results}
+
+-- ---- the checks before an instruction
+
+pub record Fits (limits : Limits) (op : Op) (words depth calls : ℕ) : Type 0 where
+  pub words_fit : words ≤ limits.words
+  pub cells_fit : depth ≤ limits.cells
+  pub calls_fit : is_call op ≡ true → calls + 1 ≤ limits.calls
+
+none_refused : (w c k : Bool) (x y z : MemoryFault) →
+    cond w (Some x) (cond c (Some y) (cond k (Some z) None)) ≡ None → (w ≡ false) × (c ≡ false) × (k ≡ false)
+none_refused true c k x y z e = absurd (let h : Some x ≡ None = e in cc)
+none_refused false true k x y z e = absurd (let h : Some y ≡ None = e in cc)
+none_refused false false true x y z e = absurd (let h : Some z ≡ None = e in cc)
+none_refused false false false x y z e = (refl, refl, refl)
+
+left_false : (a b : Bool) → (a && b) ≡ false → a ≡ true → b ≡ false
+left_false true b e h = e
+left_false false b e h = absurd (let g : false ≡ true = h in cc)
+
+fits : (limits : Limits) (op : Op) (words depth calls : ℕ) → memory_fault limits op words depth calls ≡ None →
+    Fits limits op words depth calls
+unfolding memory_fault
+fits limits op words depth calls e =
+    let p = none_refused (ltb limits.words words) (ltb limits.cells depth)
+    (is_call op && ltb limits.calls (calls + 1)) _ _ _ e in
+    let w : ltb limits.words words ≡ false = p.0 in
+    let c : ltb limits.cells depth ≡ false = p.1 in
+    record {
+      words_fit = grind (arith, nat_tests, w);
+      cells_fit = grind (arith, nat_tests, c);
+      calls_fit = λ h. (let k : ltb limits.calls (calls + 1) ≡ false =
+          left_false (is_call op) (ltb limits.calls (calls + 1)) p.2 h in grind (arith, nat_tests, k));
+    }
+
+neither : (line : ℕ) (a : Option DataFault) (b : Option MemoryFault) → ending_by line a b ≡ None →
+    (a ≡ None) × (b ≡ None)
+neither line (Some fault) b e = absurd (let h : ending_by line (Some fault) b ≡ None = e in cc)
+neither line None (Some fault) e = absurd (let h : ending_by line None (Some fault) ≡ None = e in cc)
+neither line None None e = (refl, refl)
+
+pub shaped : (task : Task) (s : State) (call : Active) (outer : List Active) → Passes task s call outer →
+    shape (op_of (item_of call)) (sources_of (item_of call) s.stack) ≡ None
+shaped task s call outer p = (neither (next_item call).number _ _ p.early).0
+
+pub fits_at : (task : Task) (s : State) (call : Active) (outer : List Active) → Passes task s call outer →
+    Fits task.limits (op_of (item_of call)) (words_at (item_of call) s)
+    (depth_after (op_of (item_of call)) (length s.stack)) (length s.calls)
+fits_at task s call outer p = fits task.limits _ _ _ _ (neither (next_item call).number _ _ p.early).1
+
+-- ---- the calls afterwards
+
+calls_called : (o : Option Callee) (calls : List Active) → length (calls_with o calls) ≤ length calls + 1
+calls_called None calls = omega arith
+calls_called (Some callee) calls = omega arith
+
+length-calls_past : (task : Task) (item : Item) (call : Active) (outer : List Active) (most : ℕ) →
+    suc (length outer) ≤ most →
+    (is_call (op_of item) ≡ true → suc (length outer) + 1 ≤ most) → length (calls_past task item call outer) ≤ most
+length-calls_past task (Const k list) call outer most now more = now
+length-calls_past task (Elementwise e) call outer most now more = now
+length-calls_past task (Segmented e) call outer most now more = now
+length-calls_past task If call outer most now more = now
+length-calls_past task (Move motion lower upper) call outer most now more = now
+length-calls_past task (Call name) call outer most now more =
+    omega (arith, calls_called (callee_named task.verified name) (call ∷ outer), more refl)
+length-calls_past task Return call outer most now more = omega arith
+
+length-calls_after : (task : Task) (flag : Bool) (body : Body) (ret : ℕ) (outer : List Active) (most : ℕ) →
+    suc (length outer) ≤ most →
+    (is_call (op_of (item_of (record { rest = body; ret = ret }))) ≡ true → suc (length outer) + 1 ≤ most) →
+    length (calls_after task flag body ret outer) ≤ most
+length-calls_after task flag End ret outer most now more = omega arith
+length-calls_after task flag (Do item line rest) ret outer most now more =
+    length-calls_past task item (record { rest = rest; ret = ret }) outer most now more
+length-calls_after task flag (Choice line first second end rest) ret outer most now more = now
+
+-- ---- new entries
+
+tags_below : (next : ℕ) (vs : List Vector) → All (λ e. e.tag < next + length vs) (new_entries next vs)
+tags_below next [] = All-nil (λ e. e.tag < next + 0)
+tags_below next (v ∷ vs) =
+    All-cons (λ e. e.tag < next + suc (length vs)) (record { tag = next; value = v }) (new_entries (next + 1) vs)
+    (omega arith)
+    (All-weaker (λ e. e.tag < (next + 1) + length vs) (λ e. e.tag < next + suc (length vs)) (λ e h. omega arith)
+    (new_entries (next + 1) vs) (tags_below (next + 1) vs))
+
+tags_from : (next : ℕ) (vs : List Vector) → All (λ e. next ≤ e.tag) (new_entries next vs)
+tags_from next [] = All-nil (λ e. next ≤ e.tag)
+tags_from next (v ∷ vs) =
+    All-cons (λ e. next ≤ e.tag) (record { tag = next; value = v }) (new_entries (next + 1) vs) (omega arith)
+    (All-weaker (λ e. next + 1 ≤ e.tag) (λ e. next ≤ e.tag) (λ e h. omega arith) (new_entries (next + 1) vs)
+    (tags_from (next + 1) vs))
+
+new_agree : (next : ℕ) (vs : List Vector) → Agree (new_entries next vs)
+new_agree next [] = All-nil (λ e. All (AreAlike e) [])
+new_agree next (v ∷ vs) =
+    let new : Entry = record { tag = next; value = v } in
+    let later = new_entries (next + 1) vs in
+    let above : All (λ e. next + 1 ≤ e.tag) later = tags_from (next + 1) vs in
+    All-cons (λ x. All (AreAlike x) (new ∷ later)) new later
+    (All-cons (AreAlike new) new later (λ e. refl)
+    (All-weaker (λ x. next + 1 ≤ x.tag) (AreAlike new) (λ x h. λ e. absurd (omega arith)) later above))
+    (λ k d h. All-cons (AreAlike (get_or later k d)) new later (λ e. absurd (omega (arith, above k d h)))
+    (new_agree (next + 1) vs k d h))
+
+agree_after : (op : Op) (rs xs : List Entry) → Agree rs →
+    ((k : ℕ) (d : Entry) → k < length rs → All (AreAlike (get_or rs k d)) xs) →
+    ((k : ℕ) (d : Entry) → k < length xs → All (AreAlike (get_or xs k d)) rs) → Agree xs →
+    Agree (stack_after op rs xs)
+agree_after op rs xs rr rx xr xx =
+    All-stack_after (λ x. All (AreAlike x) (stack_after op rs xs)) op rs xs
+    (λ k d h. All-stack_after (AreAlike (get_or rs k d)) op rs xs (rr k d h) (rx k d h))
+    (λ k d h. All-stack_after (AreAlike (get_or xs k d)) op rs xs (xr k d h) (xx k d h))
+
+-- ---- states
+
+pub record IsBounded (task : Task) (n : ℕ) (s : State) : Type 0 where
+  pub count : s.executed ≡ n
+  pub budget : n ≤ task.limits.budget
+  pub tags : All (λ e. e.tag < s.next) s.stack
+  pub alike : Agree s.stack
+  pub words : held_words s.stack ≤ task.limits.words
+  pub highest : s.peak ≤ task.limits.words
+  pub cells : length s.stack ≤ task.limits.cells
+  pub calls : length s.calls ≤ task.limits.calls
+
+-- the state behind an instruction
+abbrev pub state_past : Item → State → List Active → State
+state_past item s calls = record {
+  stack = stack_after (op_of item) (new_entries s.next (results_of (question_of item s.stack))) s.stack;
+  calls = calls;
+  executed = s.executed + 1;
+  next = s.next + length (results_of (question_of item s.stack));
+  peak = max s.peak (words_at item s);
+}
+
+unspent_within : (n budget : ℕ) → eqb n budget ≡ false → n ≤ budget → n + 1 ≤ budget
+unspent_within n budget e h = grind (arith, nat_tests, e, h)
+
+bounded_past : ResultsHaveNeededLengths → (task : Task) (n : ℕ) (s : State) (call : Active) (outer : List Active) →
+    IsBounded task n s → Passes task s call outer →
+    IsBounded task (n + 1) (state_past (item_of call) s (calls_then task s call outer))
+bounded_past law task n s call outer b p =
+    let op = op_of (item_of call) in
+    let results = results_of (question_of (item_of call) s.stack) in
+    let new = new_entries s.next results in
+    let fit = fits_at task s call outer p in
+    let deep = deep_of task (item_of call) s.stack p.runs in
+    let old : (k : ℕ) (d : Entry) → k < length s.stack → (get_or s.stack k d).tag < s.next = b.tags in
+    let young : (k : ℕ) (d : Entry) → k < length new → s.next ≤ (get_or new k d).tag = tags_from s.next results in
+    let total = total_results law s.next (item_of call) s.stack deep (shaped task s call outer p) p.late in
+    let now : suc (length outer) ≤ task.limits.calls =
+    subst (λ (cs : List Active). length cs ≤ task.limits.calls) p.calls b.calls in
+    let more : is_call op ≡ true → suc (length outer) + 1 ≤ task.limits.calls =
+    (λ h. subst (λ (cs : List Active). length cs + 1 ≤ task.limits.calls) p.calls (fit.calls_fit h)) in
+    record {
+      count = ap (λ k. k + 1) b.count;
+      budget = unspent_within n task.limits.budget (ap (λ k. eqb k task.limits.budget) (sym b.count)
+          ∙ p.unspent) b.budget;
+      tags = All-stack_after (λ e. e.tag < s.next + length results) op new s.stack (tags_below s.next results)
+          (All-weaker (λ e. e.tag < s.next) (λ e. e.tag < s.next + length results) (λ e h. omega arith) s.stack
+          b.tags);
+      alike = agree_after op new s.stack (new_agree s.next results)
+          (λ k d h j f g. λ e. absurd (omega (arith, young k d h, old j f g)))
+          (λ k d h j f g. λ e. absurd (omega (arith, young j f g, old k d h)))
+          b.alike;
+      words = omega (arith, held_after op new s.stack b.alike, total, fit.words_fit);
+      highest = max-le b.highest fit.words_fit;
+      cells = subst (λ m. m ≤ task.limits.cells)
+          (sym (length-stack_after op new s.stack (length-results s.next (question_of (item_of call) s.stack))
+          deep)) fit.cells_fit;
+      calls = length-calls_after task _ call.rest call.ret outer task.limits.calls now more;
+    }
+
+-- ---- runs
+
+pub over_running : (ending : Outcome (List Vector)) (x p : ℕ) (s : State) → Over ending x p ≡ Running s → ⊥
+over_running ending x p s e = cc
+
+pub stuck_running : (s : State) → Stuck ≡ Running s → ⊥
+stuck_running s e = cc
+
+pub running_from : (task : Task) (p : Progress) (s : State) → progress_from task p ≡ Running s →
+    (t : State) × (p ≡ Running t) × (next_progress task t ≡ Running s)
+running_from task (Running t) s e = (t, refl, e)
+running_from task (Over ending x p) s e = absurd (over_running ending x p s e)
+running_from task Stuck s e = absurd (stuck_running s e)
+
+-- a step that goes on
+pub record Went (task : Task) (s next : State) : Type 0 where
+  pub call : Active
+  pub outer : List Active
+  pub passes : Passes task s call outer
+  pub last : Active
+  pub others : List Active
+  pub calls : calls_then task s call outer ≡ last ∷ others
+  pub new : state_past (item_of call) s (last ∷ others) ≡ next
+
+went_past : (task : Task) (s next : State) (call : Active) (outer : List Active) → Passes task s call outer →
+    (calls : List Active) → calls_then task s call outer ≡ calls →
+    progress_past (item_of call) s calls ≡ Running next → Went task s next
+went_past task s next call outer p [] is e = absurd (over_running _ _ _ next e)
+went_past task s next call outer p (last ∷ others) is e =
+    record {
+      call = call;
+      outer = outer;
+      passes = p;
+      last = last;
+      others = others;
+      calls = is;
+      new =
+          (let h : Running (state_past (item_of call) s (last ∷ others)) ≡ Running next = e in cc);
+    }
+
+went_by : (task : Task) (s next : State) (p : Progress) → Goes task s p → p ≡ Running next → Went task s next
+went_by task s next p (Ends ending early is) e = absurd (over_running _ _ _ next (sym is ∙ e))
+went_by task s next p (Idles none is) e = absurd (stuck_running next (sym is ∙ e))
+went_by task s next p (Blocks call outer calls runs is) e = absurd (stuck_running next (sym is ∙ e))
+went_by task s next p (Executes call outer passes is) e = went_past task s next call outer passes _ refl (sym is ∙ e)
+
+pub went : (task : Task) (s next : State) → next_progress task s ≡ Running next → Went task s next
+went task s next e = went_by task s next (next_progress task s) (goes task s) e
+
+pub bounded_next : ResultsHaveNeededLengths → (task : Task) (n : ℕ) (s next : State) → IsBounded task n s →
+    Went task s next → IsBounded task (n + 1) next
+bounded_next law task n s next b w =
+    subst (IsBounded task (n + 1)) (ap (state_past (item_of w.call) s) w.calls
+    ∙ w.new) (bounded_past law task n s w.call w.outer b w.passes)
+
+first_calls : (o : Option Callee) (most : ℕ) → 1 ≤ most → length (calls_with o []) ≤ most
+first_calls None most h = omega arith
+first_calls (Some callee) most h = h
+
+bounded_first : (task : Task) → IsBounded task 0 (first_state task)
+bounded_first task = record {
+  count = refl;
+  budget = omega arith;
+  tags = All-nil (λ e. e.tag < 0);
+  alike = All-nil (λ e. All (AreAlike e) []);
+  words = omega arith;
+  highest = omega arith;
+  cells = omega arith;
+  calls = first_calls (callee_named task.verified main_name) task.limits.calls (task.limits.calls_in_range.0);
+}
+
+-- each state that any job reaches is so
+pub bounded : ResultsHaveNeededLengths → (task : Task) (n : ℕ) (s : State) → state_after task n ≡ Running s →
+    IsBounded task n s
+bounded law task zero s e = let h : first_state task ≡ s =
+    (let g : Running (first_state task) ≡ Running s = e in cc) in subst (IsBounded task 0) h (bounded_first task)
+bounded law task (suc n) s e =
+    let from = running_from task (state_after task n) s e in
+    subst (λ k. IsBounded task k s) (omega arith)
+    (bounded_next law task n from.0 s (bounded law task n from.0 from.1) (went task from.0 s from.2))

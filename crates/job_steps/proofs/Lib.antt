@@ -1,0 +1,11 @@
+mod Bounds
+mod Flags
+mod Held
+mod KindLemmas
+mod Progresses
+mod RunLaws
+mod StackLemmas
+mod Typed
+mod ValueKinds
+mod Values
+mod VerifiedRuns

@@ -1,0 +1,101 @@
+-- What one instruction makes of a state: the ways in which it may go on.
+use Rattle.std.proofs.Common.{◌≡◌, ℕ, Bool, true, false, cond, eqb, List, [], ◌∷◌, Option, Some, None, refl}
+use Rattle.vcode_base.specs.declared.fault.DataFault.{DataFault}
+use Rattle.vcode_base.specs.declared.fault.MemoryFault.{MemoryFault}
+use Rattle.vcode_base.specs.declared.outcome.Outcome.{Outcome}
+use Rattle.vcode_base.specs.declared.outcome.Outcome.TheVariants.{Returned, Fault, Memory, Budget}
+use Rattle.vcode_base.specs.Instructions.{op_of}
+use Rattle.vcode_base.specs.Meaning.{value_fault}
+use Rattle.vcode_reader.specs.Trees.{Item}
+use Rattle.job_steps.specs.States.{Vector, Task, Active, State}
+use Rattle.job_steps.specs.Steps.{Progress, Over, Stuck, next_item, sources_of, question_of, flag_of, can_run}
+use Rattle.job_steps.specs.Steps.{early_ending, ending_by, calls_after, progress_past, progress_by, progress_unless}
+use Rattle.job_steps.specs.Steps.{progress_in, next_progress}
+
+abbrev pub item_of : Active → Item
+item_of call = (next_item call).item
+
+-- the calls after the next item of a call
+abbrev pub calls_then : Task → State → Active → List Active → List Active
+calls_then task s call outer =
+    calls_after task (flag_of (question_of (item_of call) s.stack)) call.rest call.ret outer
+
+-- the next instruction passes all that is checked
+pub record Passes (task : Task) (s : State) (call : Active) (outer : List Active) : Type 0 where
+  pub calls : s.calls ≡ call ∷ outer
+  pub unspent : eqb s.executed task.limits.budget ≡ false
+  pub runs : can_run task (item_of call) s.stack ≡ true
+  pub early : early_ending task.limits (next_item call) s ≡ None
+  pub late : value_fault (op_of (item_of call)) (sources_of (item_of call) s.stack) ≡ None
+
+-- no end by return
+abbrev pub IsNoReturn : Outcome (List Vector) → Type 0
+IsNoReturn (Returned values) = ⊥
+IsNoReturn (Fault fault line) = Unit {0}
+IsNoReturn (Memory fault line) = Unit {0}
+IsNoReturn Budget = Unit {0}
+
+-- a progress is one of these
+pub data Goes (task : Task) (s : State) (p : Progress) : Type 0 where
+  Ends : (ending : Outcome (List Vector)) → IsNoReturn ending → p ≡ Over ending s.executed s.peak → Goes task s p
+  Idles : s.calls ≡ [] → p ≡ Stuck → Goes task s p
+  Blocks : (call : Active) (outer : List Active) → s.calls ≡ call ∷ outer →
+      can_run task (item_of call) s.stack ≡ false → p ≡ Stuck → Goes task s p
+  Executes : (call : Active) (outer : List Active) → Passes task s call outer →
+      p ≡ progress_past (item_of call) s (calls_then task s call outer) → Goes task s p
+
+no_return : (line : ℕ) (a : Option DataFault) (b : Option MemoryFault) (e : Outcome (List Vector)) →
+    ending_by line a b ≡ Some e → IsNoReturn e
+no_return line a b (Returned values) h = no_values line a b values h
+  where
+    no_values : (line : ℕ) (a : Option DataFault) (b : Option MemoryFault) (values : List Vector) →
+        ending_by line a b ≡ Some (Returned values) → ⊥
+    no_values line (Some fault) b values h = cc
+    no_values line None (Some fault) values h = cc
+    no_values line None None values h = cc
+no_return line a b (Fault fault at) h = tt
+no_return line a b (Memory fault at) h = tt
+no_return line a b Budget h = tt
+
+by_values : (task : Task) (s : State) (call : Active) (outer : List Active) → s.calls ≡ call ∷ outer →
+    eqb s.executed task.limits.budget ≡ false →
+    can_run task (item_of call) s.stack ≡ true → early_ending task.limits (next_item call) s ≡ None →
+    (o : Option DataFault) → value_fault (op_of (item_of call)) (sources_of (item_of call) s.stack) ≡ o →
+    Goes task s (progress_by o (next_item call) s (calls_then task s call outer))
+by_values task s call outer calls unspent runs early (Some fault) is =
+    Ends (Fault fault (next_item call).number) tt refl
+by_values task s call outer calls unspent runs early None is =
+    Executes call outer (record { calls = calls; unspent = unspent; runs = runs; early = early; late = is }) refl
+
+by_ending : (task : Task) (s : State) (call : Active) (outer : List Active) → s.calls ≡ call ∷ outer →
+    eqb s.executed task.limits.budget ≡ false →
+    can_run task (item_of call) s.stack ≡ true → (o : Option (Outcome (List Vector))) →
+    early_ending task.limits (next_item call) s ≡ o →
+    Goes task s (progress_unless o s
+    (progress_by (value_fault (op_of (item_of call)) (sources_of (item_of call) s.stack)) (next_item call) s
+    (calls_then task s call outer)))
+by_ending task s call outer calls unspent runs (Some ending) is = Ends ending (no_return _ _ _ ending is) refl
+by_ending task s call outer calls unspent runs None is = by_values task s call outer calls unspent runs is _ refl
+
+by_run : (task : Task) (s : State) (call : Active) (outer : List Active) → s.calls ≡ call ∷ outer →
+    eqb s.executed task.limits.budget ≡ false →
+    (b : Bool) → can_run task (item_of call) s.stack ≡ b →
+    Goes task s (cond b (progress_unless (early_ending task.limits (next_item call) s) s
+    (progress_by (value_fault (op_of (item_of call)) (sources_of (item_of call) s.stack)) (next_item call) s
+    (calls_then task s call outer))) Stuck)
+by_run task s call outer calls unspent true is = by_ending task s call outer calls unspent is _ refl
+by_run task s call outer calls unspent false is = Blocks call outer calls is refl
+
+by_calls : (task : Task) (s : State) → eqb s.executed task.limits.budget ≡ false → (calls : List Active) →
+    s.calls ≡ calls → Goes task s (progress_in task s calls)
+by_calls task s unspent [] is = Idles is refl
+by_calls task s unspent (call ∷ outer) is = by_run task s call outer is unspent _ refl
+
+by_budget : (task : Task) (s : State) (b : Bool) → eqb s.executed task.limits.budget ≡ b →
+    Goes task s (cond b (Over Budget s.executed s.peak) (progress_in task s s.calls))
+by_budget task s true is = Ends Budget tt refl
+by_budget task s false is = by_calls task s is s.calls refl
+
+pub goes : (task : Task) (s : State) → Goes task s (next_progress task s)
+unfolding next_progress
+goes task s = by_budget task s _ refl

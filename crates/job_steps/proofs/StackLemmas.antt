@@ -1,0 +1,275 @@
+-- The stack after an instruction: how many entries it has, where they come from, and their kinds.
+use Rattle.std.proofs.Common.{◌≡◌, ℕ, ℤ, ◌+◌, ◌-◌, ◌≤◌, true, List, [], ◌∷◌, ◌++◌, length, map, take, drop, None}
+use Rattle.std.proofs.Common.{refl, sym, ◌∙◌, ap, subst, arith, zero, suc}
+use Rattle.std.specs.Prelude.{All, reverse, nat_le}
+use Rattle.std.proofs.lemmas.Bool.Decides.{nat_tests}
+use Rattle.std.proofs.lemmas.List.{length-append, length-take, length-drop, length-reverse, length-map}
+use Rattle.std.proofs.lemmas.List.Elements.{All-append, All-take, All-drop, All-nil, All-cons, All-head, All-tail}
+use Rattle.vcode_base.specs.declared.instr.Instr.TheVariants as instr
+use Rattle.vcode_base.specs.declared.kind.Kind.{Kind}
+use Rattle.vcode_base.specs.declared.op.Op.{Op}
+use Rattle.vcode_base.specs.declared.op.Op.TheVariants.{Const, Elementwise, Segmented, If, Move, Call, Return}
+use Rattle.vcode_base.specs.declared.op.Elementwise.{Elementwise as ElementwiseOp}
+use Rattle.vcode_base.specs.declared.op.Elementwise.TheVariants.{Arith, Compare, Logic, Not, Select, IntToBool}
+use Rattle.vcode_base.specs.declared.op.Elementwise.TheVariants.{BoolToInt}
+use Rattle.vcode_base.specs.declared.op.Segmented.{Segmented as SegmentedOp}
+use Rattle.vcode_base.specs.declared.op.Segmented.TheVariants.{Scan, Reduce, Distribute, Index, Permute, BackPermute}
+use Rattle.vcode_base.specs.declared.op.Segmented.TheVariants.{DefaultPermute, Extract, Replace, Pack, MakeSegdes}
+use Rattle.vcode_base.specs.declared.op.Segmented.TheVariants.{Lengths}
+use Rattle.vcode_base.specs.declared.op.StackMove.{StackMove}
+use Rattle.vcode_base.specs.declared.op.StackMove.TheVariants.{Copy, Pop, MoveToTop}
+use Rattle.vcode_base.specs.Instructions.{op_of}
+use Rattle.vcode_base.specs.Kinds.{operand_kinds, result_kinds, source_kinds, elementwise_results, segmented_results}
+use Rattle.vcode_base.specs.Laws.{ResultsHaveNeededLengths}
+use Rattle.vcode_base.specs.Meaning.{shape, need, value_fault, result_of, second_result_of}
+use Rattle.vcode_base.specs.Motions.{entries_after_move}
+use Rattle.vcode_reader.specs.Trees.{Item}
+use Rattle.job_steps.specs.Motions.{top_entries, operand_count, stack_after, stack_after_move, depth_after}
+use Rattle.job_steps.specs.Motions.{depth_after_move}
+use Rattle.job_steps.specs.States.{Task, Entry, words_of, held_words, new_entries}
+use Rattle.job_steps.specs.Steps.{Question, sources_of, question_of, need_words, vectors_of, results_of, can_run}
+use Rattle.job_steps.proofs.Held.{Has, has_itself, Agree, held_among, held_append, total_words}
+use Rattle.job_steps.proofs.KindLemmas.{kind_of, reverse-cons, there, kinds-new_entries, kinds-vectors_of}
+
+-- ---- what holds of each entry
+
+pub All-reverse : {E : Type 0} (P : E → Type 0) (xs : List E) → All P xs → All P (reverse xs)
+All-reverse P [] all = All-nil P
+All-reverse P (x ∷ xs) all =
+    subst (All P) (sym (reverse-cons x xs))
+    (All-append P (reverse xs) (x ∷ []) (All-reverse P xs (All-tail P x xs all))
+    (All-cons P x [] (All-head P x xs all) (All-nil P)))
+
+All-move : {E : Type 0} (P : E → Type 0) (motion : StackMove) (lower upper : List E) → All P lower → All P upper →
+    All P (entries_after_move motion lower upper)
+All-move P Copy lower upper l u = All-append P lower (upper ++ lower) l (All-append P upper lower u l)
+All-move P Pop lower upper l u = u
+All-move P MoveToTop lower upper l u = All-append P upper lower u l
+
+All-stack_after_move : {E : Type 0} (P : E → Type 0) (motion : StackMove) (lower upper : ℕ) (stack : List E) →
+    All P stack → All P (stack_after_move motion lower upper stack)
+All-stack_after_move P motion lower upper stack all =
+    let under : All P (drop upper stack) = All-drop P upper stack all in
+    All-append P (reverse
+    (entries_after_move motion (top_entries lower (drop upper stack)) (top_entries upper stack)))
+    (drop lower (drop upper stack))
+    (All-reverse P (entries_after_move motion (top_entries lower (drop upper stack)) (top_entries upper stack))
+    (All-move P motion (top_entries lower (drop upper stack)) (top_entries upper stack)
+    (All-reverse P (take lower (drop upper stack)) (All-take P lower (drop upper stack) under))
+    (All-reverse P (take upper stack) (All-take P upper stack all))))
+    (All-drop P lower (drop upper stack) under)
+
+All-pushed : {E : Type 0} (P : E → Type 0) (count : ℕ) (results stack : List E) → All P results → All P stack →
+    All P (reverse results ++ drop count stack)
+All-pushed P count results stack new old =
+    All-append P (reverse results) (drop count stack) (All-reverse P results new) (All-drop P count stack old)
+
+-- Each entry is a result or an entry of the stack before.
+pub All-stack_after : {E : Type 0} (P : E → Type 0) (op : Op) (results stack : List E) → All P results →
+    All P stack → All P (stack_after op results stack)
+All-stack_after P (Move motion lower upper) results stack new old =
+    All-stack_after_move P motion lower upper stack old
+All-stack_after P (Const k) results stack new old = All-pushed P 0 results stack new old
+All-stack_after P (Elementwise e) results stack new old =
+    All-pushed P (operand_count (Elementwise e)) results stack new old
+All-stack_after P (Segmented e) results stack new old =
+    All-pushed P (operand_count (Segmented e)) results stack new old
+All-stack_after P If results stack new old = All-pushed P 1 results stack new old
+All-stack_after P Call results stack new old = All-pushed P 0 results stack new old
+All-stack_after P Return results stack new old = All-pushed P 0 results stack new old
+
+-- ---- how many entries there are
+
+length-top_entries : {E : Type 0} (count : ℕ) (stack : List E) → count ≤ length stack →
+    length (top_entries count stack) ≡ count
+length-top_entries count stack h = omega (arith, length-reverse (take count stack), length-take count stack)
+
+length-move : {E : Type 0} (motion : StackMove) (lower upper : List E) →
+    length (entries_after_move motion lower upper)
+    ≡ depth_after_move motion (length lower) (length upper + length lower)
+length-move Copy lower upper = omega (arith, length-append lower (upper ++ lower), length-append upper lower)
+length-move Pop lower upper = omega arith
+length-move MoveToTop lower upper = length-append upper lower
+
+depth_over : (motion : StackMove) (lower upper below : ℕ) →
+    depth_after_move motion lower (upper + lower) + below ≡ depth_after_move motion lower ((upper + lower) + below)
+depth_over Copy lower upper below = omega arith
+depth_over Pop lower upper below = omega arith
+depth_over MoveToTop lower upper below = omega arith
+
+length-stack_after_move : {E : Type 0} (motion : StackMove) (lower upper : ℕ) (stack : List E) →
+    lower + upper ≤ length stack →
+    length (stack_after_move motion lower upper stack) ≡ depth_after_move motion lower (length stack)
+length-stack_after_move motion lower upper stack there =
+    let low = top_entries lower (drop upper stack) in
+    let up = top_entries upper stack in
+    let below = drop lower (drop upper stack) in
+    let dropped : length (drop upper stack) ≡ length stack - upper = length-drop upper stack in
+    let lows : length low ≡ lower = length-top_entries lower (drop upper stack) (omega arith) in
+    let ups : length up ≡ upper = length-top_entries upper stack (omega arith) in
+    let belows : length below ≡ (length stack - upper) - lower = length-drop lower (drop upper stack)
+    ∙ ap (λ n. n - lower) dropped in
+    let whole : (upper + lower) + ((length stack - upper) - lower) ≡ length stack = omega arith in
+    length-append (reverse (entries_after_move motion low up)) below
+    ∙ (ap (λ n. n + length below) (length-reverse (entries_after_move motion low up)
+    ∙ (length-move motion low up ∙ both lows ups))
+    ∙ (ap (λ n. depth_after_move motion lower (upper + lower) + n) belows
+    ∙ (depth_over motion lower upper ((length stack - upper) - lower) ∙ ap (depth_after_move motion lower) whole)))
+  where
+    both : {l u : ℕ} → l ≡ lower → u ≡ upper →
+        depth_after_move motion l (u + l) ≡ depth_after_move motion lower (upper + lower)
+    both {l} {u} p q = cc
+
+length-pushed : {E : Type 0} (count : ℕ) (results stack : List E) →
+    length (reverse results ++ drop count stack) ≡ (length stack - count) + length results
+length-pushed count results stack =
+    omega (arith, length-append (reverse results) (drop count stack), length-reverse results, length-drop count stack)
+
+-- what an instruction needs of a stack is there
+abbrev pub IsDeep : Op → ℕ → Type 0
+IsDeep (Move motion lower upper) depth = lower + upper ≤ depth
+IsDeep op depth = operand_count op ≤ depth
+
+-- with as many results as there are kinds of them
+pub length-stack_after : {E : Type 0} (op : Op) (results stack : List E) →
+    length results ≡ length (result_kinds op) → IsDeep op (length stack) →
+    length (stack_after op results stack) ≡ depth_after op (length stack)
+length-stack_after (Move motion lower upper) results stack h deep =
+    length-stack_after_move motion lower upper stack deep
+length-stack_after (Const k) results stack h deep = length-pushed 0 results stack ∙ ap (λ n. (length stack - 0) + n) h
+length-stack_after (Elementwise e) results stack h deep =
+    length-pushed (operand_count (Elementwise e)) results stack
+    ∙ ap (λ n. (length stack - operand_count (Elementwise e)) + n) h
+length-stack_after (Segmented e) results stack h deep =
+    length-pushed (operand_count (Segmented e)) results stack
+    ∙ ap (λ n. (length stack - operand_count (Segmented e)) + n) h
+length-stack_after If results stack h deep = length-pushed 1 results stack ∙ ap (λ n. (length stack - 1) + n) h
+length-stack_after Call results stack h deep = length-pushed 0 results stack ∙ ap (λ n. (length stack - 0) + n) h
+length-stack_after Return results stack h deep = length-pushed 0 results stack ∙ ap (λ n. (length stack - 0) + n) h
+
+-- an instruction that can run finds its entries
+pub deep_of : (task : Task) (item : Item) (stack : List Entry) → can_run task item stack ≡ true →
+    IsDeep (op_of item) (length stack)
+deep_of task (instr.Const k list) stack runs = omega arith
+deep_of task (instr.Elementwise e) stack runs = there (operand_kinds (Elementwise e)) stack runs
+deep_of task (instr.Segmented e) stack runs = there (operand_kinds (Segmented e)) stack runs
+deep_of task instr.If stack runs = there (operand_kinds If) stack runs
+deep_of task (instr.Move motion lower upper) stack runs = let h : nat_le (lower + upper) (length stack) ≡ true =
+    runs in grind (arith, nat_tests, h)
+deep_of task (instr.Call name) stack runs = omega arith
+deep_of task instr.Return stack runs = omega arith
+
+few_elementwise : (e : ElementwiseOp) → length (elementwise_results e) ≤ 2
+few_elementwise (Arith op) = omega arith
+few_elementwise (Compare op) = omega arith
+few_elementwise (Logic op k) = omega arith
+few_elementwise (Not k) = omega arith
+few_elementwise (Select k) = omega arith
+few_elementwise IntToBool = omega arith
+few_elementwise BoolToInt = omega arith
+
+few_segmented : (e : SegmentedOp) → length (segmented_results e) ≤ 2
+few_segmented (Scan f) = omega arith
+few_segmented (Reduce f) = omega arith
+few_segmented (Distribute k) = omega arith
+few_segmented Index = omega arith
+few_segmented (Permute k) = omega arith
+few_segmented (BackPermute k) = omega arith
+few_segmented (DefaultPermute k) = omega arith
+few_segmented (Extract k) = omega arith
+few_segmented (Replace k) = omega arith
+few_segmented (Pack k) = omega arith
+few_segmented MakeSegdes = omega arith
+few_segmented Lengths = omega arith
+
+-- no instruction has more than two results
+pub few_results : (op : Op) → length (result_kinds op) ≤ 2
+few_results (Const k) = omega arith
+few_results (Elementwise e) = few_elementwise e
+few_results (Segmented e) = few_segmented e
+few_results If = omega arith
+few_results (Move motion lower upper) = omega arith
+few_results Call = omega arith
+few_results Return = omega arith
+
+-- the results are of the kinds of the instruction's
+pub kinds-results : (next : ℕ) (q : Question) → map kind_of (new_entries next (results_of q)) ≡ result_kinds q.op
+kinds-results next q =
+    kinds-new_entries next (results_of q)
+    ∙ kinds-vectors_of (result_kinds q.op) (result_of q.op q.sources ∷ second_result_of q.op q.sources ∷ [])
+    (few_results q.op)
+
+pub length-results : (next : ℕ) (q : Question) → length (new_entries next (results_of q)) ≡ length (result_kinds q.op)
+length-results next q = sym (length-map (new_entries next (results_of q)) kind_of) ∙ ap length (kinds-results next q)
+
+-- ---- how many words there are
+
+held_drop : (n : ℕ) (es : List Entry) → held_words (drop n es) ≤ held_words es
+held_drop zero es = omega arith
+held_drop (suc n) [] = omega arith
+held_drop (suc n) (e ∷ es) = omega (arith, held_drop n es)
+
+total_append : (xs ys : List Entry) → total_words (xs ++ ys) ≡ total_words xs + total_words ys
+total_append [] ys = omega arith
+total_append (x ∷ xs) ys = omega (arith, total_append xs ys)
+
+total_reverse : (xs : List Entry) → total_words (reverse xs) ≡ total_words xs
+total_reverse [] = refl
+total_reverse (x ∷ xs) =
+    omega (arith, ap total_words (reverse-cons x xs), total_append (reverse xs) (x ∷ []), total_reverse xs)
+
+held_pushed : (count : ℕ) (results stack : List Entry) →
+    held_words (reverse results ++ drop count stack) ≤ total_words results + held_words stack
+held_pushed count results stack =
+    omega (arith, held_append (reverse results) (drop count stack), total_reverse results, held_drop count stack)
+
+pub held_after : (op : Op) (results stack : List Entry) → Agree stack →
+    held_words (stack_after op results stack) ≤ total_words results + held_words stack
+held_after (Move motion lower upper) results stack agree =
+    omega (
+      arith,
+      held_among (stack_after_move motion lower upper stack) stack
+          (All-stack_after_move (Has stack) motion lower upper stack (has_itself stack)) agree,
+    )
+held_after (Const k) results stack agree = held_pushed 0 results stack
+held_after (Elementwise e) results stack agree = held_pushed (operand_count (Elementwise e)) results stack
+held_after (Segmented e) results stack agree = held_pushed (operand_count (Segmented e)) results stack
+held_after If results stack agree = held_pushed 1 results stack
+held_after Call results stack agree = held_pushed 0 results stack
+held_after Return results stack agree = held_pushed 0 results stack
+
+total_vectors : (next : ℕ) (ks : List Kind) (first second : List ℤ) →
+    total_words (new_entries next (vectors_of ks (first ∷ second ∷ []))) ≤ length first + length second
+total_vectors next [] first second = omega arith
+total_vectors next (k ∷ []) first second = omega arith
+total_vectors next (k ∷ l ∷ []) first second = omega arith
+total_vectors next (k ∷ l ∷ m ∷ ks) first second = omega arith
+
+counted : (count : ℕ) (stack : List Entry) → count ≤ length stack →
+    length (words_of (top_entries count stack)) ≡ count
+counted count stack h = length-map (top_entries count stack) (λ (e : Entry). e.value.words)
+    ∙ length-top_entries count stack h
+
+-- as many sources as there are kinds of them
+pub length-sources : (item : Item) (stack : List Entry) → IsDeep (op_of item) (length stack) →
+    length (sources_of item stack) ≡ length (source_kinds (op_of item))
+length-sources (instr.Const k list) stack deep = refl
+length-sources (instr.Elementwise e) stack deep = counted (operand_count (Elementwise e)) stack deep
+length-sources (instr.Segmented e) stack deep = counted (operand_count (Segmented e)) stack deep
+length-sources instr.If stack deep = counted 1 stack deep
+length-sources (instr.Move motion lower upper) stack deep = counted 0 stack (omega arith)
+length-sources (instr.Call name) stack deep = counted 0 stack (omega arith)
+length-sources instr.Return stack deep = counted 0 stack (omega arith)
+
+-- the results have no more words than are needed
+pub total_results : ResultsHaveNeededLengths → (next : ℕ) (item : Item) (stack : List Entry) →
+    IsDeep (op_of item) (length stack) →
+    shape (op_of item) (sources_of item stack) ≡ None → value_fault (op_of item) (sources_of item stack) ≡ None →
+    total_words (new_entries next (results_of (question_of item stack))) ≤ need_words (question_of item stack)
+total_results law next item stack deep shaped valued =
+    let op = op_of item in
+    let xs = sources_of item stack in
+    let needs = law op xs (length-sources item stack deep) shaped valued in
+    let first : (need op xs).0 ≡ length (result_of op xs) = ap (λ (p : ℕ × ℕ). p.0) needs in
+    let second : (need op xs).1 ≡ length (second_result_of op xs) = ap (λ (p : ℕ × ℕ). p.1) needs in
+    omega (arith, total_vectors next (result_kinds op) (result_of op xs) (second_result_of op xs))

@@ -1,0 +1,114 @@
+-- What holds of each state that a verified job reaches alone.
+use Rattle.std.specs.Prelude.{◌≡◌, ℕ, ◌+◌, ◌<◌, ◌≤◌, List, [], ◌∷◌, ◌++◌, length, map, All}
+use Rattle.vcode_base.specs.declared.kind.Kind.{Kind}
+use Rattle.vcode_base.specs.declared.instr.Instr.TheVariants.{Const}
+use Rattle.vcode_base.specs.Instructions.{op_of}
+use Rattle.vcode_base.specs.Kinds.{HasKind, HaveKinds, kind_of, source_kinds}
+use Rattle.vcode_base.specs.declared.outcome.Outcome.{Outcome}
+use Rattle.vcode_base.specs.declared.outcome.Outcome.TheVariants.{Returned}
+use Rattle.vcode_reader.specs.Trees.{Item, Body, End, Do, Choice, Function, IsProperBody, HaveProperBodies}
+use Rattle.signatures.specs.Signatures.{Signature}
+use Rattle.verifier.specs.Kinded.{Scope, HasKinds, scope_of}
+use Rattle.verifier.specs.Typed.{IsVerifiedBy}
+use Rattle.job_steps.specs.States.{Vector, Task, Entry, Active, State, stack_kinds, held_words}
+use Rattle.job_steps.specs.Steps.{Running, Over, Stuck, next_item, sources_of}
+use Rattle.job_steps.specs.Runs.{state_after, whole_run, outcome, executed_count, peak}
+
+-- the signatures verify the task's program, whose bodies hold neither RET nor an instruction IF
+pub record IsVerifiedTask (signatures : List Signature) (task : Task) : Type 0 where
+  pub by_signatures : IsVerifiedBy signatures task.verified
+  pub proper : HaveProperBodies task.verified.program.functions
+
+-- What remains of each call, the innermost first, goes from its own entries, which lie on those of the outer calls, to what
+-- its function gives; at the end these are the results.
+abbrev pub AreTyped : Scope → List Kind → List Active → List Kind → Type 0
+AreTyped scope results [] kinds = kinds ≡ results
+AreTyped scope results (call ∷ outer) kinds =
+    (below own gives : List Kind) × (kinds ≡ below ++ own) × HasKinds scope call.rest own gives
+    × IsProperBody call.rest
+    × AreTyped scope results outer (below ++ gives)
+
+-- the words of a vector are those of its kind
+abbrev pub HasItsKind : Vector → Type 0
+HasItsKind v = HasKind v.kind v.words
+
+-- the list of a CONST is of its kind
+abbrev pub HasListKind : Item → Type 0
+HasListKind (Const k list) = HasKind (kind_of k) list
+HasListKind item = Unit {0}
+
+abbrev pub HasListKinds : Body → Type 0
+HasListKinds End = Unit {0}
+HasListKinds (Do item line rest) = HasListKind item × HasListKinds rest
+HasListKinds (Choice line first second end rest) = HasListKinds first × HasListKinds second × HasListKinds rest
+
+abbrev pub HaveListKinds : List Function → Type 0
+HaveListKinds functions = All (λ f. HasListKinds f.body) functions
+
+-- entries with one tag have one value
+abbrev pub AreAlike : Entry → Entry → Type 0
+AreAlike x y = x.tag ≡ y.tag → x.value ≡ y.value
+
+-- the state after n instructions: within the limits, and with the entries that what remains takes
+pub record IsReached (signatures : List Signature) (task : Task) (n : ℕ) (s : State) : Type 0 where
+  pub typed : AreTyped (scope_of signatures task.verified.program) task.verified.results s.calls (stack_kinds s.stack)
+  pub active : 1 ≤ length s.calls
+  pub count : s.executed ≡ n
+  pub budget : n ≤ task.limits.budget
+  pub tags : All (λ e. e.tag < s.next) s.stack
+  pub alike : All (λ x. All (AreAlike x) s.stack) s.stack
+  pub words : held_words s.stack ≤ task.limits.words
+  pub highest : s.peak ≤ task.limits.words
+  pub cells : length s.stack ≤ task.limits.cells
+  pub calls : length s.calls ≤ task.limits.calls
+
+-- each state that a verified job reaches is such a state
+abbrev pub Reaches : Type 0
+Reaches =
+    (signatures : List Signature) (task : Task) → IsVerifiedTask signatures task →
+    (n : ℕ) (s : State) → state_after task n ≡ Running s → IsReached signatures task n s
+
+-- a verified job never meets a missing operand, a wrong kind or an unknown function
+abbrev pub NeverStuck : Type 0
+NeverStuck = (signatures : List Signature) (task : Task) → IsVerifiedTask signatures task → (n : ℕ) →
+    state_after task n ≡ Stuck → ⊥
+
+-- a run that is over stays so, with its counts
+abbrev pub EndsOnce : Type 0
+EndsOnce =
+    (task : Task) (n later : ℕ) (ending : Outcome (List Vector)) (count most : ℕ) →
+    state_after task n ≡ Over ending count most → state_after task (n + later) ≡ Over ending count most
+
+-- a verified job ends, within its budget and its words
+pub record IsWithin (task : Task) : Type 0 where
+  pub over : whole_run task ≡ Over (outcome task) (executed_count task) (peak task)
+  pub budget : executed_count task ≤ task.limits.budget
+  pub words : peak task ≤ task.limits.words
+
+abbrev pub EachEnds : Type 0
+EachEnds = (signatures : List Signature) (task : Task) → IsVerifiedTask signatures task → IsWithin task
+
+-- a job is over from any of its ends on, so that its outcome and its counts are its own
+abbrev pub EndIsOwn : Type 0
+EndIsOwn =
+    (task : Task) (n : ℕ) (ending : Outcome (List Vector)) (count most : ℕ) →
+    state_after task n ≡ Over ending count most →
+    (outcome task ≡ ending) × (executed_count task ≡ count) × (peak task ≡ most)
+
+-- the results of a verified job that returns are of the kinds that its MAIN gives
+abbrev pub ResultsHaveKinds : Type 0
+ResultsHaveKinds =
+    (signatures : List Signature) (task : Task) → IsVerifiedTask signatures task →
+    (n : ℕ) (values : List Vector) (count most : ℕ) → state_after task n ≡ Over (Returned values) count most →
+    map (λ v. v.kind) values ≡ task.verified.results
+
+-- Where the lists of its CONSTs are of their kinds, the words of each vector that a verified job reaches are those of its
+-- kind, and so are the operands of its next instruction.
+abbrev pub ValuesHaveKinds : Type 0
+ValuesHaveKinds =
+    (signatures : List Signature) (task : Task) → IsVerifiedTask signatures task →
+    HaveListKinds task.verified.program.functions →
+    (n : ℕ) (s : State) → state_after task n ≡ Running s →
+    All (λ e. HasItsKind e.value) s.stack
+    × ((call : Active) (outer : List Active) → s.calls ≡ call ∷ outer →
+    HaveKinds (source_kinds (op_of (next_item call).item)) (sources_of (next_item call).item s.stack))
