@@ -31,8 +31,8 @@ pub struct PackedRegion<P, A: Allocator> {
 /// A region in which `place` moves all blocks together at once where no hole is wide enough.
 pub type RegionMemory<A> = PackedRegion<WholePacking, A>;
 
-/// A region in which `place` slides blocks down where no hole is wide enough: in order of place, from the lowest hole on,
-/// and no more of them than until a hole is wide enough.
+/// A region in which `place` slides blocks down where no hole is wide enough: those behind the lowest hole, one after
+/// another, and only until the words that are asked for fit before the next.
 pub type SlidingMemory<A> = PackedRegion<SlidingPacking, A>;
 
 impl<P, A: Allocator> Model for PackedRegion<P, A> {

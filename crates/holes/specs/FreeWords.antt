@@ -41,7 +41,7 @@ pub record IsHole (free : List Bool) (place len : ℕ) : Type 0 where
   pub before : (word : ℕ) → word + 1 ≡ place → is_free free word ≡ false
   pub behind : is_free free (place + len) ≡ false
 
--- the place is the front of the lowest hole of at least len words
+-- the place is where the lowest hole begins that has len words or more
 pub record IsLowestFit (free : List Bool) (len place : ℕ) : Type 0 where
   pub hole_len : ℕ
   pub hole : IsHole free place hole_len

@@ -61,10 +61,10 @@ impl<A: Allocator> Holes<A> {
         Ok(holes)
     }
 
-    /// Takes the first `len` words of the lowest hole of at least `len` words, and answers the place
-    /// of the first of them. They are free no more, and no other word changes.
+    /// First fit: takes `len` words from the front of the lowest hole that has as many, and answers
+    /// where they begin. Exactly these words stop being free.
     ///
-    /// None, and nothing changes, exactly where no hole has `len` words.
+    /// None exactly where every hole is shorter; then nothing changes.
     pub fn take(&mut self, len: usize) -> Option<usize>
         requires { 1 ≤ len }
         ensures lowest { IfSome result (IsLowestFit self.old.free len) }
