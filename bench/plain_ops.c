@@ -79,17 +79,6 @@ static int marks_twice(void) {
     return twice;
 }
 
-/* whether no length is negative, and their total is at most that of a descriptor */
-static int is_descriptor(void) {
-    int negative = 0;
-    uint64_t total = 0;
-    for (int64_t s = 0; s < segments; s++) {
-        negative |= descriptor[s] < 0;
-        if (__builtin_add_overflow(total, (uint64_t)descriptor[s], &total)) total = UINT64_MAX;
-    }
-    return !negative && total <= 4294967295;
-}
-
 static void segment_rows(const char *shape) {
     char name[80];
 #define SEGMENT_ROW(word, ...)                                                    \
@@ -125,8 +114,6 @@ static void segment_rows(const char *shape) {
     SEGMENT_ROW("PACK INT", int64_t kept = 0; SEGMENTS(int64_t first = kept; for (int64_t i = begin; i < end; i++) {
         if (flags[i] != 0) out[kept++] = left[i];
     } counts[s] = kept - first;));
-    SEGMENT_ROW("MAKE_SEGDES", if (is_descriptor()) for (int64_t s = 0; s < segments; s++) out[s] = descriptor[s];);
-    SEGMENT_ROW("LENGTHS", for (int64_t s = 0; s < segments; s++) out[s] = descriptor[s];);
 }
 
 static int64_t *vector(int64_t n) {
