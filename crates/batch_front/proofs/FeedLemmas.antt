@@ -1,7 +1,7 @@
 -- How many lines a text can have.
 use Rattle.std.proofs.Common.{ℕ, ◌≤◌, Bool, true, false, List, [], ◌∷◌, length, arith}
 use Rattle.std.specs.Prelude.{◌==◌, if◌then◌else◌}
-use Rattle.vcode_reader.specs.Scan.{line_feeds}
+use Rattle.vcode_base.specs.Lines.{line_feeds}
 
 at_most_one : (b : Bool) → (if b then 1 else 0) ≤ 1
 at_most_one true = omega arith

@@ -7,8 +7,10 @@ use Rattle.std.specs.Prelude.{OnOk}
 use Rattle.vcode_base.specs.declared.fault.TextFault.{TextFault}
 use Rattle.vcode_base.specs.declared.fault.TextFault.TheVariants.{Memory, At}
 use Rattle.signatures.specs.declared.fault.SignatureFault.{SignatureFault}
-use Rattle.signatures.specs.Faults.{Fault, Answers}
-use Rattle.signatures.specs.Lines.{is_line_feed, line_feeds, lines}
+use Rattle.vcode_base.specs.Lines.{is_line_feed, line_feeds}
+use Rattle.vcode_base.specs.TextAnswers.{Answers}
+use Rattle.signatures.specs.Faults.{Fault}
+use Rattle.signatures.specs.Lines.{lines}
 use Rattle.signatures.specs.Reading.{after_line, from_line, lines_reading, reading}
 use Rattle.signatures.specs.Scan.{Scan, ReaderState, HasCome, beginning, scan_with, fault_or_known, outcome}
 use Rattle.signatures.specs.Scan.{scan_after_line, scan_at_next_line, scan_after_byte, scan_after_bytes}

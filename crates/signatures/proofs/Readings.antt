@@ -4,7 +4,8 @@ use Rattle.std.proofs.Common.{List, [], ◌∷◌, ◌++◌, length, Result, Ok,
 use Rattle.vcode_base.specs.declared.fault.TextFault.{TextFault}
 use Rattle.vcode_base.specs.declared.fault.TextFault.TheVariants.{Memory, At}
 use Rattle.signatures.specs.declared.fault.SignatureFault.{SignatureFault}
-use Rattle.signatures.specs.Faults.{Fault, Answers}
+use Rattle.vcode_base.specs.TextAnswers.{Answers}
+use Rattle.signatures.specs.Faults.{Fault}
 use Rattle.signatures.specs.First.{Adds, IsWrong, AddAll, IsReading, IsAnswer, EveryTextIsRead, OneReading}
 use Rattle.signatures.specs.Lines.{lines}
 use Rattle.signatures.specs.Reading.{after_line, from_line, lines_reading, reading}

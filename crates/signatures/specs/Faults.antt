@@ -1,7 +1,5 @@
--- What can be wrong with a line of signatures, its names as the report prints them, and answers that may be a fault.
-use Rattle.std.specs.Prelude.{◌≡◌, ℕ, List, codes, Result, Ok, Err}
-use Rattle.vcode_base.specs.declared.fault.TextFault.{TextFault}
-use Rattle.vcode_base.specs.declared.fault.TextFault.TheVariants as text
+-- What can be wrong with a line of signatures, its names as the report prints them, and what a line comes to.
+use Rattle.std.specs.Prelude.{◌≡◌, ℕ, List, codes, Result, Err}
 use Rattle.signatures.specs.declared.fault.SignatureFault.{SignatureFault}
 use Rattle.signatures.specs.declared.fault.SignatureFault.TheVariants.{BadLine, NameTwice, TooLarge}
 use Rattle.signatures.specs.declared.fault.EntryFault.{EntryFault}
@@ -16,16 +14,7 @@ signature_fault_text TooLarge = codes "G3 TOO_LARGE"
 abbrev pub Fault : Type 0
 Fault = SignatureFault × ℕ
 
--- what was answered is what is wanted, unless there was no memory
-abbrev pub Fails : {B : Type 0} → TextFault SignatureFault → Result B Fault → Type 0
-Fails text.Memory wanted = Unit {0}
-Fails (text.At fault number) wanted = wanted ≡ Err (fault, number)
-
-abbrev pub Answers : {B : Type 0} → Result B (TextFault SignatureFault) → Result B Fault → Type 0
-Answers (Ok found) wanted = wanted ≡ Ok found
-Answers (Err fault) wanted = Fails fault wanted
-
--- the same of a line
+-- what a line came to is what is wanted, unless there was no memory
 abbrev pub OnWrong : {B : Type 0} → EntryFault → Result B SignatureFault → Type 0
 OnWrong Memory wanted = Unit {0}
 OnWrong (Wrong fault) wanted = wanted ≡ Err fault

@@ -1,9 +1,9 @@
 -- A text that comes byte by byte: where it stands, and what each byte does.
 use Rattle.std.specs.Prelude.{◌≡◌, ℕ, ◌+◌, Bool, false, if◌then◌else◌, List, [], ◌∷◌, ◌++◌}
 use Rattle.std.specs.Prelude.{Option, Some, None, is_some, Result, Ok, Err}
+use Rattle.vcode_base.specs.Lines.{is_line_feed}
 use Rattle.signatures.specs.declared.fault.SignatureFault.{SignatureFault}
 use Rattle.signatures.specs.Faults.{Fault}
-use Rattle.signatures.specs.Lines.{is_line_feed}
 use Rattle.signatures.specs.Reading.{after_line}
 use Rattle.signatures.specs.Signatures.{Signature}
 

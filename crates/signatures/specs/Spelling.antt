@@ -1,11 +1,12 @@
 -- Which line says which signature.
-use Rattle.std.specs.Prelude.{◌≡◌, ◌≤◌, ◌<◌, ℕ, ◌==◌, nat_lt, ◌||◌, ◌&&◌, not, Bool, true}
+use Rattle.std.specs.Prelude.{◌≡◌, ◌≤◌, ◌<◌, ℕ, ◌==◌, nat_lt, ◌||◌, ◌&&◌, not, Bool, true, false}
 use Rattle.std.specs.Prelude.{List, [], ◌∷◌, ◌++◌, map, length, codes}
-use Rattle.std.specs.List.{list_all}
+use Rattle.std.specs.List.{list_all, list_any}
 use Rattle.vcode_base.specs.declared.kind.Kind.{Kind}
 use Rattle.vcode_base.specs.declared.kind.Kind.TheVariants.{Int, Bool as BoolKind, Segdes}
 use Rattle.vcode_base.specs.declared.limits.TheConstants.{LONGEST_NAME, MOST_FUNCTIONS, MOST_KINDS}
 use Rattle.vcode_base.specs.LineWords.{is_separator, is_parenthesis}
+use Rattle.vcode_base.specs.Lines.{is_line_feed}
 use Rattle.signatures.specs.Lines.{line_words}
 use Rattle.signatures.specs.Signatures.{Signature}
 
@@ -38,13 +39,14 @@ pub record Says (line : List ℕ) (s : Signature) : Type 0 where
   pub words_are : line_words line ≡ signature_words s
   pub name : is_name s.name ≡ true
 
--- a separator, a parenthesis or a byte of a name
+-- blank, tab, CR, a parenthesis or a byte of a name
 abbrev pub is_line_byte : ℕ → Bool
-is_line_byte b = is_separator b || is_parenthesis b || is_name_byte b
+is_line_byte b = (is_separator b && not (is_line_feed b)) || is_parenthesis b || is_name_byte b
 
--- a line that says a signature has no other bytes
+-- a line, which holds no LF, has no other bytes where it says a signature
 abbrev pub GoodLinesHaveGoodBytes : Type 0
-GoodLinesHaveGoodBytes = (line : List ℕ) (s : Signature) → Says line s → list_all is_line_byte line ≡ true
+GoodLinesHaveGoodBytes =
+    (line : List ℕ) (s : Signature) → list_any is_line_feed line ≡ false → Says line s → list_all is_line_byte line ≡ true
 
 -- a signature that fits the limits behind those before it
 pub record Fits (known : List Signature) (s : Signature) : Type 0 where

@@ -14,7 +14,8 @@ pub fn one_reading()
     ensures { OneReading }
 {}
 
-/// A line that says a signature has no bytes but blank, tab, CR and those from 33 to 126, and no brace.
+/// A line, which holds no LF, has no bytes but blank, tab, CR and those from 33 to 126, and no brace,
+/// where it says a signature.
 pub fn good_lines_have_good_bytes()
     ensures { GoodLinesHaveGoodBytes }
 {}

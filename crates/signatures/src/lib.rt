@@ -14,7 +14,7 @@
 //!
 //! `specs/Lines` has the lines of a text, `specs/Spelling` the words of a signature, `specs/First` what
 //! a text says and its first fault, as relations. That each text is read so stands in [`laws`] and on
-//! [`read`].
+//! [`read`]. [`SigReader`] reads a text that comes in pieces.
 #![tactic(auto)]
 
 mod fault;
@@ -24,5 +24,5 @@ mod reader;
 mod table;
 
 pub use fault::{SigFault, SignatureFault};
-pub use reader::read;
+pub use reader::{SigReader, read};
 pub use table::Signatures;

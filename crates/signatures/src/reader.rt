@@ -2,10 +2,11 @@
 
 ghost use Rattle.std.specs.Prelude.{◌≡◌, ◌+◌, ◌<◌, ◌^◌, ℕ, List, [], ◌++◌, false, Ok, IsTrue};
 ghost use Rattle.std.specs.Prelude.{OnOk, OnErr, IsErr, IsErrOf, IfOk, MatchResult};
+ghost use Rattle.vcode_base.specs.Lines.{is_line_feed, line_feeds};
+ghost use Rattle.vcode_base.specs.TextAnswers.{Answers};
 ghost use Rattle.vcode_base.specs.declared.fault.TextFault.TheVariants.{Memory};
-ghost use Rattle.signatures.specs.Faults.{Answers, OnWrong};
+ghost use Rattle.signatures.specs.Faults.{OnWrong};
 ghost use Rattle.signatures.specs.First.{IsAnswer};
-ghost use Rattle.signatures.specs.Lines.{is_line_feed, line_feeds};
 ghost use Rattle.signatures.specs.Reading.{after_line, reading};
 ghost use Rattle.signatures.specs.Scan.{beginning, scan_after_line, scan_after_byte};
 ghost use Rattle.signatures.specs.Scan.{scan_after_bytes, outcome, HasCome};
@@ -124,9 +125,13 @@ impl<A: Allocator + Copy> Scanner<A> {
     }
 }
 
-/// Reads a text that comes in pieces.
+/// Reads a text of signatures that comes in pieces, as [`read`] does one that is there at once: what
+/// counts are the pieces joined, wherever they are cut.
+///
+/// The first fault of a text is kept, and the pieces behind it are passed over. Where memory is refused
+/// the reader has failed, and no later call succeeds.
 #[derive(Drop)]
-pub(crate) struct SigReader<A: Allocator> {
+pub struct SigReader<A: Allocator> {
     scanner: Scanner<A>,
     failed: bool,
 }
@@ -140,9 +145,10 @@ impl<A: Allocator> Model for SigReader<A> {
 }
 
 impl<A: Allocator + Copy> SigReader<A> {
-    /// A reader of the text whose first line has this number. It takes no memory.
+    /// A reader of a text whose first line has this number, of which nothing has come. It takes no
+    /// memory.
     #[tactic(auto, unfolding(crate::specs::Scan::scan_after_bytes))]
-    pub(crate) fn new(alloc: A, first_line: u64) -> SigReader<A>
+    pub fn new(alloc: A, first_line: u64) -> SigReader<A>
         ensures come { HasCome result first_line [] }
         ensures line { result.scan.number ≡ first_line }
     {
@@ -152,8 +158,12 @@ impl<A: Allocator + Copy> SigReader<A> {
         }
     }
 
-    /// Takes the next piece. Where its memory is refused, this call and each later one answers `Err`.
-    pub(crate) fn feed(&mut self, piece: &[u8]) -> Result<(), AllocError>
+    /// Takes the next piece of the text. The number of the line that is then open must fit.
+    ///
+    /// # Errors
+    ///
+    /// [`AllocError`] where memory is refused, and from then on at each piece.
+    pub fn feed(&mut self, piece: &[u8]) -> Result<(), AllocError>
         requires { self.old.failed ≡ false → self.old.scan.number + line_feeds piece.now < 2 ^ 64 }
         // What has come is what had come before and then the piece.
         ensures fed { OnOk result ((first : ℕ) (before : List ℕ) →
@@ -173,7 +183,11 @@ impl<A: Allocator + Copy> SigReader<A> {
     }
 
     /// What the pieces come to.
-    pub(crate) fn finish(self) -> Result<Signatures<A>, SigFault>
+    ///
+    /// # Errors
+    ///
+    /// The first fault of the text with its line; `Memory` where memory is refused, or was in a piece.
+    pub fn finish(self) -> Result<Signatures<A>, SigFault>
         ensures answer { (first : ℕ) (bytes : List ℕ) → HasCome self first bytes → Answers result (reading first bytes) }
         ensures failed { IsTrue self.failed → IsErrOf result Memory }
     {

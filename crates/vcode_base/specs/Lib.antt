@@ -4,9 +4,11 @@ pub mod Instructions
 pub mod Kinds
 pub mod Laws
 pub mod LineWords
+pub mod Lines
 pub mod Meaning
 pub mod Motions
 pub mod Names
 pub mod Operands
 pub mod Segments
+pub mod TextAnswers
 pub mod Texts

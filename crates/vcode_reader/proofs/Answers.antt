@@ -14,7 +14,8 @@ use Rattle.vcode_reader.specs.First.{IsUnfinished, IsWanted, IsReading, IsAnswer
 use Rattle.vcode_reader.specs.First.{OneProgram, run}
 use Rattle.vcode_reader.specs.Gram.{Gram}
 use Rattle.vcode_reader.specs.Parsing.{Parse, start, take}
-use Rattle.vcode_reader.specs.Reading.{result_at_end, at_end, outcome, program_at, reading, Answers}
+use Rattle.vcode_reader.specs.Reading.{result_at_end, at_end, outcome, program_at, reading}
+use Rattle.vcode_base.specs.TextAnswers.{Answers}
 use Rattle.vcode_reader.specs.Refusals.{Fault, ReadFault}
 use Rattle.vcode_reader.specs.Scan.{Word, Scan, add_word, beginning, end_word, ends_word, lone_word, by_comment}
 use Rattle.vcode_reader.specs.Scan.{scan_byte, scan_all, scan_of, words, open_comment}

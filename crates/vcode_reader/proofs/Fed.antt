@@ -4,9 +4,11 @@ use Rattle.std.specs.Prelude.{OnOk}
 use Rattle.vcode_base.specs.declared.fault.TextFault.TheVariants.{Memory, At}
 use Rattle.vcode_reader.specs.declared.language.Language.{Language}
 use Rattle.vcode_reader.specs.Parsing.{Parse, start, take}
-use Rattle.vcode_reader.specs.Reading.{ReaderState, HasCome, HasScanned, Fails, outcome, program_at, reading}
+use Rattle.vcode_reader.specs.Reading.{ReaderState, HasCome, HasScanned, outcome, program_at, reading}
 use Rattle.vcode_reader.specs.Refusals.{ReadFault}
-use Rattle.vcode_reader.specs.Scan.{Scan, beginning, scan_all, line_feeds}
+use Rattle.vcode_base.specs.Lines.{line_feeds}
+use Rattle.vcode_base.specs.TextAnswers.{Fails}
+use Rattle.vcode_reader.specs.Scan.{Scan, beginning, scan_all}
 use Rattle.vcode_reader.specs.Trees.{Function}
 use Rattle.vcode_reader.proofs.Lines.{scan_all-line, scan_all-append}
 

@@ -7,7 +7,7 @@ use Rattle.vcode_reader.specs.declared.class.Class.TheVariants.{LineFeed, Blank,
 use Rattle.vcode_reader.specs.declared.class.Class.TheVariants.{Plain, Refused}
 use Rattle.vcode_reader.specs.Classes.{class_of}
 use Rattle.vcode_reader.specs.Scan.{Scan, Emit, end_word, ends_word, lone_word, by_comment, scan_byte, scan_all}
-use Rattle.vcode_reader.specs.Scan.{line_feeds}
+use Rattle.vcode_base.specs.Lines.{line_feeds}
 
 feeds : Class → ℕ
 feeds LineFeed = 1

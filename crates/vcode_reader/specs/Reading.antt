@@ -1,7 +1,7 @@
 -- What a text comes to: its program, or its first fault with the line.
 use Rattle.std.specs.Prelude.{◌≡◌, ℕ, Bool, false, List, Option, Some, None, Result, Ok, Err, Vec}
 use Rattle.vcode_reader.specs.declared.fault.CodeFault.TheVariants.{Unfinished}
-use Rattle.vcode_base.specs.declared.fault.TextFault.TheVariants.{Memory, At}
+use Rattle.vcode_base.specs.TextAnswers.{Fails}
 use Rattle.vcode_reader.specs.declared.language.Language.{Language}
 use Rattle.vcode_reader.specs.declared.language.Language.TheVariants.{First}
 use Rattle.vcode_reader.specs.declared.place.Place.{Place}
@@ -48,16 +48,7 @@ reading language first bytes = program_at first (outcome (scan_all take (beginni
 abbrev pub first_reading : ℕ → List ℕ → Result Program Fault
 first_reading first bytes = reading First first bytes
 
--- what was answered is what is wanted, unless there was no memory
-abbrev pub Fails : {B : Type 0} → ReadFault → Result B Fault → Type 0
-Fails Memory wanted = Unit {0}
-Fails (At refusal line) wanted = wanted ≡ Err (refusal, line)
-
-abbrev pub Answers : {B : Type 0} → Result B ReadFault → Result B Fault → Type 0
-Answers (Ok found) wanted = wanted ≡ Ok found
-Answers (Err fault) wanted = Fails fault wanted
-
--- the same of functions in a Vec
+-- what was answered, in a Vec, is what is wanted, unless there was no memory
 abbrev pub Gives : {A : Type 0} → Result (Vec Function A) ReadFault → Result (List Function) Fault → Type 0
 Gives (Ok found) wanted = wanted ≡ Ok found.items
 Gives (Err fault) wanted = Fails fault wanted

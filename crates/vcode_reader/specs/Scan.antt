@@ -1,5 +1,5 @@
 -- The words of a text with their lines: what each byte does, whatever is made of a word.
-use Rattle.std.specs.Prelude.{ℕ, ◌+◌, ◌==◌, List, [], ◌∷◌, ◌++◌, Option, Some, None, if◌then◌else◌}
+use Rattle.std.specs.Prelude.{ℕ, ◌+◌, List, [], ◌∷◌, ◌++◌, Option, Some, None}
 use Rattle.vcode_reader.specs.declared.class.Class.{Class}
 use Rattle.vcode_reader.specs.declared.class.Class.TheVariants.{LineFeed, Blank, OpenBrace, CloseBrace, Parenthesis}
 use Rattle.vcode_reader.specs.declared.class.Class.TheVariants.{Plain, Refused}
@@ -63,11 +63,6 @@ scan_byte emit s b = by_comment emit s.comment (class_of b) b s
 unfoldable pub scan_all : {P : Type 0} → Emit P → Scan P → List ℕ → Scan P
 scan_all emit s [] = s
 scan_all emit s (b ∷ bs) = scan_all emit (scan_byte emit s b) bs
-
--- the LFs of a text
-abbrev pub line_feeds : List ℕ → ℕ
-line_feeds [] = 0
-line_feeds (b ∷ bs) = (if b == 10 then 1 else 0) + line_feeds bs
 
 abbrev pub add_word : Emit (List Word)
 add_word t l ws = ws ++ record { text = t; line = l } ∷ []

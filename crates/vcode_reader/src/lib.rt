@@ -51,7 +51,7 @@
 //! `specs/Heads` is the table of words: what each begins, and what must stand behind it; `specs/Keywords`
 //! the instruction that comes of it; `specs/Gram` the grammar as a relation, by cases; `specs/Parsing` the
 //! table of refusals; `specs/Scan` the words of a text; `specs/First` what the first fault is. That each
-//! text is read so stands in [`laws`] and on [`read`].
+//! text is read so stands in [`laws`] and on [`read`]. [`CodeReader`] reads a text that comes in pieces.
 #![tactic(auto)]
 
 mod class;
@@ -75,4 +75,4 @@ pub use fault::{CodeFault, ReadFault};
 pub use language::Language;
 pub use line::{CodeItem, CodeLine, Numbered};
 pub use program::{Function, Program};
-pub use reader::{read, read_first};
+pub use reader::{CodeReader, read, read_first};

@@ -2,13 +2,15 @@
 
 ghost use Rattle.std.specs.Prelude.{◌≡◌, ◌+◌, ◌<◌, ◌^◌, OnOk, OnErr, IsErr, IsErrOf, IfOk, IsTrue, false, ℕ, List, [], ◌++◌};
 ghost use Rattle.vcode_reader.specs.declared.class.Class.TheVariants.{LineFeed};
+ghost use Rattle.vcode_base.specs.Lines.{line_feeds};
+ghost use Rattle.vcode_base.specs.TextAnswers.{Answers};
 ghost use Rattle.vcode_base.specs.declared.fault.TextFault.TheVariants.{Memory};
 ghost use Rattle.vcode_reader.specs.declared.language.Language.TheVariants.{First, Whole};
 ghost use Rattle.vcode_reader.specs.Classes.{class_of};
 ghost use Rattle.vcode_reader.specs.First.{IsAnswer};
 ghost use Rattle.vcode_reader.specs.Parsing.{start, take};
-ghost use Rattle.vcode_reader.specs.Reading.{outcome, reading, first_reading, Answers, Gives, HasCome};
-ghost use Rattle.vcode_reader.specs.Scan.{beginning, end_word, lone_word, in_text, in_comment, scan_byte, scan_all, line_feeds};
+ghost use Rattle.vcode_reader.specs.Reading.{outcome, reading, first_reading, Gives, HasCome};
+ghost use Rattle.vcode_reader.specs.Scan.{beginning, end_word, lone_word, in_text, in_comment, scan_byte, scan_all};
 
 use crate::class::{Class, class_of};
 use crate::fault::ReadFault;
@@ -140,9 +142,13 @@ impl<A: Allocator + Clone> Scanner<A> {
     }
 }
 
-/// Reads a text that comes in pieces.
+/// Reads the code of a program that comes in pieces, as [`read`] does one that is there at once: what
+/// counts are the pieces joined, wherever they are cut.
+///
+/// The first fault of a text is kept, and the pieces behind it are passed over. Where memory is refused
+/// the reader has failed, and no later call succeeds.
 #[derive(Drop)]
-pub(crate) struct CodeReader<A: Allocator> {
+pub struct CodeReader<A: Allocator> {
     scanner: Scanner<A>,
     language: Language,
     first_line: u64,
@@ -163,9 +169,23 @@ impl<A: Allocator> Model for CodeReader<A> {
 }
 
 impl<A: Allocator + Clone> CodeReader<A> {
-    /// A reader of the text in this language whose first line has this number.
+    /// A reader of a text whose first line has this number, of which nothing has come.
+    ///
+    /// # Errors
+    ///
+    /// [`AllocError`] where its memory is refused.
+    pub fn new(alloc: A, first_line: u64) -> Result<CodeReader<A>, AllocError>
+        ensures come { IfOk result (λ r. HasCome r []) }
+        ensures language { IfOk result (λ r. r.language ≡ Whole) }
+        ensures first_line { IfOk result (λ r. r.first_line ≡ first_line) }
+        ensures line { IfOk result (λ r. r.scan.line ≡ first_line) }
+    {
+        CodeReader::in_language(alloc, Language::Whole, first_line)
+    }
+
+    /// The same of a text in this language.
     #[tactic(auto, unfolding(crate::specs::Scan::scan_all))]
-    pub(crate) fn new(
+    fn in_language(
         alloc: A,
         language: Language,
         first_line: u64,
@@ -183,8 +203,12 @@ impl<A: Allocator + Clone> CodeReader<A> {
         })
     }
 
-    /// Takes the next piece of the text. After an `Err` the reader has failed, and answers it again.
-    pub(crate) fn feed(&mut self, piece: &[u8]) -> Result<(), AllocError>
+    /// Takes the next piece of the text. The number of the line that is then open must fit.
+    ///
+    /// # Errors
+    ///
+    /// [`AllocError`] where memory is refused, and from then on at each piece.
+    pub fn feed(&mut self, piece: &[u8]) -> Result<(), AllocError>
         requires { self.old.failed ≡ false → self.old.scan.line + line_feeds piece.now < 2 ^ 64 }
         // Behind the bytes before stand those of the piece.
         ensures fed { OnOk result ((before : List ℕ) → HasCome self.old before → HasCome self.new (before ++ piece.now)) }
@@ -205,7 +229,11 @@ impl<A: Allocator + Clone> CodeReader<A> {
     }
 
     /// What the pieces come to.
-    pub(crate) fn finish(self) -> Result<Program<A>, ReadFault>
+    ///
+    /// # Errors
+    ///
+    /// The first fault of the text with its line; `Memory` where memory is refused, or was in a piece.
+    pub fn finish(self) -> Result<Program<A>, ReadFault>
         ensures answer { (bytes : List ℕ) → HasCome self bytes → Answers result (reading self.language self.first_line bytes) }
         ensures failed { IsTrue self.failed → IsErrOf result Memory }
     {
@@ -228,7 +256,7 @@ fn read_in<A: Allocator + Clone>(
     requires { first_line + line_feeds text.now < 2 ^ 64 }
     ensures { Answers result (reading language first_line text.now) }
 {
-    let mut reader = CodeReader::new(alloc, language, first_line)?;
+    let mut reader = CodeReader::in_language(alloc, language, first_line)?;
     reader.feed(text)?;
     reader.finish()
 }

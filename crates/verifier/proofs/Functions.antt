@@ -16,7 +16,8 @@ use Rattle.verifier.specs.Faults.{Fault}
 use Rattle.verifier.specs.First.{stack_after_body, is_main_with_operands, fault_at_return, fault_by_signature}
 use Rattle.verifier.specs.First.{function_fault, functions_fault, FaultIs, Finds}
 use Rattle.verifier.specs.Kinded.{Scope}
-use Rattle.verifier.specs.Walk.{State, state_after_lines, Fails}
+use Rattle.vcode_base.specs.TextAnswers.{Fails}
+use Rattle.verifier.specs.Walk.{State, state_after_lines}
 use Rattle.verifier.proofs.Walks.{walk_over_body, state_with_ok, state_with_err}
 
 -- ---- a function's lines

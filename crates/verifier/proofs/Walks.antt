@@ -10,7 +10,8 @@ use Rattle.verifier.specs.declared.fault.KindFault.{KindFault}
 use Rattle.verifier.specs.Faults.{Fault}
 use Rattle.verifier.specs.First.{stack_after_body, stack_after_arrow, stack_after_instruction, stack_after_endif, ◌>>=◌}
 use Rattle.verifier.specs.Kinded.{Scope}
-use Rattle.verifier.specs.Walk.{State, state_with, state_after_if, state_after_line, state_after_lines, Fails}
+use Rattle.vcode_base.specs.TextAnswers.{Fails}
+use Rattle.verifier.specs.Walk.{State, state_with, state_after_if, state_after_line, state_after_lines}
 
 pub fault_stays : (scope : Scope) (f : Fault) (xs : List CodeLine) → state_after_lines scope (Err f) xs ≡ Err f
 fault_stays scope f [] = refl

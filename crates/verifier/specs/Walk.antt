@@ -1,8 +1,8 @@
 -- The lines of a body one after another: the entries of the stack, and for each open IF the list of entries that its other
 -- part goes from or has come to.
 use Rattle.std.specs.Prelude.{◌≡◌, ℕ, Bool, true, List, [], ◌∷◌, ◌++◌, take, Some, Result, Ok, Err, slice_get}
+use Rattle.vcode_base.specs.TextAnswers.{Fails}
 use Rattle.vcode_base.specs.declared.fault.TextFault.{TextFault}
-use Rattle.vcode_base.specs.declared.fault.TextFault.TheVariants.{Memory, At}
 use Rattle.vcode_base.specs.declared.kind.Kind.{Kind}
 use Rattle.vcode_base.specs.declared.kind.Kind.TheVariants as kind
 use Rattle.vcode_base.specs.declared.op.StackMove.{StackMove}
@@ -62,10 +62,6 @@ state_after_lines scope r (x ∷ xs) = state_after_lines scope (r >>= state_afte
 abbrev pub BeginsWith : List Function → ℕ → List CodeLine → Type 0
 BeginsWith fs place lines =
     (f : Function) × (rest : List CodeLine) × (slice_get fs place ≡ Some f) × (lines_of f ≡ lines ++ rest)
-
-abbrev pub Fails : {A : Type 0} → TextFault KindFault → Result A Fault → Type 0
-Fails Memory wanted = Unit {0}
-Fails (At fault line) wanted = wanted ≡ Err (fault, line)
 
 -- the answer, with what stands then, is the one that is wanted, unless there was no memory
 abbrev pub Goes : {A B : Type 0} → Result A (TextFault KindFault) → B → Result B Fault → Type 0

@@ -1,5 +1,5 @@
 use Rattle.std.proofs.Common.{rules}
-use Rattle.signatures.specs.Faults.{Answers}
+use Rattle.vcode_base.specs.TextAnswers.{Answers}
 use Rattle.signatures.specs.Reading.{reading}
 use Rattle.signatures.proofs.Readings.{is_answer}
 use Rattle.signatures.proofs.reader.read.Goals as goal

@@ -1,6 +1,7 @@
 use Rattle.std.proofs.Common.{◌∙◌, drop-cons, subst}
 use Rattle.vcode_reader.specs.Trees.{CodeLine}
-use Rattle.verifier.specs.Walk.{state_after_line, Fails}
+use Rattle.vcode_base.specs.TextAnswers.{Fails}
+use Rattle.verifier.specs.Walk.{state_after_line}
 use Rattle.verifier.proofs.Callees.{callee_of_line}
 use Rattle.verifier.proofs.Walks.{walk_fails}
 use Rattle.verifier.proofs.lines.check_lines.Goals as goal

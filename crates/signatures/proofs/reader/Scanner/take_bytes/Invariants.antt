@@ -1,5 +1,5 @@
 use Rattle.std.proofs.Common.{◌≡◌, ◌+◌, ◌<◌, ◌^◌, drop}
-use Rattle.signatures.specs.Lines.{line_feeds}
+use Rattle.vcode_base.specs.Lines.{line_feeds}
 use Rattle.signatures.specs.Scan.{scan_after_bytes}
 use Rattle.signatures.proofs.reader.Scanner.take_bytes.Given as goal
 

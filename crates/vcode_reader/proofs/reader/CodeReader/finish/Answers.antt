@@ -1,5 +1,6 @@
 use Rattle.std.proofs.Common.{◌∙◌, Ok, ap, sym, subst}
-use Rattle.vcode_reader.specs.Reading.{ReaderState, Fails, outcome}
+use Rattle.vcode_base.specs.TextAnswers.{Fails}
+use Rattle.vcode_reader.specs.Reading.{ReaderState, outcome}
 use Rattle.vcode_reader.specs.Trees.{Program}
 use Rattle.vcode_reader.proofs.Fed.{answer_ok, answer_err}
 use Rattle.vcode_reader.proofs.reader.CodeReader.finish.Goals as goal

@@ -1,6 +1,7 @@
 use Rattle.std.proofs.Common.{◌≡◌, ◌+◌, ◌<◌, ◌^◌, drop}
 use Rattle.vcode_reader.specs.Parsing.{take}
-use Rattle.vcode_reader.specs.Scan.{scan_all, line_feeds}
+use Rattle.vcode_base.specs.Lines.{line_feeds}
+use Rattle.vcode_reader.specs.Scan.{scan_all}
 use Rattle.vcode_reader.proofs.reader.Scanner.bytes.Given as goal
 
 abbrev pub invariant-loop-byte : goal.invariant-loop-byte
