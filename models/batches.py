@@ -4,7 +4,7 @@ import re
 from faults import (BAD_LINE, MISSING_OPERAND, NAME_TWICE, NO_MAIN, NO_SIGNATURE, RESULT_DIFFERS, Fault)
 from kinds import signature
 from reader import FIRST, read
-from vectors import wrap
+from runs import Limits, run
 
 LIMITS = [range(0, 1_048_577), range(1, 4_097), range(1, 1_025), range(0, 1_000_000_001)]
 
@@ -91,40 +91,15 @@ def verify_first(functions, is_signed, first_line):
             entries += -1 if item.what == "Vector" else 1
 
 
-def run(items, words, cells, budget):
-    """How a MAIN ends, and what it used."""
-    stack, executed, peak = [], 0, 0
-
-    def ended(how):
-        return f"{how}\nUSED {executed} instructions {peak} words"
-
-    for item in items:
-        if executed == budget:
-            return ended("BUDGET")
-        operands = stack[-2:] if item.what == "Vector" else []
-        if len({len(operand) for operand in operands}) > 1:
-            return ended(f"FAULT line {item.line} F1 LENGTHS_DIFFER")
-        made = {"Const": [item.numbers], "Vector": [[wrap(a + b) for a, b in zip(*operands)]] if operands else [], "Return": []}[item.what]
-        held = sum(map(len, stack)) + sum(map(len, made))
-        if held > words:
-            return ended(f"MEMORY line {item.line} M1 WORDS")
-        if len(stack) - len(operands) + len(made) > cells:
-            return ended(f"MEMORY line {item.line} M2 CELLS")
-        executed, peak = executed + 1, max(peak, held)
-        stack = stack[: len(stack) - len(operands)] + made
-    values = [f"INT ({' '.join(map(str, value))})" for value in stack]
-    return ended("\n".join(["RETURNED", *values]))
-
-
 def job_lines(job, region):
-    begun, name, (words, cells, _, budget), (signatures_line, signatures), (code_line, code) = job
-    if words > region:
+    begun, _, numbers, (signatures_line, signatures), (code_line, code) = job
+    limits = Limits(*numbers)
+    if limits.words > region:
         raise Fault(begun, "B3 WORDS_PAST_REGION")
     is_signed = is_main_signed(signatures_line, signatures)
     functions = read(code, code_line, FIRST)
     verify_first(functions, is_signed, code_line)
-    main = next(f for f in functions if f.name == "MAIN")
-    return run(main.items, words, cells, budget)
+    return run(functions, limits)
 
 
 def report(data, region):

@@ -1,4 +1,4 @@
-//! Worked runs over holes, vector memories and counted references.
+//! Worked runs over holes, vector memories, counted references and books of reservations.
 //!
 //! This crate has tests alone.
 #![tactic(auto)]
@@ -7,5 +7,7 @@
 mod counted_blocks;
 #[cfg(test)]
 mod free_words;
+#[cfg(test)]
+mod granted_words;
 #[cfg(test)]
 mod placed_blocks;

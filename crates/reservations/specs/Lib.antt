@@ -1,0 +1,3 @@
+pub mod BookState
+pub mod Inside
+pub mod Laws

@@ -1,0 +1,175 @@
+"""A job of the whole language that runs alone: how it ends, and what it used.
+
+Each entry of the stack has a tag, which its copies share, and a call is the list of what it has still to do: no block of words
+is shared or moved here, and no place in the code is kept.
+"""
+from dataclasses import dataclass, field
+
+from instructions import BOOL, ELEMENTWISE, INT, kinds_of
+from vectors import BAD_INDEX, BAD_LENGTH, BAD_SHIFT, INDEX_TWICE, ZERO_DIVISOR, NoResult, results
+
+VALUE_FAULTS = {ZERO_DIVISOR, BAD_SHIFT, BAD_INDEX, INDEX_TWICE, BAD_LENGTH}
+NOT_SINGLE = "F9 NOT_SINGLE"
+
+
+@dataclass
+class Limits:
+    words: int
+    cells: int
+    calls: int
+    budget: int
+
+
+@dataclass
+class Choice:
+    """An IF with its two parts."""
+
+    line: int
+    first: list
+    second: list = field(default_factory=list)
+    what = "If"
+
+
+@dataclass
+class Entry:
+    tag: int
+    kind: str
+    words: list
+
+
+def tree(items):
+    """What a function has to do, its RET last."""
+    open_parts = [[]]
+    for item in items:
+        if item.what == "If":
+            choice = Choice(item.line, [])
+            open_parts[-1].append(choice)
+            open_parts.append(choice.first)
+        elif item.what == "Else":
+            open_parts.pop()
+            open_parts.append(open_parts[-1][-1].second)
+        elif item.what == "Endif":
+            open_parts.pop()
+        else:
+            open_parts[-1].append(item)
+    return open_parts[0]
+
+
+def held(stack):
+    """The words of the vectors on a stack, each counted once."""
+    return sum(len(words) for words in {entry.tag: entry.words for entry in stack}.values())
+
+
+def need(word, operands):
+    """How many words the results of a vector instruction have, whose operands' lengths fit."""
+    if word in ELEMENTWISE or word in ("PERMUTE", "REPLACE", "MAKE_SEGDES", "LENGTHS") or word.endswith("_SCAN"):
+        return len(operands[0])
+    if word.endswith("_REDUCE") or word == "EXTRACT":
+        return len(operands[-1])
+    if word == "PACK":
+        return sum(operands[1]) + len(operands[2])
+    return sum(operands[-1])
+
+
+class Ended(Exception):
+    """How a job ends before its next instruction."""
+
+
+class Run:
+    def __init__(self, functions, limits):
+        # The first function of a name counts.
+        self.functions = {f.name: tree(f.items) for f in reversed(functions)}
+        self.limits = limits
+        self.stack, self.calls, self.executed, self.peak, self.next_tag = [], [self.functions["MAIN"]], 0, 0, 0
+
+    def checked(self, item, fault, need_words, depth):
+        """What comes before the values are looked at."""
+        if fault:
+            raise Ended(f"FAULT line {item.line} {fault}")
+        if held(self.stack) + need_words > self.limits.words:
+            raise Ended(f"MEMORY line {item.line} M1 WORDS")
+        if depth > self.limits.cells:
+            raise Ended(f"MEMORY line {item.line} M2 CELLS")
+        if item.what == "Call" and len(self.calls) == self.limits.calls:
+            raise Ended(f"MEMORY line {item.line} M3 CALLS")
+
+    def executes(self, need_words=0):
+        self.executed += 1
+        self.peak = max(self.peak, held(self.stack) + need_words)
+
+    def push(self, kind, words):
+        self.stack.append(Entry(self.next_tag, kind, words))
+        self.next_tag += 1
+
+    def constant(self, item):
+        self.checked(item, None, len(item.numbers), len(self.stack) + 1)
+        self.executes(len(item.numbers))
+        self.push(item.kind, item.numbers)
+
+    def vector(self, item):
+        kinds = kinds_of(item.word, item.kind)
+        below = len(self.stack) - len(kinds.operands)
+        operands = [entry.words for entry in self.stack[below:]]
+        try:
+            found, fault = results(item.word, item.kind or INT, operands), None
+        except NoResult as end:
+            found, fault = [], str(end)
+        misfit = fault if fault and fault not in VALUE_FAULTS and not fault.startswith("needs") else None
+        needed = 0 if misfit else need(item.word, operands)
+        self.checked(item, misfit, needed, below + len(kinds.results))
+        if fault:
+            raise Ended(f"FAULT line {item.line} {fault}")
+        self.executes(needed)
+        del self.stack[below:]
+        for kind, words in zip(kinds.results, found):
+            self.push(kind, words)
+
+    def move(self, item):
+        i, j = item.numbers
+        below = len(self.stack) - i - j
+        lower, upper = self.stack[below : below + i], self.stack[below + i :]
+        moved = {"COPY": lower + upper + lower, "POP": upper, "CPOP": upper + lower}[item.word]
+        self.checked(item, None, 0, below + len(moved))
+        self.executes()
+        self.stack[below:] = moved
+
+    def choice(self, item):
+        flag = self.stack[-1].words
+        self.checked(item, None if len(flag) == 1 else NOT_SINGLE, 0, len(self.stack) - 1)
+        self.executes()
+        self.stack.pop()
+        self.calls[-1] = (item.first if flag[0] else item.second) + self.calls[-1]
+
+    def call(self, item):
+        self.checked(item, None, 0, len(self.stack))
+        self.executes()
+        self.calls.append(self.functions[item.word])
+
+    def step(self):
+        """Executes one instruction."""
+        if self.executed == self.limits.budget:
+            raise Ended("BUDGET")
+        item, *self.calls[-1] = self.calls[-1]
+        if item.what == "Return":
+            self.checked(item, None, 0, len(self.stack))
+            self.executes()
+            self.calls.pop()
+        else:
+            {"Const": self.constant, "Vector": self.vector, "Move": self.move, "If": self.choice, "Call": self.call}[item.what](item)
+
+
+def shown(entry):
+    words = ["FT"[word] for word in entry.words] if entry.kind == BOOL else map(str, entry.words)
+    return f"{entry.kind.upper()} ({' '.join(words)})"
+
+
+def run(functions, limits):
+    """How a verified program ends within these limits, and what it used, as the report has it."""
+    job = Run(functions, limits)
+    try:
+        while job.calls:
+            job.step()
+        how = "\n".join(["RETURNED", *map(shown, job.stack)])
+    except Ended as end:
+        how = str(end)
+    return f"{how}\nUSED {job.executed} instructions {job.peak} words"
