@@ -27,7 +27,9 @@ use Rattle.vcode_reader.specs.Trees.{Item}
 use Rattle.job_steps.specs.Motions.{top_entries, operand_count, stack_after, stack_after_move, depth_after}
 use Rattle.job_steps.specs.Motions.{depth_after_move}
 use Rattle.job_steps.specs.States.{Task, Entry, words_of, held_words, new_entries}
-use Rattle.job_steps.specs.Steps.{Question, sources_of, question_of, need_words, vectors_of, results_of, can_run}
+use Rattle.job_steps.specs.Questions.{Question, need_words}
+use Rattle.job_steps.specs.Steps.{sources_of, question_of, vectors_of, results_of, can_run}
+use Rattle.job_steps.specs.Tracks.{IsDeep}
 use Rattle.job_steps.proofs.Held.{Has, has_itself, Agree, held_among, held_append, total_words}
 use Rattle.job_steps.proofs.KindLemmas.{kind_of, reverse-cons, there, kinds-new_entries, kinds-vectors_of}
 
@@ -124,11 +126,6 @@ length-pushed : {E : Type 0} (count : ℕ) (results stack : List E) →
     length (reverse results ++ drop count stack) ≡ (length stack - count) + length results
 length-pushed count results stack =
     omega (arith, length-append (reverse results) (drop count stack), length-reverse results, length-drop count stack)
-
--- what an instruction needs of a stack is there
-abbrev pub IsDeep : Op → ℕ → Type 0
-IsDeep (Move motion lower upper) depth = lower + upper ≤ depth
-IsDeep op depth = operand_count op ≤ depth
 
 -- with as many results as there are kinds of them
 pub length-stack_after : {E : Type 0} (op : Op) (results stack : List E) →

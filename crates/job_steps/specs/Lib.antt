@@ -1,5 +1,15 @@
+pub mod Buffers
+pub mod EventLaws
+pub mod Events
+pub mod Frames
+pub mod Jobs
 pub mod Motions
+pub mod Piles
+pub mod Questions
 pub mod Reached
 pub mod Runs
+pub mod Standings
 pub mod States
 pub mod Steps
+pub mod Tickets
+pub mod Tracks

@@ -14,11 +14,12 @@ use Rattle.vcode_base.specs.declared.outcome.Outcome.TheVariants.{Returned, Faul
 use Rattle.vcode_base.specs.Elements.{is_set}
 use Rattle.vcode_base.specs.Instructions.{op_of}
 use Rattle.vcode_base.specs.Kinds.{are_same_kinds, operand_kinds, result_kinds}
-use Rattle.vcode_base.specs.Meaning.{operand, shape, need, value_fault, result_of, second_result_of}
+use Rattle.vcode_base.specs.Meaning.{operand, shape, value_fault, result_of, second_result_of}
 use Rattle.vcode_reader.specs.declared.line.Numbered.{Numbered}
 use Rattle.vcode_reader.specs.Decode.{then_body}
 use Rattle.vcode_reader.specs.Trees.{Item, Body, End, Do, Choice, line_of}
 use Rattle.job_steps.specs.Motions.{top_entries, operand_count, stack_after, depth_after}
+use Rattle.job_steps.specs.Questions.{Question, need_words}
 use Rattle.job_steps.specs.States.{Vector, Task, Entry, Active, State, Callee, callee_named, calls_with, words_of}
 use Rattle.job_steps.specs.States.{values_of, stack_kinds, held_words, new_entries}
 
@@ -34,21 +35,12 @@ pub data Progress : Type 0 where
 
 -- ---- what an instruction reads
 
--- an instruction with what its results are computed from: its operands from the bottom up, or the list of a CONST
-pub record Question : Type 0 where
-  pub op : Op
-  pub sources : List (List ℤ)
-
 abbrev pub sources_of : Item → List Entry → List (List ℤ)
 sources_of (Const k list) stack = list ∷ []
 sources_of item stack = words_of (top_entries (operand_count (op_of item)) stack)
 
 abbrev pub question_of : Item → List Entry → Question
 question_of item stack = record { op = op_of item; sources = sources_of item stack }
-
--- the words of both results
-abbrev pub need_words : Question → ℕ
-need_words q = (need q.op q.sources).0 + (need q.op q.sources).1
 
 -- vectors of these kinds
 abbrev pub vectors_of : List Kind → List (List ℤ) → List Vector

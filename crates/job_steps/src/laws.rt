@@ -1,8 +1,19 @@
-//! Laws of the definitions that the contracts cite: each is the contract of a function.
+//! Laws of the definitions that the contracts cite, and of `==`: each is the contract of a function.
 
+ghost use Rattle.std.specs.Prelude.{◌≡◌, ◌↔◌, IsTrue};
+ghost use Rattle.job_steps.specs.Frames.{EachLineRemains};
 ghost use Rattle.job_steps.specs.Reached.{Reaches, NeverStuck, EndsOnce, EachEnds, EndIsOwn};
 ghost use Rattle.job_steps.specs.Reached.{ResultsHaveKinds, ValuesHaveKinds};
+ghost use Rattle.job_steps.specs.Tracks.{EachTrackFollows};
+ghost use Rattle.job_steps.specs.EventLaws.{EarlyEndsEnd, OthersAreReady, EventsChangeTheirJob};
+ghost use Rattle.job_steps.specs.EventLaws.{ClosedChangeNothing, MissingAreClosed, AdmittedHaveRoom};
+ghost use Rattle.job_steps.specs.EventLaws.{FirstAreKept, EventsKeep, RecallsKeep, EndedAreOver};
+ghost use Rattle.job_steps.specs.EventLaws.{UseIsWithin, UsedIsGranted, EventsGoOn, EventsUseUp, EventsEnd};
+ghost use Rattle.job_steps.specs.EventLaws.{EventsAreFew, OthersStay, EventsCommute, RecallUndoesBegin};
+ghost use Rattle.job_steps.specs.EventLaws.{EventsJoin, LeadsJoin, RecallsAreEvents};
 
+use crate::job::Job;
+use std::alloc::Allocator;
 use vcode_base::laws::results_have_needed_lengths;
 
 /// What holds of each state that a verified job reaches: what remains of its calls takes the entries
@@ -47,4 +58,172 @@ pub fn results_have_kinds()
 /// verified job reaches, and the operands of its next instruction.
 pub fn values_have_kinds()
     ensures { ValuesHaveKinds }
+{}
+
+/// What remains of code, line by line: that of an instruction begins with it, that of an IF with the
+/// choice of its two parts, and an ELSE with the part behind it, as well as an ENDIF, is passed over.
+pub fn each_line_remains()
+    ensures { EachLineRemains }
+{}
+
+/// A track that is where a running job is, and is advanced by the job's next instruction, is where the job
+/// is after it, whatever its cells name.
+pub fn each_track_follows<C>()
+    ensures { EachTrackFollows C }
+{}
+
+/// Two jobs are `==` exactly where their names, what was verified of their programs, and their limits are
+/// equal.
+pub fn equal_jobs<A: Allocator>(left: &Job<A>, right: &Job<A>) -> bool
+    ensures { IsTrue result ↔ (left.now ≡ right.now) }
+{
+    *left == *right
+}
+/// Where the budget is spent, or a shape or a limit stands against the next instruction of a verified
+/// job, that is the job's end, with what it used so far.
+pub fn early_ends_end()
+    ensures { EarlyEndsEnd }
+{
+    never_stuck();
+    reached();
+    end_is_own();
+}
+
+/// Where nothing ends a verified job before the values of its next instruction are looked at, the
+/// instruction's operands are there, and their values alone decide what comes next.
+pub fn others_are_ready()
+    ensures { OthersAreReady }
+{
+    never_stuck();
+    reached();
+}
+
+/// Whether an event is open depends on the task and the standing of its job alone, and so does what it
+/// makes of that standing; it changes nothing else.
+pub fn events_change_their_job()
+    ensures { EventsChangeTheirJob }
+{}
+
+/// An event that isn't open changes nothing.
+pub fn closed_change_nothing()
+    ensures { ClosedChangeNothing }
+{}
+
+/// An event that names a job that there isn't is not open.
+pub fn missing_are_closed()
+    ensures { MissingAreClosed }
+{}
+
+/// The job that is admitted next waits, and its words fit into the region beside those that are
+/// granted.
+pub fn admitted_have_room()
+    ensures { AdmittedHaveRoom }
+{}
+
+/// Before the first event no words are granted, and each job stands on its run alone.
+pub fn first_are_kept()
+    ensures { FirstAreKept }
+{}
+
+/// Whatever the events, each verified job stands on its run alone, and the words that are granted are
+/// at most the region: a live job runs after as many instructions as its standing says, within its
+/// budget, and one that has ended has its own outcome and counts.
+pub fn events_keep()
+    ensures { EventsKeep }
+{
+    never_stuck();
+    reached();
+    each_ends();
+}
+
+/// The same holds where every step is given up that has begun.
+pub fn recalls_keep()
+    ensures { RecallsKeep }
+{}
+
+/// A verified job that an event leaves ended is over alone, after one instruction more than it had
+/// executed, with its own outcome and counts.
+pub fn ended_are_over()
+    ensures { EndedAreOver }
+{
+    never_stuck();
+    reached();
+    end_is_own();
+}
+
+/// Wherever a verified job stands, it has executed at most its budget's instructions, it held and
+/// needed at most its words, and what it holds is at most what is reserved for it.
+pub fn use_is_within()
+    ensures { UseIsWithin }
+{
+    reached();
+}
+
+/// The words of the vectors of all jobs are at most those that are granted.
+pub fn used_is_granted()
+    ensures { UsedIsGranted }
+{
+    reached();
+}
+
+/// Where each job's words are at most the region, all jobs are collected, or an event other than a
+/// recall is open.
+pub fn events_go_on()
+    ensures { EventsGoOn }
+{}
+
+/// Each open event that is no recall leaves fewer events to come.
+pub fn events_use_up()
+    ensures { EventsUseUp }
+{
+    reached();
+}
+
+/// Of events that are open and no recalls there are no more than are left to the jobs at the start.
+pub fn events_end()
+    ensures { EventsEnd }
+{
+    never_stuck();
+    reached();
+    each_ends();
+}
+
+/// Of events that are open and no recalls, at most twice its budget and three are of one job, its
+/// admission counted.
+pub fn events_are_few()
+    ensures { EventsAreFew }
+{
+    never_stuck();
+    reached();
+    each_ends();
+}
+
+/// An event of one job leaves every other job where it stood.
+pub fn others_stay()
+    ensures { OthersStay }
+{}
+
+/// Events that name two different jobs may change places.
+pub fn events_commute()
+    ensures { EventsCommute }
+{}
+
+/// A recall behind the begin of a step leaves all jobs as they stood before both.
+pub fn recall_undoes_begin()
+    ensures { RecallUndoesBegin }
+{}
+
+/// Events after events lead where their lists joined lead.
+pub fn events_join()
+    ensures { EventsJoin }
+{}
+
+/// Where events lead from where events lead is where events lead from the start.
+pub fn leads_join()
+    ensures { LeadsJoin }
+{}
+
+/// A recall of each job, one after another, gives up each step that has begun.
+pub fn recalls_are_events()
+    ensures { RecallsAreEvents }
 {}

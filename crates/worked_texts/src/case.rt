@@ -1,12 +1,16 @@
 //! What a case comes to.
 
+ghost use Rattle.std.specs.Prelude.{◌≤◌, length};
+ghost use Rattle.worked_texts.specs.declared.escape.TheConstants.{MOST_BYTES};
+
 use crate::escape::bytes_of;
 use crate::fault::CaseFault;
+use crate::pieces::{CODE_LINE, program_however_cut, signatures_however_cut};
 use crate::show::{kinds_text, program_text, shortened, signatures_text, verified_text};
 use signatures::Signatures;
 use std::alloc::Global;
 use vcode_reader::laws::equal_programs;
-use vcode_reader::{Language, Program, read, read_first};
+use vcode_reader::{Language, Program, read_first};
 use verifier::laws::equal_verified;
 use verifier::{Verified, verify};
 
@@ -116,21 +120,26 @@ fn is_read_as(alloc: Global, code: &str, program: &Program<Global>) -> Result<bo
 }
 
 /// The program of a code whose first line is line 5.
-#[tactic(auto, using(vcode_reader::proofs::Lines::line_feeds_at_most))]
 fn program_of(alloc: Global, language: Language, text: &str) -> Result<Program<Global>, CaseFault> {
     let bytes = bytes_of(alloc, text)?;
-    let program = match language {
-        Language::Whole => read(alloc, bytes.as_slice(), 5),
-        Language::First => read_first(alloc, bytes.as_slice(), 5),
-    };
-    Ok(program?)
+    match language {
+        Language::Whole => program_however_cut(alloc, bytes.as_slice()),
+        Language::First => first_program(alloc, bytes.as_slice()),
+    }
+}
+
+/// The program of a code of the first language.
+#[tactic(auto, using(vcode_reader::proofs::Lines::line_feeds_at_most))]
+fn first_program(alloc: Global, code: &[u8]) -> Result<Program<Global>, CaseFault>
+    requires { length code.now ≤ MOST_BYTES }
+{
+    Ok(read_first(alloc, code, CODE_LINE)?)
 }
 
 /// The signatures of a text whose first line is line 3.
-#[tactic(auto, using(signatures::proofs::Lines::line_feeds_at_most))]
 fn signatures_of(alloc: Global, text: &str) -> Result<Signatures<Global>, CaseFault> {
     let bytes = bytes_of(alloc, text)?;
-    Ok(signatures::read(alloc, bytes.as_slice(), 3)?)
+    signatures_however_cut(alloc, bytes.as_slice())
 }
 
 /// The program of a code, well kinded by signatures.

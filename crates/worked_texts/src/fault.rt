@@ -13,6 +13,9 @@ pub enum CaseFault {
     /// The line of the table is no case, or its text is longer than one may be.
     #[error("no case")]
     NoCase,
+    /// The text comes to something else where it comes in pieces.
+    #[error("otherwise in pieces")]
+    OtherInPieces,
     /// What was verified isn't the program that was read.
     #[error("another program")]
     OtherProgram,

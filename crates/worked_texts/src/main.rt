@@ -14,6 +14,9 @@
 //! | `kinds` | signatures, `\|`, code | whether the code is well kinded, and the kinds of what its `MAIN` leaves |
 //! | `same` | signatures, `\|`, signatures, `\|`, code | whether the code is verified alike by both |
 //!
+//! Each code in the whole language and each text of signatures is read at once, and in pieces of 1 and of 7 bytes: where these
+//! come to something else, the answer is `otherwise in pieces`.
+//!
 //! The first line of a code is line 5, and that of signatures line 3. Of what is long only the number of
 //! its functions or signatures is told.
 #![tactic(auto)]
@@ -21,6 +24,7 @@
 mod case;
 mod escape;
 mod fault;
+mod pieces;
 mod show;
 
 use case::answer;

@@ -16,7 +16,7 @@ pub enum Answer {
     /// Two results, the top of the stack last.
     Two(Vector, Vector),
     Fault(DataFault),
-    /// The words that the results need, which are too many to be made.
+    /// The words that a desk would have for it, which are too many.
     Needs(u64),
     /// The line is no code.
     Refused(CodeFault),

@@ -7,7 +7,6 @@
 #![tactic(auto)]
 
 mod answer;
-mod instructions;
 mod runs;
 
 use crate::answer::Answer;

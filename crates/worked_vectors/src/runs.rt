@@ -1,15 +1,13 @@
+ghost use Rattle.job_steps.specs.Buffers.{HaveAtMost};
+ghost use Rattle.vcode_base.specs.Operands.{contents};
+
 use crate::answer::{Answer, Vector};
-use crate::instructions::{fill, need, shape};
+use job_steps::{Desk, compute, need, shape};
 use std::alloc::{AllocError, Global};
+use vcode_base::limits::MOST_WORDS;
 use vcode_base::{Op, have_kinds};
 
-/// The most words that are made for the results of a case.
-const MOST_ROOM: u64 = 1_000_000;
-
-/// What a place of a result holds before it is written.
-const UNWRITTEN: i64 = 77;
-
-/// Runs an instruction over its operands, or over the list of a CONST, by its three calls.
+/// Runs an instruction over its operands, or over the list of a CONST, on a desk of the fewest words that do.
 pub fn run(alloc: Global, op: Op, ops: &[&[i64]]) -> Result<Answer, AllocError> {
     if !have_kinds(op.source_kinds(), ops) {
         return Ok(Answer::NotOfItsKinds);
@@ -19,15 +17,31 @@ pub fn run(alloc: Global, op: Op, ops: &[&[i64]]) -> Result<Answer, AllocError> 
     }
     let (first_len, second_len) = need(op, ops);
     let room = first_len.saturating_add(second_len);
-    if room > MOST_ROOM {
-        return Ok(Answer::Needs(room));
+    let words = widest(ops).max(room);
+    if words > MOST_WORDS as u64 {
+        return Ok(Answer::Needs(words));
     }
-    let mut first = vec![in alloc; UNWRITTEN; first_len as usize]?;
-    let mut second = vec![in alloc; UNWRITTEN; second_len as usize]?;
-    match fill(op, ops, &mut first, &mut second) {
-        Ok(()) => Ok(results(op, first, second)),
+    let desk = Desk::new(alloc, words as usize)?;
+    let filled = compute(desk.ask(1, 0, op, ops));
+    match filled.answer() {
+        Ok((first, second)) => {
+            let first = Vec::from_slice(alloc, first)?;
+            let second = Vec::from_slice(alloc, second)?;
+            Ok(results(op, first, second))
+        }
         Err(fault) => Ok(Answer::Fault(fault)),
     }
+}
+
+/// The words of the longest operand.
+fn widest(ops: &[&[i64]]) -> u64
+    ensures { HaveAtMost result (contents ops.now) }
+{
+    let mut most: u64 = 0;
+    for operand in ops {
+        most = most.max(operand.len() as u64);
+    }
+    most
 }
 
 /// The results of an instruction, which are of its kinds.

@@ -1,0 +1,46 @@
+-- Where the derived `==` of two instructions without their lists is true: where they are one.
+use Rattle.std.proofs.Common.{◌≡◌, Bool, true, false, ◌&&◌}
+use Rattle.std.specs.Bool.{Decides}
+use Rattle.std.specs.Prelude.{nat_eq}
+use Rattle.std.proofs.lemmas.Bool.Decides.{Decides-eqb}
+use denote.Enum.Bare.{sameb}
+use denote.Enum.Compared.{Each, by}
+use Rattle.vcode_base.specs.contracts.kind.Scalar as scalar
+use Rattle.vcode_base.specs.contracts.op.StackMove as motion
+use Rattle.vcode_base.specs.contracts.op.Op as ops
+use Rattle.vcode_reader.proofs.Enums.{bare, same_values, no_field, one_field, three_fields}
+use Rattle.vcode_reader.proofs.Enums.{same_elementwise, same_segmented, elementwise_exact, segmented_exact}
+
+abbrev pub op_each : Each Bool ops.the_parts
+op_each = (
+  λ x y. sameb scalar.the_type x.0 y.0,
+  (
+    λ x y. same_elementwise x.0 y.0,
+    (
+      λ x y. same_segmented x.0 y.0,
+      (
+        λ _ _. true,
+        (
+          λ x y. sameb motion.the_type x.0 y.0 && (nat_eq x.1.0 y.1.0 && nat_eq x.1.1.0 y.1.1.0),
+          (λ _ _. true, (λ _ _. true, tt)),
+        ),
+      ),
+    ),
+  ),
+)
+
+abbrev pub same_op : (ops.the_type).D → (ops.the_type).D → Bool
+same_op a b = by false false ops.the_parts op_each (ops.as_values a) (ops.as_values b)
+
+pub op_exact : (a b : (ops.the_type).D) → Decides (same_op a b) (a ≡ b)
+op_exact =
+    same_values ops.the_parts ops.as_values ops.the_make ops.the_eta op_each (
+      one_field (bare scalar.the_type tt),
+      (
+        one_field elementwise_exact,
+        (
+          one_field segmented_exact,
+          (no_field, (three_fields (bare motion.the_type tt) Decides-eqb Decides-eqb, (no_field, (no_field, tt)))),
+        ),
+      ),
+    )

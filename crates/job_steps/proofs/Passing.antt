@@ -1,0 +1,296 @@
+-- What the code passes over: what remains stays as it is.
+use Rattle.std.proofs.Common.{◌≡◌, ◌∙◌, ◌+◌, ◌<◌, ℕ, zero, suc, List, [], ◌∷◌, ◌++◌, drop, Some, refl, ap}
+use Rattle.std.proofs.Common.{sym, subst, arith, append_assoc}
+use Rattle.std.specs.Prelude.{slice_get}
+use Rattle.std.proofs.lemmas.List.{drop-drop}
+use Rattle.vcode_base.specs.declared.instr.Instr.TheVariants.{Return}
+use Rattle.vcode_reader.specs.declared.line.CodeItem.{CodeItem}
+use Rattle.vcode_reader.specs.declared.line.CodeItem.TheVariants as code_item
+use Rattle.vcode_reader.specs.Decode.{Tail, Waits, ForElse, ForIf, before, before_else, before_if, tail_of, then_body}
+use Rattle.vcode_reader.specs.Targets.{Jumps, first_of, others_of, jumps_before, jumps_from, targets_of, target_in}
+use Rattle.vcode_reader.specs.Targets.{target_at}
+use Rattle.vcode_reader.specs.Trees.{Item, Body, End, Do, Choice, CodeLine, Function, line_of, instruction_line}
+use Rattle.vcode_reader.specs.Trees.{body_lines, lines_of}
+use Rattle.job_steps.specs.Frames.{rest_behind, rest_of_tail, remaining}
+
+-- ---- bodies one after another
+
+pub then_end : (b : Body) → then_body b End ≡ b
+unfolding then_body
+then_end End = refl
+then_end (Do i l b) = ap (Do i l) (then_end b)
+then_end (Choice l x y e b) = ap (Choice l x y e) (then_end b)
+
+pub then_assoc : (a b c : Body) → then_body (then_body a b) c ≡ then_body a (then_body b c)
+unfolding then_body
+then_assoc End b c = refl
+then_assoc (Do i l a) b c = ap (Do i l) (then_assoc a b c)
+then_assoc (Choice l x y e a) b c = ap (Choice l x y e) (then_assoc a b c)
+
+-- ---- the tail that begins with a body
+
+unfoldable pub then_tail : Body → Tail → Tail
+then_tail b t = record { body = then_body b t.body; waits = t.waits }
+
+regroup : (x y b rest : List CodeLine) (i m n : CodeLine) →
+    (i ∷ (x ++ (m ∷ (y ++ (n ∷ b))))) ++ rest ≡ i ∷ (x ++ (m ∷ (y ++ (n ∷ (b ++ rest)))))
+regroup x y b rest i m n = simp append_assoc
+
+choice : ℕ → Body → Body → ℕ → Body → List Waits → Tail
+choice l x y e b ws = record { body = Choice l x y e b; waits = ws }
+
+pub tail_of_body : (b : Body) (xs : List CodeLine) → tail_of (body_lines b ++ xs) ≡ then_tail b (tail_of xs)
+unfolding tail_of then_tail then_body choice
+tail_of_body End xs = refl
+tail_of_body (Do i l b) xs = ap (before (code_item.Do i) l) (tail_of_body b xs)
+tail_of_body (Choice l x y e b) xs =
+    ap tail_of
+    (regroup (body_lines x) (body_lines y) (body_lines b) xs (line_of code_item.If l) (line_of code_item.Else l)
+    (line_of code_item.Endif e))
+    ∙ (ap (before code_item.If l)
+    (tail_of_body x _
+    ∙ ap (then_tail x)
+    (ap (before code_item.Else l)
+    (tail_of_body y _ ∙ ap (then_tail y) (ap (before code_item.Endif e) (tail_of_body b xs)))))
+    ∙ (ap (λ z. choice l z (then_body y End) e (then_body b (tail_of xs).body) (tail_of xs).waits) (then_end x)
+    ∙ ap (λ z. choice l x z e (then_body b (tail_of xs).body) (tail_of xs).waits) (then_end y)))
+
+waits_of_body : (b : Body) (xs : List CodeLine) → (tail_of (body_lines b ++ xs)).waits ≡ (tail_of xs).waits
+unfolding then_tail
+waits_of_body b xs = ap (λ (t : Tail). t.waits) (tail_of_body b xs)
+
+-- what remains of a function from its first line on is all of it
+pub remaining_of_all : (f : Function) → remaining (lines_of f) ≡ then_body f.body (Do Return f.ret End)
+unfolding then_tail tail_of then_body
+remaining_of_all f =
+    ap rest_of_tail (tail_of_body f.body (instruction_line Return f.ret ∷ []))
+    ∙ then_end (then_body f.body (Do Return f.ret End))
+
+-- ---- lines each of which finds what it needs behind it
+
+abbrev FitsBefore : CodeItem Item → List Waits → Type 0
+FitsBefore (code_item.Do i) ws = Unit {0}
+FitsBefore code_item.If [] = ⊥
+FitsBefore code_item.If (ForElse e r ∷ ws) = ⊥
+FitsBefore code_item.If (ForIf s e r ∷ ws) = Unit {0}
+FitsBefore code_item.Else [] = ⊥
+FitsBefore code_item.Else (ForElse e r ∷ ws) = Unit {0}
+FitsBefore code_item.Else (ForIf s e r ∷ ws) = ⊥
+FitsBefore code_item.Endif ws = Unit {0}
+
+abbrev Fits : List CodeLine → Type 0
+Fits [] = Unit {0}
+Fits (x ∷ xs) = FitsBefore x.item (tail_of xs).waits × Fits xs
+
+fits_drop : (n : ℕ) (xs : List CodeLine) → Fits xs → Fits (drop n xs)
+fits_drop zero xs h = h
+fits_drop (suc n) [] h = h
+fits_drop (suc n) (x ∷ xs) h = fits_drop n xs h.1
+
+fits_body : (b : Body) (xs : List CodeLine) → Fits xs → Fits (body_lines b ++ xs)
+unfolding tail_of
+fits_body End xs h = h
+fits_body (Do i l b) xs h = (tt, fits_body b xs h)
+fits_body (Choice l x y e b) xs h =
+    let m = line_of code_item.Else l in
+    let n = line_of code_item.Endif e in
+    let behind : Fits (n ∷ (body_lines b ++ xs)) = (tt, fits_body b xs h) in
+    let second : Fits (body_lines y ++ (n ∷ (body_lines b ++ xs))) = fits_body y _ behind in
+    let for_else = waits_of_body y (n ∷ (body_lines b ++ xs)) in
+    let between : Fits (m ∷ (body_lines y ++ (n ∷ (body_lines b ++ xs)))) =
+    (subst (FitsBefore code_item.Else) (sym for_else) tt, second) in
+    let first = fits_body x _ between in
+    let for_if = waits_of_body x (m ∷ (body_lines y ++ (n ∷ (body_lines b ++ xs))))
+    ∙ ap (λ ws. (before_else (tail_of (body_lines y ++ (n ∷ (body_lines b ++ xs)))).body ws).waits) for_else in
+    subst Fits
+    (sym (regroup (body_lines x) (body_lines y) (body_lines b) xs (line_of code_item.If l) m n))
+    (subst (FitsBefore code_item.If) (sym for_if) tt, first)
+
+fits : (f : Function) → Fits (lines_of f)
+unfolding tail_of
+fits f = fits_body f.body (instruction_line Return f.ret ∷ []) (tt, tt)
+
+-- ---- the places that IFs and ELSEs wait for
+
+-- the tail at each place, all of which lie past this one, is the one that is waited for
+abbrev Agree : List CodeLine → ℕ → List Waits → List ℕ → Type 0
+Agree whole p [] qs = Unit {0}
+Agree whole p (w ∷ ws) [] = ⊥
+Agree whole p (ForElse e r ∷ ws) (q ∷ qs) =
+    (p < q) × (tail_of (drop q whole) ≡ record { body = r; waits = ws }) × Agree whole p ws qs
+Agree whole p (ForIf s e r ∷ ws) (q ∷ qs) =
+    (p < q) × (tail_of (drop q whole) ≡ record { body = s; waits = ForElse e r ∷ ws }) × Agree whole p ws qs
+
+sooner : (whole : List CodeLine) (p : ℕ) (ws : List Waits) (qs : List ℕ) → Agree whole (p + 1) ws qs →
+    Agree whole p ws qs
+sooner whole p [] qs h = tt
+sooner whole p (w ∷ ws) [] h = h
+sooner whole p (ForElse e r ∷ ws) (q ∷ qs) h = (omega (arith, h.0), h.1, sooner whole p ws qs h.2)
+sooner whole p (ForIf s e r ∷ ws) (q ∷ qs) h = (omega (arith, h.0), h.1, sooner whole p ws qs h.2)
+
+agree_if : (whole : List CodeLine) (p l : ℕ) (b : Body) (ws : List Waits) (qs : List ℕ) →
+    FitsBefore code_item.If ws → Agree whole p ws qs → Agree whole p (before_if l b ws).waits (others_of qs)
+agree_if whole p l b [] qs fit h = absurd fit
+agree_if whole p l b (ForElse e r ∷ ws) qs fit h = absurd fit
+agree_if whole p l b (ForIf s e r ∷ ws) [] fit h = absurd h
+agree_if whole p l b (ForIf s e r ∷ ws) (q ∷ qs) fit h = h.2
+
+agree_else : (whole : List CodeLine) (p : ℕ) (b : Body) (ws : List Waits) (qs : List ℕ) →
+    FitsBefore code_item.Else ws → tail_of (drop (p + 1) whole) ≡ record { body = b; waits = ws } →
+    Agree whole p ws qs → Agree whole p (before_else b ws).waits ((p + 1) ∷ others_of qs)
+agree_else whole p b [] qs fit at h = absurd fit
+agree_else whole p b (ForIf s e r ∷ ws) qs fit at h = absurd fit
+agree_else whole p b (ForElse e r ∷ ws) [] fit at h = absurd h
+agree_else whole p b (ForElse e r ∷ ws) (q ∷ qs) fit at h = (omega arith, at, h.2)
+
+agree_before : (whole : List CodeLine) (p : ℕ) (i : CodeItem Item) (l : ℕ) (t : Tail) (j : Jumps) →
+    FitsBefore i t.waits → tail_of (drop (p + 1) whole) ≡ t → Agree whole p t.waits j.waits →
+    Agree whole p (before i l t).waits (jumps_before i p j).waits
+agree_before whole p (code_item.Do i) l t j fit at h = h
+agree_before whole p code_item.If l t j fit at h = agree_if whole p l t.body t.waits j.waits fit h
+agree_before whole p code_item.Else l t j fit at h = agree_else whole p t.body t.waits j.waits fit at h
+agree_before whole p code_item.Endif l t j fit at h = (omega arith, at, h)
+
+next_lines : (whole : List CodeLine) (p : ℕ) (x : CodeLine) (xs : List CodeLine) → drop p whole ≡ x ∷ xs →
+    drop (p + 1) whole ≡ xs
+next_lines whole p x xs h = sym (drop-drop 1 p whole) ∙ ap (drop 1) h
+
+agree : (whole : List CodeLine) (p : ℕ) (xs : List CodeLine) → drop p whole ≡ xs → Fits xs →
+    Agree whole p (tail_of xs).waits (jumps_from p xs).waits
+unfolding tail_of jumps_from
+agree whole p [] at fit = tt
+agree whole p (x ∷ xs) at fit =
+    let on = next_lines whole p x xs at in
+    agree_before whole p x.item x.number (tail_of xs) (jumps_from (p + 1) xs) fit.0 (ap tail_of on)
+    (sooner whole p (tail_of xs).waits (jumps_from (p + 1) xs).waits (agree whole (p + 1) xs on fit.1))
+
+-- the target at a place is the first of those from the place on
+target_from : (lines : List CodeLine) (begun place : ℕ) (x : CodeLine) (rest : List CodeLine) →
+    drop place lines ≡ x ∷ rest →
+    target_in (slice_get (jumps_from begun lines).list place)
+    ≡ target_in (slice_get (jumps_from (begun + place) (x ∷ rest)).list 0)
+unfolding jumps_from
+target_from [] begun zero x rest h = absurd (let k : [] ≡ x ∷ rest = h in cc)
+target_from [] begun (suc place) x rest h = absurd (let k : [] ≡ x ∷ rest = h in cc)
+target_from (y ∷ lines) begun zero x rest h =
+    let same : begun ≡ begun + 0 = omega arith in
+    ap (λ z. target_in (slice_get (jumps_from begun z).list 0)) h
+    ∙ ap (λ p. target_in (slice_get (jumps_from p (x ∷ rest)).list 0)) same
+target_from (y ∷ lines) begun (suc place) x rest h =
+    let same : (begun + 1) + place ≡ begun + suc place = omega arith in
+    ap target_in (by_item y.item begun (jumps_from (begun + 1) lines) place)
+    ∙ (target_from lines (begun + 1) place x rest h
+    ∙ ap (λ p. target_in (slice_get (jumps_from p (x ∷ rest)).list 0)) same)
+  where
+    by_item : (p : CodeItem Item) (begun : ℕ) (j : Jumps) (place : ℕ) →
+        slice_get (jumps_before p begun j).list (suc place) ≡ slice_get j.list place
+    by_item (code_item.Do i) begun j place = refl
+    by_item code_item.If begun j place = refl
+    by_item code_item.Else begun j place = refl
+    by_item code_item.Endif begun j place = refl
+
+-- ---- what an ELSE and an IF go on with
+
+-- where an ELSE goes on
+pub record PassesElse (whole : List CodeLine) (p : ℕ) : Type 0 where
+  pub next : ℕ
+  pub target : target_at whole p ≡ Some next
+  pub later : p < next
+  pub same : remaining (drop next whole) ≡ remaining (drop p whole)
+
+-- where an IF goes on, by its flag
+pub record Chooses (whole : List CodeLine) (p line : ℕ) : Type 0 where
+  pub first : Body
+  pub second : Body
+  pub end : ℕ
+  pub rest : Body
+  pub choice : remaining (drop p whole) ≡ Choice line first second end rest
+  pub chosen : remaining (drop (p + 1) whole) ≡ then_body first rest
+  pub next : ℕ
+  pub target : target_at whole p ≡ Some next
+  pub other : remaining (drop next whole) ≡ then_body second rest
+
+passes_by : (whole : List CodeLine) (p l : ℕ) (b : Body) (ws : List Waits) (qs : List ℕ) →
+    FitsBefore code_item.Else ws → Agree whole p ws qs → target_at whole p ≡ first_of qs →
+    remaining (drop p whole) ≡ rest_of_tail (before_else b ws) → PassesElse whole p
+unfolding then_body
+passes_by whole p l b [] qs fit h target here = absurd fit
+passes_by whole p l b (ForIf s e r ∷ ws) qs fit h target here = absurd fit
+passes_by whole p l b (ForElse e r ∷ ws) [] fit h target here = absurd h
+passes_by whole p l b (ForElse e r ∷ ws) (q ∷ qs) fit h target here = record {
+  next = q;
+  target = target;
+  later = h.0;
+  same = ap rest_of_tail h.1 ∙ sym here;
+}
+
+chooses_by : (whole : List CodeLine) (p l : ℕ) (b : Body) (ws : List Waits) (qs : List ℕ) →
+    FitsBefore code_item.If ws → Agree whole p ws qs → target_at whole p ≡ first_of qs →
+    remaining (drop p whole) ≡ rest_of_tail (before_if l b ws) →
+    remaining (drop (p + 1) whole) ≡ then_body b (rest_behind ws) → Chooses whole p l
+unfolding then_body
+chooses_by whole p l b [] qs fit h target here on = absurd fit
+chooses_by whole p l b (ForElse e r ∷ ws) qs fit h target here on = absurd fit
+chooses_by whole p l b (ForIf s e r ∷ ws) [] fit h target here on = absurd h
+chooses_by whole p l b (ForIf s e r ∷ ws) (q ∷ qs) fit h target here on = record {
+  first = b;
+  second = s;
+  end = e;
+  rest = then_body r (rest_behind ws);
+  choice = here;
+  chosen = on;
+  next = q;
+  target = target;
+  other = ap rest_of_tail h.1;
+}
+
+module _ (f : Function) (p l : ℕ) (xs : List CodeLine) where
+  whole : List CodeLine
+  whole = lines_of f
+
+  fits_there : (x : CodeLine) → drop p (lines_of f) ≡ x ∷ xs → Fits (x ∷ xs)
+  fits_there x at = subst Fits at (fits_drop p (lines_of f) (fits f))
+
+  agree_there : (x : CodeLine) → drop p (lines_of f) ≡ x ∷ xs →
+      Agree (lines_of f) p (tail_of xs).waits (jumps_from (p + 1) xs).waits
+  agree_there x at =
+      sooner (lines_of f) p (tail_of xs).waits (jumps_from (p + 1) xs).waits
+      (agree (lines_of f) (p + 1) xs (next_lines (lines_of f) p x xs at) (fits_there x at).1)
+
+  target_there : (x : CodeLine) → drop p (lines_of f) ≡ x ∷ xs →
+      target_at (lines_of f) p ≡ target_in (slice_get (jumps_before x.item p (jumps_from (p + 1) xs)).list 0)
+  unfolding targets_of jumps_from
+  target_there x at =
+      let same : 0 + p ≡ p = omega arith in
+      target_from (lines_of f) 0 p x xs at
+      ∙ ap (λ n. target_in (slice_get (jumps_from n (x ∷ xs)).list 0)) same
+
+  pub else_passes : drop p (lines_of f) ≡ line_of code_item.Else l ∷ xs → PassesElse (lines_of f) p
+  unfolding tail_of
+  else_passes at =
+      passes_by (lines_of f) p l (tail_of xs).body (tail_of xs).waits (jumps_from (p + 1) xs).waits
+      (fits_there (line_of code_item.Else l) at).0 (agree_there (line_of code_item.Else l) at)
+      (target_there (line_of code_item.Else l) at) (ap remaining at)
+
+  pub if_chooses : drop p (lines_of f) ≡ line_of code_item.If l ∷ xs → Chooses (lines_of f) p l
+  unfolding tail_of
+  if_chooses at =
+      chooses_by (lines_of f) p l (tail_of xs).body (tail_of xs).waits (jumps_from (p + 1) xs).waits
+      (fits_there (line_of code_item.If l) at).0 (agree_there (line_of code_item.If l) at)
+      (target_there (line_of code_item.If l) at) (ap remaining at)
+      (ap remaining (next_lines (lines_of f) p (line_of code_item.If l) xs at))
+
+-- ---- an instruction and an ENDIF
+
+pub remaining_do : (i : Item) (l : ℕ) (xs : List CodeLine) →
+    remaining (instruction_line i l ∷ xs) ≡ Do i l (remaining xs)
+unfolding tail_of then_body
+remaining_do i l xs = refl
+
+pub remaining_endif : (l : ℕ) (xs : List CodeLine) → remaining (line_of code_item.Endif l ∷ xs) ≡ remaining xs
+unfolding tail_of then_body
+remaining_endif l xs = refl
+
+pub remaining_nothing : remaining [] ≡ End
+unfolding tail_of then_body
+remaining_nothing = refl

@@ -1,0 +1,173 @@
+-- Lists that are kept backwards.
+use Rattle.std.proofs.Common.{◌≡◌, ℕ, ◌+◌, ◌-◌, ◌≤◌, List, ◌++◌, length, take, drop, sym, ◌∙◌, ap}
+use Rattle.std.proofs.Common.{arith, append_assoc, length-append, length-drop, length-take-le}
+use Rattle.std.specs.Prelude.{reverse}
+use Rattle.std.proofs.lemmas.List.{reverse-append, reverse-reverse, length-reverse, take-append-drop, take_at, drop_at}
+use Rattle.vcode_base.specs.declared.op.StackMove.{StackMove}
+use Rattle.vcode_base.specs.declared.op.StackMove.TheVariants.{Copy, Pop, MoveToTop}
+use Rattle.vcode_base.specs.Motions.{entries_after_move}
+use Rattle.job_steps.specs.Motions.{top_entries, stack_after_move}
+use Rattle.job_steps.specs.Piles.{PileState}
+
+-- without its last elements
+pub reverse_front : {T : Type 0} (xs : List T) (n : ℕ) → n ≤ length xs →
+    reverse (take (length xs - n) xs) ≡ drop n (reverse xs)
+reverse_front xs n h =
+    let k = length xs - n in
+    let whole : reverse xs ≡ reverse (drop k xs) ++ reverse (take k xs) =
+    ap reverse (sym (take-append-drop k xs)) ∙ reverse-append (take k xs) (drop k xs) in
+    let long : length (reverse (drop k xs)) ≡ n = omega (arith, length-reverse (drop k xs), length-drop k xs) in
+    sym (ap (drop n) whole ∙ drop_at (reverse (drop k xs)) (reverse (take k xs)) n long)
+
+-- what a motion takes, in three parts from the bottom up
+module _ {E : Type 0} (base low up : List E) where
+  stack : List E
+  stack = reverse (base ++ (low ++ up))
+
+  in_parts : reverse (base ++ (low ++ up)) ≡ reverse up ++ (reverse low ++ reverse base)
+  in_parts =
+      reverse-append base (low ++ up)
+      ∙ (ap (λ xs. xs ++ reverse base) (reverse-append low up)
+      ∙ append_assoc (reverse up) (reverse low) (reverse base))
+
+  under : drop (length up) (reverse (base ++ (low ++ up))) ≡ reverse low ++ reverse base
+  under = ap (drop (length up)) in_parts
+      ∙ drop_at (reverse up) (reverse low ++ reverse base) (length up) (length-reverse up)
+
+  uppers : top_entries (length up) (reverse (base ++ (low ++ up))) ≡ up
+  uppers = ap (top_entries (length up)) in_parts
+      ∙ (ap reverse (take_at (reverse up) (reverse low ++ reverse base) (length up) (length-reverse up))
+      ∙ reverse-reverse up)
+
+  lowers : top_entries (length low) (drop (length up) (reverse (base ++ (low ++ up)))) ≡ low
+  lowers = ap (top_entries (length low)) under
+      ∙ (ap reverse (take_at (reverse low) (reverse base) (length low) (length-reverse low)) ∙ reverse-reverse low)
+
+  rest : drop (length low) (drop (length up) (reverse (base ++ (low ++ up)))) ≡ reverse base
+  rest = ap (drop (length low)) under ∙ drop_at (reverse low) (reverse base) (length low) (length-reverse low)
+
+  pub moved : (motion : StackMove) → reverse (base ++ entries_after_move motion low up)
+      ≡ stack_after_move motion (length low) (length up) (reverse (base ++ (low ++ up)))
+  moved motion =
+      reverse-append base (entries_after_move motion low up)
+      ∙ sym (ap (λ xs. reverse (entries_after_move motion xs (top_entries (length up) (reverse (base ++ (low ++ up)))))
+      ++ drop (length low) (drop (length up) (reverse (base ++ (low ++ up))))) lowers
+      ∙ (ap (λ xs. reverse (entries_after_move motion low xs)
+      ++ drop (length low) (drop (length up) (reverse (base ++ (low ++ up))))) uppers
+      ∙ ap (λ xs. reverse (entries_after_move motion low up) ++ xs) rest))
+
+-- ---- as a Vec has them
+
+-- the entries that lie on those below a motion's, the lower ones and the upper ones
+module _ {E : Type 0} (xs : List E) (lower upper : ℕ) (there : lower + upper ≤ length xs) where
+  abbrev below : ℕ
+  below = length xs - (lower + upper)
+
+  abbrev tail : List E
+  tail = drop below xs
+
+  long_tail : length tail ≡ lower + upper
+  long_tail = omega (arith, length-drop below xs)
+
+  abbrev low : List E
+  low = take lower tail
+
+  abbrev up : List E
+  up = drop lower tail
+
+  long_low : length low ≡ lower
+  long_low = omega (arith, length-take-le lower tail, long_tail)
+
+  long_up : length up ≡ upper
+  long_up = omega (arith, length-drop lower tail, long_tail)
+
+  in_three : xs ≡ take below xs ++ (low ++ up)
+  in_three = sym (ap (λ ys. take below xs ++ ys) (take-append-drop lower tail) ∙ take-append-drop below xs)
+
+  moved_by : (motion : StackMove) → reverse (take below xs ++ entries_after_move motion low up)
+      ≡ stack_after_move motion lower upper (reverse xs)
+  moved_by motion =
+      moved (take below xs) low up motion
+      ∙ (ap (λ n. stack_after_move motion n (length up) (reverse (take below xs ++ (low ++ up)))) long_low
+      ∙ (ap (λ n. stack_after_move motion lower n (reverse (take below xs ++ (low ++ up)))) long_up
+      ∙ ap (λ ys. stack_after_move motion lower upper (reverse ys)) (sym in_three)))
+
+  -- the lower ones once more behind all
+  pub copied : reverse (xs ++ low) ≡ stack_after_move Copy lower upper (reverse xs)
+  copied =
+      ap reverse (ap (λ ys. ys ++ low) in_three
+      ∙ (append_assoc (take below xs) (low ++ up) low
+      ∙ ap (λ ys. take below xs ++ ys) (append_assoc low up low)))
+      ∙ moved_by Copy
+
+  -- the lower ones behind the others
+  pub turned : reverse (take below xs ++ (up ++ low)) ≡ stack_after_move MoveToTop lower upper (reverse xs)
+  turned = moved_by MoveToTop
+
+  long_kept : length (take below xs ++ up) ≡ length xs - lower
+  long_kept = omega (arith, length-append (take below xs) up, long_up, length-take-le below xs (omega arith))
+
+  -- and without them
+  pub popped : reverse (take (length xs - lower) (take below xs ++ (up ++ low)))
+      ≡ stack_after_move Pop lower upper (reverse xs)
+  popped =
+      ap (λ ys. reverse (take (length xs - lower) ys)) (sym (append_assoc (take below xs) up low))
+      ∙ (ap reverse (take_at (take below xs ++ up) low (length xs - lower) long_kept) ∙ moved_by Pop)
+
+-- ---- what a pile is then
+
+abbrev pile : {E : Type 0} → List E → ℕ → PileState E
+pile xs room = record { entries = reverse xs; room = room }
+
+module _ {E : Type 0} (old : PileState E) (xs ys : List E) (room : ℕ) (is : pile xs room ≡ old) where
+  same_entries : reverse xs ≡ old.entries
+  same_entries = ap (λ (p : PileState E). p.entries) is
+
+  pub long_entries : length xs ≡ length old.entries
+  long_entries = omega (arith, length-reverse xs, ap length same_entries)
+
+  with_entries : (F : List E → List E) → reverse ys ≡ F (reverse xs) →
+      pile ys room ≡ record old { entries = F old.entries }
+  with_entries F h =
+      (λ k. let p : PileState E = record { entries = h k; room = room } in p)
+      ∙ ap (λ (p : PileState E). let q : PileState E = record p { entries = F p.entries } in q) is
+
+  pub lowered : (count n : ℕ) → count ≤ length old.entries → n ≡ length xs - count → ys ≡ take n xs →
+      pile ys room ≡ record old { entries = drop count old.entries }
+  lowered count n there long h =
+      with_entries (drop count)
+      (ap reverse (h ∙ ap (λ m. take m xs) long) ∙ reverse_front xs count (omega (arith, long_entries)))
+
+  module _ (lower upper place : ℕ) (there : lower + upper ≤ length old.entries)
+      (at : place ≡ length xs - (lower + upper)) where
+    enough : lower + upper ≤ length xs
+    enough = omega (arith, long_entries)
+
+    shifted_by : (motion : StackMove) → reverse ys ≡ stack_after_move motion lower upper (reverse xs) →
+        pile ys room ≡ record old { entries = stack_after_move motion lower upper old.entries }
+    shifted_by motion = with_entries (stack_after_move motion lower upper)
+
+    pub shifted_copy : ys ≡ xs ++ take lower (drop place xs) →
+        pile ys room ≡ record old { entries = stack_after_move Copy lower upper old.entries }
+    shifted_copy h =
+        shifted_by Copy (ap reverse (h ∙ ap (λ n. xs ++ take lower (drop n xs)) at) ∙ copied xs lower upper enough)
+
+    pub shifted_top : ys ≡ take place xs ++ (drop lower (drop place xs) ++ take lower (drop place xs)) →
+        pile ys room ≡ record old { entries = stack_after_move MoveToTop lower upper old.entries }
+    shifted_top h =
+        shifted_by MoveToTop
+        (ap reverse (h ∙ ap (λ n. take n xs ++ (drop lower (drop n xs) ++ take lower (drop n xs))) at)
+        ∙ turned xs lower upper enough)
+
+    pub shifted_pop : (zs : List E) (n : ℕ) →
+        zs ≡ take place xs ++ (drop lower (drop place xs) ++ take lower (drop place xs)) →
+        n ≡ length xs - lower → ys ≡ take n zs →
+        pile ys room ≡ record old { entries = stack_after_move Pop lower upper old.entries }
+    shifted_pop zs n h long k =
+        shifted_by Pop
+        (ap reverse
+        (k ∙ (ap (take n) (h ∙ ap (λ m. take m xs ++ (drop lower (drop m xs) ++ take lower (drop m xs))) at)
+        ∙ ap (λ m. take m (take (length xs - (lower + upper)) xs
+        ++ (drop lower (drop (length xs - (lower + upper)) xs) ++ take lower (drop (length xs - (lower + upper)) xs))))
+        long))
+        ∙ popped xs lower upper enough)

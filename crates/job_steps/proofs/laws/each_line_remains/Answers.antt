@@ -1,0 +1,5 @@
+use Rattle.job_steps.proofs.Remains.{each_line_remains}
+use Rattle.job_steps.proofs.laws.each_line_remains.Goals as goal
+
+pub returns : goal.returns
+returns c = each_line_remains

@@ -1,0 +1,38 @@
+use Rattle.std.proofs.Common.{◌≡◌, ◌+◌, ◌-◌, length, arith}
+use Rattle.job_steps.proofs.Turns.{shifted_copy, shifted_pop, shifted_top}
+use Rattle.job_steps.proofs.pile.Pile.shift.Goals as goal
+
+pub returns-in-Copy : goal.returns-in-Copy
+returns-in-Copy g c =
+    let i = c.self.inside in
+    let xs = i.entries.items in
+    let at : c.len.result - (c.args.lower + c.args.upper) ≡ length xs - (c.args.lower + c.args.upper) =
+    omega (arith, c.len.ensures) in
+    let whole = shifted_copy c.args.self.now xs c.copy_lower.new.entries.items i.room c.self.view_is
+    c.args.lower c.args.upper (c.len.result - (c.args.lower + c.args.upper)) c.requires.there at
+    c.copy_lower.ensures.items in
+    rw c.in-Copy.is whole
+
+pub returns-in-Pop : goal.returns-in-Pop
+returns-in-Pop g c =
+    let i = c.self.inside in
+    let xs = i.entries.items in
+    let at : c.len.result - (c.args.lower + c.args.upper) ≡ length xs - (c.args.lower + c.args.upper) =
+    omega (arith, c.len.ensures) in
+    let kept : c.len-in-Pop.result - c.args.lower ≡ length xs - c.args.lower =
+    omega (arith, c.len-in-Pop.ensures, c.turn.ensures.len) in
+    let whole = shifted_pop c.args.self.now xs c.truncate.new.self.items i.room c.self.view_is
+    c.args.lower c.args.upper (c.len.result - (c.args.lower + c.args.upper)) c.requires.there at
+    c.turn.new.entries.items (c.len-in-Pop.result - c.args.lower) c.turn.ensures.items kept c.truncate.ensures.items in
+    rw c.in-Pop.is whole
+
+pub returns-in-MoveToTop : goal.returns-in-MoveToTop
+returns-in-MoveToTop g c =
+    let i = c.self.inside in
+    let xs = i.entries.items in
+    let at : c.len.result - (c.args.lower + c.args.upper) ≡ length xs - (c.args.lower + c.args.upper) =
+    omega (arith, c.len.ensures) in
+    let whole = shifted_top c.args.self.now xs c.turn-in-MoveToTop.new.entries.items i.room c.self.view_is
+    c.args.lower c.args.upper (c.len.result - (c.args.lower + c.args.upper)) c.requires.there at
+    c.turn-in-MoveToTop.ensures.items in
+    rw c.in-MoveToTop.is whole

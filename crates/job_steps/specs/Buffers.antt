@@ -1,0 +1,27 @@
+-- The operands of a step, copied one behind another.
+use Rattle.std.specs.Prelude.{◌≡◌, ℕ, ℤ, ◌≤◌, List, length, take, sum, sum_by}
+use Rattle.std.specs.List.{All}
+use Rattle.vcode_base.specs.Segments.{pieces_of}
+use Rattle.job_steps.specs.declared.operands.TheConstants.{MOST_OPERANDS}
+
+-- the lists that were loaded, into room for so many words
+pub record OperandLists : Type 0 where
+  pub room : ℕ
+  pub lists : List (List ℤ)
+
+-- the first of the lists of these lengths that stand in the words one behind another
+abbrev pub lists_in : ℕ → List ℕ → List ℤ → List (List ℤ)
+lists_in count lengths words = take count (pieces_of lengths words)
+
+-- there is a length for each operand, as many are loaded at most, and they have room in so many words
+pub record LengthsFit (room count : ℕ) (lengths : List ℕ) : Type 0 where
+  pub for_each : length lengths ≡ MOST_OPERANDS
+  pub some : count ≤ MOST_OPERANDS
+  pub within : sum lengths ≤ room
+
+abbrev pub length_of_all : List (List ℤ) → ℕ
+length_of_all lists = sum_by length lists
+
+-- none of them has more words than this
+abbrev pub HaveAtMost : ℕ → List (List ℤ) → Type 0
+HaveAtMost words lists = All (λ list. length list ≤ words) lists

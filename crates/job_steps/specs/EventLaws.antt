@@ -1,0 +1,247 @@
+-- What holds of jobs under events, whatever their order.
+use Rattle.std.specs.Prelude.{◌≡◌, ◌≢◌, ◌⊎◌, ℕ, ◌+◌, ◌*◌, ◌<◌, ◌≤◌, true, false, List, ◌∷◌, ◌++◌, length, All}
+use Rattle.std.specs.Prelude.{Some, None, is_some}
+use Rattle.vcode_base.specs.Instructions.{op_of}
+use Rattle.vcode_base.specs.Meaning.{value_fault}
+use Rattle.signatures.specs.Signatures.{Signature}
+use Rattle.job_steps.specs.declared.event.Event.{Event}
+use Rattle.job_steps.specs.declared.event.Event.TheVariants.{Begin, Recall}
+use Rattle.job_steps.specs.Events.{early_end, next_standing, named_job, job_of, is_open, after_event, after_events}
+use Rattle.job_steps.specs.Events.{recalled_standings, all_recalls, LeadTo, is_recall, AreOpen, event_count}
+use Rattle.job_steps.specs.Events.{all_events_left}
+use Rattle.job_steps.specs.Reached.{IsVerifiedTask, IsWithin}
+use Rattle.job_steps.specs.Runs.{state_after, outcome, executed_count, peak}
+use Rattle.job_steps.specs.Standings.{Standing, Waiting, Live, InFlight, Ended, Collected, of_job, with_standing}
+use Rattle.job_steps.specs.Standings.{first_standings, reserved_words, granted_words, admission, executed_at, peak_at}
+use Rattle.job_steps.specs.Standings.{held_by, used_words}
+use Rattle.job_steps.specs.States.{Task, Active, State}
+use Rattle.job_steps.specs.Steps.{Ending, Running, Over, next_item, sources_of, question_of, flag_of, can_run}
+use Rattle.job_steps.specs.Steps.{calls_after, progress_by}
+
+-- ---- one step in two halves
+
+-- an end before the values are looked at is the job's end
+pub record IsEndAt (task : Task) (n : ℕ) (s : State) (ending : Ending) : Type 0 where
+  pub over : state_after task (n + 1) ≡ Over ending n s.peak
+  pub outcome_is : outcome task ≡ ending
+  pub executed_is : executed_count task ≡ n
+  pub peak_is : peak task ≡ s.peak
+
+abbrev pub EarlyEndsEnd : Type 0
+EarlyEndsEnd =
+    (signatures : List Signature) (task : Task) → IsVerifiedTask signatures task →
+    (n : ℕ) (s : State) (ending : Ending) → state_after task n ≡ Running s → early_end task s ≡ Some ending →
+    IsEndAt task n s ending
+
+-- the next instruction is decided by its values alone
+pub record IsReady (task : Task) (n : ℕ) (s : State) : Type 0 where
+  pub unspent : n < task.limits.budget
+  pub call : Active
+  pub outer : List Active
+  pub calls : s.calls ≡ call ∷ outer
+  pub runs : can_run task (next_item call).item s.stack ≡ true
+  pub next :
+      state_after task (n + 1) ≡ progress_by
+      (value_fault (op_of (next_item call).item) (sources_of (next_item call).item s.stack)) (next_item call) s
+      (calls_after task (flag_of (question_of (next_item call).item s.stack)) call.rest call.ret outer)
+
+abbrev pub OthersAreReady : Type 0
+OthersAreReady =
+    (signatures : List Signature) (task : Task) → IsVerifiedTask signatures task →
+    (n : ℕ) (s : State) → state_after task n ≡ Running s → early_end task s ≡ None → IsReady task n s
+
+-- ---- one event
+
+-- an event of a job is decided by the job's task and standing, and changes that standing alone
+pub record ChangesItsJob (region : ℕ) (tasks : List Task) (event : Event) (standings : List Standing) (job : ℕ)
+    (task : Task) (old : Standing) : Type 0 where
+  pub open_where : is_open region tasks event standings ≡ is_some (next_standing event task old)
+  pub passed : next_standing event task old ≡ None → after_event region tasks event standings ≡ standings
+  pub changed : (new : Standing) → next_standing event task old ≡ Some new →
+      after_event region tasks event standings ≡ with_standing job new standings
+
+abbrev pub EventsChangeTheirJob : Type 0
+EventsChangeTheirJob =
+    (region : ℕ) (tasks : List Task) (event : Event) (standings : List Standing) (job : ℕ) (task : Task)
+    (old : Standing) → job_of region tasks event standings ≡ Some job → of_job job tasks ≡ Some task →
+    of_job job standings ≡ Some old → ChangesItsJob region tasks event standings job task old
+
+-- an event that isn't open, as is one of a job that there isn't, changes nothing
+abbrev pub ClosedChangeNothing : Type 0
+ClosedChangeNothing =
+    (region : ℕ) (tasks : List Task) (event : Event) (standings : List Standing) →
+    is_open region tasks event standings ≡ false → after_event region tasks event standings ≡ standings
+
+-- there is no such job
+abbrev pub MissingAreClosed : Type 0
+MissingAreClosed =
+    (region : ℕ) (tasks : List Task) (event : Event) (standings : List Standing) (job : ℕ) →
+    named_job event ≡ Some job → of_job job standings ≡ None → is_open region tasks event standings ≡ false
+
+-- the job that is admitted next waits, and has room beside what is granted
+pub record HasRoom (region : ℕ) (tasks : List Task) (standings : List Standing) (job : ℕ) : Type 0 where
+  pub task : Task
+  pub task_is : of_job job tasks ≡ Some task
+  pub waits : of_job job standings ≡ Some Waiting
+  pub room : granted_words tasks standings + task.limits.words ≤ region
+
+abbrev pub AdmittedHaveRoom : Type 0
+AdmittedHaveRoom =
+    (region : ℕ) (tasks : List Task) (standings : List Standing) (job : ℕ) →
+    admission region tasks standings ≡ Some job → HasRoom region tasks standings job
+
+-- ---- where events lead
+
+-- some signatures verify the task's program
+abbrev pub IsVerified : Task → Type 0
+IsVerified task = (signatures : List Signature) × IsVerifiedTask signatures task
+
+-- after so many instructions the job runs, within its budget
+pub record IsRunning (task : Task) (n : ℕ) : Type 0 where
+  pub state : State
+  pub running : state_after task n ≡ Running state
+  pub budget : n ≤ task.limits.budget
+
+-- and a step of it has begun, since nothing ends it before its values are looked at
+pub record HasBegun (task : Task) (n : ℕ) : Type 0 where
+  pub run : IsRunning task n
+  pub goes_on : early_end task run.state ≡ None
+
+-- a job stands where its run alone is
+abbrev pub StandsOnRun : Task → Standing → Type 0
+StandsOnRun task Waiting = Unit {0}
+StandsOnRun task (Live n) = IsRunning task n
+StandsOnRun task (InFlight n) = HasBegun task n
+StandsOnRun task Ended = IsWithin task
+StandsOnRun task Collected = IsWithin task
+
+-- each job stands on its run alone, and the words that are granted are at most the region
+pub record AreKept (region : ℕ) (tasks : List Task) (standings : List Standing) : Type 0 where
+  pub same_length : length standings ≡ length tasks
+  pub on_run : (job : ℕ) (task : Task) (standing : Standing) → of_job job tasks ≡ Some task →
+      of_job job standings ≡ Some standing → StandsOnRun task standing
+  pub granted : granted_words tasks standings ≤ region
+
+abbrev pub FirstAreKept : Type 0
+FirstAreKept = (region : ℕ) (tasks : List Task) → AreKept region tasks (first_standings tasks)
+
+abbrev pub EventsKeep : Type 0
+EventsKeep =
+    (region : ℕ) (tasks : List Task) → All IsVerified tasks →
+    (events : List Event) (standings : List Standing) → AreKept region tasks standings →
+    AreKept region tasks (after_events region tasks events standings)
+
+abbrev pub RecallsKeep : Type 0
+RecallsKeep =
+    (region : ℕ) (tasks : List Task) (standings : List Standing) → AreKept region tasks standings →
+    AreKept region tasks (recalled_standings standings)
+
+-- a job that an event leaves ended is over after one instruction more than it had executed
+abbrev pub EndedAreOver : Type 0
+EndedAreOver =
+    (task : Task) → IsVerified task →
+    (event : Event) (old : Standing) → StandsOnRun task old → next_standing event task old ≡ Some Ended →
+    state_after task (executed_at task old + 1) ≡ Over (outcome task) (executed_count task) (peak task)
+
+-- what a job has executed and needed is within its limits
+pub record UsesWithin (task : Task) (standing : Standing) : Type 0 where
+  pub budget : executed_at task standing ≤ task.limits.budget
+  pub words : peak_at task standing ≤ task.limits.words
+  pub held : held_by task standing ≤ reserved_words task standing
+
+abbrev pub UseIsWithin : Type 0
+UseIsWithin =
+    (task : Task) → IsVerified task → (standing : Standing) → StandsOnRun task standing → UsesWithin task standing
+
+-- the vectors of all jobs have room in what is granted
+abbrev pub UsedIsGranted : Type 0
+UsedIsGranted =
+    (tasks : List Task) → All IsVerified tasks → (standings : List Standing) →
+    used_words tasks standings ≤ granted_words tasks standings
+
+-- ---- events go on, and come to an end
+
+-- unless all jobs are collected, some event is open that is no recall
+abbrev pub EventsGoOn : Type 0
+EventsGoOn =
+    (region : ℕ) (tasks : List Task) → All (λ task. task.limits.words ≤ region) tasks →
+    (standings : List Standing) → length standings ≡ length tasks →
+    All (λ standing. standing ≡ Collected) standings
+    ⊎ ((event : Event) × (is_recall event ≡ false) × (is_open region tasks event standings ≡ true))
+
+-- what is left grows smaller by each open event that is no recall
+abbrev pub EventsUseUp : Type 0
+EventsUseUp =
+    (region : ℕ) (tasks : List Task) → All IsVerified tasks →
+    (event : Event) (standings : List Standing) → AreKept region tasks standings → is_recall event ≡ false →
+    is_open region tasks event standings ≡ true →
+    all_events_left tasks (after_event region tasks event standings) < all_events_left tasks standings
+
+-- of open events without recalls there are no more than are left
+abbrev pub EventsEnd : Type 0
+EventsEnd =
+    (region : ℕ) (tasks : List Task) → All IsVerified tasks →
+    (events : List Event) (standings : List Standing) → AreKept region tasks standings →
+    AreOpen region tasks events standings → All (λ event. is_recall event ≡ false) events →
+    length events + all_events_left tasks (after_events region tasks events standings)
+    ≤ all_events_left tasks standings
+
+-- open events without recalls are few for each job, its admission counted
+abbrev pub EventsAreFew : Type 0
+EventsAreFew =
+    (region : ℕ) (tasks : List Task) → All IsVerified tasks →
+    (events : List Event) (standings : List Standing) → AreKept region tasks standings →
+    AreOpen region tasks events standings → All (λ event. is_recall event ≡ false) events →
+    (job : ℕ) (task : Task) → of_job job tasks ≡ Some task →
+    event_count region tasks events standings job ≤ 2 * task.limits.budget + 3
+
+-- ---- events of several jobs
+
+-- an event of one job leaves every other where it stood
+abbrev pub OthersStay : Type 0
+OthersStay =
+    (region : ℕ) (tasks : List Task) (event : Event) (standings : List Standing) (job : ℕ) →
+    job_of region tasks event standings ≢ Some job →
+    of_job job (after_event region tasks event standings) ≡ of_job job standings
+
+-- events that name two different jobs may change places, and neither opens or closes the other
+pub record AreApart (region : ℕ) (tasks : List Task) (one other : Event) (standings : List Standing) : Type 0 where
+  pub same :
+      after_event region tasks other (after_event region tasks one standings)
+      ≡ after_event region tasks one (after_event region tasks other standings)
+  pub one_open :
+      is_open region tasks one (after_event region tasks other standings) ≡ is_open region tasks one standings
+  pub other_open :
+      is_open region tasks other (after_event region tasks one standings) ≡ is_open region tasks other standings
+
+abbrev pub EventsCommute : Type 0
+EventsCommute =
+    (region : ℕ) (tasks : List Task) (standings : List Standing) (one other : Event) (job another : ℕ) →
+    named_job one ≡ Some job → named_job other ≡ Some another → job ≢ another →
+    AreApart region tasks one other standings
+
+-- a begin and a recall behind it change nothing
+abbrev pub RecallUndoesBegin : Type 0
+RecallUndoesBegin =
+    (region : ℕ) (tasks : List Task) (standings : List Standing) (job : ℕ) →
+    is_open region tasks (Begin job) standings ≡ true →
+    is_open region tasks (Recall job) (after_event region tasks (Begin job) standings) ≡ true →
+    after_event region tasks (Recall job) (after_event region tasks (Begin job) standings) ≡ standings
+
+-- events after events are their lists joined
+abbrev pub EventsJoin : Type 0
+EventsJoin =
+    (region : ℕ) (tasks : List Task) (earlier later : List Event) (standings : List Standing) →
+    after_events region tasks (earlier ++ later) standings
+    ≡ after_events region tasks later (after_events region tasks earlier standings)
+
+abbrev pub LeadsJoin : Type 0
+LeadsJoin =
+    (region : ℕ) (tasks : List Task) (old between new : List Standing) → LeadTo region tasks old between →
+    LeadTo region tasks between new → LeadTo region tasks old new
+
+-- a recall of each job gives up each step that has begun
+abbrev pub RecallsAreEvents : Type 0
+RecallsAreEvents =
+    (region : ℕ) (tasks : List Task) (standings : List Standing) → length standings ≡ length tasks →
+    after_events region tasks (all_recalls (length tasks)) standings ≡ recalled_standings standings

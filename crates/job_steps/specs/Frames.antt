@@ -1,0 +1,106 @@
+-- Where an active call goes on: a line of its function's code, and what of the function remains from there.
+use Rattle.std.specs.Prelude.{◌≡◌, ℕ, List, [], ◌∷◌, ◌++◌, drop, Option, Some, None, slice_get}
+use Rattle.vcode_base.specs.declared.instr.Instr.TheVariants.{If, Return}
+use Rattle.vcode_reader.specs.declared.line.CodeItem.{CodeItem}
+use Rattle.vcode_reader.specs.declared.line.CodeItem.TheVariants as code_item
+use Rattle.vcode_reader.specs.declared.line.Numbered.{Numbered}
+use Rattle.vcode_reader.specs.Decode.{Tail, Waits, ForElse, ForIf, tail_of, then_body}
+use Rattle.vcode_reader.specs.Trees.{Item, Body, End, Do, Choice, CodeLine, Function, line_of, lines_of}
+use Rattle.vcode_reader.specs.Trees.{instruction_line, body_lines}
+use Rattle.job_steps.specs.declared.frame.Frame.{Frame}
+use Rattle.job_steps.specs.States.{Active}
+
+-- ---- what remains of a function from one of its lines on
+
+-- what stands behind the IFs whose parts aren't over, the innermost first
+abbrev pub rest_behind : List Waits → Body
+rest_behind [] = End
+rest_behind (ForElse end rest ∷ waits) = then_body rest (rest_behind waits)
+rest_behind (ForIf second end rest ∷ waits) = then_body rest (rest_behind waits)
+
+-- the body that a tail of the code begins with, and what stands behind it
+abbrev pub rest_of_tail : Tail → Body
+rest_of_tail t = then_body t.body (rest_behind t.waits)
+
+-- what remains where these lines, up to the last of the function, are still to come
+abbrev pub remaining : List CodeLine → Body
+remaining lines = rest_of_tail (tail_of lines)
+
+-- neither an ELSE nor an ENDIF, which the code passes over
+abbrev pub IsStop : CodeItem Item → Type 0
+IsStop (code_item.Do i) = Unit {0}
+IsStop code_item.If = Unit {0}
+IsStop code_item.Else = ⊥
+IsStop code_item.Endif = ⊥
+
+-- the lines don't begin with one that is passed over
+abbrev pub StopAt : List CodeLine → Type 0
+StopAt [] = Unit {0}
+StopAt (x ∷ xs) = IsStop x.item
+
+-- the line that a body begins with, behind which stands RET
+abbrev pub first_line : Body → ℕ → CodeLine
+first_line End ret = instruction_line Return ret
+first_line (Do item line rest) ret = instruction_line item line
+first_line (Choice line first second end rest) ret = line_of code_item.If line
+
+-- the line that a call goes on with
+abbrev pub next_line : Active → CodeLine
+next_line call = first_line call.rest call.ret
+
+-- the instruction of a line
+abbrev pub instruction_in : CodeItem Item → Item
+instruction_in (code_item.Do i) = i
+instruction_in _ = If
+
+abbrev pub instruction_of : CodeLine → Numbered Item
+instruction_of x = line_of (instruction_in x.item) x.number
+
+-- ---- frames
+
+abbrev pub lines_at : Option Function → List CodeLine
+lines_at None = []
+lines_at (Some f) = lines_of f
+
+-- the lines of a frame's function from its place on
+abbrev pub lines_from : List Function → Frame → List CodeLine
+lines_from functions frame = drop frame.place (lines_at (slice_get functions frame.function))
+
+-- what remains of a call, with its RET
+abbrev pub with_return : Active → Body
+with_return call = then_body call.rest (Do Return call.ret End)
+
+-- a frame stands at a call where its lines are what remains of the call
+pub record Stands (functions : List Function) (frame : Frame) (call : Active) : Type 0 where
+  pub remains : remaining (lines_from functions frame) ≡ with_return call
+  pub stops : StopAt (lines_from functions frame)
+
+-- each frame stands at the call at its place, the innermost first
+abbrev pub StandAll : List Function → List Frame → List Active → Type 0
+StandAll functions [] [] = Unit {0}
+StandAll functions [] (call ∷ calls) = ⊥
+StandAll functions (frame ∷ frames) [] = ⊥
+StandAll functions (frame ∷ frames) (call ∷ calls) = Stands functions frame call × StandAll functions frames calls
+
+-- some call is active
+abbrev pub AreActive : List Function → List Frame → Type 0
+AreActive functions frames = (call : Active) × (outer : List Active) × StandAll functions frames (call ∷ outer)
+
+-- ---- what remains, line by line
+
+-- Nothing remains of no lines. An instruction remains with what is behind it, and so does an IF with its two parts; the
+-- code passes over an ELSE with the part behind it, and over an ENDIF.
+pub record LineRemains (item : Item) (line number end : ℕ) (first second : Body) (rest : List CodeLine) : Type 0 where
+  pub nothing : remaining [] ≡ End
+  pub instruction : remaining (instruction_line item line ∷ rest) ≡ Do item line (remaining rest)
+  pub begins : remaining (line_of code_item.If line ∷ (body_lines first
+      ++ line_of code_item.Else number ∷ (body_lines second ++ line_of code_item.Endif end ∷ rest)))
+      ≡ Choice line first second end (remaining rest)
+  pub passes : remaining (line_of code_item.Else number ∷ (body_lines second ++ line_of code_item.Endif end ∷ rest))
+      ≡ remaining rest
+  pub leaves : remaining (line_of code_item.Endif end ∷ rest) ≡ remaining rest
+
+abbrev pub EachLineRemains : Type 0
+EachLineRemains =
+    (item : Item) (line number end : ℕ) (first second : Body) (rest : List CodeLine) →
+    LineRemains item line number end first second rest

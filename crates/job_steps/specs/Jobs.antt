@@ -1,0 +1,20 @@
+-- What a job is told apart by.
+use Rattle.std.specs.Prelude.{ℕ, ◌≤◌, List, length, refl}
+use Rattle.std.specs.Coded.{Coded, code_by, coded_ℕ, coded×, coded_list}
+use Rattle.vcode_base.specs.declared.kind.Kind.{Kind}
+use Rattle.vcode_base.specs.declared.limits.Limits.{Limits}
+use Rattle.vcode_base.specs.declared.limits.TheConstants.{LONGEST_NAME}
+use Rattle.vcode_reader.specs.Trees.{CodeLine}
+use Rattle.verifier.specs.Typed.{TypedProgram, typed_program_code}
+use Rattle.job_steps.specs.States.{Task}
+
+-- neither empty nor too long
+abbrev pub IsName : List ℕ → Type 0
+IsName name = (1 ≤ length name) × (length name ≤ LONGEST_NAME)
+
+-- its name, its program and its limits
+abbrev pub task_code : Coded CodeLine → Coded Kind → Coded Limits → Coded Task
+task_code line kind limits =
+    code_by (List ℕ × (TypedProgram × Limits))
+    (coded× (coded_list coded_ℕ) (coded× (typed_program_code line kind) limits))
+    (λ t. (t.name, (t.verified, t.limits))) (λ p. record { name = p.0; verified = p.1.0; limits = p.1.1 }) (λ _. refl)

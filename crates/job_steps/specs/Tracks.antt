@@ -1,0 +1,118 @@
+-- Where a job stands in its run, with what names its vectors in place of the vectors.
+use Rattle.std.specs.Prelude.{◌≡◌, ℕ, ◌+◌, ◌<◌, ◌≤◌, max, Bool, List, [], ◌∷◌, length, Some}
+use Rattle.vcode_base.specs.declared.instr.Instr.TheVariants.{Call}
+use Rattle.vcode_base.specs.declared.limits.Limits.{Limits}
+use Rattle.vcode_base.specs.declared.op.Op.{Op}
+use Rattle.vcode_base.specs.Instructions.{op_of}
+use Rattle.vcode_base.specs.Kinds.{result_kinds}
+use Rattle.vcode_base.specs.declared.op.Op.TheVariants.{Move}
+use Rattle.vcode_reader.specs.declared.line.CodeItem.TheVariants as code_item
+use Rattle.vcode_reader.specs.Trees.{Item, Function}
+use Rattle.job_steps.specs.declared.frame.Frame.{Frame}
+use Rattle.job_steps.specs.Frames.{Stands, StandAll, next_line}
+use Rattle.job_steps.specs.Motions.{operand_count, stack_after}
+use Rattle.job_steps.specs.States.{Task, Active, State, Callee, callee_named, first_state}
+use Rattle.job_steps.specs.Steps.{Progress, Running, Over, Stuck, next_item, calls_after, question_of, flag_of}
+use Rattle.job_steps.specs.Steps.{words_at, progress_past}
+
+-- the limits; the cells, of which each names the vector of an entry, the top first; the frames, the innermost first; and
+-- what was used so far
+pub record Trace (C : Type 0) : Type 0 where
+  pub limits : Limits
+  pub cells : List C
+  pub frames : List Frame
+  pub executed : ℕ
+  pub peak : ℕ
+
+-- there is room for all the cells and frames that the limits let a job have
+pub record HasLimits (limits : Limits) (cells frames : ℕ) : Type 0 where
+  pub cells_are : cells ≡ limits.cells
+  pub frames_are : frames ≡ limits.calls
+
+abbrev pub functions_of : Task → List Function
+functions_of task = task.verified.program.functions
+
+-- nothing is done, and the frames stand at the first calls
+pub record IsFirst {C : Type 0} (task : Task) (t : Trace C) : Type 0 where
+  pub limits : t.limits ≡ task.limits
+  pub cells : t.cells ≡ []
+  pub executed : t.executed ≡ 0
+  pub peak : t.peak ≡ 0
+  pub frames : StandAll (functions_of task) t.frames (first_state task).calls
+
+-- the entries that an instruction takes are there
+abbrev pub IsDeep : Op → ℕ → Type 0
+IsDeep (Move motion lower upper) depth = lower + upper ≤ depth
+IsDeep op depth = operand_count op ≤ depth
+
+-- the function that a CALL names is there, and so is room for one call more
+abbrev pub CanCall : Task → Item → (active room : ℕ) → Type 0
+CanCall task (Call name) active room =
+    (callee : Callee) × (callee_named task.verified name ≡ Some callee) × (active < room)
+CanCall task item active room = Unit {0}
+
+-- the call of a function, of which nothing is done
+abbrev pub first_call : Callee → Active
+first_call callee = record { rest = callee.function.body; ret = callee.function.ret }
+
+-- a frame stands at a CALL of this function
+pub record IsCallOf (task : Task) (frame : Frame) (name : List ℕ) (callee : Callee) : Type 0 where
+  pub call : Active
+  pub stands : Stands (functions_of task) frame call
+  pub next : (next_line call).item ≡ code_item.Do (Call name)
+  pub is : callee_named task.verified name ≡ Some callee
+
+-- a call is active whose next instruction can be followed, where there is room for so many frames
+pub record CanFollow (task : Task) (frames : List Frame) (room : ℕ) : Type 0 where
+  pub call : Active
+  pub outer : List Active
+  pub stands : StandAll (functions_of task) frames (call ∷ outer)
+  pub called : CanCall task (next_item call).item (length frames) room
+
+-- the frames stand at the calls after the next instruction, whichever calls they stood at
+abbrev pub Follow : Task → Bool → List Frame → List Frame → Type 0
+Follow task flag old new =
+    (call : Active) (outer : List Active) → StandAll (functions_of task) old (call ∷ outer) →
+    StandAll (functions_of task) new (calls_after task flag call.rest call.ret outer)
+
+-- the instruction is executed, with these results and these words held and needed
+pub record Advances {C : Type 0} (task : Task) (op : Op) (flag : Bool) (results : List C) (words : ℕ)
+    (old new : Trace C) : Type 0 where
+  pub limits : new.limits ≡ old.limits
+  pub cells : new.cells ≡ stack_after op results old.cells
+  pub frames : Follow task flag old.frames new.frames
+  pub executed : new.executed ≡ old.executed + 1
+  pub peak : new.peak ≡ max old.peak words
+
+-- ---- tracks and states
+
+-- the track is where a running job is, but for what its cells name
+pub record IsAt {C : Type 0} (task : Task) (t : Trace C) (s : State) : Type 0 where
+  pub limits : t.limits ≡ task.limits
+  pub cells : length t.cells ≡ length s.stack
+  pub frames : StandAll (functions_of task) t.frames s.calls
+  pub executed : t.executed ≡ s.executed
+  pub peak : t.peak ≡ s.peak
+
+-- so is where a job was that has returned, after these instructions and with this peak
+pub record IsThrough {C : Type 0} (t : Trace C) (executed peak : ℕ) : Type 0 where
+  pub frames : t.frames ≡ []
+  pub executed_is : t.executed ≡ executed
+  pub peak_is : t.peak ≡ peak
+
+abbrev pub IsWhere : {C : Type 0} → Task → Trace C → Progress → Type 0
+IsWhere task t (Running s) = IsAt task t s
+IsWhere task t (Over ending executed peak) = IsThrough t executed peak
+IsWhere task t Stuck = ⊥
+
+-- A track that is where a job is, and is advanced by the job's next instruction, is where the job is after it.
+abbrev pub EachTrackFollows : Type 0 → Type 0
+EachTrackFollows C =
+    (task : Task) (t u : Trace C) (s : State) (call : Active) (outer : List Active) (results : List C) →
+    IsAt task t s → s.calls ≡ call ∷ outer →
+    IsDeep (op_of (next_item call).item) (length s.stack) →
+    length results ≡ length (result_kinds (op_of (next_item call).item)) →
+    Advances task (op_of (next_item call).item) (flag_of (question_of (next_item call).item s.stack)) results
+    (words_at (next_item call).item s) t u →
+    IsWhere task u (progress_past (next_item call).item s
+    (calls_after task (flag_of (question_of (next_item call).item s.stack)) call.rest call.ret outer))

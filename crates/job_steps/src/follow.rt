@@ -1,0 +1,97 @@
+//! The frames of the active calls after an instruction.
+
+ghost use Rattle.std.specs.Prelude.{◌≡◌, ◌<◌, ℕ, Bool, List, [], ◌∷◌, length, drop, slice_get, Some, IfOk};
+ghost use Rattle.vcode_reader.specs.declared.line.CodeItem.TheVariants as code_item;
+ghost use Rattle.job_steps.specs.Frames.{Stands, StandAll, next_line};
+ghost use Rattle.job_steps.specs.States.{Active, Callee, first_state};
+ghost use Rattle.job_steps.specs.Tracks.{CanFollow, Follow, IsCallOf, first_call, functions_of};
+
+use crate::frame::Frame;
+use crate::job::Job;
+use crate::pile::Pile;
+use std::alloc::{AllocError, Allocator};
+use vcode_base::{Instr, Instruction};
+use vcode_reader::CodeItem;
+
+/// The frame of the first line of `MAIN`, with room for as many as the job may have calls.
+pub(crate) fn first_frames<A: Allocator>(
+    alloc: A,
+    job: &Job<A>,
+) -> Result<Pile<Frame, A>, AllocError>
+    ensures room { IfOk result (λ frames. frames.room ≡ job.now.limits.calls) }
+    ensures stand { IfOk result (λ frames.
+        StandAll (functions_of job.now) frames.entries (first_state job.now).calls) }
+{
+    let main = main_frame(job);
+    let mut frames = Pile::new(alloc, job.limits().calls)?;
+    frames.push(main);
+    Ok(frames)
+}
+
+/// The frame of the first line of `MAIN`.
+fn main_frame<A: Allocator>(job: &Job<A>) -> Frame
+    ensures { StandAll (functions_of job.now) (result ∷ []) (first_state job.now).calls }
+{
+    let program = job.verified().program();
+    let _functions = program.functions();
+    Frame::first(program.position(b"MAIN").unwrap())
+}
+
+/// Follows the next instruction of the innermost call, whose flag is given where it is an `IF`.
+pub(crate) fn follow<A: Allocator>(frames: &mut Pile<Frame, A>, job: &Job<A>, flag: bool)
+    requires { CanFollow job.now frames.old.entries frames.old.room }
+    ensures room { frames.new.room ≡ frames.old.room }
+    ensures frames { Follow job.now flag frames.old.entries frames.new.entries }
+{
+    let program = job.verified().program();
+    let frame = frames.at(0);
+    match &frame.line(program).item {
+        CodeItem::Do(instruction) => follow_instruction(frames, job, frame, instruction),
+        _ => replace_top(frames, frame.chosen(program, flag)),
+    }
+}
+
+/// Follows the instruction of the innermost frame, which is no `IF`.
+fn follow_instruction<A: Allocator>(
+    frames: &mut Pile<Frame, A>,
+    job: &Job<A>,
+    frame: Frame,
+    instruction: &Instruction<A>,
+)
+    requires frame { slice_get frames.old.entries 0 ≡ Some frame }
+    requires line { (call : Active) → Stands (functions_of job.now) frame call
+        → (next_line call).item ≡ code_item.Do instruction.now }
+    requires calls { CanFollow job.now frames.old.entries frames.old.room }
+    ensures room { frames.new.room ≡ frames.old.room }
+    ensures frames { (flag : Bool) → Follow job.now flag frames.old.entries frames.new.entries }
+{
+    match instruction {
+        Instr::Return => frames.lower(1),
+        Instr::Call(_) => {
+            let callee = called(frame, job);
+            replace_top(frames, frame.next(job.verified().program()));
+            frames.push(callee);
+        }
+        _ => replace_top(frames, frame.next(job.verified().program())),
+    }
+}
+
+/// The first frame of the function that a `CALL` names.
+fn called<A: Allocator>(frame: Frame, job: &Job<A>) -> Frame
+    requires { (name : List ℕ) × (callee : Callee) × IsCallOf job.now frame name callee }
+    ensures { (name : List ℕ) (callee : Callee) → IsCallOf job.now frame name callee
+        → Stands (functions_of job.now) result (first_call callee) }
+{
+    let program = job.verified().program();
+    Frame::first(program.callee(frame.function, frame.place).unwrap())
+}
+
+/// The innermost call goes on here.
+fn replace_top<A: Allocator>(frames: &mut Pile<Frame, A>, frame: Frame)
+    requires { 0 < length frames.old.entries }
+    ensures { frames.new ≡ record frames.old { entries = frame ∷ drop 1 frames.old.entries } }
+{
+    let _depth = frames.len();
+    frames.lower(1);
+    frames.push(frame);
+}

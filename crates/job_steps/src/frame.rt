@@ -1,0 +1,126 @@
+//! Where an active call goes on.
+
+ghost use Rattle.std.specs.Prelude.{◌≡◌, ◌+◌, ◌<◌, ℕ, drop, length, MatchOption, Some, if◌then◌else◌};
+ghost use Rattle.std.specs.List.{slice_get};
+ghost use Rattle.vcode_reader.specs.Decode.{then_body};
+ghost use Rattle.vcode_reader.specs.Trees.{Item, Body, Do, Choice, lines_of};
+ghost use Rattle.job_steps.specs.Frames.{StopAt, Stands, remaining, next_line};
+ghost use Rattle.job_steps.specs.States.{Active};
+
+use std::alloc::Allocator;
+use vcode_reader::{CodeItem, CodeLine, Function, Program};
+
+/// A line of the code where an active call goes on: an instruction or an `IF`.
+#[derive(Clone, Copy, PartialEq, Eq, Debug)]
+pub struct Frame {
+    /// The place of its function in the program, counted from 0.
+    pub function: usize,
+    /// Its own place among the lines of the function, counted from 0.
+    pub place: usize,
+}
+
+impl Frame {
+    /// The first line of a function.
+    pub(crate) fn first(function: usize) -> Frame
+        ensures { result ≡ record { function = function; place = 0 } }
+    {
+        Frame { function, place: 0 }
+    }
+
+    /// Its line.
+    pub(crate) fn line<'a, A: Allocator>(self, program: &'a Program<A>) -> &'a CodeLine<A>
+        requires { (call : Active) × Stands program.now.functions self call }
+        ensures { (call : Active) → Stands program.now.functions self call → result.now ≡ next_line call }
+    {
+        &self.function(program).lines()[self.place]
+    }
+
+    /// The frame behind an instruction that goes on with what stands behind it.
+    pub(crate) fn next<A: Allocator>(self, program: &Program<A>) -> Frame
+        requires { (call : Active) × Stands program.now.functions self call }
+        ensures { (item : Item) (line ret : ℕ) (rest : Body)
+            → Stands program.now.functions self (record { rest = Do item line rest; ret = ret })
+            → Stands program.now.functions result (record { rest = rest; ret = ret }) }
+    {
+        let function = self.function(program);
+        Frame {
+            function: self.function,
+            place: settled(function, behind(function, self.place)),
+        }
+    }
+
+    /// The frame at the part of an `IF` that its flag chooses.
+    pub(crate) fn chosen<A: Allocator>(self, program: &Program<A>, flag: bool) -> Frame
+        requires { (call : Active) × Stands program.now.functions self call }
+        ensures { (line end ret : ℕ) (first second rest : Body)
+            → Stands program.now.functions self (record { rest = Choice line first second end rest; ret = ret })
+            → Stands program.now.functions result
+            (record { rest = then_body (if flag then first else second) rest; ret = ret }) }
+    {
+        let function = self.function(program);
+        Frame {
+            function: self.function,
+            place: settled(function, part(function, self.place, flag)),
+        }
+    }
+
+    /// Its function, which has a line at its place.
+    fn function<'a, A: Allocator>(self, program: &'a Program<A>) -> &'a Function<A>
+        requires { (call : Active) × Stands program.now.functions self call }
+        ensures function { slice_get program.now.functions self.function ≡ Some result.now }
+        ensures place { self.place < length (lines_of result.now) }
+    {
+        &program.functions()[self.function]
+    }
+}
+
+/// The place behind this one.
+fn behind<A: Allocator>(function: &Function<A>, place: usize) -> usize
+    requires { place < length (lines_of function.now) }
+    ensures { result ≡ place + 1 }
+{
+    let _lines = function.lines();
+    place + 1
+}
+
+/// The place where the part of an `IF` begins that its flag chooses.
+fn part<A: Allocator>(function: &Function<A>, place: usize, flag: bool) -> usize
+    requires { place < length (lines_of function.now) }
+    ensures { (line end : ℕ) (first second rest : Body)
+        → remaining (drop place (lines_of function.now)) ≡ Choice line first second end rest
+        → StopAt (drop place (lines_of function.now))
+        → remaining (drop result (lines_of function.now)) ≡ then_body (if flag then first else second) rest }
+{
+    let next = behind(function, place);
+    if flag {
+        next
+    } else {
+        function.target(place).unwrap_or(next)
+    }
+}
+
+/// The first place from this one on that the code stops at: at an `ELSE` or `ENDIF` it goes on at once.
+fn settled<A: Allocator>(function: &Function<A>, place: usize) -> usize
+    ensures same { remaining (drop result (lines_of function.now)) ≡ remaining (drop place (lines_of function.now)) }
+    ensures stops { StopAt (drop result (lines_of function.now)) }
+{
+    let mut here = place;
+    while let Some(next) = passed(function, here) {
+        here = next;
+    }
+    here
+}
+
+/// Where an `ELSE` or an `ENDIF` at this place goes on.
+fn passed<A: Allocator>(function: &Function<A>, place: usize) -> Option<usize>
+    ensures { MatchOption result
+        (StopAt (drop place (lines_of function.now)))
+        (λ next. (place < next) × (place < length (lines_of function.now))
+        × (remaining (drop next (lines_of function.now)) ≡ remaining (drop place (lines_of function.now)))) }
+{
+    match function.lines().get(place)?.item {
+        CodeItem::Do(_) | CodeItem::If => None,
+        CodeItem::Else => function.target(place),
+        CodeItem::Endif => Some(place + 1),
+    }
+}

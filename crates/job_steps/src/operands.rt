@@ -1,0 +1,133 @@
+//! Copies of the operands of a step.
+
+ghost use Rattle.std.specs.Prelude.{◌≡◌, ◌<◌, ◌≤◌, ◌↔◌, IsTrue, IfOk, [], length, map, take, sum};
+ghost use Rattle.vcode_base.specs.Meaning.{operand};
+ghost use Rattle.vcode_base.specs.Operands.{contents};
+ghost use Rattle.vcode_base.specs.Segments.{pieces_of};
+ghost use Rattle.job_steps.specs.Buffers.{length_of_all};
+
+use std::alloc::{AllocError, Allocator};
+use std::marker::Model;
+
+/// The most operands of an instruction: those of `DPERMUTE`.
+pub(crate) const MOST_OPERANDS: usize = 5;
+
+/// The operands of a step, copied one behind another into a buffer that keeps its length.
+///
+/// In a contract it is the lists that were loaded, and the room: the length of the buffer, in words.
+#[derive(Drop)]
+pub(crate) struct OperandBuffer<A: Allocator> {
+    buffer: Vec<i64, A>,
+    lengths: [usize; MOST_OPERANDS],
+    count: usize,
+}
+
+impl<A: Allocator> Model for OperandBuffer<A> {
+    ghost use Rattle.std.specs.Prelude.{length};
+    ghost use Rattle.job_steps.specs.Buffers.{OperandLists, LengthsFit, lists_in};
+
+    ghost Value = { OperandLists };
+
+    ghost view = { λ o. record { room = length o.buffer.items; lists = lists_in o.count o.lengths o.buffer.items } };
+
+    ghost invariant = { λ o. LengthsFit (length o.buffer.items) o.count o.lengths };
+}
+
+impl<A: Allocator> OperandBuffer<A> {
+    /// A buffer of `room` words, in which nothing is loaded.
+    pub(crate) fn new(alloc: A, room: usize) -> Result<OperandBuffer<A>, AllocError>
+        ensures { IfOk result (λ o. o ≡ record { room = room; lists = [] }) }
+    {
+        let buffer = vec![in alloc; 0; room]?;
+        Ok(OperandBuffer {
+            buffer,
+            lengths: [0; MOST_OPERANDS],
+            count: 0,
+        })
+    }
+
+    /// Copies these lists in place of those that were loaded before.
+    pub(crate) fn load(&mut self, lists: &[&[i64]])
+        requires few { length lists.now ≤ MOST_OPERANDS }
+        requires room { length_of_all (contents lists.now) ≤ self.old.room }
+        ensures { self.new ≡ record { room = self.old.room; lists = contents lists.now } }
+    {
+        self.lengths = lengths_of(lists);
+        self.count = lists.len();
+        copy_in_a_row(lists, self.buffer.as_mut_slice());
+    }
+
+    /// How many lists are loaded.
+    pub(crate) fn count(&self) -> usize
+        ensures { result ≡ length self.now.lists }
+    {
+        self.count
+    }
+
+    /// The lists, and behind them what stands there.
+    pub(crate) fn lists(&self) -> [&[i64]; MOST_OPERANDS]
+        ensures { take (length self.now.lists) (contents result) ≡ self.now.lists }
+    {
+        let [first_len, second_len, third_len, fourth_len, fifth_len] = self.lengths;
+        let (first, rest) = self.buffer.as_slice().split_at(first_len);
+        let (second, rest) = rest.split_at(second_len);
+        let (third, rest) = rest.split_at(third_len);
+        let (fourth, rest) = rest.split_at(fourth_len);
+        let (fifth, _) = rest.split_at(fifth_len);
+        [first, second, third, fourth, fifth]
+    }
+
+    /// Whether these are the lists.
+    pub(crate) fn holds(&self, lists: &[&[i64]]) -> bool
+        ensures { IsTrue result ↔ (self.now.lists ≡ contents lists.now) }
+    {
+        let held = self.lists();
+        &held[..self.count()] == lists
+    }
+
+    /// The list at this place, counted from 0.
+    pub(crate) fn list(&self, place: usize) -> &[i64]
+        requires { place < length self.now.lists }
+        ensures { result.now ≡ operand self.now.lists place }
+    {
+        self.lists()[place]
+    }
+}
+
+/// The lengths of the lists, and 0 at the places behind them.
+fn lengths_of(lists: &[&[i64]]) -> [usize; MOST_OPERANDS]
+    requires { length lists.now ≤ MOST_OPERANDS }
+    ensures lengths { take (length lists.now) result ≡ map length (contents lists.now) }
+    ensures sum { sum result ≡ length_of_all (contents lists.now) }
+{
+    [
+        length_at(lists, 0),
+        length_at(lists, 1),
+        length_at(lists, 2),
+        length_at(lists, 3),
+        length_at(lists, 4),
+    ]
+}
+
+/// The length of the list at this place, or 0 behind the last.
+fn length_at(lists: &[&[i64]], place: usize) -> usize
+    ensures { result ≡ length (operand (contents lists.now) place) }
+{
+    match lists.get(place) {
+        Some(list) => list.len(),
+        None => 0,
+    }
+}
+
+/// Copies the lists to the front of the buffer, one behind another.
+fn copy_in_a_row(lists: &[&[i64]], buffer: &mut [i64])
+    requires { length_of_all (contents lists.now) ≤ length buffer.old }
+    ensures { pieces_of (map length (contents lists.now)) buffer.new ≡ contents lists.now }
+{
+    let Some((first, others)) = lists.split_first() else {
+        return;
+    };
+    let (front, rest) = buffer.split_at_mut(first.len());
+    front.copy_from_slice(first);
+    copy_in_a_row(others, rest);
+}

@@ -1,0 +1,89 @@
+//! What every instruction computes, over slices that the caller lends.
+//!
+//! An instruction runs in three calls: [`shape`] says whether the lengths of its operands fit,
+//! [`need`] how many words its results have, and [`fill`] writes them. None of them takes memory.
+//! `IF` has no result; the motions of the stack, `CALL` and `RET` read no operand and have none either.
+
+ghost use Rattle.std.specs.Prelude.{◌≡◌, length, MatchResult, None, Some};
+ghost use Rattle.vcode_base.specs.Kinds.{HaveKinds, source_kinds};
+ghost use Rattle.vcode_base.specs.Meaning.{shape, need, value_fault, result_of, second_result_of};
+ghost use Rattle.vcode_base.specs.Operands.{contents};
+
+use vcode_base::{DataFault, Op};
+
+/// Whether the operands' lengths fit one another. It looks at no element but segment lengths.
+///
+/// `ops` has the operands of `op` from the bottom of the stack up, each of the kind that the
+/// instruction takes, which [`have_kinds`](vcode_base::have_kinds) tests: for `CONST` its list alone,
+/// and none for a motion of the stack, `CALL` and `RET`.
+///
+/// # Errors
+///
+/// [`LengthsDiffer`](DataFault::LengthsDiffer) where the operands of an elementwise instruction are
+/// not all of one length. [`NotSingle`](DataFault::NotSingle) where the flag of an `IF` is not a single
+/// one. [`SegmentCount`](DataFault::SegmentCount) where an operand has not one element a segment, or two
+/// descriptors have not equally many; else [`SegmentTotal`](DataFault::SegmentTotal) where an operand
+/// has not as many words as the segments of its descriptor together.
+#[tactic(auto, unfolding(vcode_base::specs::Meaning::shape))]
+pub fn shape(op: Op, ops: &[&[i64]]) -> Result<(), DataFault>
+    requires kinds { HaveKinds (source_kinds op) (contents ops.now) }
+    ensures { MatchResult result
+        (λ _. shape op (contents ops.now) ≡ None)
+        (λ fault. shape op (contents ops.now) ≡ Some fault) }
+{
+    match op {
+        Op::Const(_) | Op::Elementwise(_) => vector_ops::shape(op, ops),
+        Op::Segmented(_) => segment_ops::shape(op, ops),
+        Op::If if ops[0].len() != 1 => Err(DataFault::NotSingle),
+        Op::If | Op::Move(..) | Op::Call | Op::Return => Ok(()),
+    }
+}
+
+/// The lengths of the first and of the second result, in words: 0 where there is none.
+///
+/// `op` and `ops` are as for [`shape`], which has answered `Ok`. Nothing is made: the length of a
+/// result that no memory could hold is found as fast as any.
+#[tactic(auto, unfolding(vcode_base::specs::Meaning::need))]
+pub fn need(op: Op, ops: &[&[i64]]) -> (u64, u64)
+    requires kinds { HaveKinds (source_kinds op) (contents ops.now) }
+    requires shape { shape op (contents ops.now) ≡ None }
+    ensures { result ≡ need op (contents ops.now) }
+{
+    match op {
+        Op::Const(_) | Op::Elementwise(_) => vector_ops::need(op, ops),
+        Op::Segmented(_) => segment_ops::need(op, ops),
+        Op::If | Op::Move(..) | Op::Call | Op::Return => (0, 0),
+    }
+}
+
+/// Writes the results of the instruction.
+///
+/// `op` and `ops` are as for [`shape`], which has answered `Ok`, and `first` and `second` have the
+/// lengths that [`need`] answers.
+///
+/// # Errors
+///
+/// [`ZeroDivisor`](DataFault::ZeroDivisor) for a quotient or a remainder where a divisor is 0, and
+/// [`BadShift`](DataFault::BadShift) for a shift where one is outside `0..=63`.
+/// [`BadIndex`](DataFault::BadIndex) where an index is outside its segment, else
+/// [`IndexTwice`](DataFault::IndexTwice) where two elements of a segment go to one index.
+/// [`BadLength`](DataFault::BadLength) where a descriptor is made of a negative length or of lengths
+/// whose total is above [`MOST_TOTAL`](vcode_base::limits::MOST_TOTAL). What the results hold then is
+/// not said.
+#[tactic(auto, unfolding(vcode_base::specs::Meaning::need, vcode_base::specs::Meaning::value_fault, vcode_base::specs::Meaning::result_of, vcode_base::specs::Meaning::second_result_of))]
+pub fn fill(op: Op, ops: &[&[i64]], first: &mut [i64], second: &mut [i64]) -> Result<(), DataFault>
+    requires kinds { HaveKinds (source_kinds op) (contents ops.now) }
+    requires shape { shape op (contents ops.now) ≡ None }
+    requires room { need op (contents ops.now) ≡ (length first.old, length second.old) }
+    ensures { MatchResult result
+        (λ _. (value_fault op (contents ops.now) ≡ None)
+        × (first.new ≡ result_of op (contents ops.now))
+        × (second.new ≡ second_result_of op (contents ops.now)))
+        (λ fault. value_fault op (contents ops.now) ≡ Some fault) }
+{
+    match op {
+        Op::Const(_) | Op::Elementwise(_) => vector_ops::fill(op, ops, first, second),
+        Op::Segmented(_) => segment_ops::fill(op, ops, first, second),
+        Op::If | Op::Move(..) | Op::Call | Op::Return => Ok(()),
+    }
+}

@@ -1,0 +1,140 @@
+//! Entries one on another.
+
+ghost use Rattle.std.specs.Prelude.{◌≡◌, ◌+◌, ◌<◌, ◌≤◌, [], ◌∷◌, ◌++◌, length, take, drop, reverse, slice_get};
+ghost use Rattle.std.specs.Prelude.{Some, IfOk, vec_len, vec_capacity};
+ghost use Rattle.job_steps.specs.Motions.{stack_after_move, depth_after_move};
+
+use std::alloc::{AllocError, Allocator};
+use std::marker::Model;
+use vcode_base::StackMove;
+
+/// Entries one on another, with room for so many. Only [`new`](Pile::new) takes memory.
+#[derive(Drop)]
+pub(crate) struct Pile<T, A: Allocator> {
+    /// The top last.
+    entries: Vec<T, A>,
+    room: usize,
+}
+
+impl<T, A: Allocator> Model for Pile<T, A> {
+    ghost use Rattle.std.specs.Prelude.{reverse, length, vec_capacity};
+    ghost use Rattle.job_steps.specs.Piles.{PileState, HasRoom};
+
+    ghost Value = { PileState T };
+
+    ghost view = { λ p. record { entries = reverse p.entries.items; room = p.room } };
+
+    ghost invariant = { λ p. HasRoom (length p.entries.items) p.room (vec_capacity p.entries) };
+}
+
+impl<T: Copy, A: Allocator> Pile<T, A> {
+    /// No entry, with room for so many.
+    pub(crate) fn new(alloc: A, room: usize) -> Result<Pile<T, A>, AllocError>
+        ensures { IfOk result (λ p. p ≡ record { entries = []; room = room }) }
+    {
+        let entries = Vec::with_capacity(alloc, room)?;
+        Ok(Pile { entries, room })
+    }
+
+    /// How many entries there are.
+    pub(crate) fn len(&self) -> usize
+        ensures len { result ≡ length self.now.entries }
+        ensures within { result ≤ self.now.room }
+    {
+        let _room = self.room;
+        self.entries.len()
+    }
+
+    /// The entry at a depth, 0 at the top.
+    pub(crate) fn at(&self, depth: usize) -> T
+        requires { depth < length self.now.entries }
+        ensures { slice_get self.now.entries depth ≡ Some result }
+    {
+        self.entries[self.entries.len() - 1 - depth]
+    }
+
+    /// All entries, from the bottom up.
+    pub(crate) fn as_slice(&self) -> &[T]
+        ensures { result.now ≡ reverse self.now.entries }
+    {
+        &self.entries
+    }
+
+    /// Takes all entries off.
+    pub(crate) fn clear(&mut self)
+        ensures { self.new ≡ record self.old { entries = [] } }
+    {
+        self.entries.clear();
+    }
+
+    /// Puts one entry on the others.
+    pub(crate) fn push(&mut self, entry: T)
+        requires { length self.old.entries < self.old.room }
+        ensures { self.new ≡ record self.old { entries = entry ∷ self.old.entries } }
+    {
+        let Ok(()) = self.entries.push(entry) else {
+            unreachable!()
+        };
+    }
+
+    /// Puts these on the others, the last of them at the top.
+    pub(crate) fn extend(&mut self, entries: &[T])
+        requires { length self.old.entries + length entries.now ≤ self.old.room }
+        ensures { self.new ≡ record self.old { entries = reverse entries.now ++ self.old.entries } }
+    {
+        let Ok(()) = self.entries.extend_from_slice(entries) else {
+            unreachable!()
+        };
+    }
+
+    /// Takes so many off the top.
+    pub(crate) fn lower(&mut self, count: usize)
+        requires { count ≤ length self.old.entries }
+        ensures { self.new ≡ record self.old { entries = drop count self.old.entries } }
+    {
+        let below = self.entries.len() - count;
+        self.entries.truncate(below);
+    }
+
+    /// Moves the `lower` entries that lie below the top `upper`.
+    pub(crate) fn shift(&mut self, motion: StackMove, lower: usize, upper: usize)
+        requires there { lower + upper ≤ length self.old.entries }
+        requires room { depth_after_move motion lower (length self.old.entries) ≤ self.old.room }
+        ensures { self.new ≡ record self.old { entries = stack_after_move motion lower upper self.old.entries } }
+    {
+        let below = self.entries.len() - (lower + upper);
+        match motion {
+            StackMove::Copy => copy_lower(&mut self.entries, below, lower),
+            StackMove::Pop => {
+                turn(&mut self.entries, below, lower);
+                let kept = self.entries.len() - lower;
+                self.entries.truncate(kept);
+            }
+            StackMove::MoveToTop => turn(&mut self.entries, below, lower),
+        }
+    }
+}
+
+/// Puts the first `lower` entries from the place `below` on behind all entries once more, where there is room.
+fn copy_lower<T: Copy, A: Allocator>(entries: &mut Vec<T, A>, below: usize, lower: usize)
+    requires there { below + lower ≤ vec_len entries.old }
+    requires room { vec_len entries.old + lower ≤ vec_capacity entries.old }
+    ensures items { entries.new.items ≡ entries.old.items ++ take lower (drop below entries.old.items) }
+    ensures capacity { vec_capacity entries.old ≤ vec_capacity entries.new }
+{
+    let Ok(()) = entries.extend_from_within(below..below + lower) else {
+        unreachable!()
+    };
+}
+
+/// Moves the first `lower` entries from the place `below` on behind the others.
+fn turn<T, A: Allocator>(entries: &mut Vec<T, A>, below: usize, lower: usize)
+    requires { below + lower ≤ vec_len entries.old }
+    ensures items { entries.new.items
+        ≡ take below entries.old.items
+        ++ (drop lower (drop below entries.old.items) ++ take lower (drop below entries.old.items)) }
+    ensures len { vec_len entries.new ≡ vec_len entries.old }
+    ensures capacity { vec_capacity entries.new ≡ vec_capacity entries.old }
+{
+    entries[below..].rotate_left(lower);
+}

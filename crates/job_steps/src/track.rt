@@ -1,0 +1,192 @@
+//! Where a job stands in its run.
+
+ghost use Rattle.std.specs.Prelude.{◌≡◌, ◌+◌, ◌<◌, ◌≤◌, List, [], ◌∷◌, length, max, reverse, slice_get, Some, IfOk};
+ghost use Rattle.vcode_base.specs.declared.limits.TheConstants.{MOST_BUDGET};
+ghost use Rattle.vcode_base.specs.Kinds.{result_kinds};
+ghost use Rattle.job_steps.specs.Frames.{AreActive, StandAll, instruction_of, next_line};
+ghost use Rattle.job_steps.specs.Motions.{stack_after, depth_after};
+ghost use Rattle.job_steps.specs.States.{Active};
+ghost use Rattle.job_steps.specs.Steps.{memory_fault, next_item};
+ghost use Rattle.job_steps.specs.Tracks.{IsFirst, IsDeep, CanFollow, Advances};
+
+use crate::fault::memory_fault;
+use crate::follow::{first_frames, follow};
+use crate::frame::Frame;
+use crate::job::Job;
+use crate::pile::Pile;
+use std::alloc::{AllocError, Allocator};
+use std::marker::Model;
+use vcode_base::{Limits, MemoryFault, Op};
+use vcode_reader::{CodeLine, Program};
+
+/// Where a job stands in its run: the cells of its stack, each of which names the vector of an entry; the
+/// frames of its active calls; how many instructions it executed, and the most words that it held and
+/// needed at one of them.
+///
+/// All its memory is taken when it is made.
+#[derive(Drop)]
+pub struct Track<C, A: Allocator> {
+    limits: Limits,
+    cells: Pile<C, A>,
+    frames: Pile<Frame, A>,
+    executed: u64,
+    peak: usize,
+}
+
+impl<C, A: Allocator> Model for Track<C, A> {
+    ghost use Rattle.job_steps.specs.Tracks.{Trace, HasLimits};
+
+    ghost Value = { Trace C };
+
+    ghost view = { λ t. record { limits = t.limits; cells = t.cells.entries; frames = t.frames.entries; executed = t.executed; peak = t.peak } };
+
+    ghost invariant = { λ t. HasLimits t.limits t.cells.room t.frames.room };
+}
+
+impl<C: Copy, A: Allocator> Track<C, A> {
+    /// A job that has executed nothing, at the first line of its `MAIN`.
+    ///
+    /// Takes the memory for as many cells and calls as the job's limits allow; an error means that the
+    /// allocator refused it. No other call takes memory.
+    pub fn new(alloc: A, job: &Job<A>) -> Result<Track<C, A>, AllocError>
+    where
+        A: Clone,
+        ensures { IfOk result (IsFirst job.now) }
+    {
+        let limits = job.limits();
+        let cells = Pile::new(alloc.clone()?, limits.cells)?;
+        let frames = first_frames(alloc, job)?;
+        Ok(Track {
+            limits,
+            cells,
+            frames,
+            executed: 0,
+            peak: 0,
+        })
+    }
+
+    /// What the job may use.
+    pub fn limits(&self) -> Limits
+        ensures { result ≡ self.now.limits }
+    {
+        self.limits
+    }
+
+    /// How many entries the stack has.
+    pub fn depth(&self) -> usize
+        ensures depth { result ≡ length self.now.cells }
+        ensures within { result ≤ self.now.limits.cells }
+    {
+        self.cells.len()
+    }
+
+    /// How many calls are active.
+    pub fn calls(&self) -> usize
+        ensures calls { result ≡ length self.now.frames }
+        ensures within { result ≤ self.now.limits.calls }
+    {
+        self.frames.len()
+    }
+
+    /// How many instructions were executed.
+    pub fn executed(&self) -> u64
+        ensures { result ≡ self.now.executed }
+    {
+        self.executed
+    }
+
+    /// The most words that were held and needed at an instruction that was executed.
+    pub fn peak(&self) -> usize
+        ensures { result ≡ self.now.peak }
+    {
+        self.peak
+    }
+
+    /// The cell at a depth, 0 at the top.
+    pub fn cell(&self, depth: usize) -> C
+        requires { depth < length self.now.cells }
+        ensures { slice_get self.now.cells depth ≡ Some result }
+    {
+        self.cells.at(depth)
+    }
+
+    /// All cells, from the bottom up.
+    pub fn cells(&self) -> &[C]
+        ensures { result.now ≡ reverse self.now.cells }
+    {
+        self.cells.as_slice()
+    }
+
+    /// The line of the next instruction in the job's program. Some call has to be active.
+    pub fn line<'a>(&self, program: &'a Program<A>) -> &'a CodeLine<A>
+        requires { AreActive program.now.functions self.now.frames }
+        ensures line { (call : Active) (outer : List Active)
+            → StandAll program.now.functions self.now.frames (call ∷ outer) → result.now ≡ next_line call }
+        ensures item { (call : Active) (outer : List Active)
+            → StandAll program.now.functions self.now.frames (call ∷ outer)
+            → next_item call ≡ instruction_of result.now }
+    {
+        self.frames.at(0).line(program)
+    }
+
+    /// The first limit that an instruction would pass, where `words` is the number of words that are held and
+    /// needed: that of words, then of cells, then at a `CALL` that of calls. `None` where it passes none.
+    pub fn memory_fault(&self, op: Op, words: u64) -> Option<MemoryFault>
+        ensures { result ≡ memory_fault self.now.limits op words (depth_after op (length self.now.cells))
+            (length self.now.frames) }
+    {
+        memory_fault(&self.limits, op, words, self.depth(), self.calls())
+    }
+
+    /// Executes the next instruction, which is this one without its list or name. `results` name its results
+    /// from the bottom up, `words` is the number of words that were held and needed, and `flag` is that of
+    /// an `IF`, and of no account elsewhere.
+    ///
+    /// The entries that it takes have to be there, no limit may be passed, and a function that it calls has
+    /// to be there. At `RET` of the only active call none is active afterwards, and the entries stay.
+    pub fn advance(&mut self, job: &Job<A>, op: Op, flag: bool, results: &[C], words: usize)
+        requires budget { self.old.executed < self.old.limits.budget }
+        requires deep { IsDeep op (length self.old.cells) }
+        requires given { length results.now ≡ length (result_kinds op) }
+        requires cells { depth_after op (length self.old.cells) ≤ self.old.limits.cells }
+        requires calls { CanFollow job.now self.old.frames self.old.limits.calls }
+        ensures { Advances job.now op flag results.now words self.old self.new }
+    {
+        replace(&mut self.cells, op, results);
+        follow(&mut self.frames, job, flag);
+        count(&mut self.executed, &mut self.peak, words);
+    }
+
+    /// Lets go of all entries.
+    pub fn clear(&mut self)
+        ensures { self.new ≡ record self.old { cells = [] } }
+    {
+        self.cells.clear();
+    }
+}
+
+/// The entries that an instruction takes go, and its results come in their place.
+fn replace<C: Copy, A: Allocator>(cells: &mut Pile<C, A>, op: Op, results: &[C])
+    requires deep { IsDeep op (length cells.old.entries) }
+    requires given { length results.now ≡ length (result_kinds op) }
+    requires room { depth_after op (length cells.old.entries) ≤ cells.old.room }
+    ensures { cells.new ≡ record cells.old { entries = stack_after op results.now cells.old.entries } }
+{
+    match op {
+        Op::Move(motion, lower, upper) => cells.shift(motion, lower as usize, upper as usize),
+        _ => {
+            cells.lower(op.operand_kinds().len());
+            cells.extend(results);
+        }
+    }
+}
+
+/// One instruction more, at which so many words were held and needed.
+fn count(executed: &mut u64, peak: &mut usize, words: usize)
+    requires { executed.old < MOST_BUDGET }
+    ensures executed { executed.new ≡ executed.old + 1 }
+    ensures peak { peak.new ≡ max peak.old words }
+{
+    *executed += 1;
+    *peak = (*peak).max(words);
+}
