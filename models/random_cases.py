@@ -216,7 +216,7 @@ class Random:
 
     def large(self, s):
         """The descriptor, at times with a segment that is too long to be made."""
-        return [self.pick([1_000_001, 2**32 - 3]), *s[1:]] if s and self.slips() else s
+        return [self.pick([1_048_577, 2**32 - 3]), *s[1:]] if s and self.slips() else s
 
     def places(self, s, r):
         """Indices that differ, one for each element of the segments s, in segments of lengths r."""
