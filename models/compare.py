@@ -5,8 +5,8 @@
 
 Run it at the top of the repository, once `make models` has built the programs. The modules of this folder say in plain Python what
 docs/LANGUAGE.md and docs/FORMATS.md say of reading, kinds, vectors, runs and batches, and share nothing with the crates. Runs are
-written for the whole language, batches for the first, which is what the program runs. Each of COUNT texts of code and signatures goes to
-`worked_texts`, each of COUNT instructions to `worked_vectors`, each of a hundredth as many batches to `bin/vjobs`; their answers,
+written for the whole language, batches for the first, which is what the program runs. Each of COUNT texts of code and signatures
+goes to `worked_texts`, each of COUNT instructions to `worked_vectors`, each of a hundredth as many batches to `bin/vjobs`; their answers,
 reports and exit statuses must be those of the modules.
 """
 import pathlib
