@@ -47,7 +47,7 @@ left_false : (a b : Bool) → (a && b) ≡ false → a ≡ true → b ≡ false
 left_false true b e h = e
 left_false false b e h = absurd (let g : false ≡ true = h in cc)
 
-fits : (limits : Limits) (op : Op) (words depth calls : ℕ) → memory_fault limits op words depth calls ≡ None →
+pub fits : (limits : Limits) (op : Op) (words depth calls : ℕ) → memory_fault limits op words depth calls ≡ None →
     Fits limits op words depth calls
 unfolding memory_fault
 fits limits op words depth calls e =
@@ -62,7 +62,7 @@ fits limits op words depth calls e =
           left_false (is_call op) (ltb limits.calls (calls + 1)) p.2 h in grind (arith, nat_tests, k));
     }
 
-neither : (line : ℕ) (a : Option DataFault) (b : Option MemoryFault) → ending_by line a b ≡ None →
+pub neither : (line : ℕ) (a : Option DataFault) (b : Option MemoryFault) → ending_by line a b ≡ None →
     (a ≡ None) × (b ≡ None)
 neither line (Some fault) b e = absurd (let h : ending_by line (Some fault) b ≡ None = e in cc)
 neither line None (Some fault) e = absurd (let h : ending_by line None (Some fault) ≡ None = e in cc)

@@ -14,15 +14,15 @@ use Rattle.vcode_reader.specs.declared.line.CodeItem.TheVariants as code_item
 use Rattle.vcode_reader.specs.Callees.{callee_of as callee_in_line, callees_of, callee_in, callee_at as callee_at_line}
 use Rattle.vcode_reader.specs.Decode.{then_body}
 use Rattle.vcode_reader.specs.Targets.{target_in}
-use Rattle.vcode_reader.specs.Trees.{Item, Body, End, Do, Choice, CodeLine, Function, Program, HaveProperBodies}
+use Rattle.vcode_reader.specs.Trees.{Item, Body, End, Do, Choice, CodeLine, Function, Program}
 use Rattle.vcode_reader.specs.Trees.{body_lines}
 use Rattle.vcode_reader.specs.Trees.{lines_of, instruction_line}
 use Rattle.vcode_reader.specs.declared.line.Numbered.{Numbered}
-use Rattle.verifier.specs.Typed.{TypedProgram, IsVerified}
+use Rattle.verifier.specs.Typed.{TypedProgram}
 use Rattle.job_steps.specs.declared.frame.Frame.{Frame}
+use Rattle.job_steps.specs.EventLaws.{IsVerified}
 use Rattle.job_steps.specs.Frames.{StopAt, Stands, StandAll, remaining, lines_at, first_line, next_line}
 use Rattle.job_steps.specs.Frames.{instruction_in}
-use Rattle.job_steps.specs.Reached.{IsVerifiedTask}
 use Rattle.job_steps.specs.Motions.{stack_after, depth_after}
 use Rattle.job_steps.specs.States.{Arrow, Task, Entry, Active, State, Callee, callee_of, callee_at, callee_named, calls_with}
 use Rattle.job_steps.specs.States.{first_state, new_entries}
@@ -323,11 +323,10 @@ pub record MainIs (task : Task) (o : Option ℕ) : Type 0 where
   pub some : IsSome o
   pub first : (place : ℕ) → o ≡ Some place → StandAll (functions_of task) (frame_of place ∷ []) (first_state task).calls
 
-pub main_is : (task : Task) (o : Option ℕ) → IsVerified task.verified → HaveProperBodies (functions_of task) →
-    o ≡ position (is_named main_name) (functions_of task) → MainIs task o
-main_is task o v proper at =
-    let whole : IsVerifiedTask v.0 task = record { by_signatures = v.1; proper = proper } in
-    let main = callee v.0 task main_name [] task.verified.results whole v.1.well_kinded.main v.1.results in
+pub main_is : (task : Task) (o : Option ℕ) → IsVerified task → o ≡ position (is_named main_name) (functions_of task) → MainIs task o
+main_is task o v at =
+    let by = v.1.by_signatures in
+    let main = callee v.0 task main_name [] task.verified.results v.1 by.well_kinded.main by.results in
     let c : Callee = record { function = main.function; arrow = ([], task.verified.results) } in
     let f = found_by task main_name o c at main.is in
     let calls : (first_state task).calls ≡ first_call c ∷ [] = ap (λ k. calls_with k []) main.is in

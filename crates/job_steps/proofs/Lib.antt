@@ -1,25 +1,26 @@
 mod Bounds
-pub mod BufferLemmas
+mod BufferLemmas
 mod EqualJobs
 mod EventOrder
 mod Flags
-pub mod Following
+mod Following
 mod GoOn
 mod Halves
 mod Happenings
 mod Held
 mod Kept
 mod KindLemmas
-pub mod OpLemmas
+mod OpLemmas
 mod Passing
 mod Progresses
-pub mod QuestionLemmas
+mod QuestionLemmas
 mod Recalls
 mod Remains
 mod RunLaws
-pub mod StackLemmas
+mod StackLemmas
 mod Standing
 mod Standings
+mod StepLemmas
 mod Turns
 mod Typed
 mod Uses

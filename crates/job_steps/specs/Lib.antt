@@ -10,6 +10,7 @@ pub mod Reached
 pub mod Runs
 pub mod Standings
 pub mod States
+pub mod StepLaws
 pub mod Steps
 pub mod Tickets
 pub mod Tracks

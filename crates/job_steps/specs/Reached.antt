@@ -1,12 +1,11 @@
 -- What holds of each state that a verified job reaches alone.
 use Rattle.std.specs.Prelude.{◌≡◌, ℕ, ◌+◌, ◌<◌, ◌≤◌, List, [], ◌∷◌, ◌++◌, length, map, All}
 use Rattle.vcode_base.specs.declared.kind.Kind.{Kind}
-use Rattle.vcode_base.specs.declared.instr.Instr.TheVariants.{Const}
 use Rattle.vcode_base.specs.Instructions.{op_of}
-use Rattle.vcode_base.specs.Kinds.{HasKind, HaveKinds, kind_of, source_kinds}
+use Rattle.vcode_base.specs.Kinds.{HasKind, HaveKinds, source_kinds}
 use Rattle.vcode_base.specs.declared.outcome.Outcome.{Outcome}
 use Rattle.vcode_base.specs.declared.outcome.Outcome.TheVariants.{Returned}
-use Rattle.vcode_reader.specs.Trees.{Item, Body, End, Do, Choice, Function, IsProperBody, HaveProperBodies}
+use Rattle.vcode_reader.specs.Trees.{IsProperBody, HaveProperBodies}
 use Rattle.signatures.specs.Signatures.{Signature}
 use Rattle.verifier.specs.Kinded.{Scope, HasKinds, scope_of}
 use Rattle.verifier.specs.Typed.{IsVerifiedBy}
@@ -14,7 +13,8 @@ use Rattle.job_steps.specs.States.{Vector, Task, Entry, Active, State, stack_kin
 use Rattle.job_steps.specs.Steps.{Running, Over, Stuck, next_item, sources_of}
 use Rattle.job_steps.specs.Runs.{state_after, whole_run, outcome, executed_count, peak}
 
--- the signatures verify the task's program, whose bodies hold neither RET nor an instruction IF
+-- the signatures verify the task's program, whose bodies hold neither RET nor an instruction IF, and whose lists are of their
+-- kinds
 pub record IsVerifiedTask (signatures : List Signature) (task : Task) : Type 0 where
   pub by_signatures : IsVerifiedBy signatures task.verified
   pub proper : HaveProperBodies task.verified.program.functions
@@ -31,19 +31,6 @@ AreTyped scope results (call ∷ outer) kinds =
 -- the words of a vector are those of its kind
 abbrev pub HasItsKind : Vector → Type 0
 HasItsKind v = HasKind v.kind v.words
-
--- the list of a CONST is of its kind
-abbrev pub HasListKind : Item → Type 0
-HasListKind (Const k list) = HasKind (kind_of k) list
-HasListKind item = Unit {0}
-
-abbrev pub HasListKinds : Body → Type 0
-HasListKinds End = Unit {0}
-HasListKinds (Do item line rest) = HasListKind item × HasListKinds rest
-HasListKinds (Choice line first second end rest) = HasListKinds first × HasListKinds second × HasListKinds rest
-
-abbrev pub HaveListKinds : List Function → Type 0
-HaveListKinds functions = All (λ f. HasListKinds f.body) functions
 
 -- entries with one tag have one value
 abbrev pub AreAlike : Entry → Entry → Type 0
@@ -102,12 +89,11 @@ ResultsHaveKinds =
     (n : ℕ) (values : List Vector) (count most : ℕ) → state_after task n ≡ Over (Returned values) count most →
     map (λ v. v.kind) values ≡ task.verified.results
 
--- Where the lists of its CONSTs are of their kinds, the words of each vector that a verified job reaches are those of its
--- kind, and so are the operands of its next instruction.
+-- The words of each vector that a verified job reaches are those of its kind, and so are the operands of its next
+-- instruction.
 abbrev pub ValuesHaveKinds : Type 0
 ValuesHaveKinds =
     (signatures : List Signature) (task : Task) → IsVerifiedTask signatures task →
-    HaveListKinds task.verified.program.functions →
     (n : ℕ) (s : State) → state_after task n ≡ Running s →
     All (λ e. HasItsKind e.value) s.stack
     × ((call : Active) (outer : List Active) → s.calls ≡ call ∷ outer →

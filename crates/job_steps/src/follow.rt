@@ -33,7 +33,6 @@ fn main_frame<A: Allocator>(job: &Job<A>) -> Frame
     ensures { StandAll (functions_of job.now) (result ∷ []) (first_state job.now).calls }
 {
     let program = job.verified().program();
-    let _functions = program.functions();
     Frame::first(program.position(b"MAIN").unwrap())
 }
 

@@ -1,6 +1,7 @@
 //! What a machine is given to run.
 
 ghost use Rattle.std.specs.Prelude.{◌≡◌};
+ghost use Rattle.job_steps.specs.EventLaws.{IsVerified};
 ghost use Rattle.job_steps.specs.Jobs.{IsName};
 
 use std::alloc::Allocator;
@@ -59,8 +60,11 @@ impl<A: Allocator> Job<A> {
 
     /// What it runs, with the kinds that the functions take and give.
     pub fn verified(&self) -> &Verified<A>
-        ensures { result.now ≡ self.now.verified }
+        ensures same { result.now ≡ self.now.verified }
+        // Some signatures verify the program, whose bodies are proper.
+        ensures verified_task { IsVerified self.now }
     {
+        let _functions = self.verified.program().functions();
         &self.verified
     }
 

@@ -4,6 +4,7 @@ ghost use Rattle.std.specs.Prelude.{◌≡◌, ◌↔◌, IsTrue};
 ghost use Rattle.job_steps.specs.Frames.{EachLineRemains};
 ghost use Rattle.job_steps.specs.Reached.{Reaches, NeverStuck, EndsOnce, EachEnds, EndIsOwn};
 ghost use Rattle.job_steps.specs.Reached.{ResultsHaveKinds, ValuesHaveKinds};
+ghost use Rattle.job_steps.specs.StepLaws.{StepsCanBegin, StepsCanAdvance};
 ghost use Rattle.job_steps.specs.Tracks.{EachTrackFollows};
 ghost use Rattle.job_steps.specs.EventLaws.{EarlyEndsEnd, OthersAreReady, EventsChangeTheirJob};
 ghost use Rattle.job_steps.specs.EventLaws.{ClosedChangeNothing, MissingAreClosed, AdmittedHaveRoom};
@@ -54,8 +55,8 @@ pub fn results_have_kinds()
     ensures { ResultsHaveKinds }
 {}
 
-/// Where the lists of the program's `CONST`s are of their kinds, so are the words of each vector that a
-/// verified job reaches, and the operands of its next instruction.
+/// The words of each vector that a verified job reaches are those of its kind, and so are the operands of
+/// its next instruction.
 pub fn values_have_kinds()
     ensures { ValuesHaveKinds }
 {}
@@ -71,6 +72,24 @@ pub fn each_line_remains()
 pub fn each_track_follows<C>()
     ensures { EachTrackFollows C }
 {}
+
+/// Where a track is at a state that a verified job reaches, some call is active, and its line can be read;
+/// the operands of its next instruction are there, are of their kinds, and lie within what the job may hold.
+pub fn steps_can_begin<C>()
+    ensures { StepsCanBegin C }
+{
+    reached();
+    values_have_kinds();
+}
+
+/// Where besides nothing ends the job before the values of its next instruction are looked at, the track can
+/// be advanced by that instruction, and it can be asked of each desk for the words that the job may hold.
+pub fn steps_can_advance<C>()
+    ensures { StepsCanAdvance C }
+{
+    reached();
+    values_have_kinds();
+}
 
 /// Two jobs are `==` exactly where their names, what was verified of their programs, and their limits are
 /// equal.

@@ -42,6 +42,7 @@ pub use event::Event;
 pub use filled::{Filled, compute};
 pub use frame::Frame;
 pub use job::{Job, JobName};
+pub use operands::MOST_OPERANDS;
 pub use operations::{fill, need, shape};
 pub use ticket::Ticket;
 pub use track::Track;

@@ -10,7 +10,7 @@ use std::alloc::{AllocError, Allocator};
 use std::marker::Model;
 
 /// The most operands of an instruction: those of `DPERMUTE`.
-pub(crate) const MOST_OPERANDS: usize = 5;
+pub const MOST_OPERANDS: usize = 5;
 
 /// The operands of a step, copied one behind another into a buffer that keeps its length.
 ///

@@ -1,80 +1,142 @@
--- Bodies that hold no RET and no instruction IF.
-use Rattle.std.proofs.Common.{◌≡◌, ◌+◌, ◌<◌, ◌≤◌, ℕ, List, Option, [], ◌∷◌, ◌++◌, length, take, get_or, subst, sym}
-use Rattle.std.specs.List.{AllByRecursion}
-use Rattle.std.proofs.lemmas.List.{take_all}
-use Rattle.std.proofs.lemmas.List.Elements.{All-more}
-use Rattle.vcode_base.specs.declared.instr.Instr.TheVariants.{Return}
-use Rattle.vcode_reader.specs.Decode.{AreBodyLines, AreLines, AreLines-then, tree_of, function_of, function_of-then}
-use Rattle.vcode_reader.specs.Programs.{HoldsFunction}
-use Rattle.vcode_reader.specs.Targets.{targets_of}
-use Rattle.vcode_reader.specs.Trees.{Body, End, Do, Choice, CodeLine, Function, body_lines, instruction_line}
-use Rattle.vcode_reader.specs.Trees.{IsBodyLine, IsProperBody, HaveBodyInstructions, HaveProperBodies}
+-- The bodies of a program hold no RET and no instruction IF, and each list of a CONST is of its kind.
+use Rattle.std.proofs.Common.{◌≡◌, ◌∙◌, ℕ, ℤ, pos, suc, Bool, true, false, inl, inr, List, Option, Some, None, [], ◌∷◌}
+use Rattle.std.proofs.Common.{Ok, ap, subst, sym, codes}
+use Rattle.std.specs.Prelude.{if◌then◌else◌}
+use Rattle.std.specs.Str.{bytes_eq}
+use Rattle.std.proofs.lemmas.List.Elements.{All-nil, All-cons}
+use Rattle.vcode_base.specs.declared.kind.Scalar.{Scalar}
+use Rattle.vcode_base.specs.declared.kind.Scalar.TheVariants as scalar
+use Rattle.vcode_base.specs.Kinds.{IsFlag, HasKind, kind_of}
+use Rattle.vcode_reader.specs.declared.head.Head.TheVariants.{Start}
+use Rattle.vcode_reader.specs.declared.keyword.Keyword.{Keyword}
+use Rattle.vcode_reader.specs.declared.keyword.Keyword.TheVariants as keyword
+use Rattle.vcode_reader.specs.declared.keyword.Slot.{Slot}
+use Rattle.vcode_reader.specs.declared.keyword.Slot.TheVariants.{Values}
+use Rattle.vcode_reader.specs.declared.language.Language.{Language}
+use Rattle.vcode_reader.specs.First.{IsReading}
+use Rattle.vcode_reader.specs.Gram.{AreValues, FillOne, Fill, IsInstruction, IsElse, IsBody, AreFunctions}
+use Rattle.vcode_reader.specs.Heads.{slots_of, head_slots}
+use Rattle.vcode_reader.specs.Keywords.{ItemParts, no_parts, keyword_slots, instruction_of}
+use Rattle.vcode_reader.specs.Numbers.{truth_of, value_of}
+use Rattle.vcode_reader.specs.Parsing.{Parse}
+use Rattle.vcode_reader.specs.Reading.{HasScanned, IsOfBytes, outcome, program_at, reading}
+use Rattle.vcode_reader.specs.Scan.{Scan, Word}
+use Rattle.vcode_reader.specs.Trees.{Item, Body, End, Do, Choice, Function}
+use Rattle.vcode_reader.specs.Trees.{IsBodyInstruction, IsProperBody, HaveProperBodies}
+use Rattle.vcode_reader.proofs.Answers.{every_text_is_read}
+use Rattle.vcode_reader.proofs.Spelling.{slots_by_head}
 
-all_then : {A : Type 0} (P : A → Type 0) (xs ys : List A) → AllByRecursion P xs → AllByRecursion P ys →
-    AllByRecursion P (xs ++ ys)
-all_then P [] ys h k = k
-all_then P (x ∷ xs) ys h k = (h.0, all_then P xs ys h.1 k)
+-- ---- values
 
-all_front : {A : Type 0} (P : A → Type 0) (xs ys : List A) → AllByRecursion P (xs ++ ys) → AllByRecursion P xs
-all_front P [] ys h = tt
-all_front P (x ∷ xs) ys h = (h.0, all_front P xs ys h.1)
+flag_by : (is_true is_false : Bool) (n : ℤ) →
+    (if is_true then Some (pos 1) else if is_false then Some (pos 0) else None) ≡ Some n → IsFlag n
+flag_by true b n e = inr (let h : Some (pos 1) ≡ Some n = e in cc)
+flag_by false true n e = inl (let h : Some (pos 0) ≡ Some n = e in cc)
+flag_by false false n e = absurd (let h : ◌≡◌ {A = Option ℤ} None (Some n) = e in cc)
 
-all_behind : {A : Type 0} (P : A → Type 0) (xs ys : List A) → AllByRecursion P (xs ++ ys) → AllByRecursion P ys
-all_behind P [] ys h = h
-all_behind P (x ∷ xs) ys h = all_behind P xs ys h.1
+truth_flag : (t : List ℕ) (n : ℤ) → truth_of t ≡ Some n → IsFlag n
+unfolding truth_of
+truth_flag t n e = flag_by (bytes_eq t (codes "T")) (bytes_eq t (codes "F")) n e
 
-abbrev has_body_instruction : CodeLine → Type 0
-has_body_instruction x = IsBodyLine x.item
+flags : (ns : List ℤ) (ws : List Word) → AreValues scalar.Bool ns ws → HasKind (kind_of scalar.Bool) ns
+flags [] ws h = All-nil IsFlag
+flags (n ∷ ns) [] h = absurd h
+flags (n ∷ ns) (w ∷ ws) h = All-cons IsFlag n ns (truth_flag w.text n h.0) (flags ns ws h.1)
 
--- such lines behind others
-pub proper_then : (xs ys : List CodeLine) → HaveBodyInstructions xs → HaveBodyInstructions ys →
-    HaveBodyInstructions (xs ++ ys)
-proper_then xs ys h k = all_then has_body_instruction xs ys h k
+-- values of a kind are a list of that kind
+kind_of_values : (k : Scalar) (ns : List ℤ) (ws : List Word) → AreValues k ns ws → HasKind (kind_of k) ns
+kind_of_values scalar.Int ns ws h = tt
+kind_of_values scalar.Bool ns ws h = flags ns ws h
 
--- a body whose lines hold none is proper
-proper_body : (b : Body) → HaveBodyInstructions (body_lines b) → IsProperBody b
-proper_body End h = tt
-proper_body (Do i l b) h = (h.0, proper_body b h.1)
-proper_body (Choice l x y e b) h =
-    let p = has_body_instruction in
-    let second = all_behind p (body_lines x) _ h.1 in
-    let rest = all_behind p (body_lines y) _ second.1 in (
-      proper_body x (all_front p (body_lines x) _ h.1),
-      proper_body y
-          (all_front p (body_lines y) _ second.1),
-      proper_body b rest.1,
-    )
+kind_of_value : (k : Scalar) (t : List ℕ) (n : ℤ) → value_of k t ≡ Some n → HasKind (kind_of k) (n ∷ [])
+kind_of_value scalar.Int t n e = tt
+kind_of_value scalar.Bool t n e = All-cons IsFlag n [] (truth_flag t n e) (All-nil IsFlag)
 
-proper_tree : (xs : List CodeLine) → AreBodyLines xs → HaveBodyInstructions xs → IsProperBody (tree_of xs)
-proper_tree xs e h = proper_body (tree_of xs) (subst HaveBodyInstructions (sym e) h)
+-- ---- instructions
 
-abbrev has_proper_body : Function → Type 0
-has_proper_body f = IsProperBody f.body
+abbrev HasListKind : ItemParts → Type 0
+HasListKind p = HasKind (kind_of p.kind) p.numbers
 
--- one function more
-pub proper_more : (fs : List Function) (i : ℕ) (f : Function) → i < length fs → f ≡ get_or fs i f →
-    IsProperBody f.body →
-    HaveProperBodies (take i fs) → HaveProperBodies (take (i + 1) fs)
-proper_more fs i f lt at proper before =
-    All-more has_proper_body fs i f lt before (subst has_proper_body at proper)
+kind_of_list : (before after : ItemParts) (ws : List Word) → FillOne Values before after ws → HasListKind after
+kind_of_list before after ws (inl h) =
+    subst HasListKind (sym h.2.2) (kind_of_value before.kind h.0.text h.2.0 h.2.1)
+kind_of_list before after ws (inr h) =
+    let listed = h.1 in
+    subst HasListKind (sym listed.9) (kind_of_values before.kind listed.3 listed.2 listed.8)
 
-pub proper_all : (fs : List Function) (i : ℕ) → length fs ≤ i → HaveProperBodies (take i fs) → HaveProperBodies fs
-proper_all fs i le h = subst HaveProperBodies (take_all i fs le) h
+-- a kind and then values
+kind_of_constant : (s : Slot) (before after : ItemParts) (ws : List Word) → Fill (s ∷ Values ∷ []) before after ws →
+    HasListKind after
+kind_of_constant s before after ws h =
+    let behind = h.5 in
+    subst HasListKind behind.5.0 (kind_of_list h.0 behind.0 behind.1 behind.4)
 
--- a proper body is that of the lines that a function has
-proper_function : (name : List ℕ) (line ret : ℕ) (xs : List CodeLine) → AreBodyLines xs →
-    HaveBodyInstructions xs →
-    IsProperBody (function_of name line (xs ++ instruction_line Return ret ∷ [])).body
-proper_function name line ret xs e h =
-    subst has_proper_body (sym (function_of-then name line xs ret)) (proper_tree xs e h)
+module _ (lang : Language) where
+  of_keyword : (k : Keyword) (parts : ItemParts) (ws : List Word) → Fill (keyword_slots lang k) no_parts parts ws →
+      IsBodyInstruction (instruction_of k parts)
+  of_keyword keyword.Const parts ws h = kind_of_constant _ no_parts parts ws h
+  of_keyword (keyword.Arith op) parts ws h = tt
+  of_keyword (keyword.Compare op) parts ws h = tt
+  of_keyword (keyword.Logic op) parts ws h = tt
+  of_keyword keyword.Not parts ws h = tt
+  of_keyword keyword.Select parts ws h = tt
+  of_keyword keyword.IntToBool parts ws h = tt
+  of_keyword keyword.BoolToInt parts ws h = tt
+  of_keyword (keyword.Scan f) parts ws h = tt
+  of_keyword (keyword.Reduce f) parts ws h = tt
+  of_keyword keyword.Distribute parts ws h = tt
+  of_keyword keyword.Index parts ws h = tt
+  of_keyword keyword.Permute parts ws h = tt
+  of_keyword keyword.BackPermute parts ws h = tt
+  of_keyword keyword.DefaultPermute parts ws h = tt
+  of_keyword keyword.Extract parts ws h = tt
+  of_keyword keyword.Replace parts ws h = tt
+  of_keyword keyword.Pack parts ws h = tt
+  of_keyword keyword.MakeSegdes parts ws h = tt
+  of_keyword keyword.Lengths parts ws h = tt
+  of_keyword (keyword.Move motion) parts ws h = tt
+  of_keyword keyword.Call parts ws h = tt
 
--- what a function holds, of the lines of a body and a RET behind them
-pub holds_function : (name : List ℕ) (line ret : ℕ) (xs lines : List CodeLine) (targets : List (Option ℕ)) →
-    lines ≡ xs ++ instruction_line Return ret ∷ [] → targets ≡ targets_of lines → AreBodyLines xs →
-    HaveBodyInstructions xs → HoldsFunction name line lines targets
-holds_function name line ret xs lines targets all at body good = record {
-  lines = subst (AreLines name line) (sym all) (AreLines-then name line xs ret body);
-  targets = at;
-  proper = subst (λ (ys : List CodeLine). IsProperBody (function_of name line ys).body) (sym all)
-      (proper_function name line ret xs body good);
-}
+  proper_instruction : (i : Item) (l : ℕ) (ws : List Word) → IsInstruction lang i l ws → IsBodyInstruction i
+  proper_instruction i l ws h =
+      let slots : slots_of lang h.1.text ≡ keyword_slots lang h.0 =
+      slots_by_head lang h.1.text ∙ ap (head_slots lang) h.6.0 in
+      let filled = subst (λ slots. Fill slots no_parts h.4 h.2) slots h.8 in
+      subst IsBodyInstruction (sym h.7) (of_keyword h.0 h.4 h.2 filled)
+
+  -- ---- bodies
+
+  proper_else : (is_part : List Word → Type 0) (second : Body) (ws : List Word) →
+      ((u : List Word) → is_part u → IsProperBody second) → IsElse lang is_part second ws → IsProperBody second
+  proper_else is_part second ws part (inl h) = subst IsProperBody (sym h.1) tt
+  proper_else is_part second ws part (inr h) = part h.1 h.4
+
+  proper_body : (n : ℕ) (b : Body) (ws : List Word) → IsBody lang n b ws → IsProperBody b
+  proper_body n End ws h = tt
+  proper_body n (Do i l b) ws h = (proper_instruction i l h.0 h.3, proper_body n b h.1 h.4)
+  proper_body n (Choice l first second e b) ws h = (
+    proper_body (suc n) first h.2 h.9,
+    proper_else (IsBody lang (suc n) second) second h.3 (λ u part. proper_body (suc n) second u part) h.10,
+    proper_body n b h.4 h.11,
+  )
+
+  proper_functions : (fs : List Function) (ws : List Word) → AreFunctions lang fs ws → HaveProperBodies fs
+  proper_functions [] ws h = All-nil (λ (f : Function). IsProperBody f.body)
+  proper_functions (f ∷ fs) ws h =
+      All-cons (λ (g : Function). IsProperBody g.body) f fs (proper_body 0 f.body h.3.3 h.3.8)
+      (proper_functions fs h.1 h.4)
+
+  proper_reading : (first : ℕ) (bytes : List ℕ) (fs : List Function) →
+      reading lang first bytes ≡ Ok (record { first_line = first; functions = fs }) → HaveProperBodies fs
+  proper_reading first bytes fs e =
+      let read = subst (λ r. IsReading lang r first bytes) e (every_text_is_read lang first bytes) in
+      proper_functions fs _ read.1.1.spelled
+
+  -- the functions that bytes come to
+  pub proper_outcome : (s : Scan Parse) (first : ℕ) (failed : Bool) (fs : List Function) →
+      IsOfBytes s lang first failed → failed ≡ false → outcome s ≡ Ok fs → HaveProperBodies fs
+  unfolding reading
+  proper_outcome s first failed fs h going e =
+      let bytes = h going in
+      proper_reading first bytes.0 fs
+      (ap (λ r. program_at first (outcome r)) (sym bytes.1) ∙ ap (program_at first) e)

@@ -2,15 +2,15 @@
 use Rattle.std.proofs.Common.{◌≡◌, ℕ, Bool, true, false, List, [], ◌∷◌, ◌++◌, Option, Some, None, refl, ap, ◌∙◌, sym}
 use Rattle.std.proofs.Common.{subst, append_assoc}
 use Rattle.std.specs.Prelude.{not}
+use Rattle.vcode_base.specs.declared.instr.Instr.TheVariants.{Return}
 use Rattle.vcode_reader.specs.declared.line.CodeItem.TheVariants as code_item
 use Rattle.vcode_reader.specs.declared.place.OpenIf.{OpenIf}
-use Rattle.vcode_reader.specs.Decode.{AreBodyLines, tree_of-body_lines}
+use Rattle.vcode_reader.specs.Decode.{AreBodyLines, AreLines, AreLines-then, tree_of-body_lines}
 use Rattle.vcode_reader.specs.Drafts.{Closing, open_if, takes_else, is_open, lines_after_endif, first_closing}
 use Rattle.vcode_reader.specs.Drafts.{other_closings, endings, IsDraft}
-use Rattle.vcode_reader.specs.Targets.{first_of, others_of}
+use Rattle.vcode_reader.specs.Programs.{HoldsFunction}
+use Rattle.vcode_reader.specs.Targets.{first_of, others_of, targets_of}
 use Rattle.vcode_reader.specs.Trees.{Item, Body, End, Do, Choice, CodeLine, line_of, instruction_line, body_lines}
-use Rattle.vcode_reader.specs.Trees.{IsBodyInstruction}
-use Rattle.vcode_reader.proofs.Bodies.{proper_then}
 
 -- this closing before these
 abbrev pub closing : Body → ℕ → Body → Closing
@@ -88,14 +88,12 @@ some_none i h = absurd (differ i h)
 -- ---- drafts
 
 pub no_draft : IsDraft [] []
-no_draft = record { closes = λ b cs. ap body_lines (tree_of-body_lines b); proper = tt }
+no_draft = record { closes = λ b cs. ap body_lines (tree_of-body_lines b) }
 
-pub item_draft : (ifs : List OpenIf) (lines : List CodeLine) (i : Item) (l : ℕ) → IsBodyInstruction i →
-    IsDraft ifs lines →
+pub item_draft : (ifs : List OpenIf) (lines : List CodeLine) (i : Item) (l : ℕ) → IsDraft ifs lines →
     IsDraft ifs (lines ++ instruction_line i l ∷ [])
-item_draft ifs lines i l good h = record {
+item_draft ifs lines i l h = record {
   closes = λ b cs. subst AreBodyLines (sym (item_endings ifs lines i l b cs)) (h.closes (Do i l b) cs);
-  proper = proper_then lines (instruction_line i l ∷ []) h.proper (good, tt);
 }
 
 pub if_draft : (ifs : List OpenIf) (lines : List CodeLine) (l : ℕ) → IsDraft ifs lines →
@@ -105,7 +103,6 @@ if_draft ifs lines l h = record {
       let c = first_closing cs in
       subst AreBodyLines (sym (if_endings ifs lines l b cs))
       (h.closes (Choice l b c.second c.end c.after) (other_closings cs));
-  proper = proper_then lines (line_of code_item.If l ∷ []) h.proper (tt, tt);
 }
 
 open_else : (is : List OpenIf) (lines : List CodeLine) (l : ℕ) → IsDraft (open_if l false ∷ is) lines →
@@ -115,7 +112,6 @@ open_else is lines l h = record {
       let c = first_closing cs in
       subst AreBodyLines (sym (else_endings is lines l b cs))
       (h.closes End (closing b c.end c.after ∷ other_closings cs));
-  proper = proper_then lines (line_of code_item.Else l ∷ []) h.proper (tt, tt);
 }
 
 not_false : (b : Bool) → not b ≡ true → b ≡ false
@@ -140,13 +136,9 @@ open_endif : (e : ℕ) (is : List OpenIf) (lines : List CodeLine) (t : Bool) (l 
     IsDraft is (lines_after_endif (open_if l t) e lines)
 open_endif e is lines true l h = record {
   closes = λ b cs. subst AreBodyLines (sym (endif_endings is lines l e b cs)) (h.closes End (closing End e b ∷ cs));
-  proper = proper_then lines (line_of code_item.Endif e ∷ []) h.proper (tt, tt);
 }
 open_endif e is lines false l h = record {
   closes = λ b cs. subst AreBodyLines (sym (alone_endings is lines l e b cs)) (h.closes End (closing End e b ∷ cs));
-  proper =
-      proper_then (lines ++ line_of code_item.Else l ∷ []) (line_of code_item.Endif e ∷ [])
-      (proper_then lines (line_of code_item.Else l ∷ []) h.proper (tt, tt)) (tt, tt);
 }
 
 pub endif_draft : (e : ℕ) (ifs : List OpenIf) (lines : List CodeLine) (i : OpenIf) → Some i ≡ first_of ifs →
@@ -177,3 +169,12 @@ whole_draft (i ∷ is) lines o h = absurd (differ o)
   where
     differ : true ≡ false → ⊥
     differ h = cc
+
+-- what a function holds, of the lines of a body and a RET behind them
+pub holds_function : (name : List ℕ) (line ret : ℕ) (xs lines : List CodeLine) (targets : List (Option ℕ)) →
+    lines ≡ xs ++ instruction_line Return ret ∷ [] → targets ≡ targets_of lines → AreBodyLines xs →
+    HoldsFunction name line lines targets
+holds_function name line ret xs lines targets all at body = record {
+  lines = subst (AreLines name line) (sym all) (AreLines-then name line xs ret body);
+  targets = at;
+}

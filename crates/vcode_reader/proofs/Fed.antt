@@ -1,10 +1,10 @@
 -- What has come in pieces.
-use Rattle.std.proofs.Common.{◌≡◌, ℕ, ◌+◌, Bool, false, List, ◌++◌, Result, Ok, Err, ap, ◌∙◌, sym}
-use Rattle.std.specs.Prelude.{OnOk}
+use Rattle.std.proofs.Common.{◌≡◌, ℕ, ◌+◌, Bool, true, false, List, ◌++◌, Result, Ok, Err, ap, ◌∙◌, sym}
+use Rattle.std.specs.Prelude.{OnOk, is_err}
 use Rattle.vcode_base.specs.declared.fault.TextFault.TheVariants.{Memory, At}
 use Rattle.vcode_reader.specs.declared.language.Language.{Language}
 use Rattle.vcode_reader.specs.Parsing.{Parse, start, take}
-use Rattle.vcode_reader.specs.Reading.{ReaderState, HasCome, HasScanned, outcome, program_at, reading}
+use Rattle.vcode_reader.specs.Reading.{ReaderState, HasCome, HasScanned, IsOfBytes, outcome, program_at, reading}
 use Rattle.vcode_reader.specs.Refusals.{ReadFault}
 use Rattle.vcode_base.specs.Lines.{line_feeds}
 use Rattle.vcode_base.specs.TextAnswers.{Fails}
@@ -16,6 +16,15 @@ fed_more : (old new : Scan Parse) (lang : Language) (first : ℕ) (piece : List 
     (before : List ℕ) → HasScanned old lang first before → HasScanned new lang first (before ++ piece)
 fed_more old new lang first piece e before h = e
     ∙ (ap (λ r. scan_all take r piece) h ∙ sym (scan_all-append take before piece (beginning (start lang) first)))
+
+-- with the bytes before stand those of the piece
+pub of_more_bytes : {A E : Type 0} (r : Result A E) (old new : Scan Parse) (lang : Language) (first : ℕ)
+    (failed : Bool) (piece : List ℕ) → false ≡ is_err r → OnOk r (new ≡ scan_all take old piece) →
+    IsOfBytes old lang first failed → IsOfBytes new lang first failed
+of_more_bytes (Ok x) old new lang first failed piece fine h before = λ going.
+    let b = before going in
+    (b.0 ++ piece, fed_more old new lang first piece h b.0 b.1)
+of_more_bytes (Err x) old new lang first failed piece fine h before = absurd (let e : false ≡ true = fine in cc)
 
 pub fed_all : {A E : Type 0} (r : Result A E) (o : ReaderState) (old new : Scan Parse) (lang : Language) (first : ℕ)
     (failed : Bool) (piece : List ℕ) →

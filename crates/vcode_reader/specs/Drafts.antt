@@ -5,7 +5,6 @@ use Rattle.vcode_reader.specs.declared.line.CodeItem.TheVariants as code_item
 use Rattle.vcode_reader.specs.declared.place.OpenIf.{OpenIf}
 use Rattle.vcode_reader.specs.Decode.{AreBodyLines}
 use Rattle.vcode_reader.specs.Trees.{Item, Body, End, CodeLine, line_of, instruction_line, body_lines}
-use Rattle.vcode_reader.specs.Trees.{HaveBodyInstructions}
 
 -- the lines so far, and the IFs that wait for their ENDIF, the innermost first
 pub record DraftState : Type 0 where
@@ -87,10 +86,9 @@ endings (i ∷ is) b cs =
     (first_closing cs).second ++ (line_of code_item.Endif (first_closing cs).end ∷ endings is
     (first_closing cs).after (other_closings cs)))
 
--- however the open IFs are closed, the lines are then those of a body, and none is a RET or an instruction IF
+-- however the open IFs are closed, the lines are then those of a body
 pub record IsDraft (ifs : List OpenIf) (lines : List CodeLine) : Type 0 where
   pub closes : (b : Body) (cs : List Closing) → AreBodyLines (lines ++ endings ifs b cs)
-  pub proper : HaveBodyInstructions lines
 
 abbrev pub draft_code : Coded CodeLine → Coded OpenIf → Coded DraftState
 draft_code line ifs =

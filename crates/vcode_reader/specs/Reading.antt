@@ -57,6 +57,10 @@ Gives (Err fault) wanted = Fails fault wanted
 abbrev pub HasScanned : Scan Parse → Language → ℕ → List ℕ → Type 0
 HasScanned s language first bytes = s ≡ scan_all take (beginning (start language) first) bytes
 
+-- unless the reading has failed, some bytes have come
+abbrev pub IsOfBytes : Scan Parse → Language → ℕ → Bool → Type 0
+IsOfBytes s language first failed = failed ≡ false → (bytes : List ℕ) × HasScanned s language first bytes
+
 -- a reader of pieces: where its text stands, its language, the number of the first line, and whether it failed for
 -- want of memory
 pub record ReaderState : Type 0 where

@@ -1,8 +1,9 @@
 -- A program as the trees of its functions, and as their lines one after another.
 use Rattle.std.specs.Prelude.{ℕ, ℤ, List, [], ◌∷◌, ◌++◌}
-use Rattle.std.specs.List.{All, AllByRecursion}
+use Rattle.std.specs.List.{All}
 use Rattle.vcode_base.specs.declared.instr.Instr.{Instr}
-use Rattle.vcode_base.specs.declared.instr.Instr.TheVariants.{If, Return}
+use Rattle.vcode_base.specs.declared.instr.Instr.TheVariants.{Const, If, Return}
+use Rattle.vcode_base.specs.Kinds.{HasKind, kind_of}
 use Rattle.vcode_reader.specs.declared.line.Numbered.{Numbered}
 use Rattle.vcode_reader.specs.declared.line.CodeItem.{CodeItem}
 use Rattle.vcode_reader.specs.declared.line.CodeItem.TheVariants as code_item
@@ -54,8 +55,10 @@ body_lines (Choice l first second e b) =
 abbrev pub lines_of : Function → List CodeLine
 lines_of f = body_lines f.body ++ instruction_line Return f.ret ∷ []
 
--- an instruction of a body: any but RET, which stands behind the body alone, and IF, which is a choice of two bodies
+-- an instruction of a body: any but RET, which stands behind the body alone, and IF, which is a choice of two bodies;
+-- the list of a CONST is of its kind
 abbrev pub IsBodyInstruction : Item → Type 0
+IsBodyInstruction (Const k list) = HasKind (kind_of k) list
 IsBodyInstruction Return = ⊥
 IsBodyInstruction If = ⊥
 IsBodyInstruction _ = Unit {0}
@@ -69,11 +72,3 @@ IsProperBody (Choice l first second e b) = IsProperBody first × IsProperBody se
 -- the bodies of functions are
 abbrev pub HaveProperBodies : List Function → Type 0
 HaveProperBodies fs = All (λ f. IsProperBody f.body) fs
-
--- the instructions of lines are those of a body
-abbrev pub IsBodyLine : CodeItem Item → Type 0
-IsBodyLine (code_item.Do i) = IsBodyInstruction i
-IsBodyLine _ = Unit {0}
-
-abbrev pub HaveBodyInstructions : List CodeLine → Type 0
-HaveBodyInstructions xs = AllByRecursion (λ x. IsBodyLine x.item) xs

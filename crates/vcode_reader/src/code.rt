@@ -1,7 +1,7 @@
 //! The lines of a function, and where they go on.
 
 ghost use Rattle.std.specs.Prelude.{◌≡◌, ◌+◌, ◌<◌, ◌^◌, ◌++◌, [], ◌∷◌, true, false, length, IfOk, OnOk, OnErr, IsErr, option_copied};
-ghost use Rattle.vcode_reader.specs.Trees.{line_of, IsBodyInstruction, HaveBodyInstructions};
+ghost use Rattle.vcode_reader.specs.Trees.{line_of};
 ghost use Rattle.vcode_reader.specs.Drafts.{no_lines, with_item, with_if, with_else, lines_after_endif, with_endif};
 ghost use Rattle.vcode_reader.specs.Drafts.{takes_else, is_open, innermost_line};
 ghost use Rattle.vcode_reader.specs.Targets.{first_of, others_of, jumps_before, jumps_from, targets_of};
@@ -48,7 +48,6 @@ impl<A: Allocator + Clone> Draft<A> {
 impl<A: Allocator> Draft<A> {
     /// One instruction more, which stands on this line.
     pub fn push(&mut self, instruction: Instruction<A>, line: u64) -> Result<(), AllocError>
-        requires { IsBodyInstruction instruction }
         ensures { OnOk result (self.new ≡ with_item instruction line self.old) }
     {
         self.lines.push(Numbered {
@@ -133,7 +132,6 @@ impl<A: Allocator> Draft<A> {
     pub fn into_vec(self) -> Vec<CodeLine<A>, A>
         ensures same { result.items ≡ self.lines }
         ensures body { is_open self.ifs ≡ false → AreBodyLines result.items }
-        ensures instructions { HaveBodyInstructions result.items }
     {
         let Draft { lines, ifs: _ } = self;
         lines

@@ -2,7 +2,6 @@
 
 ghost use Rattle.std.specs.Prelude.{◌≡◌, []};
 ghost use Rattle.vcode_reader.specs.Firsts.{TakesOff};
-ghost use Rattle.vcode_reader.specs.Trees.{IsBodyInstruction};
 ghost use Rattle.vcode_reader.specs.Keywords.{fold_of, folding_slots, keyword_slots, takes_int, instruction_of};
 
 use crate::language::Language;
@@ -143,8 +142,7 @@ impl Keyword {
 
     /// The instruction of this first word and of what the words behind it gave.
     pub fn instruction<A: Allocator>(self, parts: InstructionParts<A>) -> Instruction<A>
-        ensures meaning { result ≡ instruction_of self parts }
-        ensures of_a_body { IsBodyInstruction result }
+        ensures { result ≡ instruction_of self parts }
     {
         let kind = parts.kind;
         let segmented = match self {

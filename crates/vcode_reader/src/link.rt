@@ -1,8 +1,7 @@
 //! The function that each CALL of a program goes to.
 
-ghost use Rattle.std.specs.Prelude.{◌≡◌, IfOk, OnOk, map};
+ghost use Rattle.std.specs.Prelude.{◌≡◌, IfOk, map};
 ghost use Rattle.vcode_reader.specs.Callees.{callee_of, callees_of};
-ghost use Rattle.vcode_reader.specs.Trees.{HaveProperBodies};
 
 use crate::line::{CodeItem, CodeLine};
 use crate::program::Function;
@@ -80,8 +79,7 @@ pub fn callees_of<A: Allocator + Clone>(
     alloc: A,
     functions: &[Function<A>],
 ) -> Result<Vec<Sequence<Option<usize>, A>, A>, AllocError>
-    ensures callees { IfOk result (λ found. found.items ≡ callees_of functions.now) }
-    ensures proper { OnOk result (HaveProperBodies functions.now) }
+    ensures { IfOk result (λ found. found.items ≡ callees_of functions.now) }
 {
     let linker = Linker::new(alloc.clone()?, functions)?;
     let mut found = Vec::with_capacity(alloc.clone()?, functions.len())?;

@@ -3,7 +3,7 @@ ghost use Rattle.std.specs.List.{slice_get};
 ghost use Rattle.std.specs.Str.{bytes_eq};
 ghost use Rattle.vcode_reader.specs.Callees.{callee_at};
 ghost use Rattle.vcode_reader.specs.Targets.{target_at};
-ghost use Rattle.vcode_reader.specs.Trees.{lines_of, IsProperBody, HaveProperBodies};
+ghost use Rattle.vcode_reader.specs.Trees.{lines_of, HaveProperBodies};
 ghost use Rattle.vcode_reader.specs.Decode.{tree_of};
 ghost use Rattle.vcode_reader.specs.Drafts.{is_open};
 
@@ -92,9 +92,7 @@ impl<A: Allocator> Function<A> {
 
     /// Its lines in the order of the text, the last of which is its `RET`.
     pub fn lines(&self) -> &[CodeLine<A>]
-        ensures lines { result.now ≡ lines_of self.now }
-        // No item before the last is a RET or an instruction IF.
-        ensures proper_body { IsProperBody self.now.body }
+        ensures { result.now ≡ lines_of self.now }
     {
         self.lines.as_slice()
     }
@@ -155,6 +153,7 @@ impl<A: Allocator> Program<A> {
     ) -> Result<Program<A>, AllocError>
     where
         A: Clone,
+        requires { HaveProperBodies functions.items }
         ensures { IfOk result (λ p. p ≡ record { first_line = first_line; functions = functions.items }) }
     {
         let callees = callees_of(functions.allocator().clone()?, functions.as_slice())?;
@@ -175,7 +174,7 @@ impl<A: Allocator> Program<A> {
     /// Its functions in the order of the text.
     pub fn functions(&self) -> &[Function<A>]
         ensures functions { result.now ≡ self.now.functions }
-        // The body of none holds a RET or an instruction IF.
+        // The body of none holds a RET or an instruction IF, and the list of each CONST is of its kind.
         ensures proper_bodies { HaveProperBodies self.now.functions }
     {
         self.functions.as_slice()

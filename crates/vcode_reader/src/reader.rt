@@ -166,6 +166,10 @@ impl<A: Allocator> Model for CodeReader<A> {
     ghost coded = { fed_code (scan_code (parse_code (Prim.hlevel codes) (Prim.hlevel codes) (Prim.hlevel codes) (Prim.hlevel codes) (Prim.hlevel codes) (Prim.hlevel codes) (Prim.hlevel codes)) (Prim.hlevel codes)) (Prim.hlevel codes) };
 
     ghost view = { λ r. record { scan = r.scanner; language = r.language; first_line = r.first_line; failed = r.failed } };
+
+    ghost use Rattle.vcode_reader.specs.Reading.{IsOfBytes};
+
+    ghost invariant = { λ r. IsOfBytes r.scanner r.language r.first_line r.failed };
 }
 
 impl<A: Allocator + Clone> CodeReader<A> {

@@ -12,7 +12,7 @@ unwrap-requires g c =
     let task = c.args.job.now in
     let frame = c.args.frame in
     let same = same_functions c.program-program.result.now c.verified.result.now task c.program-program.ensures.same
-    c.verified.ensures in
+    c.verified.ensures.same in
     let at : c.callee.result ≡ callee_at (functions_of task) frame.function frame.place =
     c.callee.ensures ∙ ap (λ (fs : List Function). callee_at fs frame.function frame.place) same in
     (found_call task frame c.requires.0 c.requires.1 c.callee.result c.requires.2 at).some
@@ -22,7 +22,7 @@ returns g c = λ name callee call.
     let task = c.args.job.now in
     let frame = c.args.frame in
     let same = same_functions c.program-program.result.now c.verified.result.now task c.program-program.ensures.same
-    c.verified.ensures in
+    c.verified.ensures.same in
     let at : c.callee.result ≡ callee_at (functions_of task) frame.function frame.place =
     c.callee.ensures ∙ ap (λ (fs : List Function). callee_at fs frame.function frame.place) same in
     subst (λ (f : Frame). Stands (functions_of task) f (first_call callee)) (sym c.first.ensures)

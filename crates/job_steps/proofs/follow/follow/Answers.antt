@@ -5,7 +5,7 @@ pub line-requires : goal.line-requires
 line-requires g c =
     let task = c.args.job.now in
     let same = same_functions c.program-program.result.now c.verified.result.now task c.program-program.ensures.same
-    c.verified.ensures in
+    c.verified.ensures.same in
     inner_stands task c.args.frames.now.entries c.at-frame.result c.args.frames.now.room
     c.program-program.result.now.functions c.at-frame.ensures c.requires same
 
@@ -13,6 +13,6 @@ pub chosen-requires : goal.chosen-requires
 chosen-requires g c =
     let task = c.args.job.now in
     let same = same_functions c.program-program.result.now c.verified.result.now task c.program-program.ensures.same
-    c.verified.ensures in
+    c.verified.ensures.same in
     inner_stands task c.args.frames.now.entries c.at-frame.result c.args.frames.now.room
     c.program-program.result.now.functions c.at-frame.ensures c.requires same

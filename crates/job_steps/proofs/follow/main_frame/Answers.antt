@@ -2,8 +2,7 @@ use Rattle.std.proofs.Common.{◌∙◌, List, [], ◌∷◌, ap, sym, subst}
 use Rattle.std.specs.Prelude.{position}
 use Rattle.std.specs.Str.{bytes_eq}
 use Rattle.vcode_base.specs.Names.{main_name}
-use Rattle.vcode_reader.specs.Trees.{Function, HaveProperBodies}
-use Rattle.verifier.specs.Typed.{IsVerified}
+use Rattle.vcode_reader.specs.Trees.{Function}
 use Rattle.job_steps.specs.declared.frame.Frame.{Frame}
 use Rattle.job_steps.specs.Frames.{StandAll}
 use Rattle.job_steps.specs.States.{first_state}
@@ -15,12 +14,9 @@ pub unwrap-requires : goal.unwrap-requires
 unwrap-requires g c =
     let task = c.args.job.now in
     let same = same_functions c.program-program.result.now c.verified.result.now task c.program-program.ensures.same
-    c.verified.ensures in
-    let verified : IsVerified task.verified = subst IsVerified c.verified.ensures c.program-program.ensures.verified in
-    let proper : HaveProperBodies (functions_of task) =
-    subst HaveProperBodies same c.functions-functions.ensures.proper_bodies in
+    c.verified.ensures.same in
     let main : MainIs task c.position.result =
-    main_is task c.position.result verified proper
+    main_is task c.position.result c.verified.ensures.verified_task
     (c.position.ensures ∙ ap (λ (fs : List Function). position (λ f. bytes_eq f.name main_name) fs) same) in
     main.some
 
@@ -28,12 +24,9 @@ pub returns : goal.returns
 returns g c =
     let task = c.args.job.now in
     let same = same_functions c.program-program.result.now c.verified.result.now task c.program-program.ensures.same
-    c.verified.ensures in
-    let verified : IsVerified task.verified = subst IsVerified c.verified.ensures c.program-program.ensures.verified in
-    let proper : HaveProperBodies (functions_of task) =
-    subst HaveProperBodies same c.functions-functions.ensures.proper_bodies in
+    c.verified.ensures.same in
     let main : MainIs task c.position.result =
-    main_is task c.position.result verified proper
+    main_is task c.position.result c.verified.ensures.verified_task
     (c.position.ensures ∙ ap (λ (fs : List Function). position (λ f. bytes_eq f.name main_name) fs) same) in
     subst (λ (f : Frame). StandAll (functions_of task) (f ∷ []) (first_state task).calls) (sym c.first.ensures)
     (main.first c.unwrap.result c.unwrap.ensures)

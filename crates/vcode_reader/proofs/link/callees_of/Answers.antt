@@ -1,5 +1,4 @@
 use Rattle.std.proofs.Common.{◌<◌, ◌∙◌, length, arith}
-use Rattle.vcode_reader.proofs.Bodies.{proper_more, proper_all}
 use Rattle.vcode_reader.proofs.Callees.{entry_by, callees_more, callees_all}
 use Rattle.vcode_reader.proofs.link.callees_of.Goals as goal
 
@@ -9,22 +8,12 @@ loop-function-preserved g c =
     let f = c.function-item.result in
     let i = c.loop-function.function-index in
     let within : i < length fs = omega arith in
-    record {
-      callees =
-          callees_more fs i f c.loop-function.found.items c.push.new.self.items _ within c.function-item.is
-          c.loop-function.invariant.callees
-          (c.from_vec.ensures
-          ∙ (c.in_ok-callees.ensures ∙ entry_by _ fs f _ c.in_ok-linker.ensures c.lines.ensures.lines))
-          c.in_ok-push.ensures.items;
-      proper =
-          proper_more fs i f within c.function-item.is c.lines.ensures.proper_body c.loop-function.invariant.proper;
-    }
+    callees_more fs i f c.loop-function.found.items c.push.new.self.items _ within c.function-item.is
+    c.loop-function.invariant
+    (c.from_vec.ensures ∙ (c.in_ok-callees.ensures ∙ entry_by _ fs f _ c.in_ok-linker.ensures c.lines.ensures))
+    c.in_ok-push.ensures.items
 
-pub returns-clause-callees : goal.returns-clause-callees
-returns-clause-callees g c =
+pub returns : goal.returns
+returns g c =
     callees_all c.args.functions.now c.loop-function.function-index c.loop-function.found.items
-    (omega arith) c.loop-function.invariant.callees
-
-pub returns-clause-proper : goal.returns-clause-proper
-returns-clause-proper g c =
-    proper_all c.args.functions.now c.loop-function.function-index (omega arith) c.loop-function.invariant.proper
+    (omega arith) c.loop-function.invariant

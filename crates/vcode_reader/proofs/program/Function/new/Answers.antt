@@ -2,7 +2,7 @@ use Rattle.std.proofs.Common.{◌∙◌, List, ap, sym}
 use Rattle.vcode_reader.specs.Decode.{function_of, function_of-then, tree_of}
 use Rattle.vcode_reader.specs.Targets.{targets_of}
 use Rattle.vcode_reader.specs.Trees.{CodeLine, Function}
-use Rattle.vcode_reader.proofs.Bodies.{holds_function}
+use Rattle.vcode_reader.proofs.Drafting.{holds_function}
 use Rattle.vcode_reader.proofs.program.Function.new.Goals as goal
 
 pub invariant_of-result : goal.invariant_of-result
@@ -10,7 +10,7 @@ invariant_of-result g c =
     let draft = c.into_vec-lines in
     holds_function c.args.name c.args.line c.args.ret draft.result.items _ _ (c.from_vec-2.ensures ∙ c.in_ok-push.ensures.items)
     (c.from_vec.ensures ∙ (c.in_ok-targets.ensures ∙ ap targets_of (c.as_slice.ensures.value ∙ sym c.from_vec-2.ensures)))
-    (draft.ensures.body c.requires) draft.ensures.instructions
+    (draft.ensures.body c.requires)
 
 pub returns : goal.returns
 returns g c =

@@ -1,7 +1,13 @@
 use Rattle.std.proofs.Common.{ap, sym}
 use Rattle.vcode_reader.specs.Reading.{ReaderState}
-use Rattle.vcode_reader.proofs.Fed.{fed_all, fed_line}
+use Rattle.vcode_reader.proofs.Fed.{of_more_bytes, fed_all, fed_line}
 use Rattle.vcode_reader.proofs.reader.CodeReader.feed.Goals as goal
+
+pub invariant_of-self-else-is_err : goal.invariant_of-self-else-is_err
+invariant_of-self-else-is_err g c =
+    let inside = c.self.inside in
+    of_more_bytes c.bytes-fed.result inside.scanner c.bytes-fed.new.self inside.language inside.first_line
+    inside.failed c.args.piece.now c.if-is_err.ensures.value c.bytes-fed.ensures c.self.invariant
 
 pub returns-else-is_err-clause-fed : goal.returns-else-is_err-clause-fed
 returns-else-is_err-clause-fed g c =

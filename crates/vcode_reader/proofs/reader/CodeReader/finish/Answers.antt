@@ -2,8 +2,15 @@ use Rattle.std.proofs.Common.{◌∙◌, Ok, ap, sym, subst}
 use Rattle.vcode_base.specs.TextAnswers.{Fails}
 use Rattle.vcode_reader.specs.Reading.{ReaderState, outcome}
 use Rattle.vcode_reader.specs.Trees.{Program}
+use Rattle.vcode_reader.proofs.Bodies.{proper_outcome}
 use Rattle.vcode_reader.proofs.Fed.{answer_ok, answer_err}
 use Rattle.vcode_reader.proofs.reader.CodeReader.finish.Goals as goal
+
+pub new-requires : goal.new-requires
+new-requires g c =
+    let inside = c.self.inside in
+    proper_outcome inside.language inside.scanner inside.first_line inside.failed c.in-Ok.functions.items
+    c.self.invariant c.if-self.false c.in-Ok.ensures
 
 pub returns-in-Err-clause-answer : goal.returns-in-Err-clause-answer
 returns-in-Err-clause-answer g c =
