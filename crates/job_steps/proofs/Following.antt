@@ -1,5 +1,6 @@
 -- The frames after an instruction.
-use Rattle.std.proofs.Common.{◌≡◌, ◌∙◌, ◌+◌, ◌<◌, ℕ, suc, Bool, true, false, List, [], ◌∷◌, ◌++◌, length, drop, map, Option}
+use Rattle.std.proofs.Common.{◌≡◌, ◌∙◌, ◌+◌, ◌<◌, ℕ, suc, Bool, true, false, List, [], ◌∷◌, ◌++◌, length, drop, map}
+use Rattle.std.proofs.Common.{Option}
 use Rattle.std.proofs.Common.{Some, None, refl, ap, sym, subst, arith}
 use Rattle.std.specs.Prelude.{slice_get, position, if◌then◌else◌, option_map, IsSome, max}
 use Rattle.std.specs.Str.{bytes_eq}
@@ -24,9 +25,11 @@ use Rattle.job_steps.specs.EventLaws.{IsVerified}
 use Rattle.job_steps.specs.Frames.{StopAt, Stands, StandAll, remaining, lines_at, first_line, next_line}
 use Rattle.job_steps.specs.Frames.{instruction_in}
 use Rattle.job_steps.specs.Motions.{stack_after, depth_after}
-use Rattle.job_steps.specs.States.{Arrow, Task, Entry, Active, State, Callee, callee_of, callee_at, callee_named, calls_with}
+use Rattle.job_steps.specs.States.{Arrow, Task, Entry, Active, State, Callee, callee_of, callee_at, callee_named}
+use Rattle.job_steps.specs.States.{calls_with}
 use Rattle.job_steps.specs.States.{first_state, new_entries}
-use Rattle.job_steps.specs.Steps.{next_item, calls_past, calls_after, can_call, can_run, is_call, question_of, results_of}
+use Rattle.job_steps.specs.Steps.{next_item, calls_past, calls_after, can_call, can_run, is_call, question_of}
+use Rattle.job_steps.specs.Steps.{results_of}
 use Rattle.job_steps.specs.Steps.{flag_of, words_at, progress_past}
 use Rattle.job_steps.specs.Tracks.{CanCall, CanFollow, Follow, IsCallOf, first_call, functions_of, Trace, IsAt}
 use Rattle.job_steps.specs.Tracks.{IsWhere, IsDeep, Advances, EachTrackFollows}
@@ -43,7 +46,8 @@ some_frame fs [] call outer s = absurd s
 some_frame fs (frame ∷ frames) call outer s = omega arith
 
 -- the innermost frame stands at the innermost call, and the others at the others
-pub record IsTop (fs : List Function) (frames : List Frame) (frame : Frame) (call : Active) (outer : List Active) : Type 0
+pub record IsTop (fs : List Function) (frames : List Frame) (frame : Frame) (call : Active) (outer : List Active)
+    : Type 0
   where
     pub inner : Stands fs frame call
     pub others : StandAll fs (drop 1 frames) outer
@@ -167,7 +171,9 @@ module _ (task : Task) (frames : List Frame) (frame : Frame) (top : slice_get fr
         StandAll (functions_of task) (drop 1 frames) outer →
         StandAll (functions_of task) (inner ∷ next ∷ drop 1 frames) (calls_after task flag rest ret outer)
     call_by name c inner named first flag End ret outer e s others =
-        absurd (let h : ◌≡◌ {A = Item} instr.Return (instr.Call name) = same_item instr.Return (instr.Call name) e in return_call name h)
+        absurd
+        (let h : ◌≡◌ {A = Item} instr.Return (instr.Call name) = same_item instr.Return (instr.Call name) e in
+        return_call name h)
     call_by name c inner named first flag (Do i l r) ret outer e s others =
         let same : i ≡ instr.Call name = same_item i (instr.Call name) e in
         let after : calls_past task i (record { rest = r; ret = ret }) outer
@@ -284,7 +290,8 @@ pub record Found (task : Task) (o : Option ℕ) (c : Callee) : Type 0 where
   pub some : IsSome o
   pub first : (place : ℕ) → o ≡ Some place → Stands (functions_of task) (frame_of place) (first_call c)
 
-found_by : (task : Task) (name : List ℕ) (o : Option ℕ) (c : Callee) → o ≡ position (is_named name) (functions_of task) →
+found_by : (task : Task) (name : List ℕ) (o : Option ℕ) (c : Callee) →
+    o ≡ position (is_named name) (functions_of task) →
     callee_named task.verified name ≡ Some c → Found task o c
 found_by task name o c at named =
     let p = place_is task.verified (position (is_named name) (functions_of task)) c named in
@@ -323,7 +330,8 @@ pub record MainIs (task : Task) (o : Option ℕ) : Type 0 where
   pub some : IsSome o
   pub first : (place : ℕ) → o ≡ Some place → StandAll (functions_of task) (frame_of place ∷ []) (first_state task).calls
 
-pub main_is : (task : Task) (o : Option ℕ) → IsVerified task → o ≡ position (is_named main_name) (functions_of task) → MainIs task o
+pub main_is : (task : Task) (o : Option ℕ) → IsVerified task →
+    o ≡ position (is_named main_name) (functions_of task) → MainIs task o
 main_is task o v at =
     let by = v.1.by_signatures in
     let main = callee v.0 task main_name [] task.verified.results v.1 by.well_kinded.main by.results in

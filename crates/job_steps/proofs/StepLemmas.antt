@@ -1,6 +1,6 @@
 -- What a step may rest on where a track is at a state of a verified job.
-use Rattle.std.proofs.Common.{◌≡◌, ◌∙◌, ◌+◌, ◌<◌, ◌≤◌, ℕ, ℤ, Bool, true, false, cond, eqb, List, [], ◌∷◌, length, Option}
-use Rattle.std.proofs.Common.{Some, None, refl, ap, sym, subst, arith}
+use Rattle.std.proofs.Common.{◌≡◌, ◌∙◌, ◌+◌, ◌<◌, ◌≤◌, ℕ, ℤ, Bool, true, false, cond, eqb, List, [], ◌∷◌, length}
+use Rattle.std.proofs.Common.{Option, Some, None, refl, ap, sym, subst, arith}
 use Rattle.std.specs.Prelude.{All}
 use Rattle.std.proofs.lemmas.Bool.Decides.{nat_tests}
 use Rattle.std.proofs.lemmas.List.Elements.{All-nil, All-cons, All-map, All-take, All-weaker}
@@ -16,15 +16,14 @@ use Rattle.vcode_reader.specs.Trees.{Item}
 use Rattle.signatures.specs.Signatures.{Signature}
 use Rattle.verifier.specs.Kinded.{scope_of}
 use Rattle.job_steps.specs.Buffers.{HaveAtMost}
-use Rattle.job_steps.specs.Events.{early_end, early_end_in}
+use Rattle.job_steps.specs.Events.{early_end_in}
 use Rattle.job_steps.specs.Frames.{StandAll}
 use Rattle.job_steps.specs.Motions.{top_entries, operand_count, depth_after}
 use Rattle.job_steps.specs.Questions.{need_words}
 use Rattle.job_steps.specs.Reached.{IsVerifiedTask, AreTyped, IsReached, Reaches, ValuesHaveKinds}
-use Rattle.job_steps.specs.Runs.{state_after}
 use Rattle.job_steps.specs.StepLaws.{CanBegin, CanAdvance, StepsCanBegin, StepsCanAdvance}
 use Rattle.job_steps.specs.States.{Task, Entry, Active, State, stack_kinds, held_words, words_of}
-use Rattle.job_steps.specs.Steps.{Ending, Running, next_item, sources_of, question_of, can_run, early_ending, words_at}
+use Rattle.job_steps.specs.Steps.{Ending, next_item, sources_of, question_of, can_run, early_ending, words_at}
 use Rattle.job_steps.specs.Tracks.{Trace, IsAt, IsDeep, functions_of}
 use Rattle.job_steps.proofs.Bounds.{Fits, fits, neither}
 use Rattle.job_steps.proofs.Following.{can_follow, same_length}

@@ -16,7 +16,7 @@ use Rattle.job_steps.specs.Motions.{top_entries}
 use Rattle.job_steps.specs.Reached.{IsVerifiedTask, AreTyped, HasItsKind, ValuesHaveKinds}
 use Rattle.job_steps.specs.Runs.{state_after}
 use Rattle.job_steps.specs.States.{Vector, Task, Entry, Active, State, first_state, words_of, stack_kinds, new_entries}
-use Rattle.job_steps.specs.Steps.{Running, first_item, next_item, sources_of, question_of}
+use Rattle.job_steps.specs.Steps.{Running, first_item, sources_of, question_of}
 use Rattle.job_steps.specs.Steps.{results_of}
 use Rattle.job_steps.proofs.Bounds.{running_from, Went, went}
 use Rattle.job_steps.proofs.KindLemmas.{kind_of, cut, kinds-top_entries}

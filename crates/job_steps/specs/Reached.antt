@@ -13,8 +13,8 @@ use Rattle.job_steps.specs.States.{Vector, Task, Entry, Active, State, stack_kin
 use Rattle.job_steps.specs.Steps.{Running, Over, Stuck, next_item, sources_of}
 use Rattle.job_steps.specs.Runs.{state_after, whole_run, outcome, executed_count, peak}
 
--- the signatures verify the task's program, whose bodies hold neither RET nor an instruction IF, and whose lists are of their
--- kinds
+-- The signatures verify the task's program. Its bodies hold neither RET nor an instruction IF, and each list in them is
+-- of its kind.
 pub record IsVerifiedTask (signatures : List Signature) (task : Task) : Type 0 where
   pub by_signatures : IsVerifiedBy signatures task.verified
   pub proper : HaveProperBodies task.verified.program.functions

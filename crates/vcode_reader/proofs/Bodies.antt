@@ -7,7 +7,6 @@ use Rattle.std.proofs.lemmas.List.Elements.{All-nil, All-cons}
 use Rattle.vcode_base.specs.declared.kind.Scalar.{Scalar}
 use Rattle.vcode_base.specs.declared.kind.Scalar.TheVariants as scalar
 use Rattle.vcode_base.specs.Kinds.{IsFlag, HasKind, kind_of}
-use Rattle.vcode_reader.specs.declared.head.Head.TheVariants.{Start}
 use Rattle.vcode_reader.specs.declared.keyword.Keyword.{Keyword}
 use Rattle.vcode_reader.specs.declared.keyword.Keyword.TheVariants as keyword
 use Rattle.vcode_reader.specs.declared.keyword.Slot.{Slot}
@@ -19,7 +18,7 @@ use Rattle.vcode_reader.specs.Heads.{slots_of, head_slots}
 use Rattle.vcode_reader.specs.Keywords.{ItemParts, no_parts, keyword_slots, instruction_of}
 use Rattle.vcode_reader.specs.Numbers.{truth_of, value_of}
 use Rattle.vcode_reader.specs.Parsing.{Parse}
-use Rattle.vcode_reader.specs.Reading.{HasScanned, IsOfBytes, outcome, program_at, reading}
+use Rattle.vcode_reader.specs.Reading.{IsOfBytes, outcome, program_at, reading}
 use Rattle.vcode_reader.specs.Scan.{Scan, Word}
 use Rattle.vcode_reader.specs.Trees.{Item, Body, End, Do, Choice, Function}
 use Rattle.vcode_reader.specs.Trees.{IsBodyInstruction, IsProperBody, HaveProperBodies}

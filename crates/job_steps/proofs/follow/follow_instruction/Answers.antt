@@ -21,7 +21,8 @@ called-callee-requires g c =
 pub next-requires : goal.next-requires
 next-requires g c =
     let task = c.args.job.now in
-    let same = same_functions c.program.result.now c.verified.result.now task c.program.ensures.same c.verified.ensures.same in
+    let same = same_functions c.program.result.now c.verified.result.now task c.program.ensures.same
+    c.verified.ensures.same in
     inner_stands task c.args.frames.now.entries c.args.frame c.args.frames.now.room c.program.result.now.functions
     c.requires.frame c.requires.calls same
 
@@ -40,7 +41,8 @@ returns-in-Call-clause-frames g c = λ flag.
     let name = c.in-Call.field-0 in
     let line : LineIs task frames c.args.frame c.requires.frame (code_item.Do (Call name)) =
     λ call s. c.requires.line call s ∙ ap code_item.Do c.in-Call.is in
-    let same = same_functions c.program.result.now c.verified.result.now task c.program.ensures.same c.verified.ensures.same in
+    let same = same_functions c.program.result.now c.verified.result.now task c.program.ensures.same
+    c.verified.ensures.same in
     let behind : IsBehind (functions_of task) c.args.frame c.next.result =
     subst (λ (fs : List Function). IsBehind fs c.args.frame c.next.result) same c.next.ensures in
     let now : c.push.new.self.entries ≡ c.called-callee.result ∷ c.next.result ∷ drop 1 frames =
