@@ -3,7 +3,6 @@ pub mod BatchLemmas
 pub mod Bytes
 pub mod CursorLemmas
 pub mod FateLemmas
-pub mod FeedLemmas
 pub mod JobLineLemmas
 pub mod LineLemmas
 pub mod ReportLemmas

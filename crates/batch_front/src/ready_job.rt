@@ -14,6 +14,7 @@ use job_machine::first::{
 use job_machine::{Job, JobName};
 use std::alloc::{AllocError, Allocator};
 use vcode_base::TextFault;
+use vcode_base::laws::line_feeds_are_few;
 use vcode_reader::{CodeFault, Program, ReadFault, read_first};
 
 /// What one job is refused for.
@@ -88,6 +89,7 @@ fn program_of<A: Allocator + Clone>(alloc: &A, text: JobText<'_>) -> Result<Prog
         (λ program. program_of (shown_job text.entry) ≡ Ok program)
         (λ stop. StopsBy stop (program_of (shown_job text.entry))) }
 {
+    line_feeds_are_few();
     match read_first(alloc.clone()?, text.code, text.code_line) {
         Ok(program) => Ok(program),
         Err(ReadFault::Memory) => Err(JobStop::Memory),

@@ -7,10 +7,11 @@
 use std::io::Read;
 use std::time::Instant;
 use std::{env, io};
+use vcode_base::laws::line_feeds_are_few;
 use verifier::{VerifyFault, verify};
 
-#[tactic(auto, using(vcode_reader::proofs::Lines::line_feeds_at_most))]
 fn main(rt: HostRuntime) -> io::Result<()> {
+    line_feeds_are_few();
     let is_timed = env::args(&rt)?.any(|word| word.as_str() == "time");
     let mut code = Vec::new(rt.alloc());
     rt.stdin().read_to_end(&mut code)?;

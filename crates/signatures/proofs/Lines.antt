@@ -205,11 +205,3 @@ pub came : (r : Result (List Signature) (TextFault SignatureFault)) (s : Scan) �
 came (Ok x) s h first bytes e = sym (comes_to_reading first bytes) ∙ (sym (ap outcome e) ∙ h)
 came (Err Memory) s h first bytes e = tt
 came (Err (At fault number)) s h first bytes e = sym (comes_to_reading first bytes) ∙ (sym (ap outcome e) ∙ h)
-
-pub line_feeds_at_most : (bs : List ℕ) → line_feeds bs ≤ length bs
-line_feeds_at_most [] = omega arith
-line_feeds_at_most (b ∷ bs) = one (is_line_feed b) (line_feeds_at_most bs)
-  where
-    one : {m n : ℕ} (t : Bool) → m ≤ n → cond t 1 0 + m ≤ suc n
-    one true h = omega arith
-    one false h = omega arith

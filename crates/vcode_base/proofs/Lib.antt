@@ -1,5 +1,6 @@
 pub mod KindTests
 mod Lengths
+mod LineFeeds
 mod LineWordLemmas
 mod Needs
 mod Permuted

@@ -3,6 +3,7 @@ pub mod Elements
 pub mod Instructions
 pub mod Kinds
 pub mod Laws
+pub mod LineLaws
 pub mod LineWords
 pub mod Lines
 pub mod Meaning

@@ -1,6 +1,7 @@
 //! Laws over the definitions alone: each is the contract of a function that does nothing.
 
 ghost use Rattle.vcode_base.specs.Laws.{ResultsHaveNeededLengths, EachElementAtItsIndex};
+ghost use Rattle.vcode_base.specs.LineLaws.{LineFeedsAreFew};
 
 /// Where an instruction has no fault, its results have the lengths that `need` gives.
 pub fn results_have_needed_lengths()
@@ -11,4 +12,9 @@ pub fn results_have_needed_lengths()
 /// place `p` of the segment to the place that the index at `p` names.
 pub fn each_element_at_its_index()
     ensures { EachElementAtItsIndex }
+{}
+
+/// A text has no more LFs than bytes.
+pub fn line_feeds_are_few()
+    ensures { LineFeedsAreFew }
 {}

@@ -102,11 +102,3 @@ pub scan_all-append : {P : Type 0} (emit : Emit P) (xs ys : List ℕ) (r : Scan 
 unfolding scan_all
 scan_all-append emit [] ys r = refl
 scan_all-append emit (b ∷ xs) ys r = scan_all-append emit xs ys (scan_byte emit r b)
-
-pub line_feeds_at_most : (bs : List ℕ) → line_feeds bs ≤ length bs
-line_feeds_at_most [] = omega arith
-line_feeds_at_most (b ∷ bs) = one (b == 10) (line_feeds_at_most bs)
-  where
-    one : {m n : ℕ} (t : Bool) → m ≤ n → cond t 1 0 + m ≤ suc n
-    one true h = omega arith
-    one false h = omega arith

@@ -5,6 +5,7 @@ use std::alloc::Global;
 use std::process::Abort;
 use std::test::Fail;
 use vcode_base::Limits;
+use vcode_base::laws::line_feeds_are_few;
 use verifier::{Verified, verify};
 
 const LIMITS: Limits = Limits {
@@ -19,13 +20,13 @@ const SIGNATURES: &[u8] = b"MAIN () -> (INT)\nhelper () -> (INT)\n";
 const CODE: &[u8] = b"FUNC helper\nCONST INT 1\nRET\nFUNC MAIN\nCALL helper\nRET\n";
 
 /// A program, well kinded by its signatures.
-#[tactic(auto, using(signatures::proofs::Lines::line_feeds_at_most, vcode_reader::proofs::Lines::line_feeds_at_most))]
 fn verified(
     rt: &impl Abort,
     alloc: Global,
     signatures: &[u8],
     code: &[u8],
 ) -> Result<Verified<Global>, Fail> {
+    line_feeds_are_few();
     assert!(rt; signatures.len() <= 1000);
     assert!(rt; code.len() <= 1000);
     let known = signatures::read(alloc, signatures, 3)?;

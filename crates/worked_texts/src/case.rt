@@ -9,6 +9,7 @@ use crate::pieces::{CODE_LINE, program_however_cut, signatures_however_cut};
 use crate::show::{kinds_text, program_text, shortened, signatures_text, verified_text};
 use signatures::Signatures;
 use std::alloc::Global;
+use vcode_base::laws::line_feeds_are_few;
 use vcode_reader::laws::equal_programs;
 use vcode_reader::{Language, Program, read_first};
 use verifier::laws::equal_verified;
@@ -129,10 +130,10 @@ fn program_of(alloc: Global, language: Language, text: &str) -> Result<Program<G
 }
 
 /// The program of a code of the first language.
-#[tactic(auto, using(vcode_reader::proofs::Lines::line_feeds_at_most))]
 fn first_program(alloc: Global, code: &[u8]) -> Result<Program<Global>, CaseFault>
     requires { length code.now ≤ MOST_BYTES }
 {
+    line_feeds_are_few();
     Ok(read_first(alloc, code, CODE_LINE)?)
 }
 

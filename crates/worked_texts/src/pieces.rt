@@ -7,6 +7,7 @@ use crate::fault::CaseFault;
 use crate::show::signatures_text;
 use signatures::{SigFault, SigReader, Signatures};
 use std::alloc::Global;
+use vcode_base::laws::line_feeds_are_few;
 use vcode_reader::laws::equal_programs;
 use vcode_reader::{CodeReader, Program, ReadFault, read};
 
@@ -17,10 +18,10 @@ pub const CODE_LINE: u64 = 5;
 const SIGNATURES_LINE: u64 = 3;
 
 /// The program of a code. It must be the same however the text is cut.
-#[tactic(auto, using(vcode_reader::proofs::Lines::line_feeds_at_most))]
 pub fn program_however_cut(alloc: Global, code: &[u8]) -> Result<Program<Global>, CaseFault>
     requires { length code.now ≤ MOST_BYTES }
 {
+    line_feeds_are_few();
     let whole = read(alloc, code, CODE_LINE);
     if !is_same_program(&whole, &program_in_pieces(alloc, code, 1)) {
         return Err(CaseFault::OtherInPieces);
@@ -32,11 +33,11 @@ pub fn program_however_cut(alloc: Global, code: &[u8]) -> Result<Program<Global>
 }
 
 /// The program of a code that comes in pieces of so many bytes.
-#[tactic(auto, using(vcode_reader::proofs::Lines::line_feeds_at_most))]
 fn program_in_pieces(alloc: Global, code: &[u8], size: usize) -> Result<Program<Global>, ReadFault>
     requires few { length code.now ≤ MOST_BYTES }
     requires some { 1 ≤ size }
 {
+    line_feeds_are_few();
     let mut reader = CodeReader::new(alloc, CODE_LINE)?;
     let mut rest = code;
     while !rest.is_empty() {
@@ -60,10 +61,10 @@ fn is_same_program(
 }
 
 /// The signatures of a text. They must be the same however it is cut.
-#[tactic(auto, using(signatures::proofs::Lines::line_feeds_at_most))]
 pub fn signatures_however_cut(alloc: Global, text: &[u8]) -> Result<Signatures<Global>, CaseFault>
     requires { length text.now ≤ MOST_BYTES }
 {
+    line_feeds_are_few();
     let whole = signatures::read(alloc, text, SIGNATURES_LINE);
     if !are_same_signatures(alloc, &whole, &signatures_in_pieces(alloc, text, 1))? {
         return Err(CaseFault::OtherInPieces);
@@ -75,7 +76,6 @@ pub fn signatures_however_cut(alloc: Global, text: &[u8]) -> Result<Signatures<G
 }
 
 /// The signatures of a text that comes in pieces of so many bytes.
-#[tactic(auto, using(signatures::proofs::Lines::line_feeds_at_most))]
 fn signatures_in_pieces(
     alloc: Global,
     text: &[u8],
@@ -84,6 +84,7 @@ fn signatures_in_pieces(
     requires few { length text.now ≤ MOST_BYTES }
     requires some { 1 ≤ size }
 {
+    line_feeds_are_few();
     let mut reader = SigReader::new(alloc, SIGNATURES_LINE);
     let mut rest = text;
     while !rest.is_empty() {

@@ -14,6 +14,7 @@ use crate::runs::run;
 use std::alloc::{AllocError, Global};
 use std::io;
 use vcode_base::Instr;
+use vcode_base::laws::line_feeds_are_few;
 use vcode_reader::{CodeItem, CodeLine, ReadFault, read};
 
 /// The lists of these lines. None where one isn't a CONST.
@@ -43,8 +44,8 @@ fn answer_of(alloc: Global, lines: &[CodeLine<Global>]) -> Result<Answer, AllocE
 }
 
 /// The answer to the case of this text.
-#[tactic(auto, using(vcode_reader::proofs::Lines::line_feeds_at_most))]
 fn read_case(alloc: Global, line: &str) -> Result<Answer, AllocError> {
+    line_feeds_are_few();
     let text = format!(in alloc; "FUNC f {line} RET")?;
     let program = match read(alloc, text.as_bytes(), 1) {
         Ok(program) => program,
