@@ -10,7 +10,7 @@ use Rattle.job_machine.proofs.first.fault_in.Goals as goal
 pub returns-in-None : goal.returns-in-None
 returns-in-None g c =
     let f = c.args.function.now in
-    let lines : c.lines-lines.result.now ≡ lines_of f = c.lines-lines.ensures.lines in
+    let lines : c.lines-lines.result.now ≡ lines_of f = c.lines-lines.ensures in
     let line = c.index-lines-place.result in
     let inside : c.loop-place.place < length (lines_of f) - 1 = let same = ap length lines in omega arith in
     let w = walks f c.loop-place.place c.loop-place.entries line c.loop-place.invariant inside (ap (λ xs. get_or xs c.loop-place.place line) (sym lines) ∙ sym c.index-lines-place.is) in
@@ -19,7 +19,7 @@ returns-in-None g c =
 pub returns-then-entries-count : goal.returns-then-entries-count
 returns-then-entries-count g c =
     let f = c.args.function.now in
-    let lines : c.lines-lines.result.now ≡ lines_of f = c.lines-lines.ensures.lines in
+    let lines : c.lines-lines.result.now ≡ lines_of f = c.lines-lines.ensures in
     let line = c.index-lines-place.result in
     let inside : c.loop-place.place < length (lines_of f) - 1 = let same = ap length lines in omega arith in
     let w = walks f c.loop-place.place c.loop-place.entries line c.loop-place.invariant inside (ap (λ xs. get_or xs c.loop-place.place line) (sym lines) ∙ sym c.index-lines-place.is) in
@@ -28,7 +28,7 @@ returns-then-entries-count g c =
 pub loop-place-preserved : goal.loop-place-preserved
 loop-place-preserved g c =
     let f = c.args.function.now in
-    let lines : c.lines-lines.result.now ≡ lines_of f = c.lines-lines.ensures.lines in
+    let lines : c.lines-lines.result.now ≡ lines_of f = c.lines-lines.ensures in
     let line = c.index-lines-place.result in
     let inside : c.loop-place.place < length (lines_of f) - 1 = let same = ap length lines in omega arith in
     let w = walks f c.loop-place.place c.loop-place.entries line c.loop-place.invariant inside (ap (λ xs. get_or xs c.loop-place.place line) (sym lines) ∙ sym c.index-lines-place.is) in
@@ -38,7 +38,7 @@ pub returns-then-entries-eq1 : goal.returns-then-entries-eq1
 returns-then-entries-eq1 g c =
     let f = c.args.function.now in
     let long = long_enough f in
-    let last : c.loop-place.place ≡ length (lines_of f) - 1 = let same = ap length c.lines-lines.ensures.lines in omega arith in
+    let last : c.loop-place.place ≡ length (lines_of f) - 1 = let same = ap length c.lines-lines.ensures in omega arith in
     let e = walk_ends f c.loop-place.place c.loop-place.entries (instruction_line Return 0) c.loop-place.invariant last in
     let one : eqb c.loop-place.entries 1 ≡ true = let is = c.if-entries-eq1.true in grind (arith, nat_tests, is) in
     sym (e.0 ∙ rw one refl)
@@ -47,7 +47,7 @@ pub returns-else-entries-eq1 : goal.returns-else-entries-eq1
 returns-else-entries-eq1 g c =
     let f = c.args.function.now in
     let long = long_enough f in
-    let lines : c.lines-lines.result.now ≡ lines_of f = c.lines-lines.ensures.lines in
+    let lines : c.lines-lines.result.now ≡ lines_of f = c.lines-lines.ensures in
     let last : c.loop-place.place ≡ length (lines_of f) - 1 = let same = ap length lines in omega arith in
     let line : CodeLine = c.index-lines-lines.result in
     let here : length c.lines-lines.result.now - 1 ≡ c.loop-place.place = let same = ap length lines in omega arith in

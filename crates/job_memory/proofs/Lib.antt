@@ -1,0 +1,5 @@
+mod Grants
+mod Slots
+mod Booked
+mod Views
+mod Turns

@@ -1,0 +1,3 @@
+pub mod JobBlocks
+pub mod Inside
+pub mod Laws

@@ -1,0 +1,297 @@
+-- Where a job's slot is after a step that was committed.
+use Rattle.std.proofs.Common.{◌≡◌, ◌≢◌, ◌∙◌, ◌+◌, ◌-◌, ◌<◌, ℕ, List, [], ◌∷◌, length, Option, Some, None, refl, sym, ap}
+use Rattle.std.proofs.Common.{subst, arith}
+use Rattle.vcode_base.specs.declared.fault.DataFault.{DataFault}
+use Rattle.vcode_base.specs.declared.outcome.Outcome.TheVariants.{Fault}
+use Rattle.vcode_base.specs.Instructions.{op_of}
+use Rattle.vcode_base.specs.Meaning.{value_fault}
+use Rattle.vcode_reader.specs.Trees.{Function}
+use Rattle.signatures.specs.Signatures.{Signature}
+use Rattle.refcounts.specs.SharedState.{Slot}
+use Rattle.job_memory.specs.JobBlocks.{JobBlocks, IsJob, ChangesOnlyOf, grant_of, own_slots}
+use Rattle.job_steps.specs.declared.event.Event.TheVariants as event
+use Rattle.job_steps.specs.declared.frame.Frame.{Frame}
+use Rattle.job_steps.specs.EventLaws.{OthersAreReady, IsVerified}
+use Rattle.job_steps.specs.Events.{next_standing, standing_after}
+use Rattle.job_steps.specs.Frames.{StandAll}
+use Rattle.job_steps.specs.Questions.{Question}
+use Rattle.job_steps.specs.Reached.{Reaches, EndIsOwn, IsVerifiedTask}
+use Rattle.job_steps.specs.Runs.{state_after, peak}
+use Rattle.job_steps.specs.Standings.{Standing, Live, InFlight, Ended, held_in, left_words}
+use Rattle.job_steps.specs.States.{Task, Active, State}
+use Rattle.job_steps.specs.Steps.{Progress, Running, Over, Stuck, next_item, sources_of, question_of, flag_of}
+use Rattle.job_steps.specs.Steps.{calls_after, progress_by}
+use Rattle.job_steps.specs.Tickets.{Asked}
+use Rattle.job_steps.specs.Tracks.{Trace, functions_of}
+use Rattle.job_slots.specs.declared.answer.Finished.{Finished}
+use Rattle.job_slots.specs.declared.answer.Finished.TheVariants as finished
+use Rattle.job_slots.specs.declared.status.Status.TheVariants as status
+use Rattle.job_slots.specs.Answers.{Fits, Finishes, IsEnding, question_at, line_at, line_in, line_before}
+use Rattle.job_slots.specs.Slots.{SlotState, Shows, ShowsAs, IsRunningSlot, IsFlyingSlot, HasEnded, IsAfter}
+use Rattle.job_slots.specs.Slots.{standing_of, standing_by, grant_by}
+use Rattle.job_slots.proofs.Executed.{asked_is}
+
+-- ---- standings
+
+-- where a finish leaves a job whose step is in flight
+next_is : (number : ℕ) (task : Task) (standing : Standing) (step : ℕ) → standing ≡ InFlight step →
+    next_standing (event.Finish number) task standing ≡ Some (standing_after (step + 1) (state_after task (step + 1)))
+next_is number task standing step flying = ap (next_standing (event.Finish number) task) flying
+
+same_step : (n step : ℕ) → ◌≡◌ {A = Standing} (InFlight n) (InFlight step) → n ≡ step
+same_step n step e = cc
+
+-- the step is that of the slot's count
+step_is : (slot : SlotState) (step : ℕ) → slot.status ≡ status.InFlight → standing_of slot ≡ InFlight step →
+    slot.trace.executed ≡ step
+step_is slot step is flying =
+    same_step slot.trace.executed step (ap (λ s. standing_by s slot.trace.executed) (sym is) ∙ flying)
+
+-- ---- a value fault
+
+line_is : (task : Task) (n : ℕ) (s : State) (call : Active) (outer : List Active) (line : ℕ) →
+    state_after task n ≡ Running s → s.calls ≡ call ∷ outer → line_at task n ≡ Some line →
+    (next_item call).number ≡ line
+unfolding line_at
+line_is task n s call outer line running calls at =
+    let here : line_in (Running s) ≡ Some line = ap line_in (sym running) ∙ at in
+    let found : ◌≡◌ {A = Option ℕ} (Some (next_item call).number) (Some line) = ap line_before (sym calls) ∙ here in
+    cc
+
+-- the fault is the job's end
+pub record FaultEnds (task : Task) (t : Trace ℕ) (fault : DataFault) (line : ℕ) : Type 0 where
+  pub ending : IsEnding task t.executed t.peak (Fault fault line)
+  pub standing : standing_after (t.executed + 1) (state_after task (t.executed + 1)) ≡ Ended
+
+fault_ends : OthersAreReady → EndIsOwn → (slots : List Slot) (task : Task) (t : Trace ℕ) (question : Question)
+    (fault : DataFault) (line : ℕ) → IsVerified task → IsFlyingSlot slots task t →
+    question_at task t.executed ≡ Some question → value_fault question.op question.sources ≡ Some fault →
+    line_at task t.executed ≡ Some line → FaultEnds task t fault line
+fault_ends others_are_ready end_is_own slots task t question fault line verified flying asked faulty at =
+    let run = flying.run in
+    let s = run.state in
+    let ready = others_are_ready verified.0 task verified.1 t.executed s run.running flying.goes_on in
+    let same = asked_is task t.executed s ready.call ready.outer question run.running ready.calls asked in
+    let line_same = line_is task t.executed s ready.call ready.outer line run.running ready.calls at in
+    let item = (next_item ready.call).item in
+    let calls = calls_after task (flag_of (question_of item s.stack)) ready.call.rest ready.call.ret ready.outer in
+    let here : value_fault (op_of item) (sources_of item s.stack) ≡ Some fault =
+    ap (λ (q : Question). value_fault q.op q.sources) same ∙ faulty in
+    let over : state_after task (t.executed + 1) ≡ Over (Fault fault line) s.executed s.peak =
+    ready.next
+    ∙ ap (λ (o : Option DataFault). progress_by o (next_item ready.call) s calls) here
+    ∙ ap (λ (l : ℕ). Over (Fault fault l) s.executed s.peak) line_same in
+    let own = end_is_own task (t.executed + 1) (Fault fault line) s.executed s.peak over in
+    record {
+      ending = record {
+        outcome_is = own.0;
+        executed_is = run.at.executed ∙ sym own.1;
+        peak_is = run.at.peak ∙ sym own.2;
+        nothing_left = refl;
+      };
+      standing = ap (standing_after (t.executed + 1)) over;
+    }
+
+-- ---- an instruction
+
+no_calls : (fs : List Function) (frames : List Frame) (calls : List Active) → frames ≡ [] → StandAll fs frames calls →
+    calls ≡ []
+no_calls fs frames [] none stand = refl
+no_calls fs frames (call ∷ calls) none stand =
+    absurd (subst (λ (xs : List Frame). StandAll fs xs (call ∷ calls)) none stand)
+
+-- the job runs on
+record RunsOn (slots : List Slot) (task : Task) (u : Trace ℕ) (n : ℕ) (p : Progress) : Type 0 where
+  running : IsRunningSlot slots task u
+  executed : u.executed ≡ n + 1
+  standing : standing_after (n + 1) p ≡ Live (n + 1)
+
+runs_on : Reaches → (signatures : List Signature) (slots : List Slot) (task : Task) (u : Trace ℕ) (n : ℕ) (p : Progress) →
+    IsVerifiedTask signatures task → state_after task (n + 1) ≡ p → IsAfter slots task u p → 0 < length u.frames →
+    RunsOn slots task u n p
+runs_on reaches signatures slots task u n (Running s) verified e after some =
+    let count = after.0.executed ∙ (reaches signatures task verified (n + 1) s e).count in
+    record {
+      running = record {
+        state = s;
+        running = ap (state_after task) count ∙ e;
+        at = after.0;
+        holds = after.1;
+      };
+      executed = count;
+      standing = refl;
+    }
+runs_on reaches signatures slots task u n (Over ending executed peak) verified e after some =
+    absurd (omega (arith, some, ap length after.0.frames))
+runs_on reaches signatures slots task u n Stuck verified e after some = absurd after
+
+-- the job has returned
+record Returns (slots : List Slot) (task : Task) (u : Trace ℕ) (n : ℕ) (p : Progress) : Type 0 where
+  ended : HasEnded slots task u None
+  standing : standing_after (n + 1) p ≡ Ended
+
+returned : Reaches → EndIsOwn → (signatures : List Signature) (slots : List Slot) (task : Task) (u : Trace ℕ) (n : ℕ)
+    (p : Progress) → IsVerifiedTask signatures task → state_after task (n + 1) ≡ p → IsAfter slots task u p →
+    u.frames ≡ [] → Returns slots task u n p
+returned reaches end_is_own signatures slots task u n (Running s) verified e after none =
+    let calls = no_calls (functions_of task) u.frames s.calls none after.0.frames in
+    absurd (omega (arith, (reaches signatures task verified (n + 1) s e).active, ap length calls))
+returned reaches end_is_own signatures slots task u n (Over ending count most) verified e after none =
+    let own = end_is_own task (n + 1) ending count most e in
+    let left = after.1 in
+    let outcome_is = own.0 ∙ left.1 in
+    record {
+      ended = record {
+        executed = after.0.executed_is ∙ sym own.1;
+        peak_is = after.0.peak_is ∙ sym own.2;
+        leaves = record {
+          stack = left.0;
+          outcome_is = outcome_is;
+          left =
+              ap (left_words task) outcome_is
+              ∙ ap (λ (k : ℕ). held_in (state_after task (k - 1))) own.1
+              ∙ sym left.2;
+          holds = left.3;
+        };
+      };
+      standing = refl;
+    }
+returned reaches end_is_own signatures slots task u n Stuck verified e after none = absurd after
+
+-- ---- a commit
+
+-- what a commit answers, and what it leaves
+pub record IsCommitted (number : ℕ) (task : Task) (before : Standing) (filled : Asked) (blocks : JobBlocks)
+    (result : Finished) (new : SlotState) : Type 0 where
+  pub answer : Finishes number task before filled result
+  pub shows : Shows number blocks task new
+  pub standing : Some (standing_of new) ≡ next_standing (event.Finish number) task before
+
+-- an instruction was executed
+pub record Executed (number : ℕ) (task : Task) (t u : Trace ℕ) (old new : JobBlocks) : Type 0 where
+  pub after : IsAfter (own_slots number new) task u (state_after task (t.executed + 1))
+  pub limits : u.limits ≡ t.limits
+  pub others : ChangesOnlyOf number old new
+  pub same_grant : grant_of new number ≡ grant_of old number
+
+-- the job runs on, or it has returned
+pub record GoesOn (mid new : SlotState) (result : Finished) : Type 0 where
+  pub done : result ≡ finished.Done →
+      (0 < length mid.trace.frames) × (new ≡ record mid { status = status.Live })
+  pub ended : result ≡ finished.Ended →
+      (mid.trace.frames ≡ []) × (new ≡ record mid { status = status.Ended; outcome = None })
+  pub not_stale : result ≢ finished.Stale
+
+still_job : (number : ℕ) (old new : JobBlocks) → ChangesOnlyOf number old new → IsJob old number → IsJob new number
+still_job number old new changes is = (is.0, omega (arith, changes.jobs, is.1))
+
+module _ (reaches : Reaches) (end_is_own : EndIsOwn) (number : ℕ) (task : Task) (old : SlotState) (filled : Asked)
+    (blocks blocks' : JobBlocks) (shows : Shows number blocks task old) (flying : old.status ≡ status.InFlight)
+    (fits : Fits task (standing_of old) filled) (mid : SlotState)
+    (executed : Executed number task old.trace mid.trace blocks blocks') where
+  grant : grant_of blocks' number ≡ Some task.limits.words
+  grant = executed.same_grant ∙ shows.grant ∙ ap (grant_by task) flying
+
+  step : old.trace.executed ≡ filled.step
+  step = step_is old filled.step flying fits.flying
+
+  next : next_standing (event.Finish number) task (standing_of old)
+      ≡ Some (standing_after (old.trace.executed + 1) (state_after task (old.trace.executed + 1)))
+  next = next_is number task (standing_of old) old.trace.executed
+      (fits.flying ∙ ap InFlight (sym step))
+
+  pub committed : (result : Finished) (new : SlotState) → GoesOn mid new result →
+      IsCommitted number task (standing_of old) filled blocks' result new
+  committed finished.Done new goes =
+      let done = goes.done refl in
+      let on = runs_on reaches shows.verified.0 (own_slots number blocks') task mid.trace old.trace.executed
+      (state_after task (old.trace.executed + 1)) shows.verified.1 refl executed.after done.0 in
+      let lives : next_standing (event.Finish number) task (standing_of old) ≡ Some (Live (old.trace.executed + 1)) =
+      next ∙ ap (λ (s : Standing). Some s) on.standing in
+      record {
+        answer = (fits, lives ∙ ap (λ (n : ℕ). Some (Live (n + 1))) step);
+        shows =
+            subst (λ (s : SlotState). Shows number blocks' task s) (sym done.1)
+            (record {
+              is_job = still_job number blocks blocks' executed.others shows.is_job;
+              verified = shows.verified;
+              limits = executed.limits ∙ shows.limits;
+              grant = grant;
+              shown = on.running;
+            });
+        standing =
+            ap (λ (s : SlotState). Some (standing_of s)) done.1
+            ∙ ap (λ (n : ℕ). Some (Live n)) on.executed
+            ∙ sym lives;
+      }
+  committed finished.Ended new goes =
+      let ended = goes.ended refl in
+      let over = returned reaches end_is_own shows.verified.0 (own_slots number blocks') task mid.trace
+      old.trace.executed (state_after task (old.trace.executed + 1)) shows.verified.1 refl executed.after ended.0 in
+      let ends : next_standing (event.Finish number) task (standing_of old) ≡ Some Ended =
+      next ∙ ap (λ (s : Standing). Some s) over.standing in
+      record {
+        answer = (fits, ends);
+        shows =
+            subst (λ (s : SlotState). Shows number blocks' task s) (sym ended.1)
+            (record {
+              is_job = still_job number blocks blocks' executed.others shows.is_job;
+              verified = shows.verified;
+              limits = executed.limits ∙ shows.limits;
+              grant = grant;
+              shown = over.ended;
+            });
+        standing = ap (λ (s : SlotState). Some (standing_of s)) ended.1 ∙ sym ends;
+      }
+  committed finished.Stale new goes = absurd (goes.not_stale refl)
+
+-- what a job whose step is in flight shows
+flying_shown : (number : ℕ) (blocks : JobBlocks) (task : Task) (slot : SlotState) → Shows number blocks task slot →
+    slot.status ≡ status.InFlight → IsFlyingSlot (own_slots number blocks) task slot.trace
+flying_shown number blocks task slot shows flying =
+    subst (ShowsAs (own_slots number blocks) task slot.trace slot.outcome) flying shows.shown
+
+-- ---- a value fault at a commit
+
+-- the fault ends the job, and with it the finish
+pub record FaultCommits (number : ℕ) (task : Task) (slot : SlotState) (fault : DataFault) (line : ℕ) : Type 0 where
+  pub ending : IsEnding task slot.trace.executed slot.trace.peak (Fault fault line)
+  pub next : next_standing (event.Finish number) task (standing_of slot) ≡ Some Ended
+
+pub fault_commits : OthersAreReady → EndIsOwn → (number : ℕ) (blocks : JobBlocks) (task : Task) (slot : SlotState)
+    (filled : Asked) (inside : Trace ℕ) (fault : DataFault) (line : ℕ) → Shows number blocks task slot →
+    slot.status ≡ status.InFlight → Fits task (standing_of slot) filled → inside ≡ slot.trace →
+    value_fault filled.question.op filled.question.sources ≡ Some fault → line_at task inside.executed ≡ Some line →
+    FaultCommits number task slot fault line
+fault_commits others_are_ready end_is_own number blocks task slot filled inside fault line shows flying fits same faulty at =
+    let step = step_is slot filled.step flying fits.flying in
+    let asked : question_at task slot.trace.executed ≡ Some filled.question = ap (question_at task) step ∙ fits.question in
+    let here : line_at task slot.trace.executed ≡ Some line =
+    subst (λ (t : Trace ℕ). line_at task t.executed ≡ Some line) same at in
+    let ends = fault_ends others_are_ready end_is_own (own_slots number blocks) task slot.trace filled.question fault line
+    shows.verified (flying_shown number blocks task slot shows flying) asked faulty here in
+    record {
+      ending = ends.ending;
+      next =
+          next_is number task (standing_of slot) slot.trace.executed (fits.flying ∙ ap InFlight (sym step))
+          ∙ ap (λ (s : Standing). Some s) ends.standing;
+    }
+
+-- the slot has ended
+pub ended_standing : (number : ℕ) (task : Task) (standing : Standing) (new : SlotState) → new.status ≡ status.Ended →
+    next_standing (event.Finish number) task standing ≡ Some Ended →
+    Some (standing_of new) ≡ next_standing (event.Finish number) task standing
+ended_standing number task standing new ended next =
+    ap (λ s. Some (standing_by s new.trace.executed)) ended ∙ sym next
+
+-- an instruction was executed on the track that the slot has inside
+pub executed_inside : (number : ℕ) (task : Task) (slot : SlotState) (inside u : Trace ℕ) (old new : JobBlocks) →
+    inside ≡ slot.trace → IsAfter (own_slots number new) task u (state_after task (inside.executed + 1)) →
+    u.limits ≡ inside.limits → ChangesOnlyOf number old new → grant_of new number ≡ grant_of old number →
+    Executed number task slot.trace u old new
+executed_inside number task slot inside u old new same after limits others same_grant = record {
+  after = subst (λ (t : Trace ℕ). IsAfter (own_slots number new) task u (state_after task (t.executed + 1))) same after;
+  limits = limits ∙ ap (λ (t : Trace ℕ). t.limits) same;
+  others = others;
+  same_grant = same_grant;
+}

@@ -1,0 +1,222 @@
+-- What ends a job that runs before its next instruction.
+use Rattle.std.proofs.Common.{◌≡◌, ℕ, ℤ, ◌+◌, ◌≤◌, Bool, true, false, cond, eqb, ltb, min, List, [], ◌∷◌, length}
+use Rattle.std.proofs.Common.{Option, Some, None}
+use Rattle.std.proofs.Common.{refl, sym, ◌∙◌, ap, subst, arith}
+use Rattle.std.specs.Prelude.{◌&&◌, MatchOption}
+use Rattle.std.proofs.lemmas.Bool.{eq-eqb}
+use Rattle.std.proofs.lemmas.Bool.Decides.{nat_tests}
+use Rattle.vcode_base.specs.declared.fault.DataFault.{DataFault}
+use Rattle.vcode_base.specs.declared.fault.MemoryFault.{MemoryFault}
+use Rattle.vcode_base.specs.declared.fault.MemoryFault.TheVariants as memory
+use Rattle.vcode_base.specs.declared.limits.Limits.{Limits}
+use Rattle.vcode_base.specs.declared.op.Op.{Op}
+use Rattle.vcode_base.specs.declared.outcome.Outcome.TheVariants.{Budget}
+use Rattle.vcode_base.specs.Meaning.{shape, need}
+use Rattle.vcode_reader.specs.Trees.{Function}
+use Rattle.refcounts.specs.SharedState.{SharedState, Slot, words_in, IsTidy}
+use Rattle.refcounts.specs.Owners.{slots_seen_by}
+use Rattle.job_steps.specs.declared.frame.Frame.{Frame}
+use Rattle.job_steps.specs.Buffers.{HaveAtMost}
+use Rattle.job_steps.specs.EventLaws.{IsVerified, EarlyEndsEnd}
+use Rattle.job_steps.specs.Events.{early_end, early_end_in}
+use Rattle.job_steps.specs.Frames.{StandAll}
+use Rattle.job_steps.specs.Motions.{depth_after}
+use Rattle.job_steps.specs.Questions.{Question, need_words}
+use Rattle.job_steps.specs.Runs.{state_after}
+use Rattle.job_steps.specs.Standings.{left_words}
+use Rattle.job_steps.specs.States.{Task, Active, State, held_words}
+use Rattle.job_steps.specs.Steps.{Ending, Running, next_item, question_of, ending_by, memory_fault}
+use Rattle.job_steps.specs.Steps.{is_call}
+use Rattle.job_steps.specs.StepLaws.{CanBegin, StepsCanBegin, StepsCanAdvance}
+use Rattle.job_steps.specs.Tickets.{CanAnswer, question_by}
+use Rattle.job_steps.specs.Tracks.{Trace, IsAt, functions_of}
+use Rattle.job_slots.specs.Answers.{early_end_at, IsNext, IsEnding}
+use Rattle.job_slots.specs.Holdings.{HoldStack}
+use Rattle.job_slots.specs.Slots.{IsRunningSlot}
+use Rattle.job_slots.proofs.Begins.{can_begin, question_when, line_when, early_end_when}
+use Rattle.job_slots.proofs.Holding.{held_is_stack, own_are_tidy}
+
+-- ---- a limit, with words that are counted up to the greatest number
+
+same_by : (limits : Limits) (op : Op) (many few : ℕ) (depth calls : ℕ) → ltb limits.words many ≡ ltb limits.words few →
+    memory_fault limits op many depth calls ≡ memory_fault limits op few depth calls
+unfolding memory_fault
+same_by limits op many few depth calls same =
+    ap (λ (b : Bool). cond b (Some memory.Words)
+    (cond (ltb limits.cells depth) (Some memory.Cells)
+    (cond (is_call op && ltb limits.calls (calls + 1)) (Some memory.Calls) None))) same
+
+same_test : (limit a b c most : ℕ) → limit + 1 ≤ most →
+    ltb limit (min (min (a + b) most + c) most) ≡ ltb limit (a + (b + c))
+same_test limit a b c most within = grind (arith, nat_tests)
+
+pub capped_words : (limits : Limits) (op : Op) (held first second most depth calls : ℕ) → limits.words + 1 ≤ most →
+    memory_fault limits op (min (min (held + first) most + second) most) depth calls
+    ≡ memory_fault limits op (held + (first + second)) depth calls
+capped_words limits op held first second most depth calls within =
+    same_by limits op (min (min (held + first) most + second) most) (held + (first + second)) depth calls
+    (same_test limits.words held first second most within)
+
+-- the limit that an instruction would pass, where words are counted up to the greatest number
+pub limit_fault : (limits : Limits) (op : Op) (sources : List (List ℤ)) (held depth calls sum words most : ℕ)
+    (lengths : ℕ × ℕ) → lengths ≡ need op sources → sum ≡ min (held + lengths.0) most →
+    words ≡ min (sum + lengths.1) most → limits.words + 1 ≤ most →
+    memory_fault limits op words depth calls
+    ≡ memory_fault limits op (held + need_words (question_by op sources)) depth calls
+limit_fault limits op sources held depth calls sum words most lengths are first second within =
+    let counted : words ≡ min (min (held + (need op sources).0) most + (need op sources).1) most =
+    second
+    ∙ (ap (λ (n : ℕ). min (n + lengths.1) most) first
+    ∙ ap (λ (p : ℕ × ℕ). min (min (held + p.0) most + p.1) most) are) in
+    ap (λ (n : ℕ). memory_fault limits op n depth calls) counted
+    ∙ capped_words limits op held (need op sources).0 (need op sources).1 most depth calls within
+
+-- ---- the end before an instruction, as the track and the blocks tell it
+
+-- frames that stand at calls are as many
+as_many : (functions : List Function) (frames : List Frame) (calls : List Active) → StandAll functions frames calls →
+    length frames ≡ length calls
+as_many functions [] [] stand = refl
+as_many functions [] (call ∷ calls) stand = absurd stand
+as_many functions (frame ∷ frames) [] stand = absurd stand
+as_many functions (frame ∷ frames) (call ∷ calls) stand = omega (arith, as_many functions frames calls stand.1)
+
+-- the ending by a question of a line, at these counts
+abbrev ending_at : ℕ → Question → Limits → ℕ → ℕ → ℕ → Option Ending
+ending_at line q limits held depth calls =
+    ending_by line (shape q.op q.sources)
+    (memory_fault limits q.op (held + need_words q) (depth_after q.op depth) calls)
+
+same_ending : (line line' : ℕ) (q q' : Question) (l l' : Limits) (h h' d d' c c' : ℕ) → line ≡ line' → q ≡ q' → l ≡ l' →
+    h ≡ h' → d ≡ d' → c ≡ c' → ending_at line q l h d c ≡ ending_at line' q' l' h' d' c'
+same_ending line line' q q' l l' h h' d d' c c' e1 e2 e3 e4 e5 e6 =
+    ap (λ (x : ℕ). ending_at x q l h d c) e1
+    ∙ (ap (λ (x : Question). ending_at line' x l h d c) e2
+    ∙ (ap (λ (x : Limits). ending_at line' q' x h d c) e3
+    ∙ (ap (λ (x : ℕ). ending_at line' q' l' x d c) e4
+    ∙ (ap (λ (x : ℕ). ending_at line' q' l' h' x c) e5 ∙ ap (λ (x : ℕ). ending_at line' q' l' h' d' x) e6))))
+
+some_is : {A : Type 0} (x y : A) → Some x ≡ Some y → x ≡ y
+some_is x y e = cc
+
+-- what is read is the next instruction's
+pub same_question : (task : Task) (t : Trace ℕ) (s : State) (op : Op) (line : ℕ) (sources : List (List ℤ)) →
+    state_after task t.executed ≡ Running s → (can : CanBegin task t.executed s t) →
+    IsNext task t.executed op line sources →
+    question_of (next_item can.call).item s.stack ≡ question_by op sources
+same_question task t s op line sources runs can next =
+    some_is _ _ (sym (question_when task t.executed s can.call can.outer runs can.calls) ∙ next.question)
+
+same_line : (task : Task) (t : Trace ℕ) (s : State) (op : Op) (line : ℕ) (sources : List (List ℤ)) →
+    state_after task t.executed ≡ Running s → (can : CanBegin task t.executed s t) →
+    IsNext task t.executed op line sources →
+    (next_item can.call).number ≡ line
+same_line task t s op line sources runs can next =
+    some_is _ _ (sym (line_when task t.executed s can.call can.outer runs can.calls) ∙ next.line_is)
+
+pub budget_end : (task : Task) (t : Trace ℕ) (s : State) → state_after task t.executed ≡ Running s → IsAt task t s →
+    t.executed ≡ t.limits.budget → early_end_at task t.executed ≡ Some Budget
+budget_end task t s runs at spent =
+    let same : s.executed ≡ task.limits.budget = sym at.executed ∙ (spent ∙ ap (λ (l : Limits). l.budget) at.limits) in
+    early_end_when task t.executed s runs
+    ∙ ap (λ (b : Bool). cond b (Some Budget) (early_end_in task s s.calls)) (eq-eqb _ _ same)
+
+pub early_end_is : (task : Task) (t : Trace ℕ) (s : State) (op : Op) (line : ℕ) (sources : List (List ℤ)) (held : ℕ) →
+    state_after task t.executed ≡ Running s → IsAt task t s → CanBegin task t.executed s t →
+    IsNext task t.executed op line sources → held ≡ held_words s.stack → (t.executed ≡ t.limits.budget → ⊥) →
+    early_end_at task t.executed ≡ ending_by line (shape op sources)
+    (memory_fault t.limits op (held + need_words (question_by op sources)) (depth_after op (length t.cells))
+    (length t.frames))
+early_end_is task t s op line sources held runs at can next held_is unspent =
+    let other : s.executed ≡ task.limits.budget → ⊥ =
+    λ (e : s.executed ≡ task.limits.budget).
+    unspent (at.executed ∙ (e ∙ sym (ap (λ (l : Limits). l.budget) at.limits))) in
+    let no : eqb s.executed task.limits.budget ≡ false = grind (arith, nat_tests) in
+    early_end_when task t.executed s runs
+    ∙ (ap (λ (b : Bool). cond b (Some Budget) (early_end_in task s s.calls)) no
+    ∙ (ap (early_end_in task s) can.calls
+    ∙ same_ending (next_item can.call).number line (question_of (next_item can.call).item s.stack)
+    (question_by op sources) task.limits t.limits (held_words s.stack) held (length s.stack) (length t.cells) (length s.calls) (length t.frames)
+    (same_line task t s op line sources runs can next) (same_question task t s op line sources runs can next)
+    (sym at.limits) (sym held_is) (sym at.cells) (sym (as_many (functions_of task) t.frames s.calls at.frames))))
+
+-- the words of a job's blocks are those of its stack
+pub held_is : (job : ℕ) (memory : SharedState) (task : Task) (t : Trace ℕ) (s : State) →
+    HoldStack (slots_seen_by job memory) t.cells s.stack → IsTidy memory →
+    words_in (slots_seen_by job memory) ≡ held_words s.stack
+held_is job memory task t s holds tidy =
+    held_is_stack (slots_seen_by job memory) holds.cells holds.held (own_are_tidy job memory tidy)
+    ∙ ap held_words (sym holds.entries_are)
+
+-- an answer that tells it from what is read
+pub ends_with : StepsCanBegin ℕ → (number : ℕ) (memory : SharedState) (task : Task) (t : Trace ℕ)
+    (run : IsRunningSlot (slots_seen_by number memory) task t) (op : Op) (line : ℕ) (sources : List (List ℤ)) (held : ℕ)
+    (answer : Option Ending) → IsVerified task → IsTidy memory → IsNext task t.executed op line sources →
+    held ≡ words_in (slots_seen_by number memory) → (t.executed ≡ t.limits.budget → ⊥) →
+    answer ≡ ending_by line (shape op sources)
+    (memory_fault t.limits op (held + need_words (question_by op sources)) (depth_after op (length t.cells))
+    (length t.frames)) → early_end_at task t.executed ≡ answer
+ends_with law number memory task t run op line sources held answer verified tidy next held_here unspent told =
+    early_end_is task t run.state op line sources held run.running run.at
+    (can_begin law (slots_seen_by number memory) task t run verified) next
+    (held_here ∙ held_is number memory task t run.state run.holds tidy) unspent
+    ∙ sym told
+
+-- ---- where nothing ends the job
+
+-- the instruction can be asked of a desk of so many words
+pub record CanAsk (words : ℕ) (op : Op) (sources : List (List ℤ)) : Type 0 where
+  pub can : CanAnswer words (question_by op sources)
+  pub room : HaveAtMost words sources
+
+pub can_ask : StepsCanAdvance ℕ → (task : Task) (t : Trace ℕ) (s : State) (op : Op) (line : ℕ) (sources : List (List ℤ))
+    (words : ℕ) → IsVerified task → state_after task t.executed ≡ Running s → IsAt task t s →
+    CanBegin task t.executed s t → IsNext task t.executed op line sources → early_end_at task t.executed ≡ None →
+    task.limits.words ≤ words → CanAsk words op sources
+can_ask law task t s op line sources words verified runs at can next goes_on enough =
+    let advance =
+    law verified.0 task verified.1 t.executed s t runs at (sym (early_end_when task t.executed s runs) ∙ goes_on)
+    can.call can.outer can.calls in
+    let same = same_question task t s op line sources runs can next in
+    record {
+      can = subst (λ (q : Question). CanAnswer words q) same (advance.answers words enough);
+      room = subst (λ (q : Question). HaveAtMost words q.sources) same (advance.lengths words enough);
+    }
+
+-- ---- where something does
+
+abbrev LeavesNone : Task → Option Ending → Type 0
+LeavesNone task ending = MatchOption ending (Unit {0}) (λ e. left_words task e ≡ 0)
+
+leaves_none_by : (task : Task) (line : ℕ) (fault : Option DataFault) (refusal : Option MemoryFault) →
+    LeavesNone task (ending_by line fault refusal)
+leaves_none_by task line (Some fault) refusal = refl
+leaves_none_by task line None (Some refusal) = refl
+leaves_none_by task line None None = tt
+
+leaves_none_in : (task : Task) (s : State) (calls : List Active) → LeavesNone task (early_end_in task s calls)
+leaves_none_in task s [] = tt
+leaves_none_in task s (call ∷ outer) = leaves_none_by task _ _ _
+
+leaves_none : (task : Task) (s : State) → LeavesNone task (early_end task s)
+leaves_none task s =
+    elim (eqb s.executed task.limits.budget)
+    as (λ b. LeavesNone task (cond b (Some Budget) (early_end_in task s s.calls))) [
+      | true ↦ refl
+      | false ↦ leaves_none_in task s s.calls
+    ]
+
+-- that is the job's end
+pub is_ending : EarlyEndsEnd → (slots : List Slot) (task : Task) (t : Trace ℕ) (run : IsRunningSlot slots task t)
+    (ending : Ending) → IsVerified task → early_end_at task t.executed ≡ Some ending →
+    IsEnding task t.executed t.peak ending
+is_ending law slots task t run ending verified early =
+    let s = run.state in
+    let ends : early_end task s ≡ Some ending = sym (early_end_when task t.executed s run.running) ∙ early in
+    let end = law verified.0 task verified.1 t.executed s ending run.running ends in
+    record {
+      outcome_is = end.outcome_is;
+      executed_is = sym end.executed_is;
+      peak_is = run.at.peak ∙ sym end.peak_is;
+      nothing_left = subst (LeavesNone task) ends (leaves_none task s);
+    }

@@ -1,0 +1,297 @@
+-- What executing the next instruction of a job whose step is in flight comes to.
+use Rattle.std.proofs.Common.{◌≡◌, ◌∙◌, ◌+◌, ◌-◌, ◌^◌, ◌<◌, ◌≤◌, ℕ, ℤ, Bool, List, [], ◌∷◌, length, map, take, drop}
+use Rattle.std.proofs.Common.{Option, Some, None, refl, sym, ap, subst, arith, length-take, length-drop}
+use Rattle.std.specs.Prelude.{All}
+use Rattle.std.proofs.lemmas.List.{length-reverse}
+use Rattle.std.proofs.lemmas.List.Elements.{All-nil, All-cons, All-head, All-tail, All-weaker, All-take, All-drop}
+use Rattle.std.proofs.lemmas.List.Sums.{count_by-le-length}
+use Rattle.vcode_base.specs.declared.op.Op.{Op}
+use Rattle.vcode_base.specs.declared.op.Op.TheVariants.{Move, Return}
+use Rattle.vcode_base.specs.declared.op.StackMove.TheVariants.{Copy}
+use Rattle.vcode_base.specs.declared.fault.DataFault.{DataFault}
+use Rattle.vcode_base.specs.Instructions.{op_of}
+use Rattle.vcode_base.specs.Kinds.{result_kinds}
+use Rattle.vcode_base.specs.Laws.{ResultsHaveNeededLengths}
+use Rattle.vcode_base.specs.Meaning.{result_of, second_result_of, value_fault}
+use Rattle.vcode_reader.specs.Trees.{Item}
+use Rattle.signatures.specs.Signatures.{Signature}
+use Rattle.refcounts.specs.SharedState.{Slot, slot_in, slot_at, occurrences, IsTidy}
+use Rattle.job_memory.specs.JobBlocks.{JobBlocks, ChangesOnlyOf, own_slots, held_words}
+use Rattle.job_steps.specs.EventLaws.{OthersAreReady}
+use Rattle.job_steps.specs.Events.{early_end}
+use Rattle.job_steps.specs.Motions.{stack_after}
+use Rattle.job_steps.specs.Questions.{Question, need_words}
+use Rattle.job_steps.specs.Reached.{Reaches, IsReached, IsVerifiedTask}
+use Rattle.job_steps.specs.Runs.{state_after}
+use Rattle.job_steps.specs.Standings.{held_in}
+use Rattle.job_steps.specs.States.{Vector, Task, Entry, Active, State, held_words as stack_words, new_entries}
+use Rattle.job_steps.specs.StepLaws.{CanAdvance, StepsCanAdvance}
+use Rattle.job_steps.specs.Steps.{Running, next_item, sources_of, question_of, results_of, flag_of}
+use Rattle.job_steps.specs.Steps.{words_at, calls_after, progress_by, progress_past, vectors_of}
+use Rattle.job_steps.specs.Tickets.{AreResults}
+use Rattle.job_steps.specs.Tracks.{Trace, IsAt, IsDeep, IsWhere, Advances, EachTrackFollows}
+use Rattle.job_slots.specs.Answers.{question_at, question_in, question_before}
+use Rattle.job_slots.specs.Commits.{CanTake, blocks_after_taking, moved_ids}
+use Rattle.job_slots.specs.Executions.{AreFew, CanShare, CanGoPast, HasPlaced, IsExecuted, CanExecute, StepsExecute}
+use Rattle.job_slots.specs.Holdings.{Cell, ids_of, entries_of, AreHeld, HoldStack}
+use Rattle.job_slots.specs.Slots.{IsAfter}
+use Rattle.job_slots.proofs.Commits.{BlockLaws, CanCommit, can_commit}
+use Rattle.job_slots.proofs.Holding.{held_is_stack, own_are_tidy, named_here, named_more}
+use Rattle.job_slots.proofs.Placed.{NewCells, new_cells}
+use Rattle.job_slots.proofs.Instructions.{two_results, length_by_kinds, return_leaves, stack_at_return}
+use Rattle.job_slots.proofs.Reversed.{All-reverse}
+use Rattle.job_slots.proofs.Seen.{count_seen}
+
+-- the laws of steps and of blocks
+pub record Laws : Type 0 where
+  pub others_are_ready : OthersAreReady
+  pub reached : Reaches
+  pub each_track_follows : EachTrackFollows ℕ
+  pub steps_can_advance : StepsCanAdvance ℕ
+  pub results_have_needed_lengths : ResultsHaveNeededLengths
+  pub blocks : BlockLaws
+
+-- ---- lists
+
+All-of_map : {E F : Type 0} (P : F → Type 0) (f : E → F) (xs : List E) → All P (map f xs) → All (λ x. P (f x)) xs
+All-of_map P f [] all = All-nil (λ x. P (f x))
+All-of_map P f (x ∷ xs) all =
+    All-cons (λ y. P (f y)) x xs (All-head P (f x) (map f xs) all)
+    (All-of_map P f xs (All-tail P (f x) (map f xs) all))
+
+-- each number of a part of a list is listed
+listed : (ids rest : List ℕ) → ((id : ℕ) → occurrences id rest ≤ occurrences id ids) →
+    All (λ id. 0 < occurrences id ids) rest
+listed ids [] within = All-nil (λ id. 0 < occurrences id ids)
+listed ids (first ∷ rest) within =
+    All-cons (λ id. 0 < occurrences id ids) first rest (omega (arith, within first, named_here first rest))
+    (listed ids rest (λ id. omega (arith, within id, named_more id first rest)))
+
+-- ---- what is copied
+
+-- the blocks of cells that are held have as few references as there are cells
+few_held : (job : ℕ) (old : JobBlocks) (cells : List Cell) → AreHeld (own_slots job old) cells →
+    length (ids_of cells) + length (ids_of cells) < 2 ^ 64 → AreFew old (ids_of cells)
+few_held job old cells held small =
+    All-weaker (λ id. 0 < occurrences id (ids_of cells)) (λ id. (slot_at old.memory id).count + length (ids_of cells) < 2 ^ 64)
+    (λ id some.
+    let own : (slot_in (own_slots job old) id).count ≡ occurrences id (ids_of cells) = held.counts id in
+    let seen : (slot_at old.memory id).count ≡ (slot_in (own_slots job old) id).count =
+    count_seen job old.memory id (omega (arith, own, some)) in
+    let most : occurrences id (ids_of cells) ≤ length (ids_of cells) = count_by-le-length _ (ids_of cells) in
+    omega (arith, own, seen, most, small))
+    (ids_of cells) (listed (ids_of cells) (ids_of cells) (λ id. omega arith))
+
+few_moved : (lower upper : ℕ) (ids : List ℕ) (blocks : JobBlocks) → AreFew blocks ids →
+    AreFew blocks (moved_ids lower upper ids)
+few_moved lower upper ids blocks few =
+    let part : length (moved_ids lower upper ids) ≤ length ids =
+    omega (
+      arith,
+      length-reverse (take lower (drop upper ids)),
+      length-take lower (drop upper ids),
+      length-drop upper ids,
+    ) in
+    All-weaker (λ id. (slot_at blocks.memory id).count + length ids < 2 ^ 64)
+    (λ id. (slot_at blocks.memory id).count + length (moved_ids lower upper ids) < 2 ^ 64) (λ id here. omega arith)
+    (moved_ids lower upper ids)
+    (All-reverse (λ id. (slot_at blocks.memory id).count + length ids < 2 ^ 64) (take lower (drop upper ids))
+    (All-take (λ id. (slot_at blocks.memory id).count + length ids < 2 ^ 64) lower (drop upper ids)
+    (All-drop (λ id. (slot_at blocks.memory id).count + length ids < 2 ^ 64) upper ids few)))
+
+-- an instruction that copies has no results, so that the blocks are as they were
+share_room : (op : Op) (job : ℕ) (first second : List ℤ) (ids cells : List ℕ) (old placed : JobBlocks) →
+    HasPlaced job op first second ids old placed → AreFew old cells → CanShare op cells placed
+share_room (Move Copy lower upper) job first second [] cells old placed has few =
+    subst (λ (b : JobBlocks). AreFew b (moved_ids lower upper cells)) (sym has.are_new)
+    (few_moved lower upper cells old few)
+share_room (Move Copy lower upper) job first second (id ∷ ids) cells old placed has few =
+    absurd (omega (arith, has.given))
+share_room op job first second ids cells old placed has few = tt
+
+-- ---- where the job is
+
+-- the track and the blocks are where the job is, where the track is and the cells hold the stack
+is_after : (slots : List Slot) (task : Task) (u : Trace ℕ) (item : Item) (s : State) (calls : List Active) →
+    state_after task s.executed ≡ Running s → (calls ≡ [] → op_of item ≡ Return) →
+    IsWhere task u (progress_past item s calls) →
+    HoldStack slots u.cells (stack_after (op_of item) (new_entries s.next (results_of (question_of item s.stack))) s.stack) →
+    IsAfter slots task u (progress_past item s calls)
+is_after slots task u item s [] running leaves where_is holds =
+    let q = question_of item s.stack in
+    let same : stack_after (op_of item) (new_entries s.next (results_of q)) s.stack ≡ s.stack =
+    stack_at_return (op_of item) (leaves refl) (result_of q.op q.sources ∷ second_result_of q.op q.sources ∷ []) s.next
+    s.stack in
+    let before : s.executed + 1 - 1 ≡ s.executed = omega arith in
+    let last : state_after task (s.executed + 1 - 1) ≡ Running s = ap (state_after task) before ∙ running in
+    (where_is, (s.stack, refl, sym (ap held_in last), subst (HoldStack slots u.cells) same holds))
+is_after slots task u item s (call ∷ outer) running leaves where_is holds = (where_is, holds)
+
+-- ---- the question
+
+pub asked_is : (task : Task) (n : ℕ) (s : State) (call : Active) (outer : List Active) (question : Question) →
+    state_after task n ≡ Running s → s.calls ≡ call ∷ outer → question_at task n ≡ Some question →
+    question_of (next_item call).item s.stack ≡ question
+unfolding question_at
+asked_is task n s call outer question running calls asked =
+    let here : question_in (Running s) ≡ Some question = ap question_in (sym running) ∙ asked in
+    let found : ◌≡◌ {A = Option Question} (Some (question_of (next_item call).item s.stack)) (Some question) =
+    ap (question_before s) (sym calls) ∙ here in
+    cc
+
+-- ---- one step in flight
+
+module _ (laws : Laws) (signatures : List Signature) (task : Task) (verified : IsVerifiedTask signatures task) (job : ℕ)
+    (old : JobBlocks) (t : Trace ℕ) (s : State) (running : state_after task t.executed ≡ Running s) (at : IsAt task t s)
+    (holds : HoldStack (own_slots job old) t.cells s.stack) (early : early_end task s ≡ None)
+    (tidy : IsTidy old.memory) (call : Active) (outer : List Active) (calls : s.calls ≡ call ∷ outer)
+    (first second : List ℤ) (results : AreResults (question_of (next_item call).item s.stack) first second) where
+  abbrev item : Item
+  item = (next_item call).item
+
+  abbrev op : Op
+  op = op_of item
+
+  abbrev flag : Bool
+  flag = flag_of (question_of item s.stack)
+
+  can : CanAdvance task s t item
+  can = laws.steps_can_advance signatures task verified t.executed s t running at early call outer calls
+
+  is_reached : IsReached signatures task t.executed s
+  is_reached = laws.reached signatures task verified t.executed s running
+
+  -- the words that are held and needed
+  words_are : words_at item s ≡ held_words job old + length first + length second
+  words_are =
+      let sources = sources_of item s.stack in
+      let kinds = (can.answers task.limits.words (omega arith)).kinds in
+      let lengths = laws.results_have_needed_lengths op sources (length_by_kinds _ sources kinds) can.shaped
+      results.no_fault in
+      let needed : need_words (question_of item s.stack)
+      ≡ length (result_of op sources) + length (second_result_of op sources) =
+      ap (λ (p : ℕ × ℕ). p.0 + p.1) lengths in
+      let stack : held_words job old ≡ stack_words s.stack =
+      held_is_stack (own_slots job old) holds.cells holds.held (own_are_tidy job old.memory tidy)
+      ∙ ap stack_words (sym holds.entries_are) in
+      omega (arith, needed, stack, ap length results.first_result, ap length results.second_result)
+
+  tags : All (λ c. c.entry.tag < s.next) holds.cells
+  tags =
+      All-of_map (λ (e : Entry). e.tag < s.next) (λ c. c.entry) holds.cells
+      (subst (All (λ (e : Entry). e.tag < s.next)) holds.entries_are is_reached.tags)
+
+  -- the results as entries
+  values_are : vectors_of (result_kinds op) (first ∷ second ∷ []) ≡ results_of (question_of item s.stack)
+  values_are =
+      ap (λ (l : List ℤ). vectors_of (result_kinds op) (l ∷ second ∷ [])) results.first_result
+      ∙ ap (λ (l : List ℤ). vectors_of (result_kinds op) (result_of op (sources_of item s.stack) ∷ l ∷ []))
+      results.second_result
+
+  module _ (ids : List ℕ) (placed : JobBlocks) (has : HasPlaced job op first second ids old placed) where
+    new : NewCells job ids s.next (vectors_of (result_kinds op) (first ∷ second ∷ [])) old placed
+    new = new_cells job (result_kinds op) (first ∷ second ∷ []) ids s.next old placed has.given has.are_new
+
+    commits : CanCommit job op old placed holds.cells new.cells
+    commits =
+        can_commit laws.blocks job op old placed holds.cells new.cells s.next
+        (vectors_of (result_kinds op) (first ∷ second ∷ [])) holds.held tags new.entries_are
+        (new.count ∙ has.given) new.are_placed
+
+    goes_past : CanGoPast job task t op ids placed
+    goes_past =
+        let listed_are : length t.cells ≡ length (ids_of holds.cells) = ap length holds.ids_are in
+        let few : AreFew old (ids_of holds.cells) =
+        few_held job old holds.cells holds.held
+        (omega (arith, at.cells, listed_are, is_reached.cells, task.limits.cells_in_range.1)) in
+        record {
+          unspent = can.unspent;
+          deep = can.deep;
+          given = has.given;
+          cells = can.cells;
+          follows = can.follows;
+          can_take = subst (λ (xs : List ℕ). CanTake job op xs placed) (sym holds.ids_are) commits.can_take;
+          can_share = share_room op job first second ids t.cells old placed has
+              (subst (AreFew old) (sym holds.ids_are) few);
+        }
+
+    module _ (u : Trace ℕ)
+        (advances : Advances task op flag ids (held_words job old + length first + length second) t u) where
+      now_holds : HoldStack (own_slots job (blocks_after_taking op t.cells placed)) u.cells
+          (stack_after op (new_entries s.next (results_of (question_of item s.stack))) s.stack)
+      now_holds = record {
+        cells = stack_after op new.cells holds.cells;
+        ids_are =
+            advances.cells
+            ∙ ap (λ (xs : List ℕ). stack_after op ids xs) holds.ids_are
+            ∙ ap (λ (xs : List ℕ). stack_after op xs (ids_of holds.cells)) (sym new.ids_are)
+            ∙ sym commits.ids;
+        entries_are =
+            ap (λ (vs : List Vector). stack_after op (new_entries s.next vs) s.stack) (sym values_are)
+            ∙ ap (λ (es : List Entry). stack_after op es s.stack) (sym new.entries_are)
+            ∙ ap (λ (es : List Entry). stack_after op (entries_of new.cells) es) holds.entries_are
+            ∙ sym commits.entries;
+        held =
+            subst (λ (xs : List ℕ). AreHeld (own_slots job (blocks_after_taking op xs placed))
+            (stack_after op new.cells holds.cells)) (sym holds.ids_are) commits.held;
+      }
+
+      where_is : IsWhere task u (progress_past item s (calls_after task flag call.rest call.ret outer))
+      where_is =
+          laws.each_track_follows task t u s call outer ids at calls (subst (IsDeep op) at.cells can.deep) has.given
+          (subst (λ (w : ℕ). Advances task op flag ids w t u) (sym words_are) advances)
+
+      executed : state_after task (t.executed + 1) ≡ progress_by (value_fault op (sources_of item s.stack)) (next_item call) s
+          (calls_after task flag call.rest call.ret outer) →
+          IsExecuted job old (blocks_after_taking op t.cells placed) task t u
+      executed next =
+          let past : state_after task (t.executed + 1)
+          ≡ progress_past item s (calls_after task flag call.rest call.ret outer) =
+          next ∙ ap (λ (o : Option DataFault). progress_by o (next_item call) s
+          (calls_after task flag call.rest call.ret outer)) results.no_fault in
+          record {
+            after =
+                subst (IsAfter (own_slots job (blocks_after_taking op t.cells placed)) task u) (sym past)
+                (is_after (own_slots job (blocks_after_taking op t.cells placed)) task u item s
+                (calls_after task flag call.rest call.ret outer)
+                (ap (state_after task) (sym at.executed) ∙ running)
+                (return_leaves task flag call.rest call.ret outer) where_is now_holds);
+            others =
+                subst (λ (xs : List ℕ). ChangesOnlyOf job old (blocks_after_taking op xs placed)) (sym holds.ids_are)
+                commits.others;
+          }
+
+  can_execute : state_after task (t.executed + 1) ≡ progress_by (value_fault op (sources_of item s.stack)) (next_item call) s
+      (calls_after task flag call.rest call.ret outer) → CanExecute job old task t op flag first second
+  can_execute next = record {
+    two = two_results op;
+    room = omega (arith, can.room, words_are);
+    goes_past = goes_past;
+    executes = λ ids placed u has advances. executed ids placed has u advances next;
+  }
+
+pub executable : Laws → StepsExecute
+executable laws job old task t op flag first second flying verified tidy answered =
+    let run = flying.run in
+    let ready = laws.others_are_ready verified.0 task verified.1 t.executed run.state run.running flying.goes_on in
+    let same = asked_is task t.executed run.state ready.call ready.outer answered.question run.running ready.calls
+    answered.asked in
+    let found = can_execute laws verified.0 task verified.1 job old t run.state run.running run.at run.holds flying.goes_on
+    tidy ready.call ready.outer ready.calls first second
+    (subst (λ (q : Question). AreResults q first second) (sym same) answered.results) ready.next in
+    let item = (next_item ready.call).item in
+    let op_is : op_of item ≡ op = ap (λ (q : Question). q.op) same ∙ sym answered.op_is in
+    let flag_is : flag_of (question_of item run.state.stack) ≡ flag = ap flag_of same ∙ sym answered.flag_is in
+    subst (λ (o : Op). CanExecute job old task t o flag first second) op_is
+    (subst (λ (f : Bool). CanExecute job old task t (op_of item) f first second) flag_is found)
+
+-- the instruction is executed where the track and the blocks went past it
+pub executed_past : (job : ℕ) (old placed gone_past : JobBlocks) (task : Task) (t u : Trace ℕ) (op : Op) (flag : Bool)
+    (first second : List ℤ) (ids : List ℕ) (held : ℕ) → CanExecute job old task t op flag first second →
+    HasPlaced job op first second ids old placed → gone_past ≡ blocks_after_taking op t.cells placed →
+    held ≡ held_words job old → Advances task op flag ids (held + length first + length second) t u →
+    IsExecuted job old gone_past task t u
+executed_past job old placed gone_past task t u op flag first second ids held can has past held_is advances =
+    subst (λ (b : JobBlocks). IsExecuted job old b task t u) (sym past)
+    (can.executes ids placed u has
+    (subst (λ (h : ℕ). Advances task op flag ids (h + length first + length second) t u) held_is advances))

@@ -1,0 +1,89 @@
+-- How many results an instruction has, and when it is a RET.
+use Rattle.std.proofs.Common.{◌≡◌, ◌≤◌, ℕ, Bool, List, [], ◌∷◌, length, Option, Some, None, refl, subst, sym, arith}
+use Rattle.std.specs.Prelude.{ℤ}
+use Rattle.vcode_base.specs.declared.instr.Instr.TheVariants as instr
+use Rattle.vcode_base.specs.declared.kind.Kind.{Kind}
+use Rattle.vcode_base.specs.declared.op.Elementwise.{Elementwise as ElementwiseOp}
+use Rattle.vcode_base.specs.declared.op.Elementwise.TheVariants.{Arith, Compare, Logic, Not, Select, IntToBool, BoolToInt}
+use Rattle.vcode_base.specs.declared.op.Segmented.{Segmented as SegmentedOp}
+use Rattle.vcode_base.specs.declared.op.Segmented.TheVariants as segmented
+use Rattle.vcode_base.specs.declared.op.Op.{Op}
+use Rattle.vcode_base.specs.declared.op.Op.TheVariants.{Const, Elementwise, Segmented, If, Move, Call, Return}
+use Rattle.vcode_base.specs.Instructions.{op_of}
+use Rattle.vcode_base.specs.Kinds.{HaveKinds, result_kinds, elementwise_results, segmented_results}
+use Rattle.vcode_reader.specs.Trees.{Item, Body, End, Do, Choice}
+use Rattle.job_steps.specs.Motions.{stack_after}
+use Rattle.job_steps.specs.States.{Task, Entry, Active, Callee, calls_with, callee_named, new_entries}
+use Rattle.job_steps.specs.Steps.{calls_past, calls_after, first_item, vectors_of}
+
+one_elementwise : (e : ElementwiseOp) → length (elementwise_results e) ≤ 2
+one_elementwise (Arith op) = omega arith
+one_elementwise (Compare op) = omega arith
+one_elementwise (Logic op k) = omega arith
+one_elementwise (Not k) = omega arith
+one_elementwise (Select k) = omega arith
+one_elementwise IntToBool = omega arith
+one_elementwise BoolToInt = omega arith
+
+two_segmented : (s : SegmentedOp) → length (segmented_results s) ≤ 2
+two_segmented (segmented.Scan f) = omega arith
+two_segmented (segmented.Reduce f) = omega arith
+two_segmented (segmented.Distribute k) = omega arith
+two_segmented segmented.Index = omega arith
+two_segmented (segmented.Permute k) = omega arith
+two_segmented (segmented.BackPermute k) = omega arith
+two_segmented (segmented.DefaultPermute k) = omega arith
+two_segmented (segmented.Extract k) = omega arith
+two_segmented (segmented.Replace k) = omega arith
+two_segmented (segmented.Pack k) = omega arith
+two_segmented segmented.MakeSegdes = omega arith
+two_segmented segmented.Lengths = omega arith
+
+-- an instruction has at most two results
+pub two_results : (op : Op) → length (result_kinds op) ≤ 2
+two_results (Const k) = omega arith
+two_results (Elementwise e) = one_elementwise e
+two_results (Segmented s) = two_segmented s
+two_results If = omega arith
+two_results (Move motion lower upper) = omega arith
+two_results Call = omega arith
+two_results Return = omega arith
+
+-- there is a list for each kind
+pub length_by_kinds : (kinds : List Kind) (lists : List (List ℤ)) → HaveKinds kinds lists → length lists ≡ length kinds
+length_by_kinds [] [] have = refl
+length_by_kinds [] (words ∷ lists) have = absurd have
+length_by_kinds (k ∷ ks) [] have = absurd have
+length_by_kinds (k ∷ ks) (words ∷ lists) have = omega (arith, length_by_kinds ks lists have.1)
+
+-- ---- RET
+
+-- the calls with one of a function added are some
+some_calls : (callee : Option Callee) (call : Active) (outer : List Active) → calls_with callee (call ∷ outer) ≡ [] → ⊥
+some_calls None call outer none = cc
+some_calls (Some callee) call outer none = cc
+
+return_past : (task : Task) (item : Item) (call : Active) (outer : List Active) →
+    calls_past task item call outer ≡ [] → op_of item ≡ Return
+return_past task (instr.Const k list) call outer none = absurd (let e : call ∷ outer ≡ [] = none in cc)
+return_past task (instr.Elementwise e) call outer none = absurd (let e : call ∷ outer ≡ [] = none in cc)
+return_past task (instr.Segmented s) call outer none = absurd (let e : call ∷ outer ≡ [] = none in cc)
+return_past task instr.If call outer none = absurd (let e : call ∷ outer ≡ [] = none in cc)
+return_past task (instr.Move motion lower upper) call outer none = absurd (let e : call ∷ outer ≡ [] = none in cc)
+return_past task (instr.Call name) call outer none =
+    absurd (some_calls (callee_named task.verified name) call outer none)
+return_past task instr.Return call outer none = refl
+
+-- only by RET no call is left
+pub return_leaves : (task : Task) (flag : Bool) (rest : Body) (ret : ℕ) (outer : List Active) →
+    calls_after task flag rest ret outer ≡ [] → op_of (first_item rest ret).item ≡ Return
+return_leaves task flag End ret outer none = refl
+return_leaves task flag (Do item line rest) ret outer none =
+    return_past task item (record { rest = rest; ret = ret }) outer none
+return_leaves task flag (Choice line first second end rest) ret outer none = absurd (cc)
+
+-- RET leaves the stack as it was
+pub stack_at_return : (op : Op) → op ≡ Return → (lists : List (List ℤ)) (next : ℕ) (stack : List Entry) →
+    stack_after op (new_entries next (vectors_of (result_kinds op) lists)) stack ≡ stack
+stack_at_return op is lists next stack =
+    subst (λ (o : Op). stack_after o (new_entries next (vectors_of (result_kinds o) lists)) stack ≡ stack) (sym is) refl

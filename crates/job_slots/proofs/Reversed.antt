@@ -1,0 +1,83 @@
+-- Parts of lists from the other end.
+use Rattle.std.proofs.Common.{◌≡◌, ◌∙◌, ◌+◌, ◌-◌, ◌≤◌, ℕ, List, [], ◌∷◌, ◌++◌, length, take, drop, reverse, sym, ap, subst}
+use Rattle.std.proofs.Common.{arith}
+use Rattle.std.specs.Prelude.{All}
+use Rattle.std.proofs.lemmas.List.{length-reverse, length-take, length-drop, reverse-append, reverse-reverse}
+use Rattle.std.proofs.lemmas.List.{take-append-drop, take_all, drop-take}
+use Rattle.std.proofs.lemmas.List.Elements.{All-nil, All-cons, All-head, All-tail, All-append}
+use Rattle.std.proofs.Math.Seq.{drop-append_seam, take-append_seam}
+use Rattle.vcode_base.specs.declared.op.Op.{Op}
+use Rattle.vcode_base.specs.declared.op.Op.TheVariants.{Move}
+use Rattle.vcode_base.specs.declared.op.StackMove.TheVariants.{Copy}
+use Rattle.job_memory.specs.JobBlocks.{JobBlocks}
+use Rattle.job_steps.specs.Motions.{top_entries}
+use Rattle.job_slots.specs.Commits.{moved_ids}
+use Rattle.job_slots.specs.Executions.{AreFew, CanShare}
+
+module _ (xs : List ℕ) (k : ℕ) (within : k ≤ length xs) where
+  split : reverse xs ≡ reverse (drop (length xs - k) xs) ++ reverse (take (length xs - k) xs)
+  split =
+      ap reverse (sym (take-append-drop (length xs - k) xs))
+      ∙ reverse-append (take (length xs - k) xs) (drop (length xs - k) xs)
+
+  count : k ≡ length (reverse (drop (length xs - k) xs))
+  count = omega (arith, length-reverse (drop (length xs - k) xs), length-drop (length xs - k) xs)
+
+  drop-reverse : drop k (reverse xs) ≡ reverse (take (length xs - k) xs)
+  drop-reverse =
+      ap (drop k) split
+      ∙ ap (λ n. drop n (reverse (drop (length xs - k) xs) ++ reverse (take (length xs - k) xs))) count
+      ∙ drop-append_seam (reverse (drop (length xs - k) xs)) (reverse (take (length xs - k) xs))
+
+  take-reverse : take k (reverse xs) ≡ reverse (drop (length xs - k) xs)
+  take-reverse =
+      ap (take k) split
+      ∙ ap (λ n. take n (reverse (drop (length xs - k) xs) ++ reverse (take (length xs - k) xs))) count
+      ∙ take-append_seam (reverse (drop (length xs - k) xs)) (reverse (take (length xs - k) xs))
+
+-- the top, where it is the last
+pub top_slice : (xs : List ℕ) (count : ℕ) → count ≤ length xs →
+    take (length xs - (length xs - count)) (drop (length xs - count) xs) ≡ top_entries count (reverse xs)
+top_slice xs count within =
+    take_all (length xs - (length xs - count)) (drop (length xs - count) xs)
+    (omega (arith, length-drop (length xs - count) xs))
+    ∙ sym (ap reverse (take-reverse xs count within) ∙ reverse-reverse (drop (length xs - count) xs))
+
+-- those below the top, where the top is the last
+moved_below : (xs : List ℕ) (lower upper : ℕ) → lower + upper ≤ length xs →
+    drop (length xs - upper - lower) (take (length xs - upper) xs) ≡ moved_ids lower upper (reverse xs)
+moved_below xs lower upper within =
+    let front = take (length xs - upper) xs in
+    let size : length front ≡ length xs - upper = omega (arith, length-take (length xs - upper) xs) in
+    let below : lower ≤ length front = omega (arith, size) in
+    sym (ap (λ ys. reverse (take lower ys)) (drop-reverse xs upper (omega arith))
+    ∙ ap reverse (take-reverse front lower below)
+    ∙ reverse-reverse (drop (length front - lower) front)
+    ∙ ap (λ n. drop (n - lower) front) size)
+
+pub moved_slice : (xs : List ℕ) (lower upper : ℕ) → lower + upper ≤ length xs →
+    take (length xs - upper - (length xs - upper - lower)) (drop (length xs - upper - lower) xs)
+    ≡ moved_ids lower upper (reverse xs)
+moved_slice xs lower upper within =
+    let from = length xs - upper - lower in
+    let size : length xs - upper - from ≡ lower = omega arith in
+    let end : from + lower ≡ length xs - upper = omega arith in
+    ap (λ n. take n (drop from xs)) size
+    ∙ sym (drop-take from lower xs)
+    ∙ ap (λ n. drop from (take n xs)) end
+    ∙ moved_below xs lower upper within
+
+pub All-reverse : {E : Type 0} (P : E → Type 0) (xs : List E) → All P xs → All P (reverse xs)
+All-reverse P [] all = All-nil P
+All-reverse P (x ∷ xs) all =
+    subst (All P) (sym (reverse-append (x ∷ []) xs))
+    (All-append P (reverse xs) (x ∷ []) (All-reverse P xs (All-tail P x xs all))
+    (All-cons P x [] (All-head P x xs all) (All-nil P)))
+
+-- the blocks that an instruction copies are few
+pub few_copied : (op : Op) (lower upper : ℕ) (ids cells slice : List ℕ) (blocks : JobBlocks) → op ≡ Move Copy lower upper →
+    CanShare op ids blocks → cells ≡ reverse ids → slice ≡ moved_ids lower upper (reverse cells) → AreFew blocks slice
+few_copied op lower upper ids cells slice blocks op_is can cells_are slice_is =
+    let same : slice ≡ moved_ids lower upper ids =
+    slice_is ∙ ap (λ xs. moved_ids lower upper (reverse xs)) cells_are ∙ ap (moved_ids lower upper) (reverse-reverse ids) in
+    subst (AreFew blocks) (sym same) (subst (λ (o : Op). CanShare o ids blocks) op_is can)

@@ -1,0 +1,157 @@
+-- What a begin and a finish answer, and where they leave the job.
+use Rattle.std.specs.Prelude.{◌≡◌, ℕ, ℤ, ◌+◌, ◌<◌, ◌≤◌, Bool, true, false, List, [], ◌∷◌, Option, Some, None}
+use Rattle.vcode_base.specs.declared.op.Op.{Op}
+use Rattle.job_steps.specs.declared.event.Event.TheVariants as event
+use Rattle.job_steps.specs.Events.{early_end, next_standing}
+use Rattle.job_steps.specs.Questions.{Question}
+use Rattle.job_steps.specs.Runs.{state_after, outcome, executed_count, peak}
+use Rattle.job_steps.specs.Standings.{Standing, Live, InFlight, Ended, left_words}
+use Rattle.job_steps.specs.States.{Task, Active, State}
+use Rattle.vcode_base.specs.declared.outcome.Outcome.TheVariants.{Returned}
+use Rattle.job_steps.specs.Steps.{Ending, Progress, Running, Over, Stuck, next_item, question_of, flag_of}
+use Rattle.job_steps.specs.Tickets.{Asked, AreResults, question_by}
+use Rattle.job_slots.specs.declared.answer.Begun.{Begun}
+use Rattle.job_slots.specs.declared.answer.Begun.TheVariants as begun
+use Rattle.job_slots.specs.declared.answer.Finished.{Finished}
+use Rattle.job_slots.specs.declared.answer.Finished.TheVariants as finished
+
+-- ---- what a step asks
+
+abbrev pub question_before : State → List Active → Option Question
+question_before s [] = None
+question_before s (call ∷ outer) = Some (question_of (next_item call).item s.stack)
+
+abbrev pub question_in : Progress → Option Question
+question_in (Running s) = question_before s s.calls
+question_in (Over ending executed peak) = None
+question_in Stuck = None
+
+-- the instruction, with its operands, that a job executes after so many others
+unfoldable pub question_at : Task → ℕ → Option Question
+question_at task n = question_in (state_after task n)
+
+abbrev pub line_before : List Active → Option ℕ
+line_before [] = None
+line_before (call ∷ outer) = Some (next_item call).number
+
+abbrev pub line_in : Progress → Option ℕ
+line_in (Running s) = line_before s.calls
+line_in (Over ending executed peak) = None
+line_in Stuck = None
+
+-- the line of that instruction
+unfoldable pub line_at : Task → ℕ → Option ℕ
+line_at task n = line_in (state_after task n)
+
+abbrev pub early_end_of : Task → Progress → Option Ending
+early_end_of task (Running s) = early_end task s
+early_end_of task (Over ending executed peak) = None
+early_end_of task Stuck = None
+
+-- what ends the job there before the instruction's values are looked at
+unfoldable pub early_end_at : Task → ℕ → Option Ending
+early_end_at task n = early_end_of task (state_after task n)
+
+-- this instruction of this line, with these operands, is the next of a job
+pub record IsNext (task : Task) (n : ℕ) (op : Op) (line : ℕ) (sources : List (List ℤ)) : Type 0 where
+  pub question : question_at task n ≡ Some (question_by op sources)
+  pub line_is : line_at task n ≡ Some line
+
+-- ---- standings
+
+abbrev pub is_live : Standing → Bool
+is_live (Live n) = true
+is_live standing = false
+
+abbrev pub is_in_flight : Standing → Bool
+is_in_flight (InFlight n) = true
+is_in_flight standing = false
+
+abbrev pub is_ended : Standing → Bool
+is_ended Ended = true
+is_ended standing = false
+
+-- the standing of a job after an event, or the same where that isn't open
+abbrev pub or_same : Standing → Option Standing → Standing
+or_same standing None = standing
+or_same standing (Some next) = next
+
+-- ---- a begin
+
+-- the ticket is that of the job's next step, and nothing ends the job before its values are looked at
+pub record IsTicketOf (job words : ℕ) (task : Task) (standing : Standing) (ticket : Asked) : Type 0 where
+  pub live : standing ≡ Live ticket.step
+  pub next : next_standing (event.Begin job) task standing ≡ Some (InFlight ticket.step)
+  pub question : question_at task ticket.step ≡ Some ticket.question
+  pub job_is : ticket.job ≡ job
+  pub words_are : ticket.words ≡ words
+
+-- what a ticket says whose job goes on after so many instructions
+pub record IsAskedOf (job words : ℕ) (task : Task) (n : ℕ) (ticket : Asked) : Type 0 where
+  pub goes_on : early_end_at task n ≡ None
+  pub question : question_at task n ≡ Some ticket.question
+  pub step_is : ticket.step ≡ n
+  pub job_is : ticket.job ≡ job
+  pub words_are : ticket.words ≡ words
+
+-- what a begin answers on a desk of so many words, by where the job stands
+abbrev pub Begins : {A : Type 0} → (job words : ℕ) → Task → Standing → Begun A → Type 0
+Begins job words task standing (begun.Began ticket) = IsTicketOf job words task standing ticket
+Begins job words task standing (begun.Ended desk) =
+    (next_standing (event.Begin job) task standing ≡ Some Ended) × (task.limits.words ≤ words) × (desk ≡ words)
+Begins job words task standing (begun.NotReady desk) = (is_live standing ≡ false) × (desk ≡ words)
+Begins job words task standing (begun.SmallDesk desk) =
+    (is_live standing ≡ true) × (words < task.limits.words) × (desk ≡ words)
+
+-- where a begin leaves the job
+abbrev pub standing_after_begun : {A : Type 0} → Begun A → (old next : Standing) → Standing
+standing_after_begun (begun.Began ticket) old next = next
+standing_after_begun (begun.Ended desk) old next = next
+standing_after_begun (begun.NotReady desk) old next = old
+standing_after_begun (begun.SmallDesk desk) old next = old
+
+-- ---- a finish
+
+-- the step is the one in flight, of this instruction and these operands
+pub record Fits (task : Task) (standing : Standing) (filled : Asked) : Type 0 where
+  pub flying : standing ≡ InFlight filled.step
+  pub question : question_at task filled.step ≡ Some filled.question
+
+-- what a finish answers, by where the job stands
+abbrev pub Finishes : ℕ → Task → Standing → Asked → Finished → Type 0
+Finishes job task standing filled finished.Done =
+    Fits task standing filled
+    × (next_standing (event.Finish job) task standing ≡ Some (Live (filled.step + 1)))
+Finishes job task standing filled finished.Ended =
+    Fits task standing filled × (next_standing (event.Finish job) task standing ≡ Some Ended)
+Finishes job task standing filled finished.Stale = Fits task standing filled → ⊥
+
+-- where a finish leaves the job
+abbrev pub standing_after_finished : Finished → (old next : Standing) → Standing
+standing_after_finished finished.Done old next = next
+standing_after_finished finished.Ended old next = next
+standing_after_finished finished.Stale old next = old
+
+-- ---- an outcome
+
+-- the job returned
+abbrev pub IsReturned : Ending → Type 0
+IsReturned (Returned values) = Unit {0}
+IsReturned ending = ⊥
+
+-- ---- results
+
+-- these are the instruction, the choice and the results of what a step asks
+pub record IsAnswered (task : Task) (n : ℕ) (op : Op) (flag : Bool) (first second : List ℤ) : Type 0 where
+  pub question : Question
+  pub asked : question_at task n ≡ Some question
+  pub op_is : op ≡ question.op
+  pub flag_is : flag ≡ flag_of question
+  pub results : AreResults question first second
+
+-- a job that ends so, with these counts
+pub record IsEnding (task : Task) (executed most : ℕ) (ending : Ending) : Type 0 where
+  pub outcome_is : outcome task ≡ ending
+  pub executed_is : executed ≡ executed_count task
+  pub peak_is : most ≡ peak task
+  pub nothing_left : left_words task ending ≡ 0

@@ -1,0 +1,6 @@
+pub mod Holdings
+pub mod Slots
+pub mod Answers
+pub mod Commits
+pub mod Laws
+pub mod Executions

@@ -1,0 +1,154 @@
+-- When a job's slot, with the blocks that the job owns, shows where its run alone stands.
+use Rattle.std.specs.Prelude.{◌≡◌, ℕ, ◌-◌, List, reverse, Option, Some, None}
+use Rattle.vcode_base.specs.declared.outcome.Outcome.{Outcome}
+use Rattle.vcode_base.specs.declared.outcome.Outcome.TheVariants.{Returned}
+use Rattle.refcounts.specs.SharedState as shared
+use Rattle.job_memory.specs.JobBlocks.{JobBlocks, IsJob, grant_of, own_slots}
+use Rattle.job_steps.specs.EventLaws.{IsVerified}
+use Rattle.job_steps.specs.Events.{early_end}
+use Rattle.job_steps.specs.Runs.{state_after, outcome, executed_count, peak}
+use Rattle.job_steps.specs.Standings.{Standing, Waiting, Live, InFlight, Ended, Collected, held_in, left_words}
+use Rattle.job_steps.specs.States.{Vector, Task, Entry, State, values_of, held_words}
+use Rattle.job_steps.specs.Steps.{Progress, Running, Over, Stuck}
+use Rattle.job_steps.specs.Tracks.{Trace, IsFirst, IsAt, IsThrough}
+use Rattle.job_slots.specs.declared.status.Status.{Status}
+use Rattle.job_slots.specs.declared.status.Status.TheVariants as status
+use Rattle.job_slots.specs.Holdings.{HoldStack, HoldNothing}
+
+-- where a job stands in its run, and how it ended, once that is known
+pub record SlotState : Type 0 where
+  pub status : Status
+  pub trace : Trace ℕ
+  pub outcome : Option (Outcome (List Vector))
+
+-- where a job of this status stands after so many instructions
+abbrev pub standing_by : Status → ℕ → Standing
+standing_by status.Waiting n = Waiting
+standing_by status.Live n = Live n
+standing_by status.InFlight n = InFlight n
+standing_by status.Ended n = Ended
+standing_by status.Collected n = Collected
+
+abbrev pub standing_of : SlotState → Standing
+standing_of slot = standing_by slot.status slot.trace.executed
+
+-- the status of a job that stands there
+abbrev pub status_of : Standing → Status
+status_of Waiting = status.Waiting
+status_of (Live n) = status.Live
+status_of (InFlight n) = status.InFlight
+status_of Ended = status.Ended
+status_of Collected = status.Collected
+
+-- ---- by its status
+
+-- the job runs, and the cells hold its stack
+pub record IsRunningSlot (slots : List shared.Slot) (task : Task) (t : Trace ℕ) : Type 0 where
+  pub state : State
+  pub running : state_after task t.executed ≡ Running state
+  pub at : IsAt task t state
+  pub holds : HoldStack slots t.cells state.stack
+
+-- and nothing ends it before the values of its next instruction are looked at
+pub record IsFlyingSlot (slots : List shared.Slot) (task : Task) (t : Trace ℕ) : Type 0 where
+  pub run : IsRunningSlot slots task t
+  pub goes_on : early_end task run.state ≡ None
+
+-- the job has returned, and the cells hold its results
+pub record HasReturned (slots : List shared.Slot) (task : Task) (t : Trace ℕ) : Type 0 where
+  pub stack : List Entry
+  pub outcome_is : outcome task ≡ Returned (reverse (values_of stack))
+  pub left : left_words task (outcome task) ≡ held_words stack
+  pub holds : HoldStack slots t.cells stack
+
+-- what a job that has ended leaves until it is collected: its results, or its ending
+abbrev pub Leaves : List shared.Slot → Task → Trace ℕ → Option (Outcome (List Vector)) → Type 0
+Leaves slots task t None = HasReturned slots task t
+Leaves slots task t (Some ending) =
+    (outcome task ≡ ending) × (left_words task ending ≡ 0) × HoldNothing slots t.cells
+
+pub record HasEnded (slots : List shared.Slot) (task : Task) (t : Trace ℕ) (o : Option (Outcome (List Vector)))
+    : Type 0 where
+  pub executed : t.executed ≡ executed_count task
+  pub peak_is : t.peak ≡ peak task
+  pub leaves : Leaves slots task t o
+
+pub record IsCollectedSlot (slots : List shared.Slot) (task : Task) (t : Trace ℕ)
+    (o : Option (Outcome (List Vector))) : Type 0 where
+  pub executed : t.executed ≡ executed_count task
+  pub peak_is : t.peak ≡ peak task
+  pub stored : o ≡ Some (outcome task)
+  pub nothing : HoldNothing slots t.cells
+
+pub record IsWaitingSlot (slots : List shared.Slot) (task : Task) (t : Trace ℕ) : Type 0 where
+  pub first : IsFirst task t
+  pub nothing : HoldNothing slots t.cells
+
+abbrev pub ShowsAs : List shared.Slot → Task → Trace ℕ → Option (Outcome (List Vector)) → Status → Type 0
+ShowsAs slots task t o status.Waiting = IsWaitingSlot slots task t
+ShowsAs slots task t o status.Live = IsRunningSlot slots task t
+ShowsAs slots task t o status.InFlight = IsFlyingSlot slots task t
+ShowsAs slots task t o status.Ended = HasEnded slots task t o
+ShowsAs slots task t o status.Collected = IsCollectedSlot slots task t o
+
+-- the grant of a job of this status
+abbrev pub grant_by : Task → Status → Option ℕ
+grant_by task status.Waiting = None
+grant_by task status.Live = Some task.limits.words
+grant_by task status.InFlight = Some task.limits.words
+grant_by task status.Ended = Some task.limits.words
+grant_by task status.Collected = None
+
+-- The job of a number, which is of this task, has the grant of its status, and its blocks and its slot show its run alone.
+pub record Shows (number : ℕ) (blocks : JobBlocks) (task : Task) (slot : SlotState) : Type 0 where
+  pub is_job : IsJob blocks number
+  pub verified : IsVerified task
+  pub limits : slot.trace.limits ≡ task.limits
+  pub grant : grant_of blocks number ≡ grant_by task slot.status
+  pub shown : ShowsAs (own_slots number blocks) task slot.trace slot.outcome slot.status
+
+-- ---- after an instruction
+
+-- The track and the blocks are where the job is: it runs, and the cells hold its stack; or it has returned, and they hold
+-- what was its stack before.
+abbrev pub IsAfter : List shared.Slot → Task → Trace ℕ → Progress → Type 0
+IsAfter slots task t (Running s) = IsAt task t s × HoldStack slots t.cells s.stack
+IsAfter slots task t (Over ending executed peak) =
+    IsThrough t executed peak
+    × ((stack : List Entry) × (ending ≡ Returned (reverse (values_of stack)))
+    × (held_words stack ≡ held_in (state_after task (executed - 1))) × HoldStack slots t.cells stack)
+IsAfter slots task t Stuck = ⊥
+
+-- ---- new slots
+
+-- a job that waits, at the first line of its MAIN
+pub record IsNewSlot (task : Task) (slot : SlotState) : Type 0 where
+  pub status_is : slot.status ≡ status.Waiting
+  pub verified : IsVerified task
+  pub first : IsFirst task slot.trace
+
+abbrev pub told_by : Status → Option (Outcome (List Vector)) → Option (Outcome (List Vector))
+told_by status.Collected o = o
+told_by _ o = None
+
+-- it runs, with or without a step that has begun
+abbrev pub IsActive : Status → Type 0
+IsActive status.Live = Unit {0}
+IsActive status.InFlight = Unit {0}
+IsActive _ = ⊥
+
+-- how the job ended, where it is collected
+abbrev pub told_outcome : SlotState → Option (Outcome (List Vector))
+told_outcome slot = told_by slot.status slot.outcome
+
+abbrev pub recalled_status : Status → Status
+recalled_status status.InFlight = status.Live
+recalled_status s = s
+
+-- the slot with a step given up that has begun
+abbrev pub recalled_slot : SlotState → SlotState
+recalled_slot slot = record {
+  status = recalled_status slot.status;
+  trace = slot.trace;
+  outcome = slot.outcome;
+}

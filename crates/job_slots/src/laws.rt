@@ -1,0 +1,29 @@
+//! Laws of slots. Each function does nothing, and its contract is the law.
+
+ghost use Rattle.job_slots.specs.Laws.{ShownIsAlone, OthersAreShown, NewIsShown, RecalledIsShown};
+
+use job_steps::laws::{each_ends, reached};
+
+/// A slot that shows where its job stands has the counts and the blocks' words that the job has when it runs alone, and
+/// no more blocks than the job may have cells, in a memory where no block is there without a reference.
+pub fn shown_is_alone()
+    ensures { ShownIsAlone }
+{
+    reached();
+    each_ends();
+}
+
+/// What changes another job's blocks and grant alone leaves what a slot shows.
+pub fn others_are_shown()
+    ensures { OthersAreShown }
+{}
+
+/// A new slot of a job without a grant and without a block shows that the job waits.
+pub fn new_is_shown()
+    ensures { NewIsShown }
+{}
+
+/// A slot whose step is given up shows where its job stood before the step.
+pub fn recalled_is_shown()
+    ensures { RecalledIsShown }
+{}

@@ -1,0 +1,22 @@
+//! The slot of one job on a machine: where the job stands in its run, over blocks of a memory that other jobs share.
+//!
+//! A [`Slot`] keeps a job and its track, whose cells name blocks of a [`JobMemory`](job_memory::JobMemory). Its calls do
+//! what an event does to that job, and change no other job's blocks. `specs/Slots.antt` says when a slot shows where its
+//! job stands: the cells' blocks have the words of the stack that the job has when it runs alone, entries that are
+//! copies share a block, and there are no other blocks of the job. Each call keeps that, and `specs/Answers.antt` says
+//! what it answers.
+#![tactic(auto)]
+
+mod answer;
+mod collect;
+mod commit;
+mod execution;
+pub mod laws;
+mod next;
+mod slot;
+mod status;
+mod ticket;
+
+pub use answer::{Begun, Finished};
+pub use slot::Slot;
+pub use status::Status;

@@ -1,0 +1,205 @@
+//! The next instruction of a job, with the words of its operands.
+
+ghost use Rattle.std.specs.Prelude.{◌≡◌, ◌≤◌, ◌↔◌, List, [], ◌∷◌, IsTrue, length, map, take, Some};
+ghost use Rattle.vcode_base.specs.Instructions.{op_of};
+ghost use Rattle.vcode_base.specs.Kinds.{HaveKinds, source_kinds};
+ghost use Rattle.vcode_base.specs.Meaning.{operand};
+ghost use Rattle.vcode_base.specs.Operands.{contents};
+ghost use Rattle.refcounts.specs.SharedState.{AreLive, slot_at};
+ghost use Rattle.job_memory.specs.JobBlocks.{own_slots};
+ghost use Rattle.job_steps.specs.declared.operands.TheConstants.{MOST_OPERANDS};
+ghost use Rattle.job_steps.specs.EventLaws.{IsVerified};
+ghost use Rattle.job_steps.specs.Frames.{instruction_in};
+ghost use Rattle.job_steps.specs.Motions.{operand_count, top_entries};
+ghost use Rattle.job_steps.specs.States.{Entry, words_of};
+ghost use Rattle.job_steps.specs.Steps.{sources_of};
+ghost use Rattle.job_slots.specs.Slots.{IsRunningSlot};
+ghost use Rattle.job_slots.specs.Answers.{IsNext, line_at, question_at};
+
+use block_memory::BlockId;
+use job_memory::JobMemory;
+use job_steps::laws::steps_can_begin;
+use job_steps::{Filled, Job, MOST_OPERANDS, Track};
+use std::alloc::Allocator;
+use vcode_base::{Instr, Instruction, Op};
+use vcode_reader::{CodeItem, CodeLine};
+
+/// The words of an instruction's operands from the bottom of the stack up, or of its list.
+#[derive(Clone, Copy)]
+pub(crate) struct Operands<'a> {
+    lists: [&'a [i64]; MOST_OPERANDS],
+    count: usize,
+    ghost few: { count ≤ MOST_OPERANDS },
+}
+
+impl<'a> Operands<'a> {
+    /// The lists.
+    pub(crate) fn as_slice(&self) -> &[&'a [i64]]
+        ensures { result.now ≡ take self.now.count self.now.lists }
+    {
+        &self.lists[..self.count]
+    }
+}
+
+/// An instruction, its line, and its operands.
+#[derive(Clone, Copy)]
+pub(crate) struct Next<'a> {
+    pub(crate) op: Op,
+    pub(crate) line: u64,
+    pub(crate) operands: Operands<'a>,
+}
+
+/// The next instruction of a job that runs.
+pub(crate) fn read_next<'a, A: Allocator>(
+    job: &'a Job<A>,
+    track: &Track<BlockId, A>,
+    number: usize,
+    blocks: &'a JobMemory<A>,
+) -> Next<'a>
+    requires running { IsRunningSlot (own_slots number blocks.now) job.now track.now }
+    requires verified { IsVerified job.now }
+    ensures next { IsNext job.now track.now.executed result.op result.line
+        (contents (take result.operands.count result.operands.lists)) }
+    ensures kinds { HaveKinds (source_kinds result.op) (contents (take result.operands.count result.operands.lists)) }
+{
+    steps_can_begin::<BlockId>();
+    let line = track.line(job.verified().program());
+    Next {
+        op: op_of(line),
+        line: line.number,
+        operands: operands_of(line, track, blocks),
+    }
+}
+
+/// The line of the next instruction of a job that runs.
+pub(crate) fn line_of_next<A: Allocator>(
+    job: &Job<A>,
+    track: &Track<BlockId, A>,
+    number: usize,
+    blocks: &JobMemory<A>,
+) -> u64
+    requires running { IsRunningSlot (own_slots number blocks.now) job.now track.now }
+    requires verified { IsVerified job.now }
+    ensures { line_at job.now track.now.executed ≡ Some result }
+{
+    steps_can_begin::<BlockId>();
+    track.line(job.verified().program()).number
+}
+
+/// The instruction of a line of code without its list or name.
+fn op_of<A: Allocator>(line: &CodeLine<A>) -> Op
+    ensures { result ≡ op_of (instruction_in line.now.item) }
+{
+    match &line.item {
+        CodeItem::Do(instruction) => instruction.op(),
+        CodeItem::If | CodeItem::Else | CodeItem::Endif => Op::If,
+    }
+}
+
+/// The operands of a line of code.
+fn operands_of<'a, A: Allocator>(
+    line: &'a CodeLine<A>,
+    track: &Track<BlockId, A>,
+    blocks: &'a JobMemory<A>,
+) -> Operands<'a>
+    requires deep { operand_count (op_of (instruction_in line.now.item)) ≤ length track.now.cells }
+    requires live { AreLive blocks.now.memory track.now.cells }
+    ensures { (stack : List Entry) → map (λ id. (slot_at blocks.now.memory id).words) track.now.cells ≡ words_of stack
+        → contents (take result.count result.lists) ≡ sources_of (instruction_in line.now.item) stack }
+{
+    match &line.item {
+        CodeItem::Do(instruction) => sources(instruction, track, blocks),
+        CodeItem::If | CodeItem::Else | CodeItem::Endif => top_operands(Op::If, track, blocks),
+    }
+}
+
+/// The list of a `CONST`, or the words of the cells at the top that another instruction takes.
+fn sources<'a, A: Allocator>(
+    instruction: &'a Instruction<A>,
+    track: &Track<BlockId, A>,
+    blocks: &'a JobMemory<A>,
+) -> Operands<'a>
+    requires deep { operand_count (op_of instruction.now) ≤ length track.now.cells }
+    requires live { AreLive blocks.now.memory track.now.cells }
+    ensures { (stack : List Entry) → map (λ id. (slot_at blocks.now.memory id).words) track.now.cells ≡ words_of stack
+        → contents (take result.count result.lists) ≡ sources_of instruction.now stack }
+{
+    match instruction {
+        Instr::Const(_, list) => constant(list.as_slice()),
+        _ => top_operands(instruction.op(), track, blocks),
+    }
+}
+
+/// The list of a `CONST`, and behind it nothing.
+fn constant(list: &[i64]) -> Operands<'_>
+    ensures { contents (take result.count result.lists) ≡ list.now ∷ [] }
+{
+    Operands {
+        lists: [list, &[], &[], &[], &[]],
+        count: 1,
+    }
+}
+
+/// The words of the cells at the top that an instruction takes.
+fn top_operands<'a, A: Allocator>(
+    op: Op,
+    track: &Track<BlockId, A>,
+    blocks: &'a JobMemory<A>,
+) -> Operands<'a>
+    requires deep { operand_count op ≤ length track.now.cells }
+    requires live { AreLive blocks.now.memory track.now.cells }
+    ensures { (stack : List Entry) → map (λ id. (slot_at blocks.now.memory id).words) track.now.cells ≡ words_of stack
+        → contents (take result.count result.lists) ≡ words_of (top_entries (operand_count op) stack) }
+{
+    let cells = track.cells();
+    words_of_blocks(&cells[cells.len() - op.operand_kinds().len()..], blocks)
+}
+
+/// The words of blocks, of which there are at most as many as an instruction has operands.
+fn words_of_blocks<'a, A: Allocator>(ids: &[BlockId], blocks: &'a JobMemory<A>) -> Operands<'a>
+    requires few { length ids.now ≤ MOST_OPERANDS }
+    requires live { AreLive blocks.now.memory ids.now }
+    ensures { contents (take result.count result.lists) ≡ map (λ id. (slot_at blocks.now.memory id).words) ids.now }
+{
+    Operands {
+        lists: [
+            words_at(ids, 0, blocks),
+            words_at(ids, 1, blocks),
+            words_at(ids, 2, blocks),
+            words_at(ids, 3, blocks),
+            words_at(ids, 4, blocks),
+        ],
+        count: ids.len(),
+    }
+}
+
+/// The words of the block at this place, or none behind the last.
+fn words_at<'a, A: Allocator>(ids: &[BlockId], place: usize, blocks: &'a JobMemory<A>) -> &'a [i64]
+    requires { AreLive blocks.now.memory ids.now }
+    ensures { result.now ≡ operand (map (λ id. (slot_at blocks.now.memory id).words) ids.now) place }
+{
+    match ids.get(place) {
+        Some(id) => blocks.words(*id),
+        None => &[],
+    }
+}
+
+/// Whether a step that was computed is the next of the job.
+pub(crate) fn is_asked<A: Allocator>(
+    job: &Job<A>,
+    track: &Track<BlockId, A>,
+    number: usize,
+    blocks: &JobMemory<A>,
+    filled: &Filled<A>,
+) -> bool
+    requires running { IsRunningSlot (own_slots number blocks.now) job.now track.now }
+    requires verified { IsVerified job.now }
+    ensures { IsTrue result ↔ ((track.now.executed ≡ filled.now.step)
+        × (question_at job.now filled.now.step ≡ Some filled.now.question)) }
+{
+    if track.executed() != filled.step() {
+        return false;
+    }
+    let next = read_next(job, track, number, blocks);
+    filled.asks(next.op, next.operands.as_slice())
+}

@@ -1,0 +1,380 @@
+//! A job with where it stands.
+
+ghost use Rattle.std.specs.Prelude.{◌≡◌, ◌≢◌, ◌+◌, ◌<◌, ◌≤◌, ◌↔◌, [], length, IsErr, IfOk, OnOk, OnErr, None, Some, option_copied};
+ghost use Rattle.vcode_base.specs.declared.limits.TheConstants.{MOST_WORDS};
+ghost use Rattle.vcode_base.specs.declared.outcome.Outcome.TheVariants.{Returned};
+ghost use Rattle.refcounts.specs.SharedState.{block_count};
+ghost use Rattle.job_memory.specs.JobBlocks.{HasGrant, ChangesOnlyOf, granted_words, own_slots};
+ghost use Rattle.job_steps.specs.declared.event.Event.TheVariants as event;
+ghost use Rattle.job_steps.specs.EventLaws.{IsVerified};
+ghost use Rattle.job_steps.specs.Events.{next_standing};
+ghost use Rattle.job_steps.specs.Runs.{outcome, executed_count, peak};
+ghost use Rattle.job_steps.specs.Standings.{Live, InFlight, Ended};
+ghost use Rattle.job_slots.specs.declared.status.Status.TheVariants as status;
+ghost use Rattle.job_slots.specs.declared.answer.Finished.TheVariants as finished;
+ghost use Rattle.job_slots.specs.Holdings.{HoldSomeStack, HoldNothing};
+ghost use Rattle.job_slots.specs.Slots.{Shows, Leaves, IsActive, IsNewSlot, standing_of, told_outcome, recalled_slot};
+ghost use Rattle.job_slots.specs.Answers.{Begins, Finishes, Fits, IsEnding, is_ended, is_in_flight, or_same, standing_after_begun, standing_after_finished, IsReturned};
+
+use crate::answer::{Begun, Finished};
+use crate::collect::results;
+use crate::commit::execute;
+use crate::next::{is_asked, line_of_next};
+use crate::status::Status;
+use crate::ticket::{Halted, ticket_of};
+use block_memory::BlockId;
+use job_memory::laws::{
+    changes_join, grants_change_only_their_job, releases_change_only_their_job,
+};
+use job_memory::{JobMemory, NotNow};
+use job_steps::laws::{early_ends_end, end_is_own, others_are_ready, reached};
+use job_steps::{Desk, Filled, Job, Track};
+use refcounts::laws::{releases_are_counted, releases_keep_blocks};
+use std::alloc::{AllocError, Allocator};
+use std::marker::Model;
+use vcode_base::{Outcome, Values};
+
+/// Where a job stands in its run, and how it ended, once that is known.
+///
+/// Its calls take the job that it was made for, the job's number from 1 on, and the memory of all jobs, in which it has
+/// to show where the job stands.
+#[derive(Drop)]
+pub struct Slot<A: Allocator> {
+    alloc: A,
+    track: Track<BlockId, A>,
+    status: Status,
+    outcome: Option<Outcome<Values<A>>>,
+}
+
+impl<A: Allocator> Model for Slot<A> {
+    ghost use Rattle.job_slots.specs.Slots.{SlotState};
+
+    ghost Value = { SlotState };
+
+    ghost view = { λ s. record { status = s.status; trace = s.track; outcome = s.outcome } };
+}
+
+impl<A: Allocator> Slot<A> {
+    /// The slot of a job, which waits.
+    ///
+    /// Takes the memory for as many cells and calls as the job's limits allow; an error means that the allocator
+    /// refused it.
+    pub fn new(alloc: A, job: &Job<A>) -> Result<Slot<A>, AllocError>
+    where
+        A: Clone,
+        ensures { IfOk result (IsNewSlot job.now) }
+    {
+        let _verified = job.verified();
+        let track = Track::new(alloc.clone()?, job)?;
+        Ok(Slot {
+            alloc,
+            track,
+            status: Status::Waiting,
+            outcome: None,
+        })
+    }
+
+    /// Where the job stands.
+    pub fn status(&self) -> Status
+        ensures { result ≡ self.now.status }
+    {
+        self.status
+    }
+
+    /// How many instructions it executed.
+    pub fn executed(&self) -> u64
+        ensures { result ≡ self.now.trace.executed }
+    {
+        self.track.executed()
+    }
+
+    /// The most words that it held and needed at an instruction that it executed.
+    pub fn peak(&self) -> usize
+        ensures { result ≡ self.now.trace.peak }
+    {
+        self.track.peak()
+    }
+
+    /// How it ended, where it is collected.
+    pub fn outcome(&self) -> Option<&Outcome<Values<A>>>
+        ensures { option_copied result ≡ told_outcome self.now }
+    {
+        match self.status {
+            Status::Collected => self.outcome.as_ref(),
+            Status::Waiting | Status::Live | Status::InFlight | Status::Ended => None,
+        }
+    }
+
+    /// Reserves the words of the job, which waits, and lets it begin.
+    ///
+    /// `NotNow` exactly where all reserved words and these together are more than the region has; then nothing changes.
+    pub fn admit(
+        &mut self,
+        job: &Job<A>,
+        number: usize,
+        blocks: &mut JobMemory<A>,
+    ) -> Result<(), NotNow>
+        requires shows { Shows number blocks.old job.now self.old }
+        requires waits { self.old.status ≡ status.Waiting }
+        ensures not_now { IsErr result ↔ (blocks.old.memory.room < granted_words blocks.old + job.now.limits.words) }
+        ensures shows { Shows number blocks.new job.now self.new }
+        ensures others { ChangesOnlyOf number blocks.old blocks.new }
+        ensures admitted { OnOk result (standing_of self.new ≡ Live 0) }
+        ensures unchanged { OnErr result ((self.new ≡ self.old) × (blocks.new ≡ blocks.old)) }
+    {
+        changes_join();
+        grants_change_only_their_job();
+        blocks.grant(number, job.limits().words)?;
+        self.status = Status::Live;
+        Ok(())
+    }
+
+    /// Begins the next step of the job on a desk, which goes with the ticket; else the desk comes back.
+    ///
+    /// A job whose budget is spent, whose operands do not fit one another, or whose next instruction would pass a
+    /// limit, ends here; then its blocks are released.
+    pub fn begin(
+        &mut self,
+        job: &Job<A>,
+        number: usize,
+        blocks: &mut JobMemory<A>,
+        desk: Desk<A>,
+    ) -> Begun<A>
+        requires { Shows number blocks.old job.now self.old }
+        ensures answer { Begins number desk job.now (standing_of self.old) result }
+        ensures shows { Shows number blocks.new job.now self.new }
+        ensures others { ChangesOnlyOf number blocks.old blocks.new }
+        ensures standing { standing_of self.new ≡ standing_after_begun result (standing_of self.old)
+            (or_same (standing_of self.old) (next_standing (event.Begin number) job.now (standing_of self.old))) }
+    {
+        changes_join();
+        early_ends_end();
+        match self.status {
+            Status::Live => {}
+            Status::Waiting | Status::InFlight | Status::Ended | Status::Collected => {
+                return Begun::NotReady(desk);
+            }
+        }
+        if desk.words() < job.limits().words {
+            return Begun::SmallDesk(desk);
+        }
+        match ticket_of(job, &self.track, number, blocks, desk) {
+            Ok(ticket) => {
+                self.status = Status::InFlight;
+                Begun::Began(ticket)
+            }
+            Err(halted) => {
+                let Halted { ending, desk } = halted;
+                self.end(job, number, blocks, ending);
+                Begun::Ended(desk)
+            }
+        }
+    }
+
+    /// Commits a step that was computed, where it is the one that has begun: of this job, instruction and operands. The
+    /// desk comes back.
+    ///
+    /// There have to be numbers for two blocks more. `Stale` exactly where it is not that step; then nothing changes.
+    /// The job ends by a value fault, and by the RET of its only active call.
+    pub fn finish(
+        &mut self,
+        job: &Job<A>,
+        number: usize,
+        blocks: &mut JobMemory<A>,
+        filled: Filled<A>,
+    ) -> (Finished, Desk<A>)
+        requires shows { Shows number blocks.old job.now self.old }
+        requires numbers { block_count blocks.old.memory + 2 ≤ length blocks.old.memory.slots }
+        ensures answer { Finishes number job.now (standing_of self.old) filled result.0 }
+        ensures desk { result.1 ≡ filled.words }
+        ensures shows { Shows number blocks.new job.now self.new }
+        ensures others { ChangesOnlyOf number blocks.old blocks.new }
+        ensures standing { standing_of self.new ≡ standing_after_finished result.0 (standing_of self.old)
+            (or_same (standing_of self.old) (next_standing (event.Finish number) job.now (standing_of self.old))) }
+        ensures unchanged { result.0 ≡ finished.Stale → (self.new ≡ self.old) × (blocks.new ≡ blocks.old) }
+    {
+        changes_join();
+        match self.status {
+            Status::InFlight => {}
+            Status::Waiting | Status::Live | Status::Ended | Status::Collected => {
+                return (Finished::Stale, filled.into_desk());
+            }
+        }
+        if !is_asked(job, &self.track, number, blocks, &filled) {
+            return (Finished::Stale, filled.into_desk());
+        }
+        let finished = self.commit(job, number, blocks, &filled);
+        (finished, filled.into_desk())
+    }
+
+    /// Gives up the step that has begun; true where there was one. The job stands as before the step's begin.
+    pub fn recall(&mut self) -> bool
+        ensures answer { result ≡ is_in_flight (standing_of self.old) }
+        ensures state { self.new ≡ recalled_slot self.old }
+    {
+        match self.status {
+            Status::InFlight => {
+                self.status = Status::Live;
+                true
+            }
+            Status::Waiting | Status::Live | Status::Ended | Status::Collected => false,
+        }
+    }
+
+    /// Stores the outcome of a job that has ended, and gives its blocks and its reservation back; true where it had.
+    ///
+    /// # Errors
+    ///
+    /// [`AllocError`] where memory for copies of the results was refused, which comes only at a job that returned. Nothing
+    /// changes then.
+    pub fn collect(
+        &mut self,
+        job: &Job<A>,
+        number: usize,
+        blocks: &mut JobMemory<A>,
+    ) -> Result<bool, AllocError>
+    where
+        A: Clone,
+        requires { Shows number blocks.old job.now self.old }
+        ensures answer { IfOk result (λ yes. yes ≡ is_ended (standing_of self.old)) }
+        ensures standing { OnOk result (standing_of self.new ≡ or_same (standing_of self.old) (next_standing (event.Collect number) job.now (standing_of self.old))) }
+        ensures shows { Shows number blocks.new job.now self.new }
+        ensures others { ChangesOnlyOf number blocks.old blocks.new }
+        ensures unchanged { OnErr result ((self.new ≡ self.old) × (blocks.new ≡ blocks.old)) }
+        ensures returned { OnErr result ((standing_of self.old ≡ Ended) × IsReturned (outcome job.now)) }
+    {
+        changes_join();
+        grants_change_only_their_job();
+        match self.status {
+            Status::Ended => {}
+            Status::Waiting | Status::Live | Status::InFlight | Status::Collected => {
+                return Ok(false);
+            }
+        }
+        self.store(job, number, blocks)?;
+        self.let_go(number, blocks);
+        blocks.close(number);
+        self.status = Status::Collected;
+        Ok(true)
+    }
+
+    /// Copies the results of a job that has returned, so that the outcome of a job that has ended is there.
+    fn store(
+        &mut self,
+        job: &Job<A>,
+        number: usize,
+        blocks: &JobMemory<A>,
+    ) -> Result<(), AllocError>
+    where
+        A: Clone,
+        requires verified { IsVerified job.now }
+        requires leaves { Leaves (own_slots number blocks.now) job.now self.old.trace self.old.outcome }
+        ensures stored { OnOk result (self.new ≡ record self.old { outcome = Some (outcome job.now) }) }
+        ensures unchanged { OnErr result (self.new ≡ self.old) }
+        ensures returned { OnErr result (IsReturned (outcome job.now)) }
+    {
+        if self.outcome.is_some() {
+            return Ok(());
+        }
+        let alloc = self.alloc.clone()?;
+        let values = results(alloc, job, &self.track, number, blocks)?;
+        self.outcome = Some(Outcome::Returned(values));
+        Ok(())
+    }
+
+    /// The job goes on past its step, or ends with it.
+    fn commit(
+        &mut self,
+        job: &Job<A>,
+        number: usize,
+        blocks: &mut JobMemory<A>,
+        filled: &Filled<A>,
+    ) -> Finished
+        requires shows { Shows number blocks.old job.now self.old }
+        requires flying { self.old.status ≡ status.InFlight }
+        requires fits { Fits job.now (standing_of self.old) filled.now }
+        requires numbers { block_count blocks.old.memory + 2 ≤ length blocks.old.memory.slots }
+        ensures answer { Finishes number job.now (standing_of self.old) filled.now result }
+        ensures shows { Shows number blocks.new job.now self.new }
+        ensures others { ChangesOnlyOf number blocks.old blocks.new }
+        ensures standing { Some (standing_of self.new) ≡ next_standing (event.Finish number) job.now (standing_of self.old) }
+    {
+        reached();
+        others_are_ready();
+        end_is_own();
+        match filled.answer() {
+            Err(fault) => {
+                let line = line_of_next(job, &self.track, number, blocks);
+                self.end(job, number, blocks, Outcome::Fault(fault, line));
+                Finished::Ended
+            }
+            Ok((first, second)) => {
+                let (op, flag) = (filled.op(), filled.flag());
+                execute(
+                    job,
+                    &mut self.track,
+                    number,
+                    blocks,
+                    op,
+                    flag,
+                    first,
+                    second,
+                );
+                self.go_on()
+            }
+        }
+    }
+
+    /// After an instruction: the job runs on, or it has returned, and its results are on its stack.
+    fn go_on(&mut self) -> Finished
+        ensures done { result ≡ finished.Done → (0 < length self.old.trace.frames) × (self.new ≡ record self.old { status = status.Live }) }
+        ensures ended { result ≡ finished.Ended → (self.old.trace.frames ≡ []) × (self.new ≡ record self.old { status = status.Ended; outcome = None }) }
+        ensures not_stale { result ≢ finished.Stale }
+    {
+        if self.track.calls() == 0 {
+            self.outcome = None;
+            self.status = Status::Ended;
+            Finished::Ended
+        } else {
+            self.status = Status::Live;
+            Finished::Done
+        }
+    }
+
+    /// The job, which runs, ends otherwise than by return.
+    fn end(
+        &mut self,
+        job: &Job<A>,
+        number: usize,
+        blocks: &mut JobMemory<A>,
+        ending: Outcome<Values<A>>,
+    )
+        requires shows { Shows number blocks.old job.now self.old }
+        requires active { IsActive self.old.status }
+        requires ending { IsEnding job.now self.old.trace.executed self.old.trace.peak ending }
+        ensures shows { Shows number blocks.new job.now self.new }
+        ensures others { ChangesOnlyOf number blocks.old blocks.new }
+        ensures ended { self.new.status ≡ status.Ended }
+    {
+        self.let_go(number, blocks);
+        self.outcome = Some(ending);
+        self.status = Status::Ended;
+    }
+
+    /// Lets go of all cells, and so of all blocks of the job.
+    fn let_go(&mut self, number: usize, blocks: &mut JobMemory<A>)
+        requires has_grant { HasGrant blocks.old number }
+        requires holds { HoldSomeStack (own_slots number blocks.old) self.old.trace.cells }
+        ensures slot { self.new ≡ record self.old { trace = record self.old.trace { cells = [] } } }
+        ensures nothing { HoldNothing (own_slots number blocks.new) [] }
+        ensures others { ChangesOnlyOf number blocks.old blocks.new }
+        ensures grants { blocks.new.grants ≡ blocks.old.grants }
+    {
+        releases_are_counted();
+        releases_keep_blocks();
+        releases_change_only_their_job();
+        blocks.release_all(number, self.track.cells());
+        let _used = blocks.used();
+        self.track.clear();
+    }
+}

@@ -1,0 +1,105 @@
+//! The ticket of a job's next step.
+
+ghost use Rattle.std.specs.Prelude.{◌≡◌, ◌+◌, ◌≤◌, length, take, MatchResult, None, Some};
+ghost use Rattle.vcode_base.specs.declared.limits.TheConstants.{MOST_WORDS};
+ghost use Rattle.vcode_base.specs.Kinds.{HaveKinds, source_kinds};
+ghost use Rattle.vcode_base.specs.Meaning.{shape};
+ghost use Rattle.vcode_base.specs.Operands.{contents};
+ghost use Rattle.job_memory.specs.JobBlocks.{IsJob, own_slots};
+ghost use Rattle.job_steps.specs.EventLaws.{IsVerified};
+ghost use Rattle.job_steps.specs.Motions.{depth_after};
+ghost use Rattle.job_steps.specs.Questions.{need_words};
+ghost use Rattle.job_steps.specs.Steps.{ending_by, memory_fault};
+ghost use Rattle.job_steps.specs.Tickets.{question_by};
+ghost use Rattle.job_slots.specs.Slots.{IsRunningSlot};
+ghost use Rattle.job_slots.specs.Answers.{IsAskedOf, early_end_at};
+
+use crate::next::{Next, read_next};
+use block_memory::BlockId;
+use job_memory::JobMemory;
+use job_steps::laws::{steps_can_advance, steps_can_begin};
+use job_steps::{Desk, Job, Ticket, Track, need, shape};
+use std::alloc::Allocator;
+use vcode_base::{Outcome, Values};
+
+/// How a job ends before its next instruction, with the desk that was meant for it.
+#[derive(Drop)]
+pub(crate) struct Halted<A: Allocator> {
+    pub(crate) ending: Outcome<Values<A>>,
+    pub(crate) desk: Desk<A>,
+}
+
+/// The ticket of the next step of a job that runs, on a desk of at least the job's words, or how the job ends before
+/// it.
+pub(crate) fn ticket_of<A: Allocator>(
+    job: &Job<A>,
+    track: &Track<BlockId, A>,
+    number: usize,
+    blocks: &JobMemory<A>,
+    desk: Desk<A>,
+) -> Result<Ticket<A>, Halted<A>>
+    requires running { IsRunningSlot (own_slots number blocks.now) job.now track.now }
+    requires verified { IsVerified job.now }
+    requires is_job { IsJob blocks.now number }
+    requires words { job.now.limits.words ≤ desk }
+    ensures { MatchResult result
+        (IsAskedOf number desk job.now track.now.executed)
+        (λ halted. (early_end_at job.now track.now.executed ≡ Some halted.ending) × (halted.desk ≡ desk)) }
+{
+    steps_can_begin::<BlockId>();
+    steps_can_advance::<BlockId>();
+    if track.executed() == track.limits().budget {
+        return Err(Halted {
+            ending: Outcome::Budget,
+            desk,
+        });
+    }
+    let next = read_next(job, track, number, blocks);
+    // By its type a memory has no block that no reference names.
+    let _used = blocks.used();
+    match early_ending(track, blocks.held(number), &next) {
+        Some(ending) => Err(Halted { ending, desk }),
+        None => Ok(desk.ask(number, track.executed(), next.op, next.operands.as_slice())),
+    }
+}
+
+/// The ending by a shape or a limit that stands against an instruction, where so many words are held.
+fn early_ending<A: Allocator>(
+    track: &Track<BlockId, A>,
+    held: usize,
+    next: &Next<'_>,
+) -> Option<Outcome<Values<A>>>
+    requires words { track.now.limits.words ≤ MOST_WORDS }
+    requires kinds { HaveKinds (source_kinds next.now.op)
+        (contents (take next.now.operands.count next.now.operands.lists)) }
+    ensures { let sources = contents (take next.now.operands.count next.now.operands.lists) in
+        result ≡ ending_by next.now.line (shape next.now.op sources)
+        (memory_fault track.now.limits next.now.op (held + need_words (question_by next.now.op sources))
+        (depth_after next.now.op (length track.now.cells)) (length track.now.frames)) }
+{
+    match shape(next.op, next.operands.as_slice()) {
+        Err(fault) => Some(Outcome::Fault(fault, next.line)),
+        Ok(()) => limit_ending(track, held, next),
+    }
+}
+
+/// The ending by a limit that an instruction would pass whose operands fit one another, where so many words are held.
+fn limit_ending<A: Allocator>(
+    track: &Track<BlockId, A>,
+    held: usize,
+    next: &Next<'_>,
+) -> Option<Outcome<Values<A>>>
+    requires words { track.now.limits.words ≤ MOST_WORDS }
+    requires kinds { HaveKinds (source_kinds next.now.op)
+        (contents (take next.now.operands.count next.now.operands.lists)) }
+    requires shaped { shape next.now.op (contents (take next.now.operands.count next.now.operands.lists)) ≡ None }
+    ensures { let sources = contents (take next.now.operands.count next.now.operands.lists) in
+        result ≡ ending_by next.now.line None
+        (memory_fault track.now.limits next.now.op (held + need_words (question_by next.now.op sources))
+        (depth_after next.now.op (length track.now.cells)) (length track.now.frames)) }
+{
+    let (first, second) = need(next.op, next.operands.as_slice());
+    let words = (held as u64).saturating_add(first).saturating_add(second);
+    let fault = track.memory_fault(next.op, words)?;
+    Some(Outcome::Memory(fault, next.line))
+}
