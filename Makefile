@@ -1,8 +1,8 @@
 # make         the program, proved, at bin/vjobs
 # make run     runs the example sum_of_two
-# make test    the gate: every proof from nothing, the wrong bodies that the prover must refuse, all tests, tables and examples
+# make test    the gate: every proof from nothing, the wrong bodies to be refused, all tests, tables and examples
 # make check CRATE=name   proves one crate and runs its tests
-# make bench   times the reading of a batch, the instructions beside plain C, the memory, and the verifier; no test
+# make bench   times reading, the steps of jobs, the instructions beside plain C, the memory, and the verifier; no test
 # make models  compares the programs with a second writing of the rules, in Python, on random cases; not in the gate
 
 .PHONY: all run test check bench models clean
@@ -23,6 +23,7 @@ check:
 
 bench: all
 	python3 bench/reading.py
+	python3 bench/steps.py
 	python3 bench/ops.py
 	python3 bench/memory.py
 	python3 bench/kinds.py

@@ -1,11 +1,12 @@
-"""A batch of at most one job of the first language: its report, and the exit status."""
+"""A batch: its report, and the exit status."""
 import re
 
-from faults import (BAD_LINE, MISSING_OPERAND, NAME_TWICE, NO_MAIN, NO_SIGNATURE, RESULT_DIFFERS, Fault)
-from kinds import signature
-from reader import FIRST, read
+import kinds
+from faults import Fault
+from reader import read
 from runs import Limits, run
 
+MOST_JOBS = 64
 LIMITS = [range(0, 1_048_577), range(1, 4_097), range(1, 1_025), range(0, 1_000_000_001)]
 
 
@@ -51,7 +52,7 @@ def jobs_of(data):
         head = heading(words)
         if head is None:
             raise BatchRefused(begun, "B1 BAD_JOB_LINE")
-        if jobs:
+        if len(jobs) == MOST_JOBS:
             raise BatchRefused(begun, "B4 TOO_LARGE")
         if place < len(lines) and words_of(lines[place]) != [b"SIGNATURES"]:
             raise BatchRefused(place + 1, "B1 BAD_JOB_LINE")
@@ -60,46 +61,20 @@ def jobs_of(data):
     return jobs
 
 
-def is_main_signed(first_line, text):
-    """Whether MAIN has its one signature of the first language; a Fault at any other line."""
-    found = False
-    for line, bytes_of_line in enumerate(text.split(b"\n"), first_line):
-        words = bytes_of_line.decode("latin1").replace("(", " ( ").replace(")", " ) ")
-        words = [word for word in re.split(r"[ \t\r]+", words) if word]
-        if not words:
-            continue
-        if signature(words) != ("MAIN", [], ["Int"]):
-            raise Fault(line, BAD_LINE)
-        if found:
-            raise Fault(line, NAME_TWICE)
-        found = True
-    return found
-
-
-def verify_first(functions, is_signed, first_line):
-    if "MAIN" not in (f.name for f in functions):
-        raise Fault(first_line, NO_MAIN)
-    for function in functions:
-        if function.name != "MAIN" or not is_signed:
-            raise Fault(function.line, NO_SIGNATURE)
-        entries = 0
-        for item in function.items:
-            if item.what == "Vector" and entries < 2:
-                raise Fault(item.line, MISSING_OPERAND)
-            if item.what == "Return" and entries != 1:
-                raise Fault(item.line, RESULT_DIFFERS)
-            entries += -1 if item.what == "Vector" else 1
+def verified(signatures_line, signatures, code_line, code):
+    """The functions of a job, or its first Fault."""
+    known = kinds.read_signatures(signatures, signatures_line)
+    functions = read(code, code_line)
+    kinds.verify(functions, known, code_line)
+    return functions
 
 
 def job_lines(job, region):
-    begun, _, numbers, (signatures_line, signatures), (code_line, code) = job
+    begun, _, numbers, signatures, code = job
     limits = Limits(*numbers)
     if limits.words > region:
         raise Fault(begun, "B3 WORDS_PAST_REGION")
-    is_signed = is_main_signed(signatures_line, signatures)
-    functions = read(code, code_line, FIRST)
-    verify_first(functions, is_signed, code_line)
-    return run(functions, limits)
+    return run(verified(*signatures, *code), limits)
 
 
 def report(data, region):

@@ -1,13 +1,13 @@
 #!/usr/bin/env python3
 """Compares the programs with a second writing of the rules, on random cases.
 
-    python3 models/compare.py [COUNT [SEED]]
+    python3 models/compare.py [COUNT [SEED [PROGRAM ARGUMENT ..]]]
 
 Run it at the top of the repository, once `make models` has built the programs. The modules of this folder say in plain Python what
-docs/LANGUAGE.md and docs/FORMATS.md say of reading, kinds, vectors, runs and batches, and share nothing with the crates. Runs are
-written for the whole language, batches for the first, which is what the program runs. Each of COUNT texts of code and signatures
-goes to `worked_texts`, each of COUNT instructions to `worked_vectors`, each of a hundredth as many batches to `bin/vjobs`; their answers,
-reports and exit statuses must be those of the modules.
+docs/LANGUAGE.md and docs/FORMATS.md say of reading, kinds, vectors, runs and batches, and share nothing with the crates. Each of COUNT texts of code and signatures goes to `worked_texts`, each of COUNT instructions to `worked_vectors`, each of
+a hundredth as many batches to `bin/vjobs`; their answers, reports and exit statuses must be those of the modules.
+
+Where a PROGRAM of the same behaviour is named, only COUNT batches are compared, with it.
 """
 import pathlib
 import random
@@ -20,7 +20,8 @@ import reader
 import vectors
 from faults import Fault
 from instructions import BOOL, SCALARS, SEGDES, kinds_of
-from random_cases import SPELLED, Random
+from random_batches import RandomBatches
+from random_cases import Random
 
 TOP = pathlib.Path(__file__).resolve().parent.parent
 # The lines that `worked_texts` counts from, and the longest text that it shows whole.
@@ -102,16 +103,17 @@ def differing_lines(name, case, cases, count):
     return told(name, [(want, answer) for want, answer in zip(wanted, answers) if want != answer])
 
 
-def differing_batches(cases, count):
+def differing_batches(program, cases, count):
     differing = []
     for _ in range(count):
-        batch, region = cases.batch()
+        batch, region = cases.whole_batch()
         want = batches.report(batch, region)
-        run = subprocess.run([TOP / "bin" / "vjobs", "--region", str(region), "-"], input=batch, capture_output=True)
+        words = ["--region", str(region), "-"]
+        run = subprocess.run([*program, *words], input=batch, capture_output=True)
         answer = run.stdout.decode("latin1"), run.returncode
         if answer != want or run.stderr:
-            differing.append(((batch, region, want), (answer, run.stderr)))
-    return told("vjobs", differing)
+            differing.append(((batch, words, want), (answer, run.stderr)))
+    return told(program[0], differing)
 
 
 def told(name, differing):
@@ -120,14 +122,19 @@ def told(name, differing):
     return len(differing)
 
 
-def main(count=10_000, seed=1):
-    cases = Random(random.Random(seed))
+def main(count=10_000, seed=1, *program):
+    count, source = int(count), random.Random(int(seed))
+    cases, jobs = Random(source), RandomBatches(source)
+    if program:
+        reports = differing_batches(program, jobs, count)
+        print(f"differing: {reports} of {count} batches (seed {seed})")
+        sys.exit(bool(reports))
     texts = differing_lines("worked_texts", text_case, cases, count)
     instructions = differing_lines("worked_vectors", vector_case, cases, count)
-    reports = differing_batches(cases, count // 100)
+    reports = differing_batches([TOP / "bin" / "vjobs"], jobs, count // 100)
     print(f"differing: {texts} of {count} texts, {instructions} of {count} instructions, {reports} of {count // 100} batches (seed {seed})")
     sys.exit(bool(texts or instructions or reports))
 
 
 if __name__ == "__main__":
-    main(*map(int, sys.argv[1:3]))
+    main(*sys.argv[1:])

@@ -224,35 +224,3 @@ class Random:
         if found and self.chance(0.2):
             found[self.random.randrange(len(found))] = self.pick([-1, 0, 1, 5])
         return found
-
-    # ---- batches
-
-    def first_code(self):
-        words, entries = ["FUNC", "MAIN"], 0
-        for _ in self.up_to(7):
-            adds = entries > 1 and self.chance(0.5) or self.slips()
-            words += ["+", "INT"] if adds else self.constant_of(self.pick([0, 1, 2, 3, 3, 3]))
-            entries += -1 if adds else 1
-        words += ["+", "INT"] * (entries - 1)
-        words += ["RET", *self.pick([[]] * 9 + [["FUNC", self.pick(["MAIN", "f"]), "CONST", "INT", "1", "RET"]])]
-        return self.text(words, 0.15).decode("latin1") + "\n"
-
-    def constant_of(self, count):
-        return ["CONST", "INT", "(", *(self.number() for _ in range(count)), ")"]
-
-    def job(self):
-        rarely = lambda usual, *others: self.pick([usual] * 9 * len(others) + [*others])
-        name = rarely("t", "wide", "a" * 64, "a" * 65, "(", "\xe9")
-        words, cells = self.pick(["0", "3", "6", "9", "9", "12", "16", "64", "65", "1048576"]), self.pick(["1", "2", "3", "16", "16", "4096"])
-        calls, budget = rarely("4", "1024", "1025", "0"), rarely("100", "0", "1", "2", "3", "4", "5", "1000000000", "1000000001", "00000000100")
-        signatures = rarely("MAIN () -> (INT)\n", "", "\n", "MAIN () -> (INT)\nMAIN () -> (INT)\n", "MAIN () (INT)\n", "f () -> (INT)\n",
-                            "MAIN () -> (BOOL)\n", " \t\r\n\nMAIN\t( )->(\tINT)\r\n")
-        return f"JOB {name} {words} {rarely(cells, '0', '4097')} {calls} {budget}\nSIGNATURES\n{signatures}CODE\n{self.first_code()}END\n"
-
-    def batch(self):
-        """The bytes of a batch, and the words of a region."""
-        jobs = "".join(self.job() for _ in range(self.pick([0] + [1] * 30 + [2])))
-        text = (self.pick(["", "", "\n \t\n"]) + jobs + self.pick([""] * 20 + ["\n\n", "x", "END\n", "BATCH 2\n"])).encode("latin1")
-        while self.chance(0.1):
-            text = self.changed_bytes(text)
-        return text, self.pick([8, 64, 64, 64, 64, 1_048_576])

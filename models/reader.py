@@ -18,7 +18,6 @@ class Language:
 
 
 WHOLE = Language([*STRUCTURE, *VECTOR_WORDS], SCALARS)
-FIRST = Language(["FUNC", "RET", "ELSE", "ENDIF", "CONST", "+"], {"INT": SCALARS["INT"]})
 
 
 @dataclass

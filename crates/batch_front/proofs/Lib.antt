@@ -1,9 +1,5 @@
-pub mod AnswerLemmas
-pub mod BatchLemmas
 pub mod Bytes
-pub mod CursorLemmas
-pub mod FateLemmas
-pub mod JobLineLemmas
-pub mod LineLemmas
+pub mod FeedLemmas
 pub mod ReportLemmas
 pub mod RunLemmas
+pub mod SeatLemmas

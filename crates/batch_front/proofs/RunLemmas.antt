@@ -1,36 +1,55 @@
 -- A machine that has run out.
-use Rattle.std.proofs.Common.{◌≡◌, ℕ, ◌≤◌, List, [], ◌∷◌, map, refl, ap, ◌∙◌}
-use Rattle.std.specs.Prelude.{All}
-use Rattle.std.proofs.lemmas.List.Elements.{All-cons, All-head, All-nil, All-tail}
-use Rattle.job_machine.specs.States.{Task}
-use Rattle.job_machine.specs.Standings.{Standing, Seated, Collected, task_of, waiting}
-use Rattle.batch_front.specs.Seats.{collected_seat}
+use Rattle.std.proofs.Common.{◌≡◌, ℕ, zero, suc, ◌+◌, ◌<◌, ◌≤◌, take, get_or, List, [], ◌∷◌, length, Some, refl, ap, arith}
+use Rattle.std.specs.Prelude.{All, slice_get, option_map}
+use Rattle.std.proofs.lemmas.List.Elements.{All-head, All-more, All-tail, All-weaker}
+use Rattle.job_steps.specs.Runs.{outcome, executed_count, peak}
+use Rattle.job_steps.specs.Standings.{Standing, Collected, of_job, executed_at, peak_at, outcome_at}
+use Rattle.job_steps.specs.States.{Task}
+use Rattle.job_machine.specs.Machines.{MachineState, told, told_by, outcome_by, outcome_in}
+use Rattle.batch_front.specs.Seats.{HasRunOut}
 
-seat : Task → Standing → Seated
-seat task standing = record { task = task; standing = standing }
+-- a job that there is has its standing
+told_out : {T : Type 0} (of : Task → Standing → T) (tasks : List Task) (standings : List Standing) (place : ℕ)
+    → length standings ≡ length tasks → All (λ s. s ≡ Collected) standings
+    → told_by of (slice_get tasks place) (slice_get standings place)
+    ≡ option_map (λ task. of task Collected) (slice_get tasks place)
+told_out of [] standings place e all = refl
+told_out of (t ∷ ts) [] place e all = absurd (omega (arith, e))
+told_out of (t ∷ ts) (s ∷ ss) zero e all = ap (λ k. Some (of t k)) (All-head (λ s. s ≡ Collected) s ss all)
+told_out of (t ∷ ts) (s ∷ ss) (suc place) e all =
+    told_out of ts ss place (omega (arith, e)) (All-tail (λ s. s ≡ Collected) s ss all)
 
-one : (s : Seated) (task : Task) → s.task ≡ task → s.standing ≡ Collected
-    → s ≡ record { task = task; standing = Collected }
-unfolding seat
-one s task e h = ap (λ k. seat s.task k) h ∙ ap (λ t. seat t Collected) e
+outcome_out : (tasks : List Task) (standings : List Standing) (place : ℕ)
+    → length standings ≡ length tasks → All (λ s. s ≡ Collected) standings
+    → outcome_by (slice_get tasks place) (slice_get standings place) ≡ option_map outcome (slice_get tasks place)
+outcome_out [] standings place e all = refl
+outcome_out (t ∷ ts) [] place e all = absurd (omega (arith, e))
+outcome_out (t ∷ ts) (s ∷ ss) zero e all = ap (λ k. outcome_at t k) (All-head (λ s. s ≡ Collected) s ss all)
+outcome_out (t ∷ ts) (s ∷ ss) (suc place) e all =
+    outcome_out ts ss place (omega (arith, e)) (All-tail (λ s. s ≡ Collected) s ss all)
 
--- where all are collected, and the jobs are the same
-pub all_collected : (old new : List Seated) → map task_of new ≡ map task_of old
-    → All (λ s. s.standing ≡ Collected) new → new ≡ map collected_seat old
-all_collected [] [] e all = refl
-all_collected [] (s ∷ ss) e all = cc
-all_collected (t ∷ ts) [] e all = cc
-all_collected (t ∷ ts) (s ∷ ss) e all =
-    let same : s.task ≡ t.task = cc in
-    let rest : map task_of ss ≡ map task_of ts = cc in
-    let is : s ≡ collected_seat t = one s t.task same (All-head (λ (k : Seated). k.standing ≡ Collected) s ss all) in
-    let are : ss ≡ map collected_seat ts = all_collected ts ss rest (All-tail
-    (λ (k : Seated). k.standing ≡ Collected) s ss all) in
-    ap (λ (k : Seated). k ∷ ss) is ∙ ap (λ (ks : List Seated). collected_seat t ∷ ks) are
+-- what is told of a job is what its run alone comes to
+pub outcome_told : (m : MachineState) (job : ℕ) → HasRunOut m → outcome_in job m ≡ option_map outcome (of_job job m.tasks)
+outcome_told m zero h = refl
+outcome_told m (suc place) h = outcome_out m.tasks m.standings place h.same_length h.collected
 
--- a desk that is large enough for its only job
-pub one_fits : (seats : List Seated) (task : Task) (words : ℕ) → seats ≡ waiting task ∷ [] → task.limits.words ≤ words
-    → All (λ s. s.task.limits.words ≤ words) seats
-one_fits seats task words e h =
-    rw e (All-cons (λ (s : Seated). s.task.limits.words ≤ words) (waiting task) [] h (All-nil
-    (λ (s : Seated). s.task.limits.words ≤ words)))
+pub executed_told : (m : MachineState) (job : ℕ) → HasRunOut m
+    → told executed_at job m ≡ option_map executed_count (of_job job m.tasks)
+executed_told m zero h = refl
+executed_told m (suc place) h = told_out executed_at m.tasks m.standings place h.same_length h.collected
+
+pub peak_told : (m : MachineState) (job : ℕ) → HasRunOut m → told peak_at job m ≡ option_map peak (of_job job m.tasks)
+peak_told m zero h = refl
+peak_told m (suc place) h = told_out peak_at m.tasks m.standings place h.same_length h.collected
+
+-- ---- words
+
+-- a bound of the first jobs and the next
+pub more_within : (tasks : List Task) (place old new : ℕ) (any : Task) → place < length tasks
+    → All (λ task. task.limits.words ≤ old) (take place tasks) → old ≤ new
+    → (get_or tasks place any).limits.words ≤ new → All (λ task. task.limits.words ≤ new) (take (place + 1) tasks)
+more_within tasks place old new any l all e h =
+    All-more (λ task. task.limits.words ≤ new) tasks place any l
+    (All-weaker (λ task. task.limits.words ≤ old) (λ task. task.limits.words ≤ new) (λ task k. omega (arith, e, k))
+    (take place tasks) all)
+    h

@@ -1,6 +1,6 @@
 -- The report of a batch, byte by byte, and its status.
 use Rattle.std.specs.Prelude.{ℕ, ℤ, pos, ◌+◌, Bool, true, false, if◌then◌else◌, List, [], ◌∷◌, ◌++◌, codes, length}
-use Rattle.std.specs.Prelude.{map, count_by, Result, Ok, Err, decimal}
+use Rattle.std.specs.Prelude.{map, count_by, decimal}
 use Rattle.std.specs.Fmt.{signed_decimal}
 use Rattle.std.specs.Ordering.{int_eq}
 use Rattle.std.specs.List.{flat_map, join_with_byte, list_all}
@@ -9,13 +9,17 @@ use Rattle.vcode_base.specs.declared.kind.Kind.TheVariants.{Int, Bool as Flags, 
 use Rattle.vcode_base.specs.declared.outcome.Outcome.{Outcome}
 use Rattle.vcode_base.specs.declared.outcome.Outcome.TheVariants.{Returned, Fault, Memory, Budget}
 use Rattle.vcode_base.specs.Texts.{data_fault_text, memory_fault_text}
-use Rattle.job_machine.specs.States.{Vector}
+use Rattle.job_steps.specs.Runs.{outcome, executed_count, peak}
+use Rattle.job_steps.specs.States.{Vector, Task}
+use Rattle.batch_reader.specs.declared.entry.Batch.{Batch}
+use Rattle.batch_reader.specs.declared.entry.Batch.TheVariants.{Refused as BatchRefusal, Jobs}
+use Rattle.batch_reader.specs.declared.entry.Fate.{Fate}
+use Rattle.batch_reader.specs.declared.entry.Fate.TheVariants.{Ready, Refused}
+use Rattle.batch_reader.specs.declared.fault.JobFault.{JobFault}
+use Rattle.batch_reader.specs.BatchTexts.{batch_fault_text, job_fault_text}
+use Rattle.batch_reader.specs.Fates.{JobEntry}
 use Rattle.batch_front.specs.declared.status.Status.{Status}
 use Rattle.batch_front.specs.declared.status.Status.TheVariants.{AllReturned, SomeNot, BatchRefused}
-use Rattle.batch_front.specs.Batches.{Refusal}
-use Rattle.batch_front.specs.BatchTexts.{batch_fault_text}
-use Rattle.batch_front.specs.Fates.{Fate, Refused, Ran, Entry}
-use Rattle.batch_front.specs.JobTexts.{job_fault_text}
 
 -- ---- results
 
@@ -60,43 +64,63 @@ abbrev pub used_text : ℕ → ℕ → List ℕ
 used_text instructions words =
     codes "USED" ++ count_text instructions (codes "instructions") ++ count_text words (codes "words") ++ codes "\n"
 
-abbrev pub fate_text : Fate → List ℕ
-fate_text (Refused fault line) = fault_text (codes "REFUSED ") line (job_fault_text fault)
-fate_text (Ran end instructions words) = outcome_text end ++ used_text instructions words
+-- how a job ends alone, and what it used
+abbrev pub task_text : Task → List ℕ
+task_text task = outcome_text (outcome task) ++ used_text (executed_count task) (peak task)
+
+abbrev pub refusal_text : ℕ → JobFault → List ℕ
+refusal_text line fault = fault_text (codes "REFUSED ") line (job_fault_text fault)
+
+abbrev pub fate_text : Fate Task → List ℕ
+fate_text (Ready task) = task_text task
+fate_text (Refused line fault) = refusal_text line fault
 
 -- what begins the lines of the job of this number
 abbrev pub job_text : ℕ → List ℕ → List ℕ
 job_text number name = codes "JOB " ++ decimal number ++ codes " " ++ name ++ codes " "
 
-abbrev pub entry_text : ℕ → Entry → List ℕ
-entry_text number e = job_text number e.name ++ fate_text e.fate
+abbrev pub entry_text : ℕ → JobEntry → List ℕ
+entry_text number entry = job_text number entry.name ++ fate_text entry.fate
 
-abbrev pub entries_text : ℕ → List Entry → List ℕ
+abbrev pub entries_text : ℕ → List JobEntry → List ℕ
 entries_text number [] = []
-entries_text number (e ∷ es) = entry_text number e ++ entries_text (number + 1) es
+entries_text number (entry ∷ entries) = entry_text number entry ++ entries_text (number + 1) entries
 
 -- ---- the whole
 
-abbrev pub is_refused : Fate → Bool
-is_refused (Refused fault line) = true
-is_refused (Ran end instructions words) = false
+abbrev pub is_refused : Fate Task → Bool
+is_refused (Ready task) = false
+is_refused (Refused line fault) = true
+
+abbrev pub refused_count : List JobEntry → ℕ
+refused_count entries = count_by (λ (entry : JobEntry). is_refused entry.fate) entries
 
 abbrev pub end_text : ℕ → ℕ → List ℕ
 end_text jobs refused =
     codes "END" ++ count_text jobs (codes "jobs") ++ count_text refused (codes "refused") ++ codes "\n"
 
-unfoldable pub report_of : Result (List Entry) Refusal → List ℕ
-report_of (Ok es) = entries_text 1 es ++ end_text (length es) (count_by (λ (e : Entry). is_refused e.fate) es)
-report_of (Err refusal) = fault_text (codes "BATCH ") refusal.1 (batch_fault_text refusal.0)
+abbrev pub jobs_text : List JobEntry → List ℕ
+jobs_text entries = entries_text 1 entries ++ end_text (length entries) (refused_count entries)
+
+unfoldable pub report_of : Batch (List JobEntry) → List ℕ
+report_of (BatchRefusal line fault) = fault_text (codes "BATCH ") line (batch_fault_text fault)
+report_of (Jobs entries) = jobs_text entries
 
 abbrev pub is_return : Outcome (List Vector) → Bool
 is_return (Returned results) = true
 is_return _ = false
 
-abbrev pub has_returned : Fate → Bool
-has_returned (Refused fault line) = false
-has_returned (Ran end instructions words) = is_return end
+abbrev pub has_task_returned : Task → Bool
+has_task_returned task = is_return (outcome task)
 
-unfoldable pub status_of : Result (List Entry) Refusal → Status
-status_of (Ok es) = if list_all (λ (e : Entry). has_returned e.fate) es then AllReturned else SomeNot
-status_of (Err refusal) = BatchRefused
+abbrev pub has_returned : Fate Task → Bool
+has_returned (Ready task) = has_task_returned task
+has_returned (Refused line fault) = false
+
+abbrev pub jobs_status : List JobEntry → Status
+jobs_status entries =
+    if list_all (λ (entry : JobEntry). has_returned entry.fate) entries then AllReturned else SomeNot
+
+unfoldable pub status_of : Batch (List JobEntry) → Status
+status_of (BatchRefusal line fault) = BatchRefused
+status_of (Jobs entries) = jobs_status entries

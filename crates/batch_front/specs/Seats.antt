@@ -1,6 +1,116 @@
--- The jobs of a machine that has run out.
-use Rattle.job_machine.specs.Standings.{Seated, Collected}
+-- The jobs of a batch on a machine: each by its number there, and what is told of it when the machine has run out.
+use Rattle.std.specs.Prelude.{◌≡◌, ◌+◌, ◌-◌, ◌≤◌, ℕ, Bool, false, if◌then◌else◌, List, [], ◌∷◌, ◌++◌, length, All}
+use Rattle.std.specs.Prelude.{Option, Some, None}
+use Rattle.std.specs.List.{list_all}
+use Rattle.job_steps.specs.Standings.{Collected, of_job}
+use Rattle.job_steps.specs.States.{Task}
+use Rattle.job_machine.specs.Machines.{MachineState}
+use Rattle.batch_reader.specs.declared.entry.Batch.{Batch}
+use Rattle.batch_reader.specs.declared.entry.Batch.TheVariants.{Refused as BatchRefused, Jobs}
+use Rattle.batch_reader.specs.declared.entry.Entry.{Entry}
+use Rattle.batch_reader.specs.declared.entry.Fate.{Fate}
+use Rattle.batch_reader.specs.declared.entry.Fate.TheVariants.{Ready, Refused}
+use Rattle.batch_reader.specs.Fates.{JobEntry}
+use Rattle.batch_front.specs.declared.status.Status.{Status}
+use Rattle.batch_front.specs.declared.status.Status.TheVariants.{AllReturned, SomeNot}
+use Rattle.batch_front.specs.Reports.{end_text, has_task_returned, job_text, refusal_text, task_text}
 
--- a job when it has run to its end and was collected
-abbrev pub collected_seat : Seated → Seated
-collected_seat s = record { task = s.task; standing = Collected }
+-- ---- what is run
+
+-- the task of a job that may run
+abbrev pub fate_tasks : Fate Task → List Task
+fate_tasks (Ready task) = task ∷ []
+fate_tasks (Refused line fault) = []
+
+-- the tasks of the jobs that may run, in their order
+abbrev pub tasks_of : List JobEntry → List Task
+tasks_of [] = []
+tasks_of (entry ∷ entries) = fate_tasks entry.fate ++ tasks_of entries
+
+-- a job that may run has no more words than the region
+abbrev pub FateFits : ℕ → Fate Task → Type 0
+FateFits region (Ready task) = task.limits.words ≤ region
+FateFits region (Refused line fault) = Unit {0}
+
+abbrev pub EntriesFit : ℕ → List JobEntry → Type 0
+EntriesFit region [] = Unit {0}
+EntriesFit region (entry ∷ entries) = FateFits region entry.fate × EntriesFit region entries
+
+abbrev pub BatchFits : ℕ → Batch (List JobEntry) → Type 0
+BatchFits region (BatchRefused line fault) = Unit {0}
+BatchFits region (Jobs entries) = EntriesFit region entries
+
+-- ---- where the jobs stand
+
+-- a job's name, and its number on a machine where it may run
+abbrev pub Seat : Type 0
+Seat = Entry (List ℕ) (Fate ℕ)
+
+-- the number is that of the job's task
+abbrev pub IsFateOn : List Task → Fate ℕ → Fate Task → Type 0
+IsFateOn tasks (Ready number) (Ready task) = of_job number tasks ≡ Some task
+IsFateOn tasks (Refused line fault) fate = fate ≡ Refused line fault
+IsFateOn tasks (Ready number) (Refused line fault) = ⊥
+
+pub record IsSeatOf (tasks : List Task) (seat : Seat) (entry : JobEntry) : Type 0 where
+  pub name : seat.name ≡ entry.name
+  pub fate : IsFateOn tasks seat.fate entry.fate
+
+-- one for each job, in order
+abbrev pub AreSeatsOf : List Task → List Seat → List JobEntry → Type 0
+AreSeatsOf tasks [] [] = Unit {0}
+AreSeatsOf tasks [] (entry ∷ entries) = ⊥
+AreSeatsOf tasks (seat ∷ seats) [] = ⊥
+AreSeatsOf tasks (seat ∷ seats) (entry ∷ entries) = IsSeatOf tasks seat entry × AreSeatsOf tasks seats entries
+
+-- ---- what is told of them
+
+-- all jobs have run to their ends and are collected
+pub record HasRunOut (m : MachineState) : Type 0 where
+  pub same_length : length m.standings ≡ length m.tasks
+  pub collected : All (λ standing. standing ≡ Collected) m.standings
+
+abbrev pub IsTask : Option Task → Type 0
+IsTask None = ⊥
+IsTask (Some task) = Unit {0}
+
+-- a job that may run is one of these
+abbrev pub IsAmong : List Task → Fate ℕ → Type 0
+IsAmong tasks (Ready number) = IsTask (of_job number tasks)
+IsAmong tasks (Refused line fault) = Unit {0}
+
+abbrev pub AreAmong : List Task → List Seat → Type 0
+AreAmong tasks seats = All (λ (seat : Seat). IsAmong tasks seat.fate) seats
+
+abbrev pub told_text : Option Task → List ℕ
+told_text None = []
+told_text (Some task) = task_text task
+
+abbrev pub fate_text_on : List Task → Fate ℕ → List ℕ
+fate_text_on tasks (Ready number) = told_text (of_job number tasks)
+fate_text_on tasks (Refused line fault) = refusal_text line fault
+
+abbrev pub seat_text : List Task → ℕ → Seat → List ℕ
+seat_text tasks number seat = job_text number seat.name ++ fate_text_on tasks seat.fate
+
+abbrev pub seats_text : List Task → ℕ → List Seat → List ℕ
+seats_text tasks number [] = []
+seats_text tasks number (seat ∷ seats) = seat_text tasks number seat ++ seats_text tasks (number + 1) seats
+
+abbrev pub told_return : Option Task → Bool
+told_return None = false
+told_return (Some task) = has_task_returned task
+
+abbrev pub has_returned_on : List Task → Fate ℕ → Bool
+has_returned_on tasks (Ready number) = told_return (of_job number tasks)
+has_returned_on tasks (Refused line fault) = false
+
+abbrev pub have_returned_on : List Task → List Seat → Bool
+have_returned_on tasks seats = list_all (λ (seat : Seat). has_returned_on tasks seat.fate) seats
+
+-- the report on jobs, of which those on the machine ran and the others are refused
+abbrev pub report_text : List Task → List Seat → List ℕ
+report_text tasks seats = seats_text tasks 1 seats ++ end_text (length seats) (length seats - length tasks)
+
+abbrev pub seats_status : List Task → List Seat → Status
+seats_status tasks seats = if have_returned_on tasks seats then AllReturned else SomeNot

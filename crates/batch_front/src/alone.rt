@@ -1,11 +1,13 @@
 //! The run on the calling thread.
 
-ghost use Rattle.std.specs.Prelude.{◌≡◌, ◌⊎◌, ℕ, ◌+◌, ◌≤◌, false, true, take, IfOk, IfSome, OnOk, OnErr, IsErrOf};
+ghost use Rattle.std.specs.Prelude.{◌≡◌, ◌⊎◌, ℕ, ◌+◌, ◌≤◌, false, true, List, [], take, IfOk, IfSome, OnOk, OnErr, IsErrOf};
 ghost use Rattle.std.specs.Io.KnownBytes.{Appends, Keeps};
 ghost use Rattle.batch_front.specs.declared.device.TheConstants.{MOST_INTERRUPTIONS};
 ghost use Rattle.batch_front.specs.Devices.{inner_of, has_failed, interrupts_of, IsFresh};
-ghost use Rattle.batch_front.specs.Fates.{batch_of};
-ghost use Rattle.batch_front.specs.Inputs.{first_bytes, ReadsFirstBytes, ReadsNoFurther};
+ghost use Rattle.batch_reader.specs.declared.entry.Batch.{Batch};
+ghost use Rattle.batch_reader.specs.Fates.{IsBatch, JobEntry};
+ghost use Rattle.batch_reader.specs.Feeds.{HasCome, HasFewJobs};
+ghost use Rattle.batch_front.specs.Inputs.{first_bytes, AreFirstBytes, IsBatchIn, ReadsFirstBytes, ReadsNoFurther};
 ghost use Rattle.batch_front.specs.Reports.{report_of, status_of};
 
 use crate::answer::answer;
@@ -13,6 +15,7 @@ use crate::command_line::Options;
 use crate::device::{Device, MOST_INTERRUPTIONS, Trouble};
 use crate::fault::FrontFault;
 use crate::status::Status;
+use batch_reader::{Batch, Feed, JobEntries};
 use std::alloc::Allocator;
 use std::io::{Read, Write};
 use vcode_base::limits::MOST_BATCH_BYTES;
@@ -21,15 +24,18 @@ use vcode_base::limits::MOST_BATCH_BYTES;
 const MOST_READ: usize = MOST_BATCH_BYTES + 1;
 
 /// The most bytes of one read.
-const PIECE: usize = 4096;
+const PIECE: usize = 65_536;
 
-/// The first bytes of a reader that was not used: to its end, or one more than a batch may have.
-fn read_all<A: Allocator, R: Read>(
-    alloc: A,
+/// Feeds the first bytes of a reader that was not used: to its end, or one more than a batch may have.
+fn feed_all<A: Allocator + Copy, R: Read>(
     reader: &mut Device<R>,
-) -> Result<Vec<u8, A>, FrontFault>
-    requires { IsFresh reader.old }
-    ensures bytes { IfOk result (λ v. IfSome (R.remaining (inner_of reader.old)) (λ input. v.items ≡ first_bytes input)) }
+    feed: &mut Feed<A>,
+) -> Result<(), FrontFault>
+    requires fresh { IsFresh reader.old }
+    requires nothing { HasCome feed.old [] }
+    ensures bytes { OnOk result ((bytes : List ℕ) × HasCome feed.new bytes
+        × AreFirstBytes (R.remaining (inner_of reader.old)) bytes) }
+    ensures region { feed.new.lines.region ≡ feed.old.lines.region }
     ensures read_to_the_end { OnOk result (ReadsFirstBytes (R.remaining (inner_of reader.old)) (R.remaining (inner_of reader.new))) }
     ensures read_no_further { ReadsNoFurther (R.remaining (inner_of reader.old)) (R.remaining (inner_of reader.new)) }
     ensures few_interruptions { OnOk result ((has_failed reader.new ≡ false) × (interrupts_of reader.new ≤ MOST_INTERRUPTIONS)) }
@@ -37,13 +43,16 @@ fn read_all<A: Allocator, R: Read>(
         (has_failed reader.new ≡ true) ⊎ (interrupts_of reader.new ≡ MOST_INTERRUPTIONS + 1) }
     ensures read_or_memory { OnErr result (IsErrOf result FrontFault.Read ⊎ IsErrOf result FrontFault.Memory) }
 {
-    let mut input = Vec::new(alloc);
     let mut piece = [0u8; PIECE];
-    'reads: while input.len() < MOST_READ {
-        let room = (MOST_READ - input.len()).min(PIECE);
+    let mut left = MOST_READ;
+    'reads: while left > 0 {
+        let room = left.min(PIECE);
         match reader.read(&mut piece[..room]) {
-            Ok(0) => return Ok(input),
-            Ok(n) => input.extend_from_slice(&piece[..n])?,
+            Ok(0) => return Ok(()),
+            Ok(n) => {
+                feed.feed(&piece[..n])?;
+                left -= n;
+            }
             Err(Trouble::Interrupted) => {
                 if reader.interrupts() > MOST_INTERRUPTIONS {
                     return Err(FrontFault::Read);
@@ -52,7 +61,30 @@ fn read_all<A: Allocator, R: Read>(
             Err(Trouble::Failed) => return Err(FrontFault::Read),
         }
     }
-    Ok(input)
+    Ok(())
+}
+
+/// What the first bytes of a reader that was not used come to: to its end, or one more than a batch may have.
+fn read_batch<A: Allocator + Copy, R: Read>(
+    alloc: A,
+    reader: &mut Device<R>,
+    region: u32,
+) -> Result<Batch<JobEntries<A>>, FrontFault>
+    requires { IsFresh reader.old }
+    ensures batch { IfOk result (IsBatchIn region (R.remaining (inner_of reader.old))) }
+    ensures few { IfOk result HasFewJobs }
+    ensures read_to_the_end { OnOk result (ReadsFirstBytes (R.remaining (inner_of reader.old)) (R.remaining (inner_of reader.new))) }
+    ensures read_no_further { ReadsNoFurther (R.remaining (inner_of reader.old)) (R.remaining (inner_of reader.new)) }
+    ensures few_interruptions { OnOk result ((has_failed reader.new ≡ false) × (interrupts_of reader.new ≤ MOST_INTERRUPTIONS)) }
+    ensures read_fault { IsErrOf result FrontFault.Read →
+        (has_failed reader.new ≡ true) ⊎ (interrupts_of reader.new ≡ MOST_INTERRUPTIONS + 1) }
+    ensures read_or_memory { OnErr result (IsErrOf result FrontFault.Read ⊎ IsErrOf result FrontFault.Memory) }
+{
+    let mut feed = Feed::new(alloc, region as usize)?;
+    match feed_all(reader, &mut feed) {
+        Ok(()) => Ok(feed.end()?),
+        Err(fault) => Err(fault),
+    }
 }
 
 /// Writes all the bytes. `spent` interruptions are spent already.
@@ -116,15 +148,14 @@ fn write_all<W: Write>(writer: &mut Device<W>, bytes: &[u8], spent: u64) -> Resu
     flush(writer, spent)
 }
 
-/// Reads a batch, runs its jobs one after the other on the calling thread, and then writes the report and nothing
-/// else.
+/// Reads a batch, runs its jobs over one region on the calling thread, and then writes the report and nothing else.
 ///
 /// Of the reader no more is read than one byte more than a batch may have, [`MOST_BATCH_BYTES`]. Neither device was used
 /// before. An interruption is no fault by itself: the call is made again, but for the interruption that passes
 /// [`MOST_INTERRUPTIONS`] in this run. [`FrontFault::Read`] and [`FrontFault::Memory`] come before the first write,
 /// and how much was read until then is not said. At [`FrontFault::Write`] the writer has the first bytes of the report,
 /// perhaps none and perhaps all of them.
-pub fn run_alone<A: Allocator + Clone, R: Read, W: Write>(
+pub fn run_alone<A: Allocator + Copy, R: Read, W: Write>(
     alloc: A,
     reader: &mut Device<R>,
     writer: &mut Device<W>,
@@ -134,9 +165,9 @@ pub fn run_alone<A: Allocator + Clone, R: Read, W: Write>(
     requires writer { IsFresh writer.old }
 
     // The report is written and nothing else, and the status is the batch's.
-    ensures report { IfOk result (λ status. IfSome (R.remaining (inner_of reader.old)) (λ input.
-        let batch = batch_of (first_bytes input) options.now.region in
-        Appends (W.contents (inner_of writer.old)) (W.contents (inner_of writer.new)) (report_of batch)
+    ensures report { IfOk result (λ status. IfSome (R.remaining (inner_of reader.old)) (λ input. (batch : Batch (List JobEntry)) ×
+        IsBatch options.now.region (first_bytes input) batch
+        × Appends (W.contents (inner_of writer.old)) (W.contents (inner_of writer.new)) (report_of batch)
         × (status ≡ status_of batch))) }
     // No fault of a device is passed over, nor one interruption too many.
     ensures few_interruptions { OnOk result ((has_failed reader.new ≡ false) × (has_failed writer.new ≡ false)
@@ -150,9 +181,9 @@ pub fn run_alone<A: Allocator + Clone, R: Read, W: Write>(
     ensures read_no_further { ReadsNoFurther (R.remaining (inner_of reader.old)) (R.remaining (inner_of reader.new)) }
 
     // A part of the report from its front was written.
-    ensures front_written { IsErrOf result FrontFault.Write → IfSome (R.remaining (inner_of reader.old)) (λ input. (n : ℕ) ×
-        Appends (W.contents (inner_of writer.old)) (W.contents (inner_of writer.new))
-        (take n (report_of (batch_of (first_bytes input) options.now.region)))) }
+    ensures front_written { IsErrOf result FrontFault.Write → IfSome (R.remaining (inner_of reader.old)) (λ input.
+        (batch : Batch (List JobEntry)) × IsBatch options.now.region (first_bytes input) batch
+        × (n : ℕ) × Appends (W.contents (inner_of writer.old)) (W.contents (inner_of writer.new)) (take n (report_of batch))) }
     ensures nothing_written { IsErrOf result FrontFault.Read ⊎ IsErrOf result FrontFault.Memory →
         Keeps (W.contents (inner_of writer.old)) (W.contents (inner_of writer.new)) }
 
@@ -162,8 +193,8 @@ pub fn run_alone<A: Allocator + Clone, R: Read, W: Write>(
     ensures write_fault { IsErrOf result FrontFault.Write →
         (has_failed writer.new ≡ true) ⊎ (interrupts_of reader.new + interrupts_of writer.new ≡ MOST_INTERRUPTIONS + 1) }
 {
-    let input = read_all(alloc.clone()?, reader)?;
-    let (report, status) = answer(alloc, input.as_slice(), options.region)?;
+    let batch = read_batch(alloc, reader, options.region)?;
+    let (report, status) = answer(alloc, batch, options.region)?;
     write_all(writer, report.as_slice(), reader.interrupts())?;
     Ok(status)
 }

@@ -1,10 +1,6 @@
-pub mod Ahead
-pub mod DeskLemmas
-pub mod EqualJobs
-pub mod FirstLines
-pub mod KindLemmas
-pub mod MachineLemmas
-pub mod RunLaws
-pub mod SeatLemmas
-pub mod StepLemmas
-pub mod TicketLemmas
+mod FirstSlots
+mod RunningOut
+mod SoundLemmas
+mod Stepping
+mod TurnLemmas
+mod Turns

@@ -1,13 +1,3 @@
-pub mod Answers
-pub mod FirstSignatures
-pub mod Kinded
-pub mod Motions
-pub mod Reached
-pub mod Runs
+pub mod Machines
+pub mod SlotOf
 pub mod Sound
-pub mod Standings
-pub mod States
-pub mod Steps
-pub mod Texts
-pub mod Tickets
-pub mod Traces

@@ -1,19 +1,14 @@
-//! The machine that runs jobs step by step.
+//! Jobs over one region of words, which take their turns in any order.
 //!
-//! What a job is to do is defined in `specs/`, one job at a time and with no memory but its stack:
-//! `States`, `Steps` and `Runs`. `Standings` says where the jobs of a machine stand and what each
-//! event makes of that. The contracts of [`Machine`] speak of these alone.
+//! A [`Machine`] admits jobs, begins and finishes their steps, and collects their outcomes. `specs/Machines.antt` says
+//! what each call makes of where the jobs stand: what the event of its name makes by the definitions of `job_steps`. So
+//! every job goes where it goes alone, whatever the others do.
 #![tactic(auto)]
 
-mod desk;
-pub mod first;
-mod job;
-pub mod laws;
 mod machine;
-mod seat;
-mod track;
+mod run_out;
+mod setting;
 
-pub use desk::{Desk, Filled, Ticket, compute};
-pub use job::{Job, JobName};
+pub use job_slots::{Begun, Finished, Status};
+pub use job_steps::{Desk, Event, Filled, Job, JobName, Ticket, compute};
 pub use machine::{Admission, Machine};
-pub use seat::{Begun, Early, Finished, Status};

@@ -1,15 +1,29 @@
 //! Jobs over one region of words.
 
-ghost use Rattle.std.specs.Prelude.{◌≡◌, ◌<◌, ◌≤◌, ◌^◌, true, false, length, map, All, IfOk, OnOk, OnErr, IfSome, option_map, option_copied, position};
-ghost use Rattle.vcode_base.specs.declared.limits.TheConstants.{MOST_WORDS};
-ghost use Rattle.job_machine.specs.Standings.{Collected, Admit, Begin, Finish, Recall, Collect, happens, admission, seat_of, status_by, executed_by, peak_by, outcome_of, is_flying, is_over, is_in_flight, is_waiting, granted_words, used_words, task_of, waiting};
-ghost use Rattle.job_machine.specs.Answers.{Begins, begun_of, Finishes, finished_of};
+ghost use Rattle.std.specs.Prelude.{◌≡◌, ◌≤◌, ◌↔◌, ℕ, length, All, IfOk, OnOk, OnErr, IsTrue, option_map, option_copied};
+ghost use Rattle.std.specs.Arc.{arc_value};
+ghost use Rattle.vcode_base.specs.declared.limits.TheConstants.{MOST_JOBS, MOST_WORDS};
+ghost use Rattle.job_steps.specs.declared.event.Event.TheVariants.{Admit, Begin, Finish, Recall, Collect};
+ghost use Rattle.job_memory.specs.Laws.{ChangesJoin};
+ghost use Rattle.job_steps.specs.EventLaws.{IsVerified, AreKept, EventsChangeTheirJob, MissingAreClosed, ClosedChangeNothing};
+ghost use Rattle.job_steps.specs.Standings.{Collected, of_job, first_standings, executed_at, peak_at, used_words, granted_words};
+ghost use Rattle.job_slots.specs.Laws.{OthersAreShown};
+ghost use Rattle.job_slots.specs.Slots.{status_of};
+ghost use Rattle.job_machine.specs.Machines.{machine_after, Leads, admission_in, BeginsIn, after_begun, FinishesIn, after_finished, is_flying, is_over, told, outcome_in, HasReturnedIn, HasNoStep, place_of};
+ghost use Rattle.job_machine.specs.SlotOf.{IsSlotIn};
 
-use crate::desk::{Desk, Filled};
-use crate::job::Job;
-use crate::seat::{Begun, Early, Finished, Seat, Status};
+use crate::setting::{all_cells, first_waiting, new_slots, same_jobs};
+use job_memory::JobMemory;
+use job_memory::laws::changes_join;
+use job_slots::laws::{new_is_shown, others_are_shown, recalled_is_shown, shown_is_alone};
+use job_slots::{Begun, Finished, Slot, Status};
+use job_steps::laws::{
+    closed_change_nothing, events_change_their_job, leads_join, missing_are_closed,
+};
+use job_steps::{Desk, Filled, Job};
 use std::alloc::{AllocError, Allocator};
 use std::marker::Model;
+use std::sync::Arc;
 use vcode_base::{Outcome, Values};
 
 /// What an admission answers.
@@ -17,8 +31,7 @@ use vcode_base::{Outcome, Values};
 pub enum Admission {
     /// The job of this number runs from now on.
     Admitted(usize),
-    /// The words of the first job that waits do not fit beside those that are granted. Nothing
-    /// changed.
+    /// The words of the first job that waits do not fit beside those that are granted. Nothing changed.
     NotNow,
     /// No job waits. Nothing changed.
     NoneWaiting,
@@ -26,239 +39,273 @@ pub enum Admission {
 
 /// Jobs over one region of words, each of which runs as it runs alone.
 ///
-/// Jobs are numbered from 1 in the order in which they were given; at present there is at most one.
-/// In a contract a machine is its region's words and its jobs, each with where it stands. What a job
-/// holds, executed and ended by are functions of that alone.
+/// Jobs are numbered from 1 in the order in which they were given. In a contract a machine is its region's words and
+/// its jobs, with where each stands. What a job holds, executed and ended by are functions of that alone.
 #[derive(Drop)]
 pub struct Machine<A: Allocator> {
-    region: usize,
-    seats: Vec<Seat<A>, A>,
+    blocks: JobMemory<A>,
+    jobs: Arc<Vec<Job<A>, A>, A>,
+    pub(crate) slots: Vec<Slot<A>, A>,
 }
 
 impl<A: Allocator> Model for Machine<A> {
+    ghost use Rattle.std.specs.Arc.{arc_value};
     ghost use Rattle.std.specs.Coded.{codes};
-    ghost use Rattle.job_machine.specs.States.{task_code};
-    ghost use Rattle.job_machine.specs.Standings.{Shown, seated_code, shown_code};
+    ghost use Rattle.job_steps.specs.Jobs.{task_code};
+    ghost use Rattle.job_machine.specs.Machines.{MachineState, machine_code};
+    ghost use Rattle.job_machine.specs.Sound.{IsSound, standings_of};
 
-    ghost Value = { Shown };
+    ghost Value = { MachineState };
 
-    ghost coded = { shown_code (seated_code (task_code (Prim.hlevel codes) (Prim.hlevel codes)) (Prim.hlevel codes)) };
+    ghost coded = { machine_code (task_code (Prim.hlevel codes) (Prim.hlevel codes) (Prim.hlevel codes)) (Prim.hlevel codes) };
 
-    ghost use Rattle.job_machine.specs.Sound.{IsSound};
+    ghost view = { λ m. record { region = m.blocks.memory.room; tasks = (arc_value m.jobs).items; standings = standings_of m.slots.items } };
 
-    ghost view = { λ m. record { region = m.region; seats = m.seats.items } };
-
-    ghost invariant = { λ m. IsSound m.region m.seats.items };
+    ghost invariant = { λ m. IsSound m.blocks (arc_value m.jobs).items m.slots.items };
 }
 
 impl<A: Allocator + Clone> Machine<A> {
-    /// A machine over a region of so many words, whose jobs all wait. The cells of each are reserved
-    /// here once. At present there is at most one job, and its words fit the region.
+    /// A machine over a region of so many words, whose jobs all wait. There are at most 64, and the words of each fit the
+    /// region.
+    ///
+    /// Takes the memory for the region, for the cells and calls of all jobs, and for the numbers of their blocks; an
+    /// error means that the allocator refused it. Of the calls on the machine only `list` and the collection of results
+    /// take memory.
     pub fn new(alloc: A, region: usize, jobs: Vec<Job<A>, A>) -> Result<Machine<A>, AllocError>
         requires region { (1 ≤ region) × (region ≤ MOST_WORDS) }
-        requires jobs { length jobs.items ≤ 1 }
-        requires words { All (λ t. t.limits.words ≤ region) jobs.items }
-        ensures { IfOk result (λ m. m ≡ record { region = region; seats = map waiting jobs.items }) }
+        requires jobs { length jobs.items ≤ MOST_JOBS }
+        requires words { All (λ task. task.limits.words ≤ region) jobs.items }
+        ensures { IfOk result (λ m. m ≡ record { region = region; tasks = jobs.items; standings = first_standings jobs.items }) }
     {
-        let mut seats = Vec::with_capacity(alloc.clone()?, jobs.len())?;
-        for job in jobs {
-            seats.push(Seat::new(alloc.clone()?, job)?)?;
-        }
-        Ok(Machine { region, seats })
+        new_is_shown();
+        let slots = new_slots(alloc.clone()?, jobs.as_slice())?;
+        let most_blocks = all_cells(jobs.as_slice()) + 2;
+        let blocks = JobMemory::new(alloc.clone()?, region, jobs.len(), most_blocks)?;
+        let jobs = Arc::new(alloc, jobs)?;
+        Ok(Machine {
+            blocks,
+            jobs,
+            slots,
+        })
     }
 
-    /// Commits a step that was computed, where it is the one in flight. Nothing changes where it is
-    /// not, or where there was no memory for its result.
-    pub fn finish(&mut self, filled: Filled<A>) -> Early<A>
-        ensures answer { Finishes filled (seat_of filled.job self.old.seats) result }
-        ensures state { self.new ≡ finished_of result self.old (happens (Finish filled.job) self.old) }
-    {
-        let job = filled.job();
-        if job == 0 || job > self.seats.len() {
-            return Early::Answered(Finished::Stale, filled.into_desk());
-        }
-        let seat = &mut self.seats[job - 1];
-        seat.finish(filled)
-    }
-
-    /// Stores the outcome of a job that is over and gives its words back; true where there was such a
-    /// job. Nothing changes where memory is wanting, which comes at such a job alone.
+    /// Stores the outcome of a job that has ended and gives its words back; true where it had.
+    ///
+    /// # Errors
+    ///
+    /// [`AllocError`] where memory for the results was refused, which comes only at a job that returned. Nothing changes
+    /// then.
     pub fn collect(&mut self, job: usize) -> Result<bool, AllocError>
-        ensures ok { IfOk result (λ yes. (yes ≡ is_over (seat_of job self.old.seats)) × (self.new ≡ happens (Collect job) self.old)) }
-        ensures err { OnErr result (self.new ≡ self.old) }
-        ensures only_over { OnErr result (is_over (seat_of job self.old.seats) ≡ true) }
+        ensures answer { IfOk result (λ yes. yes ≡ is_over (of_job job self.old.standings)) }
+        ensures state { OnOk result (self.new ≡ machine_after (Collect job) self.old) }
+        ensures unchanged { OnErr result (self.new ≡ self.old) }
+        ensures returned { OnErr result (HasReturnedIn self.old job) }
     {
-        if job == 0 || job > self.seats.len() {
+        turn_laws();
+        let Some(place) = self.place(job) else {
             return Ok(false);
-        }
-        let seat = &mut self.seats[job - 1];
-        seat.collect()
+        };
+        let jobs = self.jobs.as_slice();
+        let slot = &mut self.slots[place];
+        slot.collect(&jobs[place], job, &mut self.blocks)
     }
 
-    /// Takes the step in flight back, and then runs and collects all jobs on this thread, on a desk
-    /// of at least the words of each. `Err` where a finish or a collect was refused memory: what was
-    /// done until then stands, no step is in flight, and the call may be made again.
+    /// Gives up all steps that have begun, and then runs and collects all jobs on this thread, on a desk of at least the
+    /// words of each.
+    ///
+    /// `Err` where the collection of a job that returned was refused memory: what was done until then stands, no step
+    /// has begun, and the call may be made again.
     pub fn run_out(&mut self, desk: Desk<A>) -> (Result<(), AllocError>, Desk<A>)
-        requires { All (λ s. s.task.limits.words ≤ desk) self.old.seats }
-        ensures ok { OnOk result.0 (All (λ s. s.standing ≡ Collected) self.new.seats) }
-        ensures recalled { All (λ s. is_in_flight s.standing ≡ false) self.new.seats }
-        ensures region { self.new.region ≡ self.old.region }
-        ensures jobs { map task_of self.new.seats ≡ map task_of self.old.seats }
+        requires { All (λ task. task.limits.words ≤ desk) self.old.tasks }
+        ensures ok { OnOk result.0 (All (λ standing. standing ≡ Collected) self.new.standings) }
+        ensures refused { OnErr result.0 ((job : ℕ) × HasReturnedIn self.new job) }
+        ensures no_step { HasNoStep self.new }
+        ensures events { Leads self.old self.new }
         ensures desk { result.1 ≡ desk }
     {
-        if self.seats.is_empty() {
-            return (Ok(()), desk);
-        }
-        let seat = &mut self.seats[0];
-        seat.run_out(1, desk)
+        leads_join();
+        self.recall_all();
+        self.run_all(desk)
     }
 }
 
 impl<A: Allocator> Machine<A> {
     /// Admits the first job that waits, where its words fit beside those that are granted.
     pub fn admit(&mut self) -> Admission
-        ensures answer { result ≡ admission self.old }
-        ensures state { self.new ≡ happens Admit self.old }
+        ensures answer { result ≡ admission_in self.old }
+        ensures state { self.new ≡ machine_after Admit self.old }
     {
-        match first_waiting(self.seats.as_slice()) {
-            None => Admission::NoneWaiting,
-            Some(place) => {
-                let granted = granted(self.seats.as_slice());
-                let seat = &mut self.seats[place];
-                if seat.words() > self.region - granted {
-                    return Admission::NotNow;
-                }
-                seat.admit();
-                Admission::Admitted(place + 1)
-            }
+        turn_laws();
+        let Some(place) = first_waiting(self.slots.as_slice()) else {
+            return Admission::NoneWaiting;
+        };
+        let jobs = self.jobs.as_slice();
+        let slot = &mut self.slots[place];
+        match slot.admit(&jobs[place], place + 1, &mut self.blocks) {
+            Ok(()) => Admission::Admitted(place + 1),
+            Err(_) => Admission::NotNow,
         }
     }
 
     /// Begins the next step of a job on a desk, which goes with the ticket; else the desk comes back.
-    /// A job that is spent, whose operands do not fit one another, or whose next instruction would pass
-    /// its words or its cells, ends here.
+    ///
+    /// A job whose budget is spent, whose operands do not fit one another, or whose next instruction would pass a
+    /// limit, ends here.
     pub fn begin(&mut self, job: usize, desk: Desk<A>) -> Begun<A>
-        ensures answer { Begins job desk (seat_of job self.old.seats) result }
-        ensures state { self.new ≡ begun_of result self.old (happens (Begin job) self.old) }
+        ensures answer { BeginsIn job desk (of_job job self.old.tasks) (of_job job self.old.standings) result }
+        ensures state { self.new ≡ after_begun result self.old (machine_after (Begin job) self.old) }
     {
-        if job == 0 || job > self.seats.len() {
+        turn_laws();
+        let Some(place) = self.place(job) else {
             return Begun::NotReady(desk);
-        }
-        let seat = &mut self.seats[job - 1];
-        seat.begin(job, desk)
+        };
+        let jobs = self.jobs.as_slice();
+        let slot = &mut self.slots[place];
+        slot.begin(&jobs[place], job, &mut self.blocks, desk)
     }
 
-    /// Takes the step of a job that is in flight back; true where there was one. The job stands as
-    /// before the step's begin.
+    /// Commits a step that was computed, where it is the one of its job that has begun, with the same instruction and
+    /// operands. The desk comes back.
+    pub fn finish(&mut self, filled: Filled<A>) -> (Finished, Desk<A>)
+        ensures answer { FinishesIn filled (of_job filled.job self.old.tasks) (of_job filled.job self.old.standings) result.0 }
+        ensures desk { result.1 ≡ filled.words }
+        ensures state { self.new ≡ after_finished result.0 self.old (machine_after (Finish filled.job) self.old) }
+    {
+        turn_laws();
+        shown_is_alone();
+        let _used = self.blocks.used();
+        let job = filled.job();
+        let Some(place) = self.place(job) else {
+            return (Finished::Stale, filled.into_desk());
+        };
+        let jobs = self.jobs.as_slice();
+        let slot = &mut self.slots[place];
+        slot.finish(&jobs[place], job, &mut self.blocks, filled)
+    }
+
+    /// Gives up the step of a job that has begun; true where there was one. The job stands as before the step's begin.
     pub fn recall(&mut self, job: usize) -> bool
-        ensures answer { result ≡ is_flying (seat_of job self.old.seats) }
-        ensures state { self.new ≡ happens (Recall job) self.old }
+        ensures answer { result ≡ is_flying (of_job job self.old.standings) }
+        ensures state { self.new ≡ machine_after (Recall job) self.old }
     {
-        if job == 0 || job > self.seats.len() {
+        turn_laws();
+        recalled_is_shown();
+        let Some(place) = self.place(job) else {
             return false;
-        }
-        let seat = &mut self.seats[job - 1];
-        seat.recall()
-    }
-
-    fn seat(&self, job: usize) -> Option<&Seat<A>>
-        ensures { option_copied result ≡ seat_of job self.now.seats }
-    {
-        if job == 0 {
-            return None;
-        }
-        self.seats.as_slice().get(job - 1)
+        };
+        self.slots[place].recall()
     }
 
     /// Where a job stands, or `None` for no such job.
     pub fn status(&self, job: usize) -> Option<Status>
-        ensures { result ≡ option_map (λ s. status_by s.standing) (seat_of job self.now.seats) }
+        ensures { result ≡ option_map status_of (of_job job self.now.standings) }
     {
-        match self.seat(job) {
-            Some(seat) => Some(seat.status()),
-            None => None,
-        }
+        let slot = self.slot(job)?;
+        Some(slot.status())
     }
 
     /// How a job ended, where it is collected.
     pub fn outcome(&self, job: usize) -> Option<&Outcome<Values<A>>>
-        ensures { option_copied result ≡ outcome_of (seat_of job self.now.seats) }
+        ensures { option_copied result ≡ outcome_in job self.now }
     {
-        match self.seat(job) {
-            Some(seat) => seat.outcome(),
-            None => None,
-        }
+        let slot = self.slot(job)?;
+        slot.outcome()
     }
 
     /// How many instructions a job executed, or `None` for no such job.
     pub fn executed(&self, job: usize) -> Option<u64>
-        ensures { result ≡ option_map (λ s. executed_by s.task s.standing) (seat_of job self.now.seats) }
+        ensures { result ≡ told executed_at job self.now }
     {
-        match self.seat(job) {
-            Some(seat) => Some(seat.executed()),
-            None => None,
-        }
+        let slot = self.slot(job)?;
+        Some(slot.executed())
     }
 
-    /// The most words that a job held and needed at an instruction that it executed, or `None` for
-    /// no such job.
+    /// The most words that a job held and needed at an instruction that it executed, or `None` for no such job.
     pub fn peak(&self, job: usize) -> Option<usize>
-        ensures { result ≡ option_map (λ s. peak_by s.task s.standing) (seat_of job self.now.seats) }
+        ensures { result ≡ told peak_at job self.now }
     {
-        match self.seat(job) {
-            Some(seat) => Some(seat.peak()),
-            None => None,
-        }
+        let slot = self.slot(job)?;
+        Some(slot.peak())
     }
 
-    /// The words of all vectors that the jobs hold, which are within those that are granted, as these
-    /// are within the region.
+    /// The words of all vectors that the jobs hold, which are within those that are granted, as these are within the
+    /// region.
     pub fn used(&self) -> usize
-        ensures used { result ≡ used_words self.now.seats }
-        ensures within { used_words self.now.seats ≤ granted_words self.now.seats }
-        ensures granted { granted_words self.now.seats ≤ self.now.region }
+        ensures used { result ≡ used_words self.now.tasks self.now.standings }
+        ensures within { used_words self.now.tasks self.now.standings ≤ granted_words self.now.tasks self.now.standings }
+        ensures granted { granted_words self.now.tasks self.now.standings ≤ self.now.region }
     {
-        used(self.seats.as_slice())
+        shown_is_alone();
+        let _granted = self.blocks.granted();
+        self.blocks.used()
     }
 
-    /// How many jobs there are, each of which fits the region.
+    /// How many jobs there are. Each is verified, fits the region, and stands on its run alone.
     pub fn jobs(&self) -> usize
-        ensures count { result ≡ length self.now.seats }
-        ensures fitting { All (λ s. s.task.limits.words ≤ self.now.region) self.now.seats }
+        ensures count { result ≡ length self.now.tasks }
+        ensures few { length self.now.tasks ≤ MOST_JOBS }
+        ensures verified { All IsVerified self.now.tasks }
+        ensures fitting { All (λ task. task.limits.words ≤ self.now.region) self.now.tasks }
+        ensures kept { AreKept self.now.region self.now.tasks self.now.standings }
     {
-        self.seats.as_slice().len()
+        shown_is_alone();
+        let _used = self.blocks.used();
+        let _granted = self.blocks.granted();
+        self.slots.len()
+    }
+
+    /// The jobs, which the machine shares with the caller.
+    ///
+    /// # Errors
+    ///
+    /// [`AllocError`] where they already have as many owners as can be counted.
+    pub fn list(&self) -> Result<Arc<Vec<Job<A>, A>, A>, AllocError>
+    where
+        A: Clone,
+        ensures { IfOk result (λ list. (arc_value list).items ≡ self.now.tasks) }
+    {
+        Arc::try_clone(&self.jobs)
+    }
+
+    /// Whether these are the machine's jobs, in order.
+    pub fn holds(&self, jobs: &[Job<A>]) -> bool
+        ensures { IsTrue result ↔ (self.now.tasks ≡ jobs.now) }
+    {
+        same_jobs(self.jobs.as_slice(), jobs)
+    }
+
+    /// The slot of a job.
+    fn slot(&self, job: usize) -> Option<&Slot<A>>
+        ensures { IsSlotIn job self.now (option_copied result) }
+    {
+        shown_is_alone();
+        let _used = self.blocks.used();
+        let place = self.place(job)?;
+        Some(&self.slots[place])
+    }
+
+    /// The place of a job, counted from 0.
+    pub(crate) fn place(&self, job: usize) -> Option<usize>
+        ensures { result ≡ place_of (length self.now.tasks) job }
+    {
+        if job == 0 || job > self.slots.len() {
+            return None;
+        }
+        Some(job - 1)
     }
 }
 
-/// The place of the first job that waits, counted from 0.
-fn first_waiting<A: Allocator>(seats: &[Seat<A>]) -> Option<usize>
-    ensures first { result ≡ position (λ s. is_waiting s.standing) seats.now }
-    ensures bound { IfSome result (λ place. place < length seats.now) }
+/// The laws by which a turn of one job leaves a machine sound, and standing as an event leaves it.
+fn turn_laws()
+    ensures others { OthersAreShown }
+    ensures joined { ChangesJoin }
+    ensures changed { EventsChangeTheirJob }
+    ensures missing { MissingAreClosed }
+    ensures closed { ClosedChangeNothing }
 {
-    seats.iter().position(|seat| seat.is_waiting())
-}
-
-/// The words that are reserved.
-fn granted<A: Allocator>(seats: &[Seat<A>]) -> usize
-    requires { granted_words seats.now < 2 ^ 64 }
-    ensures { result ≡ granted_words seats.now }
-{
-    let mut words = 0;
-    for seat in seats {
-        words += seat.granted();
-    }
-    words
-}
-
-/// The words that are held.
-fn used<A: Allocator>(seats: &[Seat<A>]) -> usize
-    requires { granted_words seats.now < 2 ^ 64 }
-    ensures used { result ≡ used_words seats.now }
-    ensures within { result ≤ granted_words seats.now }
-{
-    let mut words = 0;
-    for seat in seats {
-        words += seat.held();
-    }
-    words
+    others_are_shown();
+    changes_join();
+    events_change_their_job();
+    missing_are_closed();
+    closed_change_nothing();
 }

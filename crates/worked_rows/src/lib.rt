@@ -8,6 +8,8 @@ mod devices;
 #[cfg(test)]
 mod faults;
 #[cfg(test)]
+mod jobs;
+#[cfg(test)]
 mod lines;
 #[cfg(test)]
 mod refusals;

@@ -1,5 +1,5 @@
 //! Jobs and batches that are refused.
-use crate::run::{code_of, gives, job_of, refuses, signatures_of};
+use crate::run::{code_of, copies, gives, job_of, refuses, signatures_of};
 use std::test::Fail;
 
 #[test]
@@ -11,7 +11,7 @@ fn refuses_a_missing_operand(rt: HostRuntime) -> Result<(), Fail> {
 
 #[test]
 fn refuses_a_word_that_it_does_not_know(rt: HostRuntime) -> Result<(), Fail> {
-    let batch = job_of(rt.alloc(), "9 16 4 100", "COPY 1 0")?;
+    let batch = job_of(rt.alloc(), "9 16 4 100", "SWAP 1 0")?;
     refuses(&rt, rt.alloc(), batch.as_str(), "6 S1 BAD_WORD")?;
     Ok(())
 }
@@ -199,12 +199,12 @@ fn refuses_a_line_behind_a_job(rt: HostRuntime) -> Result<(), Fail> {
 #[test]
 fn refuses_one_job_too_many(rt: HostRuntime) -> Result<(), Fail> {
     let batch = job_of(rt.alloc(), "9 16 4 100", "CONST INT 1")?;
-    let batch = format!(in rt.alloc(); "{batch}\n{batch}")?;
+    let batch = copies(rt.alloc(), batch.as_str(), 65)?;
     gives(
         &rt,
         rt.alloc(),
         batch.as_str(),
-        "BATCH line 10 B4 TOO_LARGE\n",
+        "BATCH line 513 B4 TOO_LARGE\n",
         2,
     );
     Ok(())

@@ -22,6 +22,15 @@ pub fn signatures_of(alloc: Global, signatures: &str) -> Result<String, AllocErr
     format!(in alloc; "JOB t 9 16 4 100\nSIGNATURES\n{signatures}\nCODE\n{code}\nEND\n")
 }
 
+/// A text so many times.
+pub fn copies(alloc: Global, text: &str, count: usize) -> Result<String, AllocError> {
+    let mut texts = String::new(alloc);
+    for _ in 0..count {
+        texts.push_str(text)?;
+    }
+    Ok(texts)
+}
+
 /// Over a region of 64 words a batch gives this report, and the program exits with this number.
 pub fn gives(rt: &impl Abort, alloc: Global, batch: &str, report: &str, exit: u8) {
     let options = Options { region: 64 };

@@ -1,11 +1,15 @@
-use Rattle.std.proofs.Common.{arith}
-use Rattle.batch_front.proofs.RunLemmas.{one_fits}
+use Rattle.std.proofs.Common.{◌≡◌, sym, ap, subst, IfOk}
+use Rattle.std.specs.Prelude.{◌≤◌, All}
 use Rattle.batch_front.proofs.answer.run.Goals as goal
 
 pub run_out-requires : goal.run_out-requires
 run_out-requires g c =
-    one_fits c.in_ok-machine.machine.seats c.args.job c.in_ok-desk.desk c.in_ok-machine.ensures
-    (let same = c.requires.words.0 in let desk = c.in_ok-desk.ensures in omega arith)
+    subst (λ ts. All (λ task. task.limits.words ≤ c.in_ok-desk.desk) ts) (sym (ap (λ m. m.tasks) c.in_ok-machine.ensures))
+    (subst (λ w. All (λ task. task.limits.words ≤ w) c.args.jobs.items) (sym c.in_ok-desk.ensures)
+    (subst (λ js. All (λ task. task.limits.words ≤ c.greatest_words-words.result) js) c.deref.ensures.value
+    c.greatest_words-words.ensures.each))
 
-pub returns : goal.returns
-returns g c = rw c.in_ok-machine.ensures at c.run_out.ensures
+pub returns-clause-tasks : goal.returns-clause-tasks
+returns-clause-tasks g c =
+    subst (λ ts. IfOk c.run_out.result (λ m. m.tasks ≡ ts)) (ap (λ m. m.tasks) c.in_ok-machine.ensures)
+    c.run_out.ensures.tasks

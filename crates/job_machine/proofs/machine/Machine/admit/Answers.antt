@@ -1,87 +1,134 @@
-use Rattle.std.proofs.Common.{◌≡◌, ◌<◌, ◌≤◌, ◌+◌, true, false, leb, length, Some, None, sym, ◌∙◌, ap, arith, refl}
-use Rattle.std.specs.Prelude.{slice_get, position}
-use Rattle.std.proofs.lemmas.Bool.Decides.{nat_tests}
-use Rattle.std.proofs.lemmas.Option.{slice_get_read}
-use Rattle.job_machine.specs.declared.machine.Admission.TheVariants.{NotNow, NoneWaiting}
-use Rattle.job_machine.specs.Standings.{Shown, Seated, happens, Admit, admission, is_waiting, granted_words}
-use Rattle.job_machine.proofs.MachineLemmas.{admission_none, admission_some, admits_here, admits_none, same_at, sound_admit}
+use Rattle.std.proofs.Common.{◌≡◌, ◌+◌, ◌<◌, length, get_or, position, refl, sym, ap, ◌∙◌, arith}
+use Rattle.std.specs.Arc.{arc_value}
+use Rattle.job_steps.specs.Standings.{is_waiting}
+use Rattle.job_slots.specs.Slots.{SlotState, standing_of}
+use Rattle.job_machine.proofs.TurnLemmas.{turn_shows, turn_sound, has_first, none_answer, none_state, within_by}
+use Rattle.job_machine.proofs.TurnLemmas.{admitted_answer, refused_answer, admitted_state, refused_state, fits_by, past_by}
+use Rattle.job_machine.proofs.TurnLemmas.{live_by, same_by}
 use Rattle.job_machine.proofs.machine.Machine.admit.Goals as goal
+use Rattle.job_machine.proofs.machine.Machine.admit.Goals.{in-Ok, in-Err}
 
-pub returns-in-None-clause-answer : goal.returns-in-None-clause-answer
-returns-in-None-clause-answer g c =
-    let seats = c.self.inside.seats.items in
-    let m : Shown = record { region = c.self.inside.region; seats = seats } in
-    let none : position (λ (s : Seated). is_waiting s.standing) seats ≡ None = ap (position (λ (s : Seated). is_waiting s.standing)) (sym c.as_slice.ensures.value) ∙ sym c.in-None.ensures.first in
-    sym (ap admission (sym c.self.view_is) ∙ admission_none m none)
+pub returns-in_default-clause-answer : goal.returns-in_default-clause-answer
+returns-in_default-clause-answer g c =
+    none_answer c.self.inside.blocks (arc_value c.self.inside.jobs).items c.self.inside.slots.items c.args.self.now
+    c.first_waiting.result c.self.view_is
+    (c.first_waiting.ensures.first ∙ ap (position (λ (slot : SlotState). is_waiting (standing_of slot))) c.as_slice.ensures.value)
+    c.in_default.is
 
-pub returns-in-None-clause-state : goal.returns-in-None-clause-state
-returns-in-None-clause-state g c = admits_none c.args.self.now NoneWaiting (sym (returns-in-None-clause-answer g c)) refl
+pub returns-in_default-clause-state : goal.returns-in_default-clause-state
+returns-in_default-clause-state g c =
+    none_state c.self.inside.blocks (arc_value c.self.inside.jobs).items c.self.inside.slots.items c.args.self.now
+    c.first_waiting.result c.self.view_is
+    (c.first_waiting.ensures.first ∙ ap (position (λ (slot : SlotState). is_waiting (standing_of slot))) c.as_slice.ensures.value)
+    c.in_default.is
 
-pub returns-then-words-self-clause-answer : goal.returns-then-words-self-clause-answer
-returns-then-words-self-clause-answer g c =
-    let seats = c.self.inside.seats.items in
-    let region = c.self.inside.region in
-    let m : Shown = record { region = region; seats = seats } in
-    let i = c.in-Some.place in
-    let seat : Seated = c.index_mut-seat.result.now in
-    let found : position (λ (s : Seated). is_waiting s.standing) seats ≡ Some i = ap (position (λ (s : Seated). is_waiting s.standing)) (sym c.as_slice.ensures.value) ∙ sym c.in-Some.ensures.first in
-    let within : i < length seats = let l = c.in-Some.ensures.bound in let same = ap length c.as_slice.ensures.value in omega (arith, l, same) in
-    let at : slice_get seats i ≡ Some seat = slice_get_read seats (length seats) i seat refl within c.index_mut-seat.ensures.value in
-    let granted : c.granted-granted.result ≡ granted_words seats = c.granted-granted.ensures ∙ ap granted_words c.as_slice-in-Some.ensures.value in
-    let past : leb (granted_words seats + seat.task.limits.words) region ≡ false =
-    let much = c.if-words-self.true in let words = c.words.ensures.words in let room = c.self.invariant.granted in
-    let more : region < granted_words seats + seat.task.limits.words = omega (arith, much, words, room, granted) in grind (arith, nat_tests, more) in
-    sym (ap admission (sym c.self.view_is) ∙ admission_some m i seat found at false past)
+pub admit-requires-clause-shows : goal.admit-requires-clause-shows
+admit-requires-clause-shows g c =
+    let jobs_are = c.as_slice-jobs.ensures.value ∙ ap (λ v. v.items) c.deref.ensures in
+    let blocks = c.self.inside.blocks in
+    let tasks = (arc_value c.self.inside.jobs).items in
+    let slots = c.self.inside.slots.items in
+    let place = c.in-Some.place in
+    let task = c.index-jobs-place.result in
+    let before = c.index_mut-slot.result.now in
+    let within : place < length slots =
+    omega (arith, within_by c.first_waiting.result place c.as_slice.result.now c.first_waiting.ensures.within c.in-Some.is, ap length c.as_slice.ensures.value) in
+    let first =
+    has_first blocks tasks slots c.args.self.now (place + 1) place c.first_waiting.result task before c.self.invariant
+    c.self.view_is (c.first_waiting.ensures.first ∙ ap (position (λ (slot : SlotState). is_waiting (standing_of slot))) c.as_slice.ensures.value)
+    c.in-Some.is within (omega arith) (c.index-jobs-place.is ∙ ap (λ ts. get_or ts place task) jobs_are)
+    c.index_mut-slot.ensures.value in
+    turn_shows blocks tasks slots c.args.self.now (place + 1) place task before c.self.invariant first.turn
 
-pub returns-then-words-self-clause-state : goal.returns-then-words-self-clause-state
-returns-then-words-self-clause-state g c =
-    let seats = c.self.inside.seats.items in
-    let region = c.self.inside.region in
-    let m : Shown = record { region = region; seats = seats } in
-    let i = c.in-Some.place in
-    let seat : Seated = c.index_mut-seat.result.now in
-    let within : i < length seats = let l = c.in-Some.ensures.bound in let same = ap length c.as_slice.ensures.value in omega (arith, l, same) in
-    let at : slice_get seats i ≡ Some seat = slice_get_read seats (length seats) i seat refl within c.index_mut-seat.ensures.value in
-    let answer = returns-then-words-self-clause-answer g c in
-    same_at m i seat at ∙ (c.self.view_is ∙ admits_none c.args.self.now NotNow (sym answer) refl)
+pub admit-requires-clause-waits : goal.admit-requires-clause-waits
+admit-requires-clause-waits g c =
+    let jobs_are = c.as_slice-jobs.ensures.value ∙ ap (λ v. v.items) c.deref.ensures in
+    let blocks = c.self.inside.blocks in
+    let tasks = (arc_value c.self.inside.jobs).items in
+    let slots = c.self.inside.slots.items in
+    let place = c.in-Some.place in
+    let task = c.index-jobs-place.result in
+    let before = c.index_mut-slot.result.now in
+    let within : place < length slots =
+    omega (arith, within_by c.first_waiting.result place c.as_slice.result.now c.first_waiting.ensures.within c.in-Some.is, ap length c.as_slice.ensures.value) in
+    let first =
+    has_first blocks tasks slots c.args.self.now (place + 1) place c.first_waiting.result task before c.self.invariant
+    c.self.view_is (c.first_waiting.ensures.first ∙ ap (position (λ (slot : SlotState). is_waiting (standing_of slot))) c.as_slice.ensures.value)
+    c.in-Some.is within (omega arith) (c.index-jobs-place.is ∙ ap (λ ts. get_or ts place task) jobs_are)
+    c.index_mut-slot.ensures.value in
+    first.waiting
 
-pub returns-else-words-self-clause-answer : goal.returns-else-words-self-clause-answer
-returns-else-words-self-clause-answer g c =
-    let seats = c.self.inside.seats.items in
-    let region = c.self.inside.region in
-    let m : Shown = record { region = region; seats = seats } in
-    let i = c.in-Some.place in
-    let seat : Seated = c.index_mut-seat.result.now in
-    let found : position (λ (s : Seated). is_waiting s.standing) seats ≡ Some i = ap (position (λ (s : Seated). is_waiting s.standing)) (sym c.as_slice.ensures.value) ∙ sym c.in-Some.ensures.first in
-    let within : i < length seats = let l = c.in-Some.ensures.bound in let same = ap length c.as_slice.ensures.value in omega (arith, l, same) in
-    let at : slice_get seats i ≡ Some seat = slice_get_read seats (length seats) i seat refl within c.index_mut-seat.ensures.value in
-    let granted : c.granted-granted.result ≡ granted_words seats = c.granted-granted.ensures ∙ ap granted_words c.as_slice-in-Some.ensures.value in
-    let room : granted_words seats + seat.task.limits.words ≤ region =
-    let few = c.if-words-self.false in let words = c.words.ensures.words in let all = c.self.invariant.granted in omega (arith, few, words, all, granted) in
-    let fits : leb (granted_words seats + seat.task.limits.words) region ≡ true = grind (arith, nat_tests, room) in
-    sym (ap admission (sym c.self.view_is) ∙ admission_some m i seat found at true fits)
+pub invariant_of-self : goal.invariant_of-self
+invariant_of-self g c =
+    let jobs_are = c.as_slice-jobs.ensures.value ∙ ap (λ v. v.items) c.deref.ensures in
+    let blocks = c.self.inside.blocks in
+    let tasks = (arc_value c.self.inside.jobs).items in
+    let slots = c.self.inside.slots.items in
+    let place = c.in-Some.place in
+    let task = c.index-jobs-place.result in
+    let before = c.index_mut-slot.result.now in
+    let within : place < length slots =
+    omega (arith, within_by c.first_waiting.result place c.as_slice.result.now c.first_waiting.ensures.within c.in-Some.is, ap length c.as_slice.ensures.value) in
+    let first =
+    has_first blocks tasks slots c.args.self.now (place + 1) place c.first_waiting.result task before c.self.invariant
+    c.self.view_is (c.first_waiting.ensures.first ∙ ap (position (λ (slot : SlotState). is_waiting (standing_of slot))) c.as_slice.ensures.value)
+    c.in-Some.is within (omega arith) (c.index-jobs-place.is ∙ ap (λ ts. get_or ts place task) jobs_are)
+    c.index_mut-slot.ensures.value in
+    turn_sound c.turn_laws.ensures.others blocks c.admit.new.blocks tasks slots c.args.self.now (place + 1) place task
+    before c.admit.new.self c.self.invariant first.turn c.admit.ensures.others c.admit.ensures.shows
 
-pub returns-else-words-self-clause-state : goal.returns-else-words-self-clause-state
-returns-else-words-self-clause-state g c =
-    let seats = c.self.inside.seats.items in
-    let region = c.self.inside.region in
-    let m : Shown = record { region = region; seats = seats } in
-    let i = c.in-Some.place in
-    let seat : Seated = c.index_mut-seat.result.now in
-    let within : i < length seats = let l = c.in-Some.ensures.bound in let same = ap length c.as_slice.ensures.value in omega (arith, l, same) in
-    let at : slice_get seats i ≡ Some seat = slice_get_read seats (length seats) i seat refl within c.index_mut-seat.ensures.value in
-    let answer = ap admission c.self.view_is ∙ sym (returns-else-words-self-clause-answer g c) in
-    admits_here m i seat c.admit.new.self answer at c.admit.ensures ∙ ap (happens Admit) c.self.view_is
+pub returns-clause-answer : goal.returns-clause-answer
+returns-clause-answer g c =
+    let jobs_are = c.as_slice-jobs.ensures.value ∙ ap (λ v. v.items) c.deref.ensures in
+    let blocks = c.self.inside.blocks in
+    let tasks = (arc_value c.self.inside.jobs).items in
+    let slots = c.self.inside.slots.items in
+    let place = c.in-Some.place in
+    let task = c.index-jobs-place.result in
+    let before = c.index_mut-slot.result.now in
+    let within : place < length slots =
+    omega (arith, within_by c.first_waiting.result place c.as_slice.result.now c.first_waiting.ensures.within c.in-Some.is, ap length c.as_slice.ensures.value) in
+    let first =
+    has_first blocks tasks slots c.args.self.now (place + 1) place c.first_waiting.result task before c.self.invariant
+    c.self.view_is (c.first_waiting.ensures.first ∙ ap (position (λ (slot : SlotState). is_waiting (standing_of slot))) c.as_slice.ensures.value)
+    c.in-Some.is within (omega arith) (c.index-jobs-place.is ∙ ap (λ ts. get_or ts place task) jobs_are)
+    c.index_mut-slot.ensures.value in
+    elim c.match-admit.branch [
+      | in-Ok w ↦
+          w.result-is
+          ∙ admitted_answer blocks tasks slots c.args.self.now (place + 1) place task before c.self.invariant c.self.view_is
+          first (fits_by c.admit.result w.in-Ok.is c.admit.ensures.not_now)
+      | in-Err w ↦
+          w.result-is
+          ∙ refused_answer blocks tasks slots c.args.self.now (place + 1) place task before c.self.invariant c.self.view_is
+          first (past_by c.admit.result w.in-Err.is c.admit.ensures.not_now)
+    ]
 
-pub invariant_of-self-in-Some : goal.invariant_of-self-in-Some
-invariant_of-self-in-Some g c =
-    let seats = c.self.inside.seats.items in
-    let region = c.self.inside.region in
-    let i = c.in-Some.place in
-    let seat : Seated = c.index_mut-seat.result.now in
-    let within : i < length seats = let l = c.in-Some.ensures.bound in let same = ap length c.as_slice.ensures.value in omega (arith, l, same) in
-    let at : slice_get seats i ≡ Some seat = slice_get_read seats (length seats) i seat refl within c.index_mut-seat.ensures.value in
-    let granted : c.granted-granted.result ≡ granted_words seats = c.granted-granted.ensures ∙ ap granted_words c.as_slice-in-Some.ensures.value in
-    let room : granted_words seats + seat.task.limits.words ≤ region =
-    let few = c.if-words-self.false in let words = c.words.ensures.words in let all = c.self.invariant.granted in omega (arith, few, words, all, granted) in
-    sound_admit region seats i seat c.admit.new.self c.self.invariant at c.admit.ensures room
+pub returns-clause-state : goal.returns-clause-state
+returns-clause-state g c =
+    let jobs_are = c.as_slice-jobs.ensures.value ∙ ap (λ v. v.items) c.deref.ensures in
+    let blocks = c.self.inside.blocks in
+    let tasks = (arc_value c.self.inside.jobs).items in
+    let slots = c.self.inside.slots.items in
+    let place = c.in-Some.place in
+    let task = c.index-jobs-place.result in
+    let before = c.index_mut-slot.result.now in
+    let within : place < length slots =
+    omega (arith, within_by c.first_waiting.result place c.as_slice.result.now c.first_waiting.ensures.within c.in-Some.is, ap length c.as_slice.ensures.value) in
+    let first =
+    has_first blocks tasks slots c.args.self.now (place + 1) place c.first_waiting.result task before c.self.invariant
+    c.self.view_is (c.first_waiting.ensures.first ∙ ap (position (λ (slot : SlotState). is_waiting (standing_of slot))) c.as_slice.ensures.value)
+    c.in-Some.is within (omega arith) (c.index-jobs-place.is ∙ ap (λ ts. get_or ts place task) jobs_are)
+    c.index_mut-slot.ensures.value in
+    elim c.match-admit.branch [
+      | in-Ok w ↦
+          admitted_state c.turn_laws.ensures.changed blocks c.admit.new.blocks tasks slots c.args.self.now (place + 1) place
+          task before c.admit.new.self c.self.invariant c.self.view_is first
+          (fits_by c.admit.result w.in-Ok.is c.admit.ensures.not_now) c.admit.ensures.others.memory.room
+          (live_by c.admit.result w.in-Ok.is c.admit.ensures.admitted)
+      | in-Err w ↦
+          refused_state blocks c.admit.new.blocks tasks slots c.args.self.now (place + 1) place task before
+          c.admit.new.self c.self.invariant c.self.view_is first
+          (past_by c.admit.result w.in-Err.is c.admit.ensures.not_now) c.admit.ensures.others.memory.room
+          (same_by c.admit.result w.in-Err.is c.admit.ensures.unchanged).0
+    ]

@@ -1,26 +1,83 @@
-use Rattle.std.proofs.Common.{◌≡◌, ◌<◌, ◌-◌, length, Some, sym, ◌∙◌, ap, subst, arith, refl}
-use Rattle.std.specs.Prelude.{slice_get}
-use Rattle.std.proofs.lemmas.Option.{slice_get_read}
-use Rattle.job_machine.specs.Standings.{Shown, happens, Begin, seat_of}
-use Rattle.job_machine.specs.Answers.{Begins, begun_of}
-use Rattle.job_machine.proofs.MachineLemmas.{begins_by, seat_here}
+use Rattle.std.proofs.Common.{◌≡◌, length, get_or, refl, sym, ap, subst, ◌∙◌, arith}
+use Rattle.std.specs.Arc.{arc_value}
+use Rattle.job_machine.proofs.TurnLemmas.{has_turn, within_jobs, turn_shows, turn_sound, no_turn, begins_in, begun_state}
 use Rattle.job_machine.proofs.machine.Machine.begin.Goals as goal
+
+pub index_mut-slot-requires : goal.index_mut-slot-requires
+index_mut-slot-requires g c =
+    let within =
+    within_jobs c.self.inside.blocks (arc_value c.self.inside.jobs).items c.self.inside.slots.items c.args.self.now
+    c.args.job c.in-Some.place c.place.result c.self.invariant c.self.view_is c.place.ensures c.in-Some.is in
+    omega (arith, within, c.self.invariant.slots_are, c.self.inside.slots.ok)
+
+pub offset_bounds-jobs-place : goal.offset_bounds-jobs-place
+offset_bounds-jobs-place g c =
+    let within =
+    within_jobs c.self.inside.blocks (arc_value c.self.inside.jobs).items c.self.inside.slots.items c.args.self.now
+    c.args.job c.in-Some.place c.place.result c.self.invariant c.self.view_is c.place.ensures c.in-Some.is in
+    omega (arith, within, ap length (c.as_slice-jobs.ensures.value ∙ ap (λ v. v.items) c.deref.ensures))
+
+pub bounds-jobs-place : goal.bounds-jobs-place
+bounds-jobs-place g c =
+    let within =
+    within_jobs c.self.inside.blocks (arc_value c.self.inside.jobs).items c.self.inside.slots.items c.args.self.now
+    c.args.job c.in-Some.place c.place.result c.self.invariant c.self.view_is c.place.ensures c.in-Some.is in
+    omega (arith, within, ap length (c.as_slice-jobs.ensures.value ∙ ap (λ v. v.items) c.deref.ensures))
+
+pub begin-requires : goal.begin-requires
+begin-requires g c =
+    let jobs_are = c.as_slice-jobs.ensures.value ∙ ap (λ v. v.items) c.deref.ensures in
+    let blocks = c.self.inside.blocks in
+    let tasks = (arc_value c.self.inside.jobs).items in
+    let slots = c.self.inside.slots.items in
+    let task = c.index-jobs-place.result in
+    let before = c.index_mut-slot.result.now in
+    let turn =
+    has_turn blocks tasks slots c.args.self.now c.args.job c.in-Some.place c.place.result task before c.self.invariant
+    c.self.view_is c.place.ensures c.in-Some.is (c.index-jobs-place.is ∙ ap (λ ts. get_or ts c.in-Some.place task) jobs_are)
+    c.index_mut-slot.ensures.value in
+    turn_shows blocks tasks slots c.args.self.now c.args.job c.in-Some.place task before c.self.invariant turn
+
+pub invariant_of-self : goal.invariant_of-self
+invariant_of-self g c =
+    let jobs_are = c.as_slice-jobs.ensures.value ∙ ap (λ v. v.items) c.deref.ensures in
+    let blocks = c.self.inside.blocks in
+    let tasks = (arc_value c.self.inside.jobs).items in
+    let slots = c.self.inside.slots.items in
+    let task = c.index-jobs-place.result in
+    let before = c.index_mut-slot.result.now in
+    let turn =
+    has_turn blocks tasks slots c.args.self.now c.args.job c.in-Some.place c.place.result task before c.self.invariant
+    c.self.view_is c.place.ensures c.in-Some.is (c.index-jobs-place.is ∙ ap (λ ts. get_or ts c.in-Some.place task) jobs_are)
+    c.index_mut-slot.ensures.value in
+    turn_sound c.turn_laws.ensures.others blocks c.begin.new.blocks tasks slots c.args.self.now c.args.job c.in-Some.place
+    task before c.begin.new.self c.self.invariant turn c.begin.ensures.others c.begin.ensures.shows
 
 pub returns-clause-answer : goal.returns-clause-answer
 returns-clause-answer g c =
-    let seats = c.self.inside.seats.items in
-    let seat = c.index_mut-seat.result.now in
-    let within : c.args.job - 1 < length seats = omega arith in
-    let at : slice_get seats (c.args.job - 1) ≡ Some seat = slice_get_read seats (length seats) (c.args.job - 1) seat refl within c.index_mut-seat.ensures.value in
-    let found = seat_here c.args.job seats seat c.if-job-eq0.false at in
-    let shown = ap (λ (m : Shown). seat_of c.args.job m.seats) c.self.view_is in
-    subst (λ o. Begins c.args.job c.args.desk o c.begin.result) (sym found ∙ shown) c.begin.ensures.answer
+    let jobs_are = c.as_slice-jobs.ensures.value ∙ ap (λ v. v.items) c.deref.ensures in
+    let blocks = c.self.inside.blocks in
+    let tasks = (arc_value c.self.inside.jobs).items in
+    let slots = c.self.inside.slots.items in
+    let task = c.index-jobs-place.result in
+    let before = c.index_mut-slot.result.now in
+    let turn =
+    has_turn blocks tasks slots c.args.self.now c.args.job c.in-Some.place c.place.result task before c.self.invariant
+    c.self.view_is c.place.ensures c.in-Some.is (c.index-jobs-place.is ∙ ap (λ ts. get_or ts c.in-Some.place task) jobs_are)
+    c.index_mut-slot.ensures.value in
+    begins_in c.args.desk tasks slots c.args.self.now c.args.job c.in-Some.place task before c.begin.result turn c.begin.ensures.answer
 
 pub returns-clause-state : goal.returns-clause-state
 returns-clause-state g c =
-    let seats = c.self.inside.seats.items in
-    let m : Shown = record { region = c.self.inside.region; seats = seats } in
-    let seat = c.index_mut-seat.result.now in
-    let within : c.args.job - 1 < length seats = omega arith in
-    let at : slice_get seats (c.args.job - 1) ≡ Some seat = slice_get_read seats (length seats) (c.args.job - 1) seat refl within c.index_mut-seat.ensures.value in
-    begins_by c.begin.result m c.args.job seat c.begin.new.self c.if-job-eq0.false at c.begin.ensures.state ∙ ap (λ k. begun_of c.begin.result k (happens (Begin c.args.job) k)) c.self.view_is
+    let jobs_are = c.as_slice-jobs.ensures.value ∙ ap (λ v. v.items) c.deref.ensures in
+    let blocks = c.self.inside.blocks in
+    let tasks = (arc_value c.self.inside.jobs).items in
+    let slots = c.self.inside.slots.items in
+    let task = c.index-jobs-place.result in
+    let before = c.index_mut-slot.result.now in
+    let turn =
+    has_turn blocks tasks slots c.args.self.now c.args.job c.in-Some.place c.place.result task before c.self.invariant
+    c.self.view_is c.place.ensures c.in-Some.is (c.index-jobs-place.is ∙ ap (λ ts. get_or ts c.in-Some.place task) jobs_are)
+    c.index_mut-slot.ensures.value in
+    begun_state c.turn_laws.ensures.changed blocks c.begin.new.blocks tasks slots c.args.self.now c.args.job c.in-Some.place
+    task before c.begin.new.self c.self.view_is turn c.begin.ensures.others.memory.room c.begin.result c.begin.ensures.standing

@@ -1,35 +1,138 @@
-use Rattle.std.proofs.Common.{◌≡◌, ◌<◌, ◌-◌, length, true, Some, sym, ◌∙◌, ap, subst, arith, refl, inl, inr}
-use Rattle.std.specs.Prelude.{slice_get, IfOk, OnErr}
-use Rattle.std.proofs.lemmas.Option.{slice_get_read}
-use Rattle.job_machine.specs.Standings.{Shown, happens, Collect, is_over, seat_of}
-use Rattle.job_machine.proofs.MachineLemmas.{collects_none, collects_by, seat_here, seat_none, with_seat, IsNone}
+use Rattle.std.proofs.Common.{◌≡◌, length, get_or, Some, refl, sym, ap, subst, ◌∙◌, arith}
+use Rattle.std.specs.Arc.{arc_value}
+use Rattle.std.proofs.lemmas.Result.{IfOk-weaker, on_ok_weaker, on_err_weaker}
+use Rattle.job_steps.specs.declared.event.Event.TheVariants.{Collect}
+use Rattle.job_steps.specs.Standings.{of_job}
+use Rattle.job_slots.specs.Answers.{is_ended}
+use Rattle.job_machine.specs.Machines.{is_over}
+use Rattle.job_slots.specs.Slots.{standing_of}
+use Rattle.job_machine.proofs.TurnLemmas.{has_turn, within_jobs, turn_shows, turn_sound, turn_state, turn_still, no_turn}
 use Rattle.job_machine.proofs.machine.Machine.collect.Goals as goal
-use Rattle.job_machine.proofs.machine.Machine.collect.Goals.{then-job-eq0-via-then-job-eq0, then-job-eq0-via-else-job-eq0+then-job-len}
 
-pub returns-then-job-eq0-clause-ok : goal.returns-then-job-eq0-clause-ok
-returns-then-job-eq0-clause-ok g c =
-    let seats = ap (λ (m : Shown). length m.seats) c.self.view_is in
-    let none : IsNone c.args.job c.args.self.now.seats = elim c.then-job-eq0.branch [ then-job-eq0-via-then-job-eq0 w ↦ inl w.if-job-eq0.true | then-job-eq0-via-else-job-eq0+then-job-len w ↦ inr (omega (arith, seats)) ] in
-    (sym (ap is_over (seat_none c.args.job c.args.self.now.seats none)), collects_none c.args.self.now c.args.job none)
+pub index_mut-slot-requires : goal.index_mut-slot-requires
+index_mut-slot-requires g c =
+    let within =
+    within_jobs c.self.inside.blocks (arc_value c.self.inside.jobs).items c.self.inside.slots.items c.args.self.now
+    c.args.job c.in-Some.place c.place.result c.self.invariant c.self.view_is c.place.ensures c.in-Some.is in
+    omega (arith, within, c.self.invariant.slots_are, c.self.inside.slots.ok)
 
-pub returns-clause-ok : goal.returns-clause-ok
-returns-clause-ok g c =
-    let seats = c.self.inside.seats.items in
-    let m : Shown = record { region = c.self.inside.region; seats = seats } in
-    let job = c.args.job in
-    let seat = c.index_mut-seat.result.now in
-    let within : job - 1 < length seats = omega arith in
-    let at : slice_get seats (job - 1) ≡ Some seat = slice_get_read seats (length seats) (job - 1) seat refl within c.index_mut-seat.ensures.value in
-    let here = collects_by c.collect.result m job seat c.collect.new.self c.if-job-eq0.false at c.collect.ensures.ok in
-    subst (λ k. IfOk c.collect.result (λ yes. (yes ≡ is_over (seat_of job k.seats)) × (with_seat m job c.collect.new.self ≡ happens (Collect job) k))) c.self.view_is here
+pub offset_bounds-jobs-place : goal.offset_bounds-jobs-place
+offset_bounds-jobs-place g c =
+    let within =
+    within_jobs c.self.inside.blocks (arc_value c.self.inside.jobs).items c.self.inside.slots.items c.args.self.now
+    c.args.job c.in-Some.place c.place.result c.self.invariant c.self.view_is c.place.ensures c.in-Some.is in
+    omega (arith, within, ap length (c.as_slice-jobs.ensures.value ∙ ap (λ v. v.items) c.deref.ensures))
 
-pub returns-clause-only_over : goal.returns-clause-only_over
-returns-clause-only_over g c =
-    let seats = c.self.inside.seats.items in
-    let job = c.args.job in
-    let seat = c.index_mut-seat.result.now in
-    let within : job - 1 < length seats = omega arith in
-    let at : slice_get seats (job - 1) ≡ Some seat = slice_get_read seats (length seats) (job - 1) seat refl within c.index_mut-seat.ensures.value in
-    let found = seat_here job seats seat c.if-job-eq0.false at in
-    let shown = ap (λ (m : Shown). seat_of job m.seats) c.self.view_is in
-    subst (λ o. OnErr c.collect.result (is_over o ≡ true)) (sym found ∙ shown) c.collect.ensures.only_ended
+pub bounds-jobs-place : goal.bounds-jobs-place
+bounds-jobs-place g c =
+    let within =
+    within_jobs c.self.inside.blocks (arc_value c.self.inside.jobs).items c.self.inside.slots.items c.args.self.now
+    c.args.job c.in-Some.place c.place.result c.self.invariant c.self.view_is c.place.ensures c.in-Some.is in
+    omega (arith, within, ap length (c.as_slice-jobs.ensures.value ∙ ap (λ v. v.items) c.deref.ensures))
+
+pub collect-requires : goal.collect-requires
+collect-requires g c =
+    let jobs_are = c.as_slice-jobs.ensures.value ∙ ap (λ v. v.items) c.deref.ensures in
+    let blocks = c.self.inside.blocks in
+    let tasks = (arc_value c.self.inside.jobs).items in
+    let slots = c.self.inside.slots.items in
+    let task = c.index-jobs-place.result in
+    let before = c.index_mut-slot.result.now in
+    let turn =
+    has_turn blocks tasks slots c.args.self.now c.args.job c.in-Some.place c.place.result task before c.self.invariant
+    c.self.view_is c.place.ensures c.in-Some.is (c.index-jobs-place.is ∙ ap (λ ts. get_or ts c.in-Some.place task) jobs_are)
+    c.index_mut-slot.ensures.value in
+    turn_shows blocks tasks slots c.args.self.now c.args.job c.in-Some.place task before c.self.invariant turn
+
+pub invariant_of-self : goal.invariant_of-self
+invariant_of-self g c =
+    let jobs_are = c.as_slice-jobs.ensures.value ∙ ap (λ v. v.items) c.deref.ensures in
+    let blocks = c.self.inside.blocks in
+    let tasks = (arc_value c.self.inside.jobs).items in
+    let slots = c.self.inside.slots.items in
+    let task = c.index-jobs-place.result in
+    let before = c.index_mut-slot.result.now in
+    let turn =
+    has_turn blocks tasks slots c.args.self.now c.args.job c.in-Some.place c.place.result task before c.self.invariant
+    c.self.view_is c.place.ensures c.in-Some.is (c.index-jobs-place.is ∙ ap (λ ts. get_or ts c.in-Some.place task) jobs_are)
+    c.index_mut-slot.ensures.value in
+    turn_sound c.turn_laws.ensures.others blocks c.collect.new.blocks tasks slots c.args.self.now c.args.job c.in-Some.place
+    task before c.collect.new.self c.self.invariant turn c.collect.ensures.others c.collect.ensures.shows
+
+pub returns-clause-answer : goal.returns-clause-answer
+returns-clause-answer g c =
+    let jobs_are = c.as_slice-jobs.ensures.value ∙ ap (λ v. v.items) c.deref.ensures in
+    let blocks = c.self.inside.blocks in
+    let tasks = (arc_value c.self.inside.jobs).items in
+    let slots = c.self.inside.slots.items in
+    let task = c.index-jobs-place.result in
+    let before = c.index_mut-slot.result.now in
+    let turn =
+    has_turn blocks tasks slots c.args.self.now c.args.job c.in-Some.place c.place.result task before c.self.invariant
+    c.self.view_is c.place.ensures c.in-Some.is (c.index-jobs-place.is ∙ ap (λ ts. get_or ts c.in-Some.place task) jobs_are)
+    c.index_mut-slot.ensures.value in
+    IfOk-weaker c.collect.result (λ yes. yes ≡ is_ended (standing_of before)) (λ yes. yes ≡ is_over (of_job c.args.job c.args.self.now.standings))
+    (λ yes e. e ∙ sym (ap is_over turn.shown_standing)) c.collect.ensures.answer
+
+pub returns-clause-state : goal.returns-clause-state
+returns-clause-state g c =
+    let jobs_are = c.as_slice-jobs.ensures.value ∙ ap (λ v. v.items) c.deref.ensures in
+    let blocks = c.self.inside.blocks in
+    let tasks = (arc_value c.self.inside.jobs).items in
+    let slots = c.self.inside.slots.items in
+    let task = c.index-jobs-place.result in
+    let before = c.index_mut-slot.result.now in
+    let turn =
+    has_turn blocks tasks slots c.args.self.now c.args.job c.in-Some.place c.place.result task before c.self.invariant
+    c.self.view_is c.place.ensures c.in-Some.is (c.index-jobs-place.is ∙ ap (λ ts. get_or ts c.in-Some.place task) jobs_are)
+    c.index_mut-slot.ensures.value in
+    on_ok_weaker c.collect.result
+    (λ stands.
+    turn_state c.turn_laws.ensures.changed blocks c.collect.new.blocks tasks slots c.args.self.now (Collect c.args.job) c.args.job
+    c.in-Some.place task before c.collect.new.self c.self.view_is turn c.collect.ensures.others.memory.room refl stands)
+    c.collect.ensures.standing
+
+pub returns-clause-unchanged : goal.returns-clause-unchanged
+returns-clause-unchanged g c =
+    let jobs_are = c.as_slice-jobs.ensures.value ∙ ap (λ v. v.items) c.deref.ensures in
+    let blocks = c.self.inside.blocks in
+    let tasks = (arc_value c.self.inside.jobs).items in
+    let slots = c.self.inside.slots.items in
+    let task = c.index-jobs-place.result in
+    let before = c.index_mut-slot.result.now in
+    let turn =
+    has_turn blocks tasks slots c.args.self.now c.args.job c.in-Some.place c.place.result task before c.self.invariant
+    c.self.view_is c.place.ensures c.in-Some.is (c.index-jobs-place.is ∙ ap (λ ts. get_or ts c.in-Some.place task) jobs_are)
+    c.index_mut-slot.ensures.value in
+    on_err_weaker c.collect.result
+    (λ same.
+    turn_still blocks c.collect.new.blocks tasks slots c.args.self.now c.args.job c.in-Some.place task before c.collect.new.self
+    c.self.view_is turn c.collect.ensures.others.memory.room (ap standing_of same.0))
+    c.collect.ensures.unchanged
+
+pub returns-clause-returned : goal.returns-clause-returned
+returns-clause-returned g c =
+    let jobs_are = c.as_slice-jobs.ensures.value ∙ ap (λ v. v.items) c.deref.ensures in
+    let blocks = c.self.inside.blocks in
+    let tasks = (arc_value c.self.inside.jobs).items in
+    let slots = c.self.inside.slots.items in
+    let task = c.index-jobs-place.result in
+    let before = c.index_mut-slot.result.now in
+    let turn =
+    has_turn blocks tasks slots c.args.self.now c.args.job c.in-Some.place c.place.result task before c.self.invariant
+    c.self.view_is c.place.ensures c.in-Some.is (c.index-jobs-place.is ∙ ap (λ ts. get_or ts c.in-Some.place task) jobs_are)
+    c.index_mut-slot.ensures.value in
+    on_err_weaker c.collect.result
+    (λ is. record {
+      task = task;
+      task_is = turn.shown_task;
+      ended = turn.shown_standing ∙ ap (λ s. Some s) is.0;
+      returned = is.1;
+    })
+    c.collect.ensures.returned
+
+pub returns-in_default-clause-state : goal.returns-in_default-clause-state
+returns-in_default-clause-state g c =
+    no_turn c.turn_laws.ensures.missing c.turn_laws.ensures.closed c.self.inside.blocks
+    (arc_value c.self.inside.jobs).items c.self.inside.slots.items c.args.self.now (Collect c.args.job) c.args.job
+    c.place.result c.self.invariant c.self.view_is refl c.place.ensures c.in_default.is

@@ -1,22 +1,50 @@
-use Rattle.std.proofs.Common.{◌≡◌, ◌<◌, ◌-◌, length, Some, ◌∙◌, ap, arith, refl, inl, inr}
-use Rattle.std.specs.Prelude.{slice_get}
-use Rattle.std.proofs.lemmas.Option.{slice_get_read}
-use Rattle.job_machine.specs.Standings.{Shown, happens, Recall}
-use Rattle.job_machine.proofs.MachineLemmas.{recalls_none, recalls_here, IsNone}
+use Rattle.std.proofs.Common.{refl, sym, ap, ◌∙◌}
+use Rattle.std.specs.Arc.{arc_value}
+use Rattle.job_steps.specs.declared.event.Event.TheVariants.{Recall}
+use Rattle.job_machine.specs.Machines.{is_flying}
+use Rattle.job_slots.specs.Slots.{standing_of, recalled_slot}
+use Rattle.job_machine.proofs.TurnLemmas.{some_turn, turn_shows, turn_sound, turn_state, no_turn, recalled_stands}
 use Rattle.job_machine.proofs.machine.Machine.recall.Goals as goal
-use Rattle.job_machine.proofs.machine.Machine.recall.Goals.{then-job-eq0-via-then-job-eq0, then-job-eq0-via-else-job-eq0+then-job-len}
 
-pub returns-then-job-eq0-clause-state : goal.returns-then-job-eq0-clause-state
-returns-then-job-eq0-clause-state g c =
-    let seats = ap (λ (m : Shown). length m.seats) c.self.view_is in
-    let none : IsNone c.args.job c.args.self.now.seats = elim c.then-job-eq0.branch [ then-job-eq0-via-then-job-eq0 w ↦ inl w.if-job-eq0.true | then-job-eq0-via-else-job-eq0+then-job-len w ↦ inr (omega (arith, seats)) ] in
-    recalls_none c.args.self.now c.args.job none
+pub invariant_of-self : goal.invariant_of-self
+invariant_of-self g c =
+    let blocks = c.self.inside.blocks in
+    let tasks = (arc_value c.self.inside.jobs).items in
+    let slots = c.self.inside.slots.items in
+    let before = c.index_mut.result.now in
+    let turn =
+    some_turn blocks tasks slots c.args.self.now c.args.job c.in-Some.place c.place.result before c.self.invariant
+    c.self.view_is c.place.ensures c.in-Some.is c.index_mut.ensures.value in
+    let shows = turn_shows blocks tasks slots c.args.self.now c.args.job c.in-Some.place turn.0 before c.self.invariant turn.1
+    in
+    rw c.recall.ensures.state
+    (turn_sound c.turn_laws.ensures.others blocks blocks tasks slots c.args.self.now c.args.job c.in-Some.place turn.0
+    before (recalled_slot before) c.self.invariant turn.1 ((c.turn_laws.ensures.joined c.args.job).none blocks)
+    (c.recalled_is_shown.ensures c.args.job blocks turn.0 before shows))
+
+pub returns-in_default-clause-state : goal.returns-in_default-clause-state
+returns-in_default-clause-state g c =
+    no_turn c.turn_laws.ensures.missing c.turn_laws.ensures.closed c.self.inside.blocks
+    (arc_value c.self.inside.jobs).items c.self.inside.slots.items c.args.self.now (Recall c.args.job) c.args.job
+    c.place.result c.self.invariant c.self.view_is refl c.place.ensures c.in_default.is
+
+pub returns-clause-answer : goal.returns-clause-answer
+returns-clause-answer g c =
+    let turn =
+    some_turn c.self.inside.blocks (arc_value c.self.inside.jobs).items c.self.inside.slots.items c.args.self.now
+    c.args.job c.in-Some.place c.place.result c.index_mut.result.now c.self.invariant c.self.view_is c.place.ensures
+    c.in-Some.is c.index_mut.ensures.value in
+    c.recall.ensures.answer ∙ sym (ap is_flying turn.1.shown_standing)
 
 pub returns-clause-state : goal.returns-clause-state
 returns-clause-state g c =
-    let seats = c.self.inside.seats.items in
-    let m : Shown = record { region = c.self.inside.region; seats = seats } in
-    let seat = c.index_mut-seat.result.now in
-    let within : c.args.job - 1 < length seats = omega arith in
-    let at : slice_get seats (c.args.job - 1) ≡ Some seat = slice_get_read seats (length seats) (c.args.job - 1) seat refl within c.index_mut-seat.ensures.value in
-    recalls_here m c.args.job seat c.recall.new.self c.if-job-eq0.false at c.recall.ensures.state ∙ ap (happens (Recall c.args.job)) c.self.view_is
+    let blocks = c.self.inside.blocks in
+    let tasks = (arc_value c.self.inside.jobs).items in
+    let slots = c.self.inside.slots.items in
+    let before = c.index_mut.result.now in
+    let turn =
+    some_turn blocks tasks slots c.args.self.now c.args.job c.in-Some.place c.place.result before c.self.invariant
+    c.self.view_is c.place.ensures c.in-Some.is c.index_mut.ensures.value in
+    turn_state c.turn_laws.ensures.changed blocks blocks tasks slots c.args.self.now (Recall c.args.job) c.args.job
+    c.in-Some.place turn.0 before c.recall.new.self c.self.view_is turn.1 refl refl
+    (ap standing_of c.recall.ensures.state ∙ recalled_stands c.args.job turn.0 before.status before.trace.executed)

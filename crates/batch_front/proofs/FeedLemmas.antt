@@ -1,0 +1,137 @@
+-- What was read of a reader and fed.
+use Rattle.std.proofs.Common.{◌≡◌, ℕ, ◌+◌, ◌-◌, ◌≤◌, List, [], ◌++◌, length, take, None, Some, subst, arith}
+use Rattle.std.specs.Prelude.{IfSome, Result, Ok, Err}
+use Rattle.batch_front.specs.declared.fault.FrontFault.{FrontFault}
+use Rattle.std.specs.declared.option.Option.{Option}
+use Rattle.std.specs.Io.KnownBytes.{Appends, Consumes, Keeps, IsAtEnd}
+use Rattle.std.proofs.lemmas.Grind.{common_steps}
+use Rattle.std.proofs.lemmas.List.{length-append, length-take-le}
+use Rattle.vcode_base.specs.declared.limits.TheConstants.{MOST_BATCH_BYTES}
+use Rattle.batch_reader.specs.Feeds.{FeedState, HasCome}
+use Rattle.batch_reader.specs.declared.entry.Batch.{Batch}
+use Rattle.batch_reader.specs.Fates.{JobEntry, IsBatch}
+use Rattle.batch_front.specs.declared.status.Status.{Status}
+use Rattle.batch_front.specs.Inputs.{first_bytes, AreFirstBytes, IsBatchIn, ReadsFirstBytes, ReadsNoFurther}
+use Rattle.batch_front.specs.Reports.{report_of, status_of}
+use Rattle.batch_front.proofs.Bytes.{front_at_stop, front_when_full, reads_more, reads_none}
+use Rattle.batch_front.proofs.Bytes.{rest_at_stop, rest_is_some, rest_when_full, some_rest, consumes_nothing}
+
+-- the fault of a result, and another one where it has none
+abbrev pub fault_in : {T : Type 0} → FrontFault → Result T FrontFault → FrontFault
+fault_in other (Ok v) = other
+fault_in other (Err fault) = fault
+
+-- some bytes were read and fed, and so many are left of those that may be read
+pub record HasFed (old new : Option (List ℕ)) (feed : FeedState) (left : ℕ) : Type 0 where
+  pub bytes : List ℕ
+  pub consumed : Consumes old new bytes
+  pub come : HasCome feed bytes
+  pub room : length bytes + left ≡ MOST_BATCH_BYTES + 1
+
+-- nothing yet
+pub fed_nothing : (a : Option (List ℕ)) (feed : FeedState) → HasCome feed [] → HasFed a a feed (MOST_BATCH_BYTES + 1)
+fed_nothing a feed h = record { bytes = []; consumed = consumes_nothing a; come = h; room = omega arith }
+
+front_of : (n : ℕ) (xs ys : List ℕ) → n ≤ length xs → take n (xs ++ ys) ≡ take n xs
+front_of n xs ys h = grind (arith, common_steps)
+
+-- one piece more: the first bytes of a buffer, behind which others lie
+pub fed_more : (a b c : Option (List ℕ)) (old new : FeedState) (left n : ℕ) (buffer behind : List ℕ) → HasFed a b old left
+    → Consumes b c (take n buffer) → n ≤ length buffer → n ≤ left
+    → ((before : List ℕ) → HasCome old before → HasCome new (before ++ take n (buffer ++ behind)))
+    → HasFed a c new (left - n)
+fed_more a b c old new left n buffer behind h p within l f =
+    let piece = take n buffer in
+    let count : length (h.bytes ++ piece) ≡ length h.bytes + length piece = length-append h.bytes piece in
+    let size : length piece ≡ n = length-take-le n buffer within in
+    let room = h.room in
+    record {
+      bytes = h.bytes ++ piece;
+      consumed = reads_more a b c h.bytes piece h.consumed p;
+      come = subst (λ t. HasCome new (h.bytes ++ t)) (front_of n buffer behind within) (f h.bytes h.come);
+      room = omega (arith, count, room, size, l);
+    }
+
+-- a piece that was read and not fed
+pub read_no_further : (a b c : Option (List ℕ)) (old : FeedState) (left n : ℕ) (buffer : List ℕ) → HasFed a b old left
+    → Consumes b c (take n buffer) → n ≤ length buffer → n ≤ left → ReadsNoFurther a c
+read_no_further a b c old left n buffer h p within l =
+    let piece = take n buffer in
+    let count : length (h.bytes ++ piece) ≡ length h.bytes + length piece = length-append h.bytes piece in
+    let size : length piece ≡ n = length-take-le n buffer within in
+    let room = h.room in
+    some_rest (MOST_BATCH_BYTES + 1) a c (h.bytes ++ piece) (reads_more a b c h.bytes piece h.consumed p)
+    (omega (arith, count, room, size, l))
+
+-- a read that gave nothing, and may be tried again
+pub fed_none : (a b c : Option (List ℕ)) (feed : FeedState) (left : ℕ) → HasFed a b feed left → Keeps b c
+    → HasFed a c feed left
+fed_none a b c feed left h k =
+    record { bytes = h.bytes; consumed = reads_none a b c h.bytes h.consumed k; come = h.come; room = h.room }
+
+-- ---- what is known of the input in the end
+
+-- the bytes that were fed are the first of the input, and no more was read
+pub record IsFed (old new : Option (List ℕ)) (feed : FeedState) : Type 0 where
+  pub first : (bytes : List ℕ) × HasCome feed bytes × AreFirstBytes old bytes
+  pub to_the_end : ReadsFirstBytes old new
+  pub no_further : ReadsNoFurther old new
+
+-- a reader that has no more
+pub fed_to_end : (a b c : Option (List ℕ)) (feed : FeedState) (left k : ℕ) (cs : List ℕ) → HasFed a b feed left
+    → Consumes b c (take k cs) → k ≡ 0 → IsAtEnd c → IsFed a c feed
+fed_to_end a b c feed left k cs h p none end =
+    let room = h.room in
+    let short : length h.bytes ≤ MOST_BATCH_BYTES + 1 = omega (arith, room) in
+    let to_the_end = rest_at_stop (MOST_BATCH_BYTES + 1) k a b c h.bytes cs h.consumed p none end short in
+    record {
+      first = (
+        h.bytes,
+        h.come,
+        front_at_stop (MOST_BATCH_BYTES + 1) k a b c h.bytes cs h.consumed p none end short,
+      );
+      to_the_end = to_the_end;
+      no_further = rest_is_some (MOST_BATCH_BYTES + 1) a c to_the_end;
+    }
+
+-- a reader that gave as many bytes as may be read
+pub fed_to_limit : (a b : Option (List ℕ)) (feed : FeedState) (left : ℕ) → HasFed a b feed left → left ≡ 0 → IsFed a b feed
+fed_to_limit a b feed left h none =
+    let room = h.room in
+    let full : length h.bytes ≡ MOST_BATCH_BYTES + 1 = omega (arith, room, none) in
+    let to_the_end = rest_when_full (MOST_BATCH_BYTES + 1) a b h.bytes h.consumed full in
+    record {
+      first = (h.bytes, h.come, front_when_full (MOST_BATCH_BYTES + 1) a b h.bytes h.consumed full);
+      to_the_end = to_the_end;
+      no_further = rest_is_some (MOST_BATCH_BYTES + 1) a b to_the_end;
+    }
+
+-- wherever the reading stopped
+pub fed_no_further : (a b : Option (List ℕ)) (feed : FeedState) (left : ℕ) → HasFed a b feed left → ReadsNoFurther a b
+fed_no_further a b feed left h =
+    let room = h.room in some_rest (MOST_BATCH_BYTES + 1) a b h.bytes h.consumed (omega (arith, room))
+
+-- ---- the batch that was read
+
+-- its report was written, and its status is this
+pub report_of_input : (region : ℕ) (old : Option (List ℕ)) (batch : Batch (List JobEntry)) (before after : Option (List ℕ))
+    (status : Status) → IsBatchIn region old batch → Appends before after (report_of batch) → status ≡ status_of batch
+    → IfSome old (λ input. (b : Batch (List JobEntry)) × IsBatch region (first_bytes input) b
+    × Appends before after (report_of b) × (status ≡ status_of b))
+report_of_input region None batch before after status h w s = tt
+report_of_input region (Some input) batch before after status h w s =
+    (batch, subst (λ bytes. IsBatch region bytes batch) h.first h.comes, w, s)
+
+-- a front of its report was written
+pub front_of_input : (region : ℕ) (old : Option (List ℕ)) (batch : Batch (List JobEntry)) (before after : Option (List ℕ))
+    (n : ℕ) → IsBatchIn region old batch → Appends before after (take n (report_of batch))
+    → IfSome old (λ input. (b : Batch (List JobEntry)) × IsBatch region (first_bytes input) b
+    × (k : ℕ) × Appends before after (take k (report_of b)))
+front_of_input region None batch before after n h w = tt
+front_of_input region (Some input) batch before after n h w =
+    (batch, subst (λ bytes. IsBatch region bytes batch) h.first h.comes, n, w)
+
+pub batch_in : (region : ℕ) (old : Option (List ℕ)) (feed : FeedState) (batch : Batch (List JobEntry))
+    → (bytes : List ℕ) × HasCome feed bytes × AreFirstBytes old bytes
+    → ((bytes : List ℕ) → HasCome feed bytes → IsBatch region bytes batch) → IsBatchIn region old batch
+batch_in region old feed batch h f = record { bytes = h.0; first = h.2; comes = f h.0 h.1 }

@@ -1,0 +1,263 @@
+-- The jobs of a batch on a machine: their numbers, and what is told of them.
+use Rattle.std.proofs.Common.{◌≡◌, ℕ, zero, suc, ◌+◌, ◌-◌, ◌≤◌, ◌<◌, take, get_or, Bool, true, false, ◌&&◌, List, [], ◌∷◌, ◌++◌, length}
+use Rattle.std.proofs.Common.{cond, refl, sym, ap, subst, ◌∙◌, arith, Some}
+use Rattle.std.specs.Prelude.{All, slice_get, if◌then◌else◌}
+use Rattle.std.specs.List.{list_all}
+use Rattle.std.proofs.lemmas.List.{append-nil, append_assoc, length-append}
+use Rattle.std.proofs.lemmas.List.Elements.{All-cons, All-nil, All-append}
+use Rattle.std.proofs.lemmas.Grind.{common_steps}
+use Rattle.std.proofs.lemmas.List.Recursion.{is_count_by}
+use Rattle.job_steps.specs.Standings.{of_job}
+use Rattle.job_steps.specs.States.{Task}
+use Rattle.batch_reader.specs.declared.entry.Fate.{Fate}
+use Rattle.batch_reader.specs.declared.entry.Fate.TheVariants.{Ready, Refused}
+use Rattle.batch_reader.specs.Fates.{JobEntry, IsFate, AreEntries, IsBatch}
+use Rattle.batch_reader.specs.Batches.{JobText}
+use Rattle.batch_reader.specs.declared.entry.Batch.{Batch}
+use Rattle.batch_reader.specs.declared.entry.Batch.TheVariants.{Refused as BatchRefused, Jobs}
+use Rattle.batch_front.specs.declared.status.Status.TheVariants.{AllReturned, SomeNot}
+use Rattle.batch_front.specs.Reports.{end_text, entries_text, entry_text, fate_text, has_returned, is_refused}
+use Rattle.batch_front.specs.Reports.{job_text, jobs_status, jobs_text, refused_count}
+use Rattle.batch_front.specs.Seats.{AreAmong, AreSeatsOf, BatchFits, EntriesFit, FateFits, IsAmong, IsFateOn, IsSeatOf, Seat}
+use Rattle.batch_front.specs.Seats.{fate_tasks, fate_text_on, has_returned_on, have_returned_on, report_text, seat_text, seats_status}
+use Rattle.batch_front.specs.Seats.{seats_text, tasks_of, told_return, told_text}
+
+-- ---- numbers
+
+at_front : (xs ys : List Task) (place : ℕ) (task : Task) → slice_get xs place ≡ Some task
+    → slice_get (xs ++ ys) place ≡ Some task
+at_front [] ys place task e = cc
+at_front (x ∷ xs) ys zero task e = e
+at_front (x ∷ xs) ys (suc place) task e = at_front xs ys place task e
+
+-- where tasks go behind others, these keep their numbers
+number_kept : (xs ys : List Task) (number : ℕ) (task : Task) → of_job number xs ≡ Some task
+    → of_job number (xs ++ ys) ≡ Some task
+number_kept xs ys zero task e = cc
+number_kept xs ys (suc place) task e = at_front xs ys place task e
+
+at_end : (xs : List Task) (task : Task) → slice_get (xs ++ task ∷ []) (length xs) ≡ Some task
+at_end [] task = refl
+at_end (x ∷ xs) task = at_end xs task
+
+-- the last task has their count as its number
+pub last_number : (xs : List Task) (task : Task) → of_job (length (xs ++ task ∷ [])) (xs ++ task ∷ []) ≡ Some task
+last_number xs task =
+    let count : length (xs ++ task ∷ []) ≡ suc (length xs) = grind (arith, common_steps) in rw count (at_end xs task)
+
+fate_kept : (xs ys : List Task) (seat : Fate ℕ) (fate : Fate Task) → IsFateOn xs seat fate → IsFateOn (xs ++ ys) seat fate
+fate_kept xs ys (Ready number) (Ready task) h = number_kept xs ys number task h
+fate_kept xs ys (Ready number) (Refused line fault) h = h
+fate_kept xs ys (Refused line fault) fate h = h
+
+seat_kept : (xs ys : List Task) (seat : Seat) (entry : JobEntry) → IsSeatOf xs seat entry → IsSeatOf (xs ++ ys) seat entry
+seat_kept xs ys seat entry h = record { name = h.name; fate = fate_kept xs ys seat.fate entry.fate h.fate }
+
+seats_kept : (xs ys : List Task) (seats : List Seat) (entries : List JobEntry) → AreSeatsOf xs seats entries
+    → AreSeatsOf (xs ++ ys) seats entries
+seats_kept xs ys [] [] h = h
+seats_kept xs ys [] (entry ∷ entries) h = h
+seats_kept xs ys (seat ∷ seats) [] h = h
+seats_kept xs ys (seat ∷ seats) (entry ∷ entries) h =
+    (seat_kept xs ys seat entry h.0, seats_kept xs ys seats entries h.1)
+
+seats_with : (tasks : List Task) (seats : List Seat) (entries : List JobEntry) (seat : Seat) (entry : JobEntry)
+    → AreSeatsOf tasks seats entries → IsSeatOf tasks seat entry
+    → AreSeatsOf tasks (seats ++ seat ∷ []) (entries ++ entry ∷ [])
+seats_with tasks [] [] seat entry h last = (last, tt)
+seats_with tasks [] (e ∷ es) seat entry h last = absurd h
+seats_with tasks (s ∷ ss) [] seat entry h last = absurd h
+seats_with tasks (s ∷ ss) (e ∷ es) seat entry h last = (h.0, seats_with tasks ss es seat entry h.1 last)
+
+-- one job more
+pub seats_pushed : (old new more : List Task) (seats : List Seat) (entries : List JobEntry) (seat : Seat) (entry : JobEntry)
+    → new ≡ old ++ more → AreSeatsOf old seats entries → IsSeatOf new seat entry
+    → AreSeatsOf new (seats ++ seat ∷ []) (entries ++ entry ∷ [])
+seats_pushed old new more seats entries seat entry e h last =
+    seats_with new seats entries seat entry (rw e (seats_kept old more seats entries h)) last
+
+pub tasks_pushed : (entries : List JobEntry) (entry : JobEntry)
+    → tasks_of (entries ++ entry ∷ []) ≡ tasks_of entries ++ fate_tasks entry.fate
+tasks_pushed [] entry = append-nil (fate_tasks entry.fate)
+tasks_pushed (e ∷ es) entry =
+    ap (λ ts. fate_tasks e.fate ++ ts) (tasks_pushed es entry)
+    ∙ sym (append_assoc (fate_tasks e.fate) (tasks_of es) (fate_tasks entry.fate))
+
+-- ---- what the tasks are
+
+fate_counted : (fate : Fate Task) → length (fate_tasks fate) + (if is_refused fate then 1 else 0) ≡ 1
+fate_counted (Ready task) = refl
+fate_counted (Refused line fault) = refl
+
+-- the refused ones, counted by cases
+abbrev refused_in : List JobEntry → ℕ
+refused_in [] = 0
+refused_in (e ∷ es) = cond (is_refused e.fate) (1 + refused_in es) (refused_in es)
+
+count_more : (refused : Bool) (rest : ℕ) → (if refused then 1 else 0) + rest ≡ cond refused (1 + rest) rest
+count_more true rest = refl
+count_more false rest = omega arith
+
+counted_in : (entries : List JobEntry) → length (tasks_of entries) + refused_in entries ≡ length entries
+counted_in [] = refl
+counted_in (e ∷ es) =
+    let one = fate_counted e.fate in
+    let joined : length (tasks_of (e ∷ es)) ≡ length (fate_tasks e.fate) + length (tasks_of es) =
+    length-append (fate_tasks e.fate) (tasks_of es) in
+    let refused = count_more (is_refused e.fate) (refused_in es) in
+    let later = counted_in es in
+    omega (arith, one, joined, refused, later)
+
+-- there are no more tasks than jobs, and the others are refused
+pub counted : (entries : List JobEntry) → length (tasks_of entries) + refused_count entries ≡ length entries
+counted entries =
+    ap (λ n. length (tasks_of entries) + n) (sym (is_count_by refused_in (λ (e : JobEntry). is_refused e.fate) refl (λ _ _. refl)
+    entries))
+    ∙ counted_in entries
+
+pub tasks_few : (entries : List JobEntry) (tasks : List Task) (most : ℕ) → tasks ≡ tasks_of entries
+    → length entries ≤ most → length tasks ≤ most
+tasks_few entries tasks most e h =
+    let same : length tasks ≡ length (tasks_of entries) = ap length e in
+    let all = counted entries in omega (arith, same, all, h)
+
+fate_tasks_fit : (region : ℕ) (fate : Fate Task) → FateFits region fate
+    → All (λ task. task.limits.words ≤ region) (fate_tasks fate)
+fate_tasks_fit region (Ready task) h =
+    All-cons (λ task. task.limits.words ≤ region) task [] h (All-nil (λ task. task.limits.words ≤ region))
+fate_tasks_fit region (Refused line fault) h = All-nil (λ task. task.limits.words ≤ region)
+
+pub tasks_fit : (region : ℕ) (entries : List JobEntry) → EntriesFit region entries
+    → All (λ task. task.limits.words ≤ region) (tasks_of entries)
+tasks_fit region [] h = All-nil (λ task. task.limits.words ≤ region)
+tasks_fit region (e ∷ es) h =
+    All-append (λ task. task.limits.words ≤ region) (fate_tasks e.fate) (tasks_of es) (fate_tasks_fit region e.fate h.0)
+    (tasks_fit region es h.1)
+
+fate_fits : (region : ℕ) (job : JobText) (fate : Fate Task) → IsFate region job fate → FateFits region fate
+fate_fits region job (Ready task) h = h.words
+fate_fits region job (Refused line fault) h = tt
+
+entries_fit : (region : ℕ) (jobs : List JobText) (entries : List JobEntry) → AreEntries region jobs entries
+    → EntriesFit region entries
+entries_fit region [] [] h = tt
+entries_fit region [] (e ∷ es) h = absurd h
+entries_fit region (j ∷ js) [] h = absurd h
+entries_fit region (j ∷ js) (e ∷ es) h = (fate_fits region j e.fate h.0.fate, entries_fit region js es h.1)
+
+pub batch_fits : (region : ℕ) (bytes : List ℕ) (batch : Batch (List JobEntry)) → IsBatch region bytes batch
+    → BatchFits region batch
+batch_fits region bytes (BatchRefused line fault) h = tt
+batch_fits region bytes (Jobs entries) h = entries_fit region h.0 entries h.2
+
+-- ---- what is told of them
+
+fate_among : (tasks : List Task) (seat : Fate ℕ) (fate : Fate Task) → IsFateOn tasks seat fate → IsAmong tasks seat
+fate_among tasks (Ready number) (Ready task) h = rw h tt
+fate_among tasks (Ready number) (Refused line fault) h = absurd h
+fate_among tasks (Refused line fault) fate h = tt
+
+among : (tasks : List Task) (seats : List Seat) (entries : List JobEntry) → AreSeatsOf tasks seats entries
+    → AreAmong tasks seats
+among tasks [] entries h = All-nil (λ (seat : Seat). IsAmong tasks seat.fate)
+among tasks (s ∷ ss) [] h = absurd h
+among tasks (s ∷ ss) (e ∷ es) h =
+    All-cons (λ (seat : Seat). IsAmong tasks seat.fate) s ss (fate_among tasks s.fate e.fate h.0.fate)
+    (among tasks ss es h.1)
+
+fate_told : (tasks : List Task) (seat : Fate ℕ) (fate : Fate Task) → IsFateOn tasks seat fate
+    → fate_text_on tasks seat ≡ fate_text fate
+fate_told tasks (Ready number) (Ready task) h = ap told_text h
+fate_told tasks (Ready number) (Refused line fault) h = absurd h
+fate_told tasks (Refused line fault) fate h = ap fate_text (sym h)
+
+seats_told : (tasks : List Task) (number : ℕ) (seats : List Seat) (entries : List JobEntry)
+    → AreSeatsOf tasks seats entries → seats_text tasks number seats ≡ entries_text number entries
+seats_told tasks number [] [] h = refl
+seats_told tasks number [] (e ∷ es) h = absurd h
+seats_told tasks number (s ∷ ss) [] h = absurd h
+seats_told tasks number (s ∷ ss) (e ∷ es) h =
+    let one : seat_text tasks number s ≡ entry_text number e =
+    ap (λ n. job_text number n ++ fate_text_on tasks s.fate) h.0.name
+    ∙ ap (λ t. job_text number e.name ++ t) (fate_told tasks s.fate e.fate h.0.fate) in
+    ap (λ t. t ++ seats_text tasks (number + 1) ss) one
+    ∙ ap (λ t. entry_text number e ++ t) (seats_told tasks (number + 1) ss es h.1)
+
+-- the lines of one job more
+pub one_told_more : (tasks : List Task) (number : ℕ) (seats : List Seat) (place : ℕ) (any : Seat) → place < length seats
+    → seats_text tasks number (take (place + 1) seats)
+    ≡ seats_text tasks number (take place seats) ++ seat_text tasks (number + place) (get_or seats place any)
+one_told_more tasks number [] place any h = absurd (omega (arith, h))
+one_told_more tasks number (s ∷ ss) zero any h =
+    let same : number ≡ number + 0 = omega arith in
+    append-nil (seat_text tasks number s) ∙ ap (λ n. seat_text tasks n s) same
+one_told_more tasks number (s ∷ ss) (suc place) any h =
+    let later = one_told_more tasks (number + 1) ss place any (omega (arith, h)) in
+    let same : (number + 1) + place ≡ number + suc place = omega arith in
+    let count : suc place + 1 ≡ suc (place + 1) = omega arith in
+    ap (λ n. seats_text tasks number (take n (s ∷ ss))) count ∙ ap (λ t. seat_text tasks number s ++ t) later
+    ∙ sym (append_assoc (seat_text tasks number s) (seats_text tasks (number + 1) (take place ss)) (seat_text tasks ((number + 1) + place) (get_or ss place any)))
+    ∙ ap (λ n. (seat_text tasks number s ++ seats_text tasks (number + 1) (take place ss)) ++ seat_text tasks n (get_or ss place any)) same
+
+-- the same of a report
+pub report_with : (tasks : List Task) (seats : List Seat) (place : ℕ) (seat : Seat) (old before new : List ℕ)
+    → place < length seats → seat ≡ get_or seats place seat → before ≡ old ++ seats_text tasks 1 (take place seats)
+    → new ≡ before ++ seat_text tasks (place + 1) seat → new ≡ old ++ seats_text tasks 1 (take (place + 1) seats)
+report_with tasks seats place seat old before new l e f h =
+    let number : place + 1 ≡ 1 + place = omega arith in
+    h ∙ ap (λ t. t ++ seat_text tasks (place + 1) seat) f
+    ∙ append_assoc old (seats_text tasks 1 (take place seats)) (seat_text tasks (place + 1) seat)
+    ∙ ap (λ n. old ++ (seats_text tasks 1 (take place seats) ++ seat_text tasks n seat)) number
+    ∙ ap (λ (s : Seat). old ++ (seats_text tasks 1 (take place seats) ++ seat_text tasks (1 + place) s)) e
+    ∙ ap (λ t. old ++ t) (sym (one_told_more tasks 1 seats place seat l))
+
+same_count : (tasks : List Task) (seats : List Seat) (entries : List JobEntry) → AreSeatsOf tasks seats entries
+    → length seats ≡ length entries
+same_count tasks [] [] h = refl
+same_count tasks [] (e ∷ es) h = absurd h
+same_count tasks (s ∷ ss) [] h = absurd h
+same_count tasks (s ∷ ss) (e ∷ es) h = ap suc (same_count tasks ss es h.1)
+
+fate_returned : (tasks : List Task) (seat : Fate ℕ) (fate : Fate Task) → IsFateOn tasks seat fate
+    → has_returned_on tasks seat ≡ has_returned fate
+fate_returned tasks (Ready number) (Ready task) h = ap told_return h
+fate_returned tasks (Ready number) (Refused line fault) h = absurd h
+fate_returned tasks (Refused line fault) fate h = ap has_returned (sym h)
+
+have_returned : (tasks : List Task) (seats : List Seat) (entries : List JobEntry) → AreSeatsOf tasks seats entries
+    → have_returned_on tasks seats ≡ list_all (λ (entry : JobEntry). has_returned entry.fate) entries
+have_returned tasks [] [] h = refl
+have_returned tasks [] (e ∷ es) h = absurd h
+have_returned tasks (s ∷ ss) [] h = absurd h
+have_returned tasks (s ∷ ss) (e ∷ es) h =
+    ap (λ b. b && have_returned_on tasks ss) (fate_returned tasks s.fate e.fate h.0.fate)
+    ∙ ap (λ b. has_returned e.fate && b) (have_returned tasks ss es h.1)
+
+-- what is told of the seats is told of the jobs
+pub record IsTold (tasks : List Task) (seats : List Seat) (entries : List JobEntry) : Type 0 where
+  pub among : AreAmong tasks seats
+  pub fewer : length tasks ≤ length seats
+  pub report : report_text tasks seats ≡ jobs_text entries
+  pub status : seats_status tasks seats ≡ jobs_status entries
+
+pub told : (tasks : List Task) (seats : List Seat) (entries : List JobEntry) → AreSeatsOf tasks seats entries
+    → tasks ≡ tasks_of entries → IsTold tasks seats entries
+told tasks seats entries h e =
+    let count = same_count tasks seats entries h in
+    let ran : length tasks ≡ length (tasks_of entries) = ap length e in
+    let all = counted entries in
+    let refused : length seats - length tasks ≡ refused_count entries = omega (arith, count, ran, all) in
+    record {
+      among = among tasks seats entries h;
+      fewer = omega (arith, count, ran, all);
+      report = ap (λ t. t ++ end_text (length seats) (length seats - length tasks)) (seats_told tasks 1 seats entries h)
+          ∙ ap (λ n. entries_text 1 entries ++ end_text n (length seats - length tasks)) count
+          ∙ ap (λ n. entries_text 1 entries ++ end_text (length entries) n) refused;
+      status = ap (λ b. if b then AllReturned else SomeNot) (have_returned tasks seats entries h);
+    }
+
+-- the same of jobs that a machine took over
+pub told_after : (tasks jobs : List Task) (shown seats : List Seat) (all entries : List JobEntry) → tasks ≡ jobs
+    → shown ≡ seats → all ≡ entries → AreSeatsOf jobs seats all → jobs ≡ tasks_of all → IsTold tasks shown entries
+told_after tasks jobs shown seats all entries e same f h k =
+    subst (λ es. IsTold tasks shown es) f (told tasks shown all (rw (e, same) h) (e ∙ k))

@@ -1,6 +1,0 @@
-use Rattle.std.proofs.Common.{sym}
-use Rattle.batch_front.proofs.JobLineLemmas.{limits_are}
-use Rattle.batch_front.proofs.job_line.limits_within.Goals as goal
-
-pub returns : goal.returns
-returns c = sym (limits_are _)

@@ -1,0 +1,146 @@
+//! The jobs of a batch, those that may run by their numbers on a machine.
+
+ghost use Rattle.std.specs.Prelude.{◌≡◌, ◌++◌, [], IfOk, OnOk};
+ghost use Rattle.job_steps.specs.Standings.{of_job};
+ghost use Rattle.batch_front.specs.Reports.{end_text};
+ghost use Rattle.batch_front.specs.Seats.{AreAmong, AreSeatsOf, HasRunOut, IsAmong, IsFateOn, IsSeatOf, IsTask};
+ghost use Rattle.batch_front.specs.Seats.{fate_tasks, fate_text_on, has_returned_on, have_returned_on, seat_text, seats_text, tasks_of, told_text};
+
+use crate::report::{put_fault, put_job, put_outcome, put_used};
+use batch_reader::{Entry, Fate, JobEntry};
+use job_machine::{Job, JobName, Machine};
+use std::alloc::{AllocError, Allocator};
+use vcode_base::Outcome;
+
+/// A job's name, and its number on a machine where it may run.
+pub(crate) type Seat<A> = Entry<JobName<A>, Fate<usize>>;
+
+/// Puts a job that may run behind the others, and gives its number.
+fn seat_fate<A: Allocator>(
+    fate: Fate<Job<A>>,
+    jobs: &mut Vec<Job<A>, A>,
+) -> Result<Fate<usize>, AllocError>
+    ensures seat { IfOk result (λ seat. IsFateOn jobs.new.items seat fate) }
+    ensures jobs { OnOk result (jobs.new.items ≡ jobs.old.items ++ fate_tasks fate) }
+{
+    match fate {
+        Fate::Ready(job) => {
+            jobs.push(job)?;
+            Ok(Fate::Ready(jobs.len()))
+        }
+        Fate::Refused(line, fault) => Ok(Fate::Refused(line, fault)),
+    }
+}
+
+/// Puts the job of an entry behind the others, where it may run.
+fn seat<A: Allocator>(entry: JobEntry<A>, jobs: &mut Vec<Job<A>, A>) -> Result<Seat<A>, AllocError>
+    ensures seat { IfOk result (λ seat. IsSeatOf jobs.new.items seat entry) }
+    ensures jobs { OnOk result (jobs.new.items ≡ jobs.old.items ++ fate_tasks entry.fate) }
+{
+    let Entry { name, fate } = entry;
+    let fate = seat_fate(fate, jobs)?;
+    Ok(Entry { name, fate })
+}
+
+/// Puts the jobs of entries that may run into a list that is empty, and gives their numbers there.
+pub(crate) fn seats<A: Allocator>(
+    alloc: A,
+    entries: Vec<JobEntry<A>, A>,
+    jobs: &mut Vec<Job<A>, A>,
+) -> Result<Vec<Seat<A>, A>, AllocError>
+    requires { jobs.old.items ≡ [] }
+    ensures seats { IfOk result (λ seats. AreSeatsOf jobs.new.items seats.items entries.items) }
+    ensures jobs { OnOk result (jobs.new.items ≡ tasks_of entries.items) }
+{
+    let mut seats = Vec::new(alloc);
+    for entry in entries {
+        let seat = seat(entry, jobs)?;
+        seats.push(seat)?;
+    }
+    Ok(seats)
+}
+
+/// Appends how a job on a machine ended and what it used.
+#[tactic(auto, using(crate::proofs::RunLemmas::outcome_told, crate::proofs::RunLemmas::executed_told, crate::proofs::RunLemmas::peak_told))]
+fn put_told<A: Allocator>(
+    report: &mut Vec<u8, A>,
+    machine: &Machine<A>,
+    job: usize,
+) -> Result<(), AllocError>
+    requires out { HasRunOut machine.now }
+    requires there { IsTask (of_job job machine.now.tasks) }
+    ensures { OnOk result (report.new.items ≡ report.old.items ++ told_text (of_job job machine.now.tasks)) }
+{
+    let outcome = machine.outcome(job).unwrap();
+    put_outcome(report, outcome)?;
+    let instructions = machine.executed(job).unwrap();
+    let words = machine.peak(job).unwrap();
+    put_used(report, instructions, words)
+}
+
+/// Appends what became of a job, behind what begins its lines.
+fn put_fate<A: Allocator>(
+    report: &mut Vec<u8, A>,
+    machine: &Machine<A>,
+    fate: &Fate<usize>,
+) -> Result<(), AllocError>
+    requires out { HasRunOut machine.now }
+    requires there { IsAmong machine.now.tasks fate.now }
+    ensures { OnOk result (report.new.items ≡ report.old.items ++ fate_text_on machine.now.tasks fate.now) }
+{
+    match fate {
+        Fate::Ready(job) => put_told(report, machine, *job),
+        Fate::Refused(line, fault) => put_fault(report, b"REFUSED ", *line, fault.text()),
+    }
+}
+
+/// Appends the lines of the job of this number.
+fn put_seat<A: Allocator>(
+    report: &mut Vec<u8, A>,
+    machine: &Machine<A>,
+    number: u64,
+    seat: &Seat<A>,
+) -> Result<(), AllocError>
+    requires out { HasRunOut machine.now }
+    requires there { IsAmong machine.now.tasks seat.now.fate }
+    ensures { OnOk result (report.new.items ≡ report.old.items ++ seat_text machine.now.tasks number seat.now) }
+{
+    put_job(report, number, seat.name.as_slice())?;
+    put_fate(report, machine, &seat.fate)
+}
+
+/// Appends the lines of the jobs of a batch, in order.
+pub(crate) fn put_seats<A: Allocator>(
+    report: &mut Vec<u8, A>,
+    machine: &Machine<A>,
+    seats: &[Seat<A>],
+) -> Result<(), AllocError>
+    requires out { HasRunOut machine.now }
+    requires there { AreAmong machine.now.tasks seats.now }
+    ensures { OnOk result (report.new.items ≡ report.old.items ++ seats_text machine.now.tasks 1 seats.now) }
+{
+    for (place, seat) in seats.iter().enumerate() {
+        put_seat(report, machine, place as u64 + 1, seat)?;
+    }
+    Ok(())
+}
+
+/// Whether a job returned.
+#[tactic(auto, using(crate::proofs::RunLemmas::outcome_told))]
+fn has_returned<A: Allocator>(machine: &Machine<A>, fate: &Fate<usize>) -> bool
+    requires out { HasRunOut machine.now }
+    ensures { result ≡ has_returned_on machine.now.tasks fate.now }
+{
+    match fate {
+        Fate::Ready(job) => matches!(machine.outcome(*job), Some(Outcome::Returned(_))),
+        Fate::Refused(..) => false,
+    }
+}
+
+/// Whether every job of a batch returned.
+pub(crate) fn all_returned<A: Allocator>(machine: &Machine<A>, seats: &[Seat<A>]) -> bool
+    requires out { HasRunOut machine.now }
+    ensures { result ≡ have_returned_on machine.now.tasks seats.now }
+{
+    seats.iter().all(|seat| has_returned(machine, &seat.fate))
+}

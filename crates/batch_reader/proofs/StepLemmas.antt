@@ -1,0 +1,409 @@
+-- What a line leads to from each standing.
+use Rattle.std.proofs.Common.{◌≡◌, ℕ, ◌+◌, ◌≤◌, ◌<◌, suc, zero, Bool, true, false, List, [], ◌∷◌, ◌++◌, Ok, Err, refl}
+use Rattle.std.proofs.Common.{sym, ap}
+use Rattle.std.proofs.Common.{◌∙◌, Some, None, arith, append_assoc}
+use Rattle.std.proofs.lemmas.List.{append-nil}
+use Rattle.std.specs.Prelude.{if◌then◌else◌, Result}
+use Rattle.vcode_base.specs.declared.limits.TheConstants.{MOST_JOBS}
+use Rattle.batch_reader.specs.declared.heading.Heading.{Heading}
+use Rattle.batch_reader.specs.declared.heading.Heading.TheVariants.{Blank, Signatures, Code, End, Other}
+use Rattle.batch_reader.specs.declared.fault.BatchFault.TheVariants.{BadJobLine, UnfinishedJob, TooLarge}
+use Rattle.batch_reader.specs.declared.head.Head.{Head}
+use Rattle.batch_reader.specs.declared.stage.Stage.TheVariants as stage
+use Rattle.batch_reader.specs.declared.stage.Step.TheVariants.{To}
+use Rattle.batch_reader.specs.Batches.{JobText, JobAndRest, PartText, Refusal, lines_behind_blanks, jobs_in}
+use Rattle.batch_reader.specs.Batches.{job_and_later}
+use Rattle.batch_reader.specs.Batches.{job_from_code, job_from_signatures, job_without_parts, whole_job, part_in}
+use Rattle.batch_reader.specs.Blocks.{Block, block_of, longer_block, ends_signatures, is_code, is_end}
+use Rattle.batch_reader.specs.Chains.{result_and_then}
+use Rattle.batch_reader.specs.Headings.{BatchLine, is_blank, is_signatures}
+use Rattle.batch_reader.specs.JobLines.{JobLine, job_line_of}
+use Rattle.batch_reader.specs.Lines.{batch_words}
+use Rattle.batch_reader.specs.Standings.{Standing, Between, Headed, InSignatures, InCode, Ended, Refused, HasRoom}
+use Rattle.batch_reader.specs.Standings.{JobStage, CodePart}
+use Rattle.batch_reader.specs.Standings.{JobStep, Shows, ShowsStep, SaysJob, Turns, jobs_from, with_signatures}
+use Rattle.batch_reader.specs.Standings.{with_code, with_code_line}
+
+-- ---- between jobs
+
+jobs_behind_blank : (room : ℕ) (l : BatchLine) (ls : List BatchLine) → is_blank l.heading ≡ true
+    → jobs_in room (l ∷ ls) ≡ jobs_in room ls
+unfolding jobs_in lines_behind_blanks
+jobs_behind_blank zero l ls e = rw e refl
+jobs_behind_blank (suc room) l ls e = rw e refl
+
+no_jobs : (room : ℕ) (l : BatchLine) (ls : List BatchLine) → l.is_past ≡ false → is_blank l.heading ≡ false
+    → job_line_of (batch_words l.text) ≡ None → jobs_in room (l ∷ ls) ≡ Err (BadJobLine, l.number)
+unfolding jobs_in lines_behind_blanks
+no_jobs zero l ls past blank none = rw (blank, past, none) refl
+no_jobs (suc room) l ls past blank none = rw (blank, past, none) refl
+
+no_jobs_past : (room : ℕ) (l : BatchLine) (ls : List BatchLine) → l.is_past ≡ true → is_blank l.heading ≡ false
+    → jobs_in room (l ∷ ls) ≡ Err (TooLarge, l.number)
+unfolding jobs_in lines_behind_blanks
+no_jobs_past zero l ls past blank = rw (blank, past) refl
+no_jobs_past (suc room) l ls past blank = rw (blank, past) refl
+
+one_job_too_many : (l : BatchLine) (ls : List BatchLine) (head : JobLine) → l.is_past ≡ false
+    → is_blank l.heading ≡ false → job_line_of (batch_words l.text) ≡ Some head
+    → jobs_in 0 (l ∷ ls) ≡ Err (TooLarge, l.number)
+unfolding jobs_in lines_behind_blanks
+one_job_too_many l ls head past blank job = rw (blank, past, job) refl
+
+one_job_more : (room : ℕ) (l : BatchLine) (ls : List BatchLine) (head : JobLine) → l.is_past ≡ false
+    → is_blank l.heading ≡ false → job_line_of (batch_words l.text) ≡ Some head
+    → jobs_in (suc room) (l ∷ ls) ≡ job_and_later (jobs_in room) (whole_job head l.number ls)
+unfolding jobs_in lines_behind_blanks
+one_job_more room l ls head past blank job = rw (blank, past, job) refl
+
+pub turns_at_blank : (region ended room : ℕ) (l : BatchLine) → is_blank l.heading ≡ true → HasRoom ended room Between
+    → Turns region ended room Between l (To stage.Between)
+turns_at_blank region ended room l blank has = record {
+  room_behind = room;
+  next = Between;
+  shown = tt;
+  has_room = has;
+  comes = λ ls. jobs_behind_blank room l ls blank;
+}
+
+pub turns_at_no_job : (region ended room : ℕ) (l : BatchLine) → l.is_past ≡ false → is_blank l.heading ≡ false
+    → job_line_of (batch_words l.text) ≡ None → HasRoom ended room Between
+    → Turns region ended room Between l (To (stage.Refused l.number BadJobLine))
+turns_at_no_job region ended room l past blank none has = record {
+  room_behind = 0;
+  next = Refused (BadJobLine, l.number);
+  shown = refl;
+  has_room = omega (arith, has);
+  comes = λ ls. no_jobs room l ls past blank none;
+}
+
+-- a JOB line behind as many jobs as a batch may have
+pub turns_at_last_job : (region ended room line : ℕ) (l : BatchLine) (head : JobLine) → HasRoom ended room Between
+    → SaysJob l head line → MOST_JOBS ≤ ended
+    → Turns region ended room Between l (To (stage.Refused line TooLarge))
+turns_at_last_job region ended zero line l head has says full = record {
+  room_behind = 0;
+  next = Refused (TooLarge, line);
+  shown = refl;
+  has_room = omega (arith, has);
+  comes = λ ls. one_job_too_many l ls head says.within says.other says.job ∙ ap (λ n. Err (TooLarge, n)) says.number;
+}
+turns_at_last_job region ended (suc room) line l head has says full = absurd (omega (arith, has))
+
+-- and behind fewer
+pub turns_at_job : (region ended room line : ℕ) (l : BatchLine) (head : JobLine) (s : JobStage)
+    → HasRoom ended room Between → SaysJob l head line → ended < MOST_JOBS → Shows region s (Headed head line)
+    → Turns region ended room Between l (To s)
+turns_at_job region ended zero line l head s has says few shown = absurd (omega (arith, has))
+turns_at_job region ended (suc room) line l head s has says few shown = record {
+  room_behind = room;
+  next = Headed head line;
+  shown = shown;
+  has_room = omega (arith, has);
+  comes = λ ls. one_job_more room l ls head says.within says.other says.job
+      ∙ ap (λ n. job_and_later (jobs_in room) (whole_job head n ls)) says.number;
+}
+
+-- ---- behind a JOB line
+
+pub isnt_blank : (h : Heading) → (h ≡ Blank → ⊥) → is_blank h ≡ false
+isnt_blank Blank n = absurd (n refl)
+isnt_blank Signatures n = refl
+isnt_blank Code n = refl
+isnt_blank End n = refl
+isnt_blank Other n = refl
+
+pub isnt_signatures : (h : Heading) → (h ≡ Signatures → ⊥) → is_signatures h ≡ false
+isnt_signatures Blank n = refl
+isnt_signatures Signatures n = absurd (n refl)
+isnt_signatures Code n = refl
+isnt_signatures End n = refl
+isnt_signatures Other n = refl
+
+pub isnt_end : (h : Heading) → (h ≡ End → ⊥) → is_end h ≡ false
+isnt_end Blank n = refl
+isnt_end Signatures n = refl
+isnt_end Code n = refl
+isnt_end End n = absurd (n refl)
+isnt_end Other n = refl
+
+pub ends_no_signatures : (h : Heading) → (h ≡ Code → ⊥) → (h ≡ End → ⊥) → ends_signatures h ≡ false
+ends_no_signatures Blank n m = refl
+ends_no_signatures Signatures n m = refl
+ends_no_signatures Code n m = absurd (n refl)
+ends_no_signatures End n m = absurd (m refl)
+ends_no_signatures Other n m = refl
+
+job_at_signatures : (head : JobLine) (job : ℕ) (l : BatchLine) (ls : List BatchLine) → l.is_past ≡ false
+    → is_signatures l.heading ≡ true
+    → whole_job head job (l ∷ ls) ≡ job_from_signatures (job_without_parts head job (l.number + 1)) ls
+unfolding whole_job
+job_at_signatures head job l ls past is = rw (past, is) refl
+
+job_at_other : (head : JobLine) (job : ℕ) (l : BatchLine) (ls : List BatchLine) → l.is_past ≡ false
+    → is_signatures l.heading ≡ false → whole_job head job (l ∷ ls) ≡ Err (BadJobLine, l.number)
+unfolding whole_job
+job_at_other head job l ls past isnt = rw (past, isnt) refl
+
+job_past : (head : JobLine) (job : ℕ) (l : BatchLine) (ls : List BatchLine) → l.is_past ≡ true
+    → whole_job head job (l ∷ ls) ≡ Err (TooLarge, l.number)
+unfolding whole_job
+job_past head job l ls past = rw past refl
+
+pub turns_at_signatures : (region ended room : ℕ) (head : JobLine) (job : ℕ) (l : BatchLine) (s : JobStage)
+    → l.is_past ≡ false → is_signatures l.heading ≡ true → HasRoom ended room (Headed head job)
+    → Shows region s (InSignatures (job_without_parts head job (l.number + 1)))
+    → Turns region ended room (Headed head job) l (To s)
+turns_at_signatures region ended room head job l s past is has shown = record {
+  room_behind = room;
+  next = InSignatures (job_without_parts head job (l.number + 1));
+  shown = shown;
+  has_room = has;
+  comes = λ ls. ap (job_and_later (jobs_in room)) (job_at_signatures head job l ls past is);
+}
+
+pub turns_at_no_signatures : (region ended room : ℕ) (head : JobLine) (job : ℕ) (l : BatchLine) → l.is_past ≡ false
+    → is_signatures l.heading ≡ false → HasRoom ended room (Headed head job)
+    → Turns region ended room (Headed head job) l (To (stage.Refused l.number BadJobLine))
+turns_at_no_signatures region ended room head job l past isnt has = record {
+  room_behind = 0;
+  next = Refused (BadJobLine, l.number);
+  shown = refl;
+  has_room = omega (arith, has);
+  comes = λ ls. ap (job_and_later (jobs_in room)) (job_at_other head job l ls past isnt);
+}
+
+-- ---- blocks
+
+block_goes_on : (ends : Heading → Bool) (l : BatchLine) (ls : List BatchLine) → l.is_past ≡ false
+    → ends l.heading ≡ false → block_of ends (l ∷ ls) ≡ longer_block l.text (block_of ends ls)
+unfolding block_of
+block_goes_on ends l ls past isnt = rw (past, isnt) refl
+
+block_ends : (ends : Heading → Bool) (l : BatchLine) (ls : List BatchLine) → l.is_past ≡ false → ends l.heading ≡ true
+    → block_of ends (l ∷ ls) ≡ record { text = []; end = Some l; rest = ls }
+unfolding block_of
+block_ends ends l ls past is = rw (past, is) refl
+
+block_past : (ends : Heading → Bool) (l : BatchLine) (ls : List BatchLine) → l.is_past ≡ true
+    → block_of ends (l ∷ ls) ≡ record { text = []; end = Some l; rest = ls }
+unfolding block_of
+block_past ends l ls past = rw past refl
+
+-- ---- among signatures
+
+abbrev behind_signatures : JobText → PartText → Result JobAndRest Refusal
+behind_signatures job part =
+    job_from_code (record job { signatures = job.signatures ++ part.0; code_line = part.1.0 }) part.1.1
+
+signatures_by : (job : JobText) (t text : List ℕ) (ls : List BatchLine) (n : ℕ) (past closes : Bool)
+    → result_and_then (if past then Err (TooLarge, n) else if closes then Ok (t ++ text, (n + 1, ls)) else Err
+    (UnfinishedJob, job.line)) (behind_signatures job)
+    ≡ result_and_then (if past then Err (TooLarge, n) else if closes then Ok (text, (n + 1, ls)) else Err
+    (UnfinishedJob, job.line)) (behind_signatures (with_signatures job t))
+signatures_by job t text ls n true closes = refl
+signatures_by job t text ls n false true =
+    ap (λ s. job_from_code (record job { signatures = s; code_line = n + 1 }) ls) (sym (append_assoc job.signatures t
+    text))
+signatures_by job t text ls n false false = refl
+
+signatures_in : (job : JobText) (t : List ℕ) (b : Block)
+    → result_and_then (part_in is_code job.line (longer_block t b)) (behind_signatures job)
+    ≡ result_and_then (part_in is_code job.line b) (behind_signatures (with_signatures job t))
+signatures_in job t b =
+    elim b.end as (λ e. result_and_then (part_in is_code job.line (record {
+      text = t ++ b.text;
+      end = e;
+      rest =
+          b.rest;
+    })) (behind_signatures job)
+    ≡ result_and_then (part_in is_code job.line (record { text = b.text; end = e; rest = b.rest }))
+    (behind_signatures (with_signatures job t)))
+    [ None ↦ refl | Some l ↦ signatures_by job t b.text b.rest l.number l.is_past (is_code l.heading) ]
+
+signatures_go_on : (job : JobText) (l : BatchLine) (ls : List BatchLine) → l.is_past ≡ false
+    → ends_signatures l.heading ≡ false
+    → job_from_signatures job (l ∷ ls) ≡ job_from_signatures (with_signatures job l.text) ls
+unfolding job_from_signatures
+signatures_go_on job l ls past isnt =
+    ap (λ b. result_and_then (part_in is_code job.line b) (behind_signatures job)) (block_goes_on ends_signatures l
+    ls past isnt)
+    ∙ signatures_in job l.text (block_of ends_signatures ls)
+
+signatures_close : (job : JobText) (l : BatchLine) (ls : List BatchLine) → l.is_past ≡ false → l.heading ≡ Code
+    → job_from_signatures job (l ∷ ls) ≡ job_from_code (with_code_line job (l.number + 1)) ls
+unfolding job_from_signatures
+signatures_close job l ls past is =
+    let code : is_code l.heading ≡ true = ap is_code is in
+    ap (λ b. result_and_then (part_in is_code job.line b) (behind_signatures job)) (block_ends ends_signatures l ls
+    past (ap ends_signatures is))
+    ∙ rw (past, code) (ap (λ s. job_from_code (record job { signatures = s; code_line = l.number + 1 }) ls)
+    (append-nil job.signatures))
+
+signatures_unfinished : (job : JobText) (l : BatchLine) (ls : List BatchLine) → l.is_past ≡ false → l.heading ≡ End
+    → job_from_signatures job (l ∷ ls) ≡ Err (UnfinishedJob, job.line)
+unfolding job_from_signatures
+signatures_unfinished job l ls past is =
+    let code : is_code l.heading ≡ false = ap is_code is in
+    ap (λ b. result_and_then (part_in is_code job.line b) (behind_signatures job)) (block_ends ends_signatures l ls
+    past (ap ends_signatures is))
+    ∙ rw (past, code) refl
+
+signatures_past : (job : JobText) (l : BatchLine) (ls : List BatchLine) → l.is_past ≡ true
+    → job_from_signatures job (l ∷ ls) ≡ Err (TooLarge, l.number)
+unfolding job_from_signatures
+signatures_past job l ls past =
+    ap (λ b. result_and_then (part_in is_code job.line b) (behind_signatures job)) (block_past ends_signatures l ls
+    past)
+    ∙ rw past refl
+
+pub turns_in_signatures : (region ended room : ℕ) (job : JobText) (l : BatchLine) (s : JobStage) → l.is_past ≡ false
+    → ends_signatures l.heading ≡ false → HasRoom ended room (InSignatures job)
+    → Shows region s (InSignatures (with_signatures job l.text))
+    → Turns region ended room (InSignatures job) l (To s)
+turns_in_signatures region ended room job l s past isnt has shown = record {
+  room_behind = room;
+  next = InSignatures (with_signatures job l.text);
+  shown = shown;
+  has_room = has;
+  comes = λ ls. ap (job_and_later (jobs_in room)) (signatures_go_on job l ls past isnt);
+}
+
+pub turns_at_code : (region ended room : ℕ) (job : JobText) (l : BatchLine) (s : JobStage) → l.is_past ≡ false
+    → l.heading ≡ Code → HasRoom ended room (InSignatures job)
+    → Shows region s (InCode (with_code_line job (l.number + 1)))
+    → Turns region ended room (InSignatures job) l (To s)
+turns_at_code region ended room job l s past is has shown = record {
+  room_behind = room;
+  next = InCode (with_code_line job (l.number + 1));
+  shown = shown;
+  has_room = has;
+  comes = λ ls. ap (job_and_later (jobs_in room)) (signatures_close job l ls past is);
+}
+
+pub turns_at_early_end : (region ended room line : ℕ) (job : JobText) (l : BatchLine) → l.is_past ≡ false
+    → l.heading ≡ End → line ≡ job.line → HasRoom ended room (InSignatures job)
+    → Turns region ended room (InSignatures job) l (To (stage.Refused line UnfinishedJob))
+turns_at_early_end region ended room line job l past is same has = record {
+  room_behind = 0;
+  next = Refused (UnfinishedJob, line);
+  shown = refl;
+  has_room = omega (arith, has);
+  comes = λ ls. ap (job_and_later (jobs_in room)) (signatures_unfinished job l ls past is)
+      ∙ ap (λ n. Err (UnfinishedJob, n)) (sym same);
+}
+
+-- ---- among code
+
+abbrev behind_code : JobText → PartText → Result JobAndRest Refusal
+behind_code job part = Ok (record job { code = job.code ++ part.0 }, part.1.1)
+
+code_by : (job : JobText) (t text : List ℕ) (ls : List BatchLine) (n : ℕ) (past closes : Bool)
+    → result_and_then (if past then Err (TooLarge, n) else if closes then Ok (t ++ text, (n + 1, ls)) else Err
+    (UnfinishedJob, job.line)) (behind_code job)
+    ≡ result_and_then (if past then Err (TooLarge, n) else if closes then Ok (text, (n + 1, ls)) else Err
+    (UnfinishedJob, job.line)) (behind_code (with_code job t))
+code_by job t text ls n true closes = refl
+code_by job t text ls n false true =
+    ap (λ (s : List ℕ). let r : Result JobAndRest Refusal = Ok (record job { code = s }, ls) in r) (sym (append_assoc
+    job.code t text))
+code_by job t text ls n false false = refl
+
+code_in : (job : JobText) (t : List ℕ) (b : Block)
+    → result_and_then (part_in is_end job.line (longer_block t b)) (behind_code job)
+    ≡ result_and_then (part_in is_end job.line b) (behind_code (with_code job t))
+code_in job t b =
+    elim b.end as (λ e. result_and_then (part_in is_end job.line (record {
+      text = t ++ b.text;
+      end = e;
+      rest = b.rest;
+    })) (behind_code job)
+    ≡ result_and_then (part_in is_end job.line (record { text = b.text; end = e; rest = b.rest })) (behind_code
+    (with_code job t)))
+    [ None ↦ refl | Some l ↦ code_by job t b.text b.rest l.number l.is_past (is_end l.heading) ]
+
+code_goes_on : (job : JobText) (l : BatchLine) (ls : List BatchLine) → l.is_past ≡ false → is_end l.heading ≡ false
+    → job_from_code job (l ∷ ls) ≡ job_from_code (with_code job l.text) ls
+unfolding job_from_code
+code_goes_on job l ls past isnt =
+    ap (λ b. result_and_then (part_in is_end job.line b) (behind_code job)) (block_goes_on is_end l ls past isnt)
+    ∙ code_in job l.text (block_of is_end ls)
+
+code_closes : (job : JobText) (l : BatchLine) (ls : List BatchLine) → l.is_past ≡ false → l.heading ≡ End
+    → job_from_code job (l ∷ ls) ≡ Ok (job, ls)
+unfolding job_from_code
+code_closes job l ls past is =
+    let end : is_end l.heading ≡ true = ap is_end is in
+    ap (λ b. result_and_then (part_in is_end job.line b) (behind_code job)) (block_ends is_end l ls past end)
+    ∙ rw (past, end) (ap (λ (s : List ℕ). let r : Result JobAndRest Refusal = Ok (record job { code = s }, ls) in r)
+    (append-nil job.code))
+
+code_past : (job : JobText) (l : BatchLine) (ls : List BatchLine) → l.is_past ≡ true
+    → job_from_code job (l ∷ ls) ≡ Err (TooLarge, l.number)
+unfolding job_from_code
+code_past job l ls past =
+    ap (λ b. result_and_then (part_in is_end job.line b) (behind_code job)) (block_past is_end l ls past)
+    ∙ rw past refl
+
+pub turns_in_code : (region ended room : ℕ) (job : JobText) (l : BatchLine) (s : JobStage) → l.is_past ≡ false
+    → is_end l.heading ≡ false → HasRoom ended room (InCode job) → Shows region s (InCode (with_code job l.text))
+    → Turns region ended room (InCode job) l (To s)
+turns_in_code region ended room job l s past isnt has shown = record {
+  room_behind = room;
+  next = InCode (with_code job l.text);
+  shown = shown;
+  has_room = has;
+  comes = λ ls. ap (job_and_later (jobs_in room)) (code_goes_on job l ls past isnt);
+}
+
+pub turns_at_end : (region ended room : ℕ) (job : JobText) (l : BatchLine) (s : JobStep) → l.is_past ≡ false
+    → l.heading ≡ End → HasRoom ended room (InCode job) → ShowsStep region s (Ended job)
+    → Turns region ended room (InCode job) l s
+turns_at_end region ended room job l s past is has shown = record {
+  room_behind = room;
+  next = Ended job;
+  shown = shown;
+  has_room = has;
+  comes = λ ls. ap (job_and_later (jobs_in room)) (code_closes job l ls past is);
+}
+
+-- ---- behind a refusal
+
+pub turns_behind_refusal : (region ended room : ℕ) (refusal : Refusal) (l : BatchLine) (s : JobStage)
+    → HasRoom ended room (Refused refusal) → Shows region s (Refused refusal)
+    → Turns region ended room (Refused refusal) l (To s)
+turns_behind_refusal region ended room refusal l s has shown = record {
+  room_behind = room;
+  next = Refused refusal;
+  shown = shown;
+  has_room = has;
+  comes = λ ls. refl;
+}
+
+-- ---- past the limit
+
+-- a line past the limit refuses what isn't refused
+pub past_limit : (room : ℕ) (standing : Standing) (l : BatchLine) → l.is_past ≡ true → is_blank l.heading ≡ false
+    → ((job : JobText) → standing ≡ Ended job → ⊥) → ((refusal : Refusal) → standing ≡ Refused refusal → ⊥)
+    → jobs_from room standing (l ∷ []) ≡ Err (TooLarge, l.number)
+past_limit room Between l past blank e r = no_jobs_past room l [] past blank
+past_limit room (Headed head job) l past blank e r = ap (job_and_later (jobs_in room)) (job_past head job l [] past)
+past_limit room (InSignatures job) l past blank e r = ap (job_and_later (jobs_in room)) (signatures_past job l [] past)
+past_limit room (InCode job) l past blank e r = ap (job_and_later (jobs_in room)) (code_past job l [] past)
+past_limit room (Ended job) l past blank e r = absurd (e job refl)
+past_limit room (Refused refusal) l past blank e r = absurd (r refusal refl)
+
+-- ---- stages
+
+-- what is known of a step among code, for any standing that it is shown at
+pub turns_of_code : (region ended : ℕ) (kept : Head (List ℕ)) (part : CodePart) (l : BatchLine) (s : JobStep)
+    → ((room : ℕ) (job : JobText) → Shows region (stage.Code kept part) (InCode job) → HasRoom ended room (InCode job)
+    → Turns region ended room (InCode job) l s)
+    → (room : ℕ) (standing : Standing) → Shows region (stage.Code kept part) standing → HasRoom ended room standing
+    → Turns region ended room standing l s
+turns_of_code region ended kept part l s turns room Between shown has = absurd shown
+turns_of_code region ended kept part l s turns room (Headed head line) shown has = absurd shown
+turns_of_code region ended kept part l s turns room (InSignatures job) shown has = absurd shown
+turns_of_code region ended kept part l s turns room (InCode job) shown has = turns room job shown has
+turns_of_code region ended kept part l s turns room (Ended job) shown has = absurd shown
+turns_of_code region ended kept part l s turns room (Refused refusal) shown has = absurd shown

@@ -1,0 +1,16 @@
+use Rattle.batch_reader.proofs.FateLemmas.{refused_before_code}
+use Rattle.batch_reader.proofs.fate.job_entry.Goals as goal
+
+pub returns-in-Refused : goal.returns-in-Refused
+returns-in-Refused g c =
+    λ region job head shown. record {
+      name = head.name;
+      fate = refused_before_code region job _ (rw c.in-Refused.is at shown);
+    }
+
+pub returns-in_ok-fate-in-Reading : goal.returns-in_ok-fate-in-Reading
+returns-in_ok-fate-in-Reading g c =
+    λ region job head shown. record {
+      name = head.name;
+      fate = c.in_ok-fate-in-Reading.ensures region job head (rw c.in-Reading.is at shown);
+    }

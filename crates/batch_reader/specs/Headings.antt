@@ -1,0 +1,54 @@
+-- What a line of a batch is by itself, and the lines of a batch in order.
+use Rattle.std.specs.Prelude.{ℕ, ◌+◌, ◌-◌, nat_lt, Bool, true, false, if◌then◌else◌, List, [], ◌∷◌, codes, length}
+use Rattle.std.specs.Str.{bytes_eq}
+use Rattle.vcode_base.specs.declared.limits.TheConstants.{MOST_BATCH_BYTES}
+use Rattle.batch_reader.specs.declared.heading.Heading.{Heading}
+use Rattle.batch_reader.specs.declared.heading.Heading.TheVariants.{Blank, Signatures, Code, End, Other}
+use Rattle.batch_reader.specs.Lines.{batch_words, lines}
+
+-- a line whose only word is this
+abbrev pub marker_of : List ℕ → Heading
+marker_of w =
+    if bytes_eq w (codes "SIGNATURES") then Signatures
+    else if bytes_eq w (codes "CODE") then Code
+    else if bytes_eq w (codes "END") then End
+    else Other
+
+-- a line of these words
+abbrev pub heading_of : List (List ℕ) → Heading
+heading_of [] = Blank
+heading_of (w ∷ []) = marker_of w
+heading_of (w ∷ v ∷ ws) = Other
+
+abbrev pub is_blank : Heading → Bool
+is_blank Blank = true
+is_blank _ = false
+
+abbrev pub is_signatures : Heading → Bool
+is_signatures Signatures = true
+is_signatures _ = false
+
+-- a line of a batch: its number, its bytes with its LF, what it is, and whether it holds the first byte past the limit
+pub record BatchLine : Type 0 where
+  pub number : ℕ
+  pub text : List ℕ
+  pub heading : Heading
+  pub is_past : Bool
+
+abbrev pub line_of : ℕ → List ℕ → BatchLine
+line_of number text = record { number = number; text = text; heading = heading_of (batch_words text); is_past = false }
+
+-- a line that passes the limit, behind which nothing is read
+abbrev pub line_past_limit : ℕ → List ℕ → BatchLine
+line_past_limit number text = record { number = number; text = text; heading = Other; is_past = true }
+
+-- these lines, the first of which has this number, where so many bytes are left of the limit
+unfoldable pub numbered_lines : ℕ → ℕ → List (List ℕ) → List BatchLine
+numbered_lines number left [] = []
+numbered_lines number left (t ∷ ts) =
+    if nat_lt left (length t) then line_past_limit number t ∷ []
+    else line_of number t ∷ numbered_lines (number + 1) (left - length t) ts
+
+-- the lines of a batch
+abbrev pub lines_of : List ℕ → List BatchLine
+lines_of input = numbered_lines 1 MOST_BATCH_BYTES (lines input)

@@ -1,0 +1,11 @@
+pub mod BatchTexts
+pub mod Batches
+pub mod Blocks
+pub mod Chains
+pub mod Fates
+pub mod Feeds
+pub mod Headings
+pub mod JobLines
+pub mod Laws
+pub mod Lines
+pub mod Standings

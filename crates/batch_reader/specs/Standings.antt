@@ -1,0 +1,157 @@
+-- Where a batch stands between two of its lines: the jobs that have ended, and what is known of an open one.
+use Rattle.std.specs.Prelude.{◌≡◌, ◌≤◌, ◌+◌, ℕ, false, List, [], ◌∷◌, ◌++◌, Some, Result, Ok, Err}
+use Rattle.vcode_base.specs.declared.limits.TheConstants.{MOST_JOBS}
+use Rattle.vcode_reader.specs.declared.language.Language.TheVariants.{Whole}
+use Rattle.vcode_reader.specs.Reading.{ReaderState as CodeState, HasCome as CodeHasCome}
+use Rattle.signatures.specs.Scan.{ReaderState as SignatureState, HasCome as SignaturesHaveCome}
+use Rattle.signatures.specs.Signatures.{Signature}
+use Rattle.job_steps.specs.Jobs.{IsName}
+use Rattle.batch_reader.specs.declared.head.Head.{Head}
+use Rattle.batch_reader.specs.declared.part.Part.{Part}
+use Rattle.batch_reader.specs.declared.part.Part.TheVariants.{Reading, Refused as PartRefused}
+use Rattle.batch_reader.specs.declared.stage.Stage.{Stage}
+use Rattle.batch_reader.specs.declared.stage.Stage.TheVariants as stage
+use Rattle.batch_reader.specs.declared.stage.Step.{Step}
+use Rattle.batch_reader.specs.declared.stage.Step.TheVariants.{To, Ends}
+use Rattle.batch_reader.specs.declared.batch_line.BatchLine.{BatchLine as CodeLine}
+use Rattle.batch_reader.specs.Batches.{Refusal, JobText, job_from_code, job_from_signatures, whole_job, jobs_after}
+use Rattle.batch_reader.specs.Batches.{job_and_later, jobs_in}
+use Rattle.batch_reader.specs.Fates.{JobEntry, IsEntry, limits_within, signatures_of}
+use Rattle.batch_reader.specs.Headings.{BatchLine, is_blank}
+use Rattle.batch_reader.specs.JobLines.{JobLine, job_line_of}
+use Rattle.batch_reader.specs.Lines.{batch_words}
+
+-- ---- in texts
+
+-- between jobs; behind a JOB line; in a part of a job, whose text is known so far; behind a job's END; behind what
+-- refuses the batch
+pub data Standing : Type 0 where
+  Between : Standing
+  Headed : (head : JobLine) (line : ℕ) → Standing
+  InSignatures : (job : JobText) → Standing
+  InCode : (job : JobText) → Standing
+  Ended : (job : JobText) → Standing
+  Refused : (refusal : Refusal) → Standing
+
+-- what the lines from there on come to, where so many jobs more may begin
+abbrev pub jobs_from : ℕ → Standing → List BatchLine → Result (List JobText) Refusal
+jobs_from room Between ls = jobs_in room ls
+jobs_from room (Headed head line) ls = job_and_later (jobs_in room) (whole_job head line ls)
+jobs_from room (InSignatures job) ls = job_and_later (jobs_in room) (job_from_signatures job ls)
+jobs_from room (InCode job) ls = job_and_later (jobs_in room) (job_from_code job ls)
+jobs_from room (Ended job) ls = jobs_after job (jobs_in room ls)
+jobs_from room (Refused refusal) ls = Err refusal
+
+-- these jobs before others
+abbrev pub jobs_behind : List JobText → Result (List JobText) Refusal → Result (List JobText) Refusal
+jobs_behind jobs (Ok more) = Ok (jobs ++ more)
+jobs_behind jobs (Err refusal) = Err refusal
+
+-- so many jobs have ended and so many more may begin, besides the open one
+abbrev pub HasRoom : ℕ → ℕ → Standing → Type 0
+HasRoom ended room Between = ended + room ≡ MOST_JOBS
+HasRoom ended room (Refused refusal) = ended ≤ MOST_JOBS
+HasRoom ended room standing = (ended + 1) + room ≡ MOST_JOBS
+
+-- ---- as it is kept
+
+-- what is kept of the signatures of a job, and of its code
+abbrev pub SignaturesPart : Type 0
+SignaturesPart = Part SignatureState
+
+abbrev pub CodePart : Type 0
+CodePart = Part (List Signature × CodeState)
+
+abbrev pub JobStage : Type 0
+JobStage = Stage (List ℕ) SignatureState (List Signature × CodeState)
+
+-- what is kept of a JOB line
+pub record ShowsHead (kept : Head (List ℕ)) (head : JobLine) (job : ℕ) : Type 0 where
+  pub name : kept.name ≡ head.name
+  pub limits : kept.limits ≡ head.limits
+  pub line : kept.line ≡ job
+
+-- the signature lines so far have come to a reader, unless the job's words refuse it
+abbrev pub ShowsSignatures : ℕ → SignaturesPart → JobText → Type 0
+ShowsSignatures region (Reading r) job =
+    (limits_within region job.head.limits job.line ≡ Ok job.head.limits)
+    × SignaturesHaveCome r job.signatures_line job.signatures
+ShowsSignatures region (PartRefused line fault) job = limits_within region job.head.limits job.line ≡ Err (fault, line)
+
+-- the code so far has come to a reader, where the signatures were read
+pub record HasRead (region : ℕ) (known : List Signature) (r : CodeState) (job : JobText) : Type 0 where
+  pub signatures : signatures_of region job ≡ Ok known
+  pub language : r.language ≡ Whole
+  pub first_line : r.first_line ≡ job.code_line
+  pub code : CodeHasCome r job.code
+
+abbrev pub ShowsCode : ℕ → CodePart → JobText → Type 0
+ShowsCode region (Reading (signatures, r)) job = HasRead region signatures r job
+ShowsCode region (PartRefused line fault) job = signatures_of region job ≡ Err (fault, line)
+
+-- what is kept is that of a standing
+abbrev pub Shows : ℕ → JobStage → Standing → Type 0
+Shows region stage.Between Between = Unit {0}
+Shows region (stage.Headed kept) (Headed head line) = ShowsHead kept head line
+Shows region (stage.Signatures kept part) (InSignatures job) =
+    ShowsHead kept job.head job.line × ShowsSignatures region part job × (job.code ≡ [])
+Shows region (stage.Code kept part) (InCode job) = ShowsHead kept job.head job.line × ShowsCode region part job
+Shows region (stage.Refused line fault) (Refused refusal) = refusal ≡ (fault, line)
+Shows region _ _ = ⊥
+
+-- a job with one line more of its signatures, with the line at which its code begins, and with one more of its code
+abbrev pub with_signatures : JobText → List ℕ → JobText
+with_signatures job text = record job { signatures = job.signatures ++ text }
+
+abbrev pub with_code_line : JobText → ℕ → JobText
+with_code_line job first = record job { code_line = first }
+
+abbrev pub with_code : JobText → List ℕ → JobText
+with_code job text = record job { code = job.code ++ text }
+
+-- a line of this number, which isn't blank, says this job
+pub record SaysJob (l : BatchLine) (head : JobLine) (line : ℕ) : Type 0 where
+  pub within : l.is_past ≡ false
+  pub other : is_blank l.heading ≡ false
+  pub job : job_line_of (batch_words l.text) ≡ Some head
+  pub number : l.number ≡ line
+
+abbrev pub JobStep : Type 0
+JobStep = Step JobStage JobEntry
+
+abbrev pub ShowsStep : ℕ → JobStep → Standing → Type 0
+ShowsStep region (To s) standing = Shows region s standing
+ShowsStep region (Ends entry) (Ended job) = IsEntry region job entry
+ShowsStep region (Ends entry) _ = ⊥
+
+abbrev pub shown_line : CodeLine → BatchLine
+shown_line l = record { number = l.number; text = l.text.now; heading = l.heading; is_past = false }
+
+-- from a standing this line leads to the one that the step shows: what lines come behind it come to the same
+pub record Turns (region ended room : ℕ) (standing : Standing) (l : BatchLine) (s : JobStep) : Type 0 where
+  pub room_behind : ℕ
+  pub next : Standing
+  pub shown : ShowsStep region s next
+  pub has_room : HasRoom ended room_behind next
+  pub comes : (ls : List BatchLine) → jobs_from room standing (l ∷ ls) ≡ jobs_from room_behind next ls
+
+-- ---- what each stage may be
+
+abbrev pub SignaturesFit : ℕ → SignaturesPart → Type 0
+SignaturesFit number (Reading r) = r.failed ≡ false → r.scan.number ≤ number
+SignaturesFit number (PartRefused line fault) = Unit {0}
+
+abbrev pub CodeFits : ℕ → CodePart → Type 0
+CodeFits number (Reading (signatures, r)) = r.failed ≡ false → r.scan.line ≤ number
+CodeFits number (PartRefused line fault) = Unit {0}
+
+-- a job's name is one, and its readers have come no further than the line of this number
+abbrev pub StageFits : ℕ → JobStage → Type 0
+StageFits number (stage.Headed kept) = IsName kept.name
+StageFits number (stage.Signatures kept part) = IsName kept.name × SignaturesFit number part
+StageFits number (stage.Code kept part) = IsName kept.name × CodeFits number part
+StageFits number _ = Unit {0}
+
+abbrev pub StepFits : ℕ → JobStep → Type 0
+StepFits number (To s) = StageFits number s
+StepFits number (Ends entry) = Unit {0}

@@ -1,0 +1,198 @@
+//! A batch whose lines come one after another.
+
+ghost use Rattle.std.specs.Prelude.{◌≡◌, ◌+◌, ◌≤◌, ◌↔◌, ℕ, List, [], ◌∷◌, length, IsErr, IsTrue, OnOk, OnErr, IfOk};
+ghost use Rattle.vcode_base.specs.Lines.{line_feeds};
+ghost use Rattle.vcode_base.specs.declared.limits.TheConstants.{MOST_BATCH_BYTES};
+ghost use Rattle.batch_reader.specs.Feeds.{AnswersLines, ByLines, HasFailed, HasFewJobs, IsFirstLine, Keeps};
+ghost use Rattle.batch_reader.specs.Feeds.{RefusesLongLine, Stands, is_settled};
+ghost use Rattle.batch_reader.specs.Headings.{line_of};
+ghost use Rattle.batch_reader.specs.declared.heading.Heading.TheVariants as headings;
+ghost use Rattle.batch_reader.specs.declared.stage.Stage.TheVariants as stages;
+
+use crate::batch_line::BatchLine;
+use crate::entry::{Batch, JobEntries};
+use crate::fault::BatchFault;
+use crate::heading::{Heading, heading_of};
+use crate::stage::{JobStage, JobStep, Stage, Step};
+use crate::step::step;
+use std::alloc::{AllocError, Allocator};
+use std::marker::Model;
+use std::mem;
+use vcode_base::Sequence;
+use vcode_base::limits::{MOST_BATCH_BYTES, MOST_JOBS};
+
+/// Reads the jobs of a batch whose lines come one after another.
+#[derive(Drop)]
+pub(crate) struct JobReader<A: Allocator> {
+    alloc: A,
+    region: usize,
+    number: u64,
+    left: usize,
+    stage: JobStage<A>,
+    entries: JobEntries<A>,
+}
+
+impl<A: Allocator> Model for JobReader<A> {
+    ghost use Rattle.std.specs.Coded.{codes};
+    ghost use Rattle.vcode_reader.specs.ParseCode.{fed_code, parse_code, scan_code};
+    ghost use Rattle.job_steps.specs.Jobs.{task_code};
+    ghost use Rattle.batch_reader.specs.Feeds.{AreLinesWithin, LinesState, lines_code};
+
+    ghost Value = { LinesState };
+
+    ghost coded = { lines_code (Prim.hlevel (codes, fed_code (scan_code (parse_code (Prim.hlevel codes) (Prim.hlevel codes) (Prim.hlevel codes) (Prim.hlevel codes) (Prim.hlevel codes) (Prim.hlevel codes) (Prim.hlevel codes)) (Prim.hlevel codes)) (Prim.hlevel codes))) (Prim.hlevel (codes, task_code (Prim.hlevel codes) (Prim.hlevel codes) (Prim.hlevel codes))) };
+
+    ghost view = { λ r. record { region = r.region; number = r.number; left = r.left; stage = r.stage; entries = r.entries } };
+
+    ghost invariant = { λ r. AreLinesWithin r.number r.left r.stage };
+}
+
+impl<A: Allocator + Copy> JobReader<A> {
+    /// A batch before its first line.
+    pub(crate) fn new(alloc: A, region: usize) -> Result<JobReader<A>, AllocError>
+        ensures first { IfOk result (IsFirstLine region) }
+    {
+        let entries = Vec::with_capacity(alloc, MOST_JOBS)?;
+        Ok(JobReader {
+            alloc,
+            region,
+            number: 1,
+            left: MOST_BATCH_BYTES,
+            stage: Stage::Between,
+            entries: Sequence::from_vec(entries),
+        })
+    }
+
+    /// How many bytes the batch may have from the next line on.
+    pub(crate) fn left(&self) -> usize
+        ensures { result ≡ self.now.left }
+    {
+        self.left
+    }
+
+    /// Whether memory was refused.
+    pub(crate) fn has_failed(&self) -> bool
+        ensures { IsTrue result ↔ HasFailed self.now }
+    {
+        matches!(self.stage, Stage::Failed)
+    }
+
+    /// Notes that memory was refused.
+    pub(crate) fn fail(&mut self)
+        ensures failed { HasFailed self.new }
+        ensures region { self.new.region ≡ self.old.region }
+        ensures left { self.new.left ≡ self.old.left }
+    {
+        set_stage(&mut self.stage, Stage::Failed);
+    }
+
+    /// Takes the next line, which is within the limit of a batch.
+    ///
+    /// # Errors
+    ///
+    /// [`AllocError`] where memory is refused, and from then on at each line.
+    pub(crate) fn take(&mut self, text: &[u8]) -> Result<(), AllocError>
+        requires within { length text.now ≤ self.old.left }
+        requires some { 1 ≤ length text.now }
+        requires line { line_feeds text.now ≤ 1 }
+        ensures taken { OnOk result ((come : ByLines) → Stands self.old come
+            → Stands self.new (λ ls. come (line_of self.old.number text.now ∷ ls))) }
+        ensures number { OnOk result (self.new.number ≡ self.old.number + 1) }
+        ensures left { OnOk result (self.new.left + length text.now ≡ self.old.left) }
+        ensures unread { OnErr result (self.new.left ≡ self.old.left) }
+        ensures region { self.new.region ≡ self.old.region }
+        ensures failed { OnErr result (HasFailed self.new) }
+        ensures again { HasFailed self.old → IsErr result }
+    {
+        let heading = heading_of(text);
+        if passes_over(&self.stage, heading) {
+            self.number += 1;
+            self.left -= text.len();
+            return Ok(());
+        }
+        let line = BatchLine {
+            number: self.number,
+            text,
+            heading,
+        };
+        let stage = mem::replace(&mut self.stage, Stage::Failed);
+        let step = step(self.alloc, self.region, self.entries.len(), stage, line)?;
+        let next = stage_behind(step, &mut self.entries)?;
+        set_stage(&mut self.stage, next);
+        self.number += 1;
+        self.left -= text.len();
+        Ok(())
+    }
+
+    /// Takes the next line, which holds the first byte past the limit of a batch.
+    pub(crate) fn take_long_line(&mut self)
+        ensures refused { (come : ByLines) → Stands self.old come → RefusesLongLine self.old self.new come }
+        ensures region { self.new.region ≡ self.old.region }
+        ensures number { self.new.number ≡ self.old.number }
+        ensures left { self.new.left ≡ self.old.left }
+        ensures again { HasFailed self.old → HasFailed self.new }
+    {
+        if is_settled(&self.stage) {
+            return;
+        }
+        set_stage(
+            &mut self.stage,
+            Stage::Refused(self.number, BatchFault::TooLarge),
+        );
+    }
+
+    /// What the lines come to, where no more follow.
+    pub(crate) fn finish(self) -> Result<Batch<JobEntries<A>>, AllocError>
+        ensures batch { IfOk result (λ batch. (come : ByLines) → Stands self come
+            → AnswersLines self.region batch (come [])) }
+        ensures few { IfOk result (λ batch. (come : ByLines) → Stands self come → HasFewJobs batch) }
+        ensures failed { HasFailed self → IsErr result }
+    {
+        let JobReader { stage, entries, .. } = self;
+        match stage {
+            Stage::Between => Ok(Batch::Jobs(entries)),
+            Stage::Headed(head) => Ok(Batch::Refused(head.line, BatchFault::UnfinishedJob)),
+            Stage::Signatures(head, _) => Ok(Batch::Refused(head.line, BatchFault::UnfinishedJob)),
+            Stage::Code(head, _) => Ok(Batch::Refused(head.line, BatchFault::UnfinishedJob)),
+            Stage::Refused(line, fault) => Ok(Batch::Refused(line, fault)),
+            Stage::Failed => Err(AllocError),
+        }
+    }
+}
+
+/// Makes this the stage.
+fn set_stage<A: Allocator>(stage: &mut JobStage<A>, next: JobStage<A>)
+    ensures { stage.new ≡ next }
+{
+    *stage = next;
+}
+
+/// Whether no line changes a stage.
+fn is_settled<A: Allocator>(stage: &JobStage<A>) -> bool
+    ensures { result ≡ is_settled stage.now }
+{
+    matches!(stage, Stage::Refused(..) | Stage::Failed)
+}
+
+/// Whether a line of this heading is blank and stands between jobs.
+fn passes_over<A: Allocator>(stage: &JobStage<A>, heading: Heading) -> bool
+    ensures { IsTrue result → (stage.now ≡ stages.Between) × (heading ≡ headings.Blank) }
+{
+    matches!((stage, heading), (Stage::Between, Heading::Blank))
+}
+
+/// The stage behind a step; a job that ends goes behind the others.
+fn stage_behind<A: Allocator>(
+    step: JobStep<A>,
+    entries: &mut JobEntries<A>,
+) -> Result<JobStage<A>, AllocError>
+    ensures { IfOk result (Keeps step entries.old entries.new) }
+{
+    match step {
+        Step::To(next) => Ok(next),
+        Step::Ends(entry) => {
+            entries.push(entry)?;
+            Ok(Stage::Between)
+        }
+    }
+}

@@ -1,0 +1,46 @@
+//! The reader of a batch: bytes in, piece by piece; jobs that may run, or what refuses them, out.
+//!
+//! **Lines.** Each LF ends a line, and the last line may do without. Lines have the numbers 1, 2 and so on. Blanks,
+//! tabs and CRs stand between the words of a line. A heading is a line with one word, which is `SIGNATURES`, `CODE`
+//! or `END`.
+//!
+//! **Jobs.** First comes `JOB name words cells calls budget`, and directly behind it the heading `SIGNATURES`. The
+//! lines from there to the next `CODE` are the job's signatures, and those from `CODE` to the next `END` its code,
+//! whatever comments they hold. Nothing but blank lines may be between two jobs. A name is at most
+//! [`LONGEST_NAME`](vcode_base::limits::LONGEST_NAME) bytes long and has at least one, all of them visible ASCII. A
+//! number is written in at most 10 digits and keeps to its range in [`vcode_base::limits`].
+//!
+//! **Refusals of the batch.** Of all that refuse it the foremost is the answer, and no job is told:
+//! [`BatchFault::BadJobLine`] where a job should begin and neither a blank line nor a good JOB line stands, or
+//! where another line than `SIGNATURES` follows a JOB line; [`BatchFault::UnfinishedJob`], told at the JOB line,
+//! where `END` stands among signatures or the batch ends before the job does; [`BatchFault::TooLarge`] at a good
+//! JOB line when the batch has as many jobs as it may, and at a line that reaches past the most bytes of a batch,
+//! whatever else is wrong with that line.
+//!
+//! **Refusals of a job.** It has one at most, and the other jobs don't suffer by it: that its words are more than
+//! the region's, told at its JOB line; else the first fault of its signatures; else the first of its code; else the
+//! first of its kinds.
+//!
+//! [`Feed`] takes the pieces. That a batch comes to one answer stands in [`laws`]. `specs/Batches` has the jobs of
+//! a batch as texts, or what refuses it; `specs/Fates` what becomes of each job, and what a batch comes to;
+//! `specs/Standings` and `specs/Feeds` what is kept of a batch whose end hasn't come.
+#![tactic(auto)]
+
+mod batch_line;
+mod entry;
+mod fate;
+mod fault;
+mod feed;
+mod head;
+mod heading;
+mod job_line;
+mod job_reader;
+pub mod laws;
+mod line;
+mod part;
+mod stage;
+mod step;
+
+pub use entry::{Batch, Entry, Fate, JobEntries, JobEntry};
+pub use fault::{BatchFault, JobFault};
+pub use feed::Feed;

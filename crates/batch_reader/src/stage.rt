@@ -1,0 +1,45 @@
+//! Where a batch stands between two of its lines.
+
+use crate::entry::JobEntry;
+use crate::fault::BatchFault;
+use crate::head::Head;
+use crate::part::Part;
+use job_steps::JobName;
+use signatures::{SigReader, Signatures};
+use vcode_reader::CodeReader;
+
+/// Where a batch stands between two lines, over the types of names, of what reads signatures and of what
+/// reads code.
+#[derive(Drop)]
+pub enum Stage<N, S, C> {
+    /// Between jobs.
+    Between,
+    /// Behind a JOB line.
+    Headed(Head<N>),
+    /// Among the signature lines of a job.
+    Signatures(Head<N>, Part<S>),
+    /// Among the code lines of a job.
+    Code(Head<N>, Part<C>),
+    /// The batch is refused, at this line for this fault, and its further lines are passed over.
+    Refused(u64, BatchFault),
+    /// Memory was refused.
+    Failed,
+}
+
+/// What a line makes of a stage, over the types of stages and of entries.
+#[derive(Drop)]
+pub enum Step<S, E> {
+    /// It stands here then.
+    To(S),
+    /// The job ends, and the batch stands between jobs.
+    Ends(E),
+}
+
+/// The signatures of a job, and what reads its code.
+pub type CodeReading<A> = (Signatures<A>, CodeReader<A>);
+
+/// A stage that owns the job's name and what reads it.
+pub type JobStage<A> = Stage<JobName<A>, SigReader<A>, CodeReading<A>>;
+
+/// A step of such a stage.
+pub type JobStep<A> = Step<JobStage<A>, JobEntry<A>>;

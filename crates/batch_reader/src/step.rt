@@ -1,0 +1,243 @@
+//! What a line makes of a stage.
+
+ghost use Rattle.std.specs.Prelude.{◌≡◌, ◌+◌, ℕ, [], IsErr, IfOk};
+ghost use Rattle.job_steps.specs.Jobs.{IsName};
+ghost use Rattle.batch_reader.specs.declared.stage.Stage.TheVariants as stages;
+ghost use Rattle.batch_reader.specs.declared.stage.Step.TheVariants.{To};
+ghost use Rattle.batch_reader.specs.Batches.{JobText, job_without_parts};
+ghost use Rattle.batch_reader.specs.Headings.{BatchLine as SpecLine};
+ghost use Rattle.batch_reader.specs.JobLines.{JobLine as JobLineOf};
+ghost use Rattle.batch_reader.specs.Standings.{Between, Headed, InSignatures, InCode, Standing};
+ghost use Rattle.batch_reader.specs.Standings.{HasRoom, Shows, ShowsHead};
+ghost use Rattle.batch_reader.specs.Standings.{ShowsSignatures, ShowsCode, SaysJob, SignaturesFit, CodeFits, StageFits};
+ghost use Rattle.batch_reader.specs.Standings.{StepFits, Turns, shown_line, with_signatures, with_code_line, with_code};
+
+use crate::batch_line::BatchLine;
+use crate::fate::job_entry;
+use crate::fault::{BatchFault, JobFault};
+use crate::head::Head;
+use crate::heading::Heading;
+use crate::job_line::{JobLine, job_line};
+use crate::part::Part;
+use crate::stage::{CodeReading, JobStage, JobStep, Stage, Step};
+use job_steps::JobName;
+use signatures::{SigFault, SigReader};
+use std::alloc::{AllocError, Allocator};
+use vcode_base::limits::MOST_JOBS;
+use vcode_reader::CodeReader;
+
+/// What this line makes of a stage, where so many jobs have ended, over a region of so many words.
+pub(crate) fn step<A: Allocator + Copy>(
+    alloc: A,
+    region: usize,
+    ended: usize,
+    stage: JobStage<A>,
+    line: BatchLine<'_>,
+) -> Result<JobStep<A>, AllocError>
+    requires { StageFits line.number stage }
+    ensures fits { IfOk result (StepFits (line.entry.number + 1)) }
+    ensures turns { IfOk result (λ s. (room : ℕ) (standing : Standing) → Shows region stage standing
+        → HasRoom ended room standing → Turns region ended room standing (shown_line line.entry) s) }
+    ensures failed { stage ≡ stages.Failed → IsErr result }
+{
+    match stage {
+        Stage::Between => Ok(Step::To(step_between(alloc, ended, line)?)),
+        Stage::Headed(head) => Ok(Step::To(step_behind_head(alloc, region, head, line))),
+        Stage::Signatures(head, part) => Ok(Step::To(step_in_signatures(alloc, head, part, line)?)),
+        Stage::Code(head, part) => step_in_code(alloc, head, part, line),
+        Stage::Refused(number, fault) => Ok(Step::To(Stage::Refused(number, fault))),
+        Stage::Failed => Err(AllocError),
+    }
+}
+
+/// A line between jobs.
+fn step_between<A: Allocator + Copy>(
+    alloc: A,
+    ended: usize,
+    line: BatchLine<'_>,
+) -> Result<JobStage<A>, AllocError>
+    ensures fits { IfOk result (StageFits (line.entry.number + 1)) }
+    ensures turns { IfOk result (λ s. (region room : ℕ) → HasRoom ended room Between
+        → Turns region ended room Between (shown_line line.entry) (To s)) }
+{
+    match line.heading {
+        Heading::Blank => Ok(Stage::Between),
+        _ => match job_line(line.text) {
+            None => Ok(Stage::Refused(line.number, BatchFault::BadJobLine)),
+            Some(job) => step_at_job(alloc, ended, job, line.number),
+        },
+    }
+}
+
+/// A good JOB line of this number between jobs.
+fn step_at_job<A: Allocator + Copy>(
+    alloc: A,
+    ended: usize,
+    job: JobLine<'_>,
+    line: u64,
+) -> Result<JobStage<A>, AllocError>
+    ensures fits { IfOk result (StageFits (line + 1)) }
+    ensures turns { IfOk result (λ s. (region room : ℕ) (l : SpecLine) → HasRoom ended room Between
+        → SaysJob l (record { name = job.entry.name.now; limits = job.entry.limits }) line
+        → Turns region ended room Between l (To s)) }
+{
+    if ended >= MOST_JOBS {
+        return Ok(Stage::Refused(line, BatchFault::TooLarge));
+    }
+    let name = JobName::from_vec(Vec::from_slice(alloc, job.name)?);
+    Ok(Stage::Headed(Head {
+        name,
+        limits: job.limits,
+        line,
+    }))
+}
+
+/// The line behind a JOB line.
+fn step_behind_head<A: Allocator + Copy>(
+    alloc: A,
+    region: usize,
+    head: Head<JobName<A>>,
+    line: BatchLine<'_>,
+) -> JobStage<A>
+    requires { IsName head.name }
+    ensures fits { StageFits (line.entry.number + 1) result }
+    ensures turns { (ended room : ℕ) (job : JobLineOf) (number : ℕ) → ShowsHead head job number
+        → HasRoom ended room (Headed job number)
+        → Turns region ended room (Headed job number) (shown_line line.entry) (To result) }
+{
+    match line.heading {
+        Heading::Signatures => {
+            let part = signatures_part(alloc, region, &head, line.number + 1);
+            Stage::Signatures(head, part)
+        }
+        _ => Stage::Refused(line.number, BatchFault::BadJobLine),
+    }
+}
+
+/// The signatures of a job, whose first line has this number, before any line of them.
+fn signatures_part<A: Allocator + Copy>(
+    alloc: A,
+    region: usize,
+    head: &Head<JobName<A>>,
+    first_line: u64,
+) -> Part<SigReader<A>>
+    ensures fits { SignaturesFit first_line result }
+    ensures shown { (job : JobLineOf) (number : ℕ) → ShowsHead head.now job number
+        → ShowsSignatures region result (job_without_parts job number first_line) }
+{
+    if head.limits.words > region {
+        return Part::Refused(head.line, JobFault::WordsPastRegion);
+    }
+    Part::Reading(SigReader::new(alloc, first_line))
+}
+
+/// A line behind `SIGNATURES`.
+fn step_in_signatures<A: Allocator + Copy>(
+    alloc: A,
+    head: Head<JobName<A>>,
+    part: Part<SigReader<A>>,
+    line: BatchLine<'_>,
+) -> Result<JobStage<A>, AllocError>
+    requires name { IsName head.name }
+    requires part { SignaturesFit line.number part }
+    ensures fits { IfOk result (StageFits (line.entry.number + 1)) }
+    ensures turns { IfOk result (λ s. (region ended room : ℕ) (job : JobText)
+        → Shows region (stages.Signatures head part) (InSignatures job) → HasRoom ended room (InSignatures job)
+        → Turns region ended room (InSignatures job) (shown_line line.entry) (To s)) }
+{
+    match line.heading {
+        Heading::End => Ok(Stage::Refused(head.line, BatchFault::UnfinishedJob)),
+        Heading::Code => {
+            let part = code_part(alloc, part, line.number + 1)?;
+            Ok(Stage::Code(head, part))
+        }
+        _ => {
+            let part = more_signatures(part, line)?;
+            Ok(Stage::Signatures(head, part))
+        }
+    }
+}
+
+/// The signatures with one line more.
+fn more_signatures<A: Allocator + Copy>(
+    part: Part<SigReader<A>>,
+    line: BatchLine<'_>,
+) -> Result<Part<SigReader<A>>, AllocError>
+    requires { SignaturesFit line.number part }
+    ensures fits { IfOk result (SignaturesFit (line.entry.number + 1)) }
+    ensures shown { IfOk result (λ p. (region : ℕ) (job : JobText) → ShowsSignatures region part job
+        → ShowsSignatures region p (with_signatures job line.entry.text.now)) }
+{
+    match part {
+        Part::Reading(mut reader) => {
+            reader.feed(line.text)?;
+            Ok(Part::Reading(reader))
+        }
+        Part::Refused(number, fault) => Ok(Part::Refused(number, fault)),
+    }
+}
+
+/// The code of a job of these signatures, whose first line has this number, before any line of it.
+fn code_part<A: Allocator + Copy>(
+    alloc: A,
+    part: Part<SigReader<A>>,
+    first_line: u64,
+) -> Result<Part<CodeReading<A>>, AllocError>
+    ensures fits { IfOk result (CodeFits first_line) }
+    ensures shown { IfOk result (λ p. (region : ℕ) (job : JobText) → ShowsSignatures region part job → job.code ≡ []
+        → ShowsCode region p (with_code_line job first_line)) }
+{
+    match part {
+        Part::Refused(number, fault) => Ok(Part::Refused(number, fault)),
+        Part::Reading(reader) => match reader.finish() {
+            Ok(signatures) => {
+                let reader = CodeReader::new(alloc, first_line)?;
+                Ok(Part::Reading((signatures, reader)))
+            }
+            Err(SigFault::At(fault, number)) => Ok(Part::Refused(number, JobFault::Sig(fault))),
+            Err(SigFault::Memory) => Err(AllocError),
+        },
+    }
+}
+
+/// A line behind `CODE`.
+fn step_in_code<A: Allocator + Copy>(
+    alloc: A,
+    head: Head<JobName<A>>,
+    part: Part<CodeReading<A>>,
+    line: BatchLine<'_>,
+) -> Result<JobStep<A>, AllocError>
+    requires name { IsName head.name }
+    requires part { CodeFits line.number part }
+    ensures fits { IfOk result (StepFits (line.entry.number + 1)) }
+    ensures turns { IfOk result (λ s. (region ended room : ℕ) (job : JobText)
+        → Shows region (stages.Code head part) (InCode job) → HasRoom ended room (InCode job)
+        → Turns region ended room (InCode job) (shown_line line.entry) s) }
+{
+    match line.heading {
+        Heading::End => Ok(Step::Ends(job_entry(alloc, head, part)?)),
+        _ => {
+            let part = more_code(part, line)?;
+            Ok(Step::To(Stage::Code(head, part)))
+        }
+    }
+}
+
+/// The code with one line more.
+fn more_code<A: Allocator + Copy>(
+    part: Part<CodeReading<A>>,
+    line: BatchLine<'_>,
+) -> Result<Part<CodeReading<A>>, AllocError>
+    requires { CodeFits line.number part }
+    ensures fits { IfOk result (CodeFits (line.entry.number + 1)) }
+    ensures shown { IfOk result (λ p. (region : ℕ) (job : JobText) → ShowsCode region part job
+        → ShowsCode region p (with_code job line.entry.text.now)) }
+{
+    match part {
+        Part::Reading((signatures, mut reader)) => {
+            reader.feed(line.text)?;
+            Ok(Part::Reading((signatures, reader)))
+        }
+        Part::Refused(number, fault) => Ok(Part::Refused(number, fault)),
+    }
+}

@@ -1,0 +1,279 @@
+-- A machine with one slot changed is sound, and stands as an event leaves it.
+use Rattle.std.proofs.Common.{◌≡◌, ◌≢◌, ◌⊎◌, ℕ, zero, suc, ◌+◌, ◌-◌, ◌<◌, ◌≤◌, leb, ltb, Bool, true, false, cond, List, [], ◌∷◌}
+use Rattle.std.proofs.Common.{length, map, set, get_or, slice_get, All, Option, Some, None, refl, sym, ◌∙◌, ap, subst}
+use Rattle.std.proofs.Common.{arith, inl, inr, length-set}
+use Rattle.std.specs.Prelude.{sum_by, count_by, nat_lt, nat_eq, option_map}
+use Rattle.std.proofs.lemmas.Bool.{cases_eq, ltb-true, ltb-false}
+use Rattle.std.proofs.lemmas.List.{map-set, length-map, length-replicate}
+use Rattle.std.proofs.lemmas.List.Sums.{sum_by-cons}
+use Rattle.std.proofs.lemmas.Option.{none-some, same_Some, cond_some, slice_get_within, slice_get_past, slice_get-map, slice_get-get_or}
+use Rattle.refcounts.specs.SharedState.{Slot, blocks_in, words_in, block_count}
+use Rattle.refcounts.specs.SharedState as shared
+use Rattle.refcounts.specs.Owners.{slots_seen_by}
+use Rattle.job_memory.specs.JobBlocks.{JobBlocks, ChangesOnlyOf, own_slots, held_words, words_of, grant_of}
+use Rattle.job_memory.specs.JobBlocks as jobs
+use Rattle.job_steps.specs.declared.event.Event.{Event}
+use Rattle.job_steps.specs.EventLaws.{ChangesItsJob, EventsChangeTheirJob, ClosedChangeNothing, MissingAreClosed}
+use Rattle.job_steps.specs.Events.{job_of, named_job, after_event, next_standing}
+use Rattle.job_steps.specs.Standings.{Standing, Waiting, Live, InFlight, Ended, Collected, of_job, sum_over}
+use Rattle.job_steps.specs.Standings.{reserved_words, granted_words}
+use Rattle.job_steps.specs.States.{Task}
+use Rattle.job_slots.specs.declared.status.Status.{Status}
+use Rattle.job_slots.specs.declared.status.Status.TheVariants as status
+use Rattle.job_slots.specs.Answers.{or_same}
+use Rattle.job_slots.specs.Laws.{OthersAreShown}
+use Rattle.job_machine.specs.Machines.{place_of}
+use Rattle.job_slots.specs.Slots.{SlotState, Shows, standing_of, standing_by, grant_by}
+use Rattle.job_machine.specs.Sound.{IsSound, sum_to, standings_of}
+
+-- ---- places
+
+pub get-set_same : {X : Type 0} (xs : List X) (i : ℕ) (x y : X) → slice_get xs i ≡ Some x →
+    slice_get (set xs i y) i ≡ Some y
+get-set_same [] i x y e = absurd (none-some x e)
+get-set_same (z ∷ xs) zero x y e = refl
+get-set_same (z ∷ xs) (suc i) x y e = get-set_same xs i x y e
+
+pub get-set_other : {X : Type 0} (xs : List X) (i j : ℕ) (y : X) → (i ≡ j → ⊥) →
+    slice_get (set xs i y) j ≡ slice_get xs j
+get-set_other [] i j y ne = refl
+get-set_other (z ∷ xs) zero zero y ne = absurd (ne refl)
+get-set_other (z ∷ xs) zero (suc j) y ne = refl
+get-set_other (z ∷ xs) (suc i) zero y ne = refl
+get-set_other (z ∷ xs) (suc i) (suc j) y ne = get-set_other xs i j y (λ e. ne (ap suc e))
+
+pub set_back : {X : Type 0} (xs : List X) (i : ℕ) (x : X) → slice_get xs i ≡ Some x → set xs i x ≡ xs
+set_back [] i x e = refl
+set_back (z ∷ xs) zero x e = ap (λ k. k ∷ xs) (sym (same_Some z x e))
+set_back (z ∷ xs) (suc i) x e = ap (λ zs. z ∷ zs) (set_back xs i x e)
+
+-- lists of one length have something at the same places
+pub beside_at : {X Y : Type 0} (xs : List X) (ys : List Y) → length ys ≡ length xs → (i : ℕ) (x : X) →
+    slice_get xs i ≡ Some x → (y : Y) × (slice_get ys i ≡ Some y)
+beside_at [] ys same i x e = absurd (none-some x e)
+beside_at (z ∷ xs) [] same i x e = absurd (omega (arith, same))
+beside_at (z ∷ xs) (y ∷ ys) same zero x e = (y, refl)
+beside_at (z ∷ xs) (y ∷ ys) same (suc i) x e = beside_at xs ys (omega (arith, same)) i x e
+
+-- the number of a place
+pub record HasPlace (count job place : ℕ) : Type 0 where
+  pub job_is : job ≡ suc place
+  pub within : place < count
+
+pub place_is : (count job place : ℕ) → place_of count job ≡ Some place → HasPlace count job place
+place_is count zero place e = absurd (none-some place e)
+place_is count (suc k) place e =
+    let parts = cond_some (nat_lt k count) k place e in
+    record {
+      job_is = ap suc parts.1;
+      within = subst (λ n. n < count) parts.1 (ltb-true k count parts.0);
+    }
+
+cond_none : {A : Type 0} (b : Bool) (x : A) → cond b (Some x) None ≡ None → b ≡ false
+cond_none true x e = absurd (none-some x (sym e))
+cond_none false x e = refl
+
+-- a number without a place is that of no job
+pub no_place : {E : Type 0} (count job : ℕ) (list : List E) → length list ≡ count → place_of count job ≡ None →
+    of_job job list ≡ None
+no_place count zero list same e = refl
+no_place count (suc k) list same e =
+    let past : count ≤ k = ltb-false k count (cond_none (nat_lt k count) k e) in
+    slice_get_past list k (omega arith)
+
+-- ---- sums over jobs
+
+sum_to_past : (n j : ℕ) (f g : ℕ → ℕ) → n < j → ((k : ℕ) → (k ≡ j → ⊥) → g k ≡ f k) → sum_to n g ≡ sum_to n f
+sum_to_past zero j f g past same = refl
+sum_to_past (suc n) j f g past same =
+    let rest = sum_to_past n j f g (omega arith) same in
+    let here : g (suc n) ≡ f (suc n) = same (suc n) (λ e. absurd (omega (arith, e))) in
+    omega (arith, rest, here)
+
+pub sum_to_changed : (n j : ℕ) (f g : ℕ → ℕ) → 1 ≤ j → j ≤ n → ((k : ℕ) → (k ≡ j → ⊥) → g k ≡ f k) →
+    sum_to n g + f j ≡ sum_to n f + g j
+sum_to_changed zero j f g least most same = absurd (omega arith)
+sum_to_changed (suc n) j f g least most same = elim (cases_eq j (suc n)) [
+  | inl e ↦
+      let rest = sum_to_past n j f g (omega (arith, e)) same in
+      let old : f j ≡ f (suc n) = ap f e in
+      let new : g j ≡ g (suc n) = ap g e in
+      omega (arith, rest, old, new)
+  | inr ne ↦
+      let rest = sum_to_changed n j f g least (omega (arith, ne)) same in
+      let here : g (suc n) ≡ f (suc n) = same (suc n) (λ e. ne (sym e)) in
+      omega (arith, rest, here)
+]
+
+sum_to_shift : (n : ℕ) (f : ℕ → ℕ) → sum_to (suc n) f ≡ f 1 + sum_to n (λ k. f (suc k))
+sum_to_shift zero f = omega arith
+sum_to_shift (suc n) f = omega (arith, sum_to_shift n f)
+
+-- what is so of each job, with its task and its slot
+abbrev pub AtEach : List Task → List SlotState → (ℕ → Task → SlotState → Type 0) → Type 0
+AtEach tasks slots P = (place : ℕ) (task : Task) (slot : SlotState) → slice_get tasks place ≡ Some task →
+    slice_get slots place ≡ Some slot → P place task slot
+
+-- a sum by the jobs' numbers is that by their standings
+pub sum_is : (number : Task → Standing → ℕ) (tasks : List Task) (slots : List SlotState) (f : ℕ → ℕ) →
+    length slots ≡ length tasks →
+    AtEach tasks slots (λ place task slot. f (suc place) ≡ number task (standing_of slot)) →
+    sum_to (length tasks) f ≡ sum_over number tasks (standings_of slots)
+sum_is number [] slots f same each = refl
+sum_is number (t ∷ ts) [] f same each = absurd (omega (arith, same))
+sum_is number (t ∷ ts) (s ∷ ss) f same each =
+    let shift = sum_to_shift (length ts) f in
+    let here = each 0 t s refl refl in
+    let rest =
+    sum_is number ts ss (λ k. f (suc k)) (omega (arith, same)) (λ place task slot. each (suc place) task slot) in
+    omega (arith, shift, here, rest)
+
+-- a sum by the jobs' numbers is at most that of their cells
+pub sum_within : (tasks : List Task) (slots : List SlotState) (f : ℕ → ℕ) → length slots ≡ length tasks →
+    AtEach tasks slots (λ place task slot. f (suc place) ≤ task.limits.cells) →
+    sum_to (length tasks) f ≤ sum_by (λ (task : Task). task.limits.cells) tasks
+sum_within [] slots f same each = omega arith
+sum_within (t ∷ ts) [] f same each = absurd (omega (arith, same))
+sum_within (t ∷ ts) (s ∷ ss) f same each =
+    let shift = sum_to_shift (length ts) f in
+    let here = each 0 t s refl refl in
+    let rest = sum_within ts ss (λ k. f (suc k)) (omega (arith, same)) (λ place task slot. each (suc place) task slot) in
+    omega (arith, shift, here, rest, sum_by-cons (λ (task : Task). task.limits.cells) t ts)
+
+granted_by : (task : Task) (s : Status) (n : ℕ) → words_of (grant_by task s) ≡ reserved_words task (standing_by s n)
+granted_by task status.Waiting n = refl
+granted_by task status.Live n = refl
+granted_by task status.InFlight n = refl
+granted_by task status.Ended n = refl
+granted_by task status.Collected n = refl
+
+-- the grants are those of the standings
+granted_each : (grants : List (Option ℕ)) (tasks : List Task) (slots : List SlotState) → length grants ≡ length tasks →
+    length slots ≡ length tasks →
+    AtEach tasks slots (λ place task slot. get_or grants place None ≡ grant_by task slot.status) →
+    sum_by words_of grants ≡ granted_words tasks (standings_of slots)
+granted_each [] [] slots jobs same each = refl
+granted_each [] (t ∷ ts) slots jobs same each = absurd (omega (arith, jobs))
+granted_each (g ∷ gs) [] slots jobs same each = absurd (omega (arith, jobs))
+granted_each (g ∷ gs) (t ∷ ts) [] jobs same each = absurd (omega (arith, same))
+granted_each (g ∷ gs) (t ∷ ts) (s ∷ ss) jobs same each =
+    let grant : g ≡ grant_by t s.status = each 0 t s refl refl in
+    let here : words_of g ≡ reserved_words t (standing_of s) = ap words_of grant ∙ granted_by t s.status s.trace.executed in
+    let rest =
+    granted_each gs ts ss (omega (arith, jobs)) (omega (arith, same)) (λ place task slot. each (suc place) task slot) in
+    omega (arith, here, rest, sum_by-cons words_of g gs)
+
+pub granted_is : (blocks : JobBlocks) (tasks : List Task) (slots : List SlotState) → IsSound blocks tasks slots →
+    jobs.granted_words blocks ≡ granted_words tasks (standings_of slots)
+granted_is blocks tasks slots sound =
+    granted_each blocks.grants tasks slots sound.jobs sound.slots_are
+    (λ place task slot t s.
+    let at : suc place - 1 ≡ place = omega arith in
+    subst (λ (k : ℕ). get_or blocks.grants k None ≡ grant_by task slot.status) at (sound.each place task slot t s).grant)
+
+-- ---- one slot changes
+
+abbrev counts : Slot → ℕ
+counts slot = cond (nat_lt 0 slot.count) 1 0
+
+blocks_are_sum : (slots : List Slot) → blocks_in slots ≡ sum_by counts slots
+blocks_are_sum slots = refl
+
+-- the blocks of all jobs are as many more as the job's own
+counted_with : (job : ℕ) (old new : JobBlocks) → ChangesOnlyOf job old new →
+    block_count new.memory + blocks_in (own_slots job old) ≡ block_count old.memory + blocks_in (own_slots job new)
+counted_with job old new changes =
+    omega (
+      arith,
+      changes.memory.balance counts,
+      blocks_are_sum new.memory.slots,
+      blocks_are_sum old.memory.slots,
+      blocks_are_sum (own_slots job old),
+      blocks_are_sum (own_slots job new),
+    )
+
+pub sound_with : OthersAreShown → (old new : JobBlocks) (tasks : List Task) (slots : List SlotState) (place : ℕ)
+    (task : Task) (slot : SlotState) → IsSound old tasks slots → slice_get tasks place ≡ Some task →
+    ChangesOnlyOf (suc place) old new → Shows (suc place) new task slot → IsSound new tasks (set slots place slot)
+sound_with others old new tasks slots place task slot sound at changes shows =
+    let within : suc place ≤ length tasks = omega (arith, slice_get_within tasks place task at) in
+    let apart : (k : ℕ) → (k ≡ suc place → ⊥) → own_slots k new ≡ own_slots k old = (λ k ne. changes.memory.others k ne) in
+    let blocks =
+    sum_to_changed (length tasks) (suc place) (λ job. blocks_in (own_slots job old)) (λ job. blocks_in (own_slots job new))
+    (omega arith) within (λ k ne. ap blocks_in (apart k ne)) in
+    let words =
+    sum_to_changed (length tasks) (suc place) (λ job. held_words job old) (λ job. held_words job new) (omega arith) within
+    (λ k ne. ap words_in (apart k ne)) in
+    record {
+      jobs = changes.jobs ∙ sound.jobs;
+      slots_are = length-set slots place slot ∙ sound.slots_are;
+      few = sound.few;
+      least = omega (arith, sound.least, changes.memory.room);
+      most = omega (arith, sound.most, changes.memory.room);
+      fitting =
+          subst (λ (room : ℕ). All (λ (task : Task). task.limits.words ≤ room) tasks) (sym changes.memory.room)
+          sound.fitting;
+      each =
+          (λ k other slot_k at_k slot_at. elim (cases_eq place k) [
+            | inl e ↦
+                let old = beside_at tasks slots sound.slots_are place task at in
+                let same_task : task ≡ other = same_Some task other (sym at ∙ (ap (slice_get tasks) e ∙ at_k)) in
+                let same_slot : slot ≡ slot_k =
+                same_Some slot slot_k
+                (sym (get-set_same slots place old.0 slot old.1)
+                ∙ (ap (λ (j : ℕ). slice_get (set slots place slot) j) e ∙ slot_at)) in
+                subst (λ (j : ℕ). Shows (suc j) new other slot_k) e
+                (subst (λ (t : Task). Shows (suc place) new t slot_k) same_task
+                (subst (λ (s : SlotState). Shows (suc place) new task s) same_slot shows))
+            | inr ne ↦
+                others (suc k) (suc place) old new other slot_k changes (λ e. ne (omega (arith, e)))
+                (sound.each k other slot_k at_k (sym (get-set_other slots place k slot ne) ∙ slot_at))
+          ]);
+      numbers = changes.memory.ids ∙ sound.numbers;
+      counted = omega (arith, counted_with (suc place) old new changes, sound.counted, blocks);
+      used = omega (arith, changes.memory.balance (λ (s : Slot). length s.words), sound.used, words);
+    }
+
+-- ---- where an event leaves the jobs
+
+after_at : (region : ℕ) (tasks : List Task) (event : Event) (standings : List Standing) (place : ℕ) (task : Task)
+    (old : Standing) → ChangesItsJob region tasks event standings (suc place) task old →
+    slice_get standings place ≡ Some old → (o : Option Standing) → next_standing event task old ≡ o →
+    set standings place (or_same old o) ≡ after_event region tasks event standings
+after_at region tasks event standings place task old changes at None e = set_back standings place old at ∙ sym (changes.passed e)
+after_at region tasks event standings place task old changes at (Some new) e = sym (changes.changed new e)
+
+pub standing_at : (slots : List SlotState) (place : ℕ) (slot : SlotState) → slice_get slots place ≡ Some slot →
+    slice_get (standings_of slots) place ≡ Some (standing_of slot)
+standing_at slots place slot at = slice_get-map standing_of slots place ∙ ap (option_map standing_of) at
+
+-- a slot that stands where an event leaves it, among the others
+pub stands_after : EventsChangeTheirJob → (region : ℕ) (tasks : List Task) (event : Event) (slots : List SlotState)
+    (place : ℕ) (task : Task) (old new : SlotState) →
+    job_of region tasks event (standings_of slots) ≡ Some (suc place) → slice_get tasks place ≡ Some task →
+    slice_get slots place ≡ Some old →
+    standing_of new ≡ or_same (standing_of old) (next_standing event task (standing_of old)) →
+    standings_of (set slots place new) ≡ after_event region tasks event (standings_of slots)
+stands_after laws region tasks event slots place task old new job_is at slot_at stands =
+    let standings = standings_of slots in
+    let here = standing_at slots place old slot_at in
+    let changes = laws region tasks event standings (suc place) task (standing_of old) job_is at here in
+    map-set standing_of slots place new
+    ∙ ap (λ (s : Standing). set standings place s) stands
+    ∙ after_at region tasks event standings place task (standing_of old) changes here
+    (next_standing event task (standing_of old)) refl
+
+-- a slot that stands where it stood, among the others
+pub stands_still : (slots : List SlotState) (place : ℕ) (old new : SlotState) → slice_get slots place ≡ Some old →
+    standing_of new ≡ standing_of old → standings_of (set slots place new) ≡ standings_of slots
+stands_still slots place old new slot_at stands =
+    map-set standing_of slots place new
+    ∙ ap (λ (s : Standing). set (standings_of slots) place s) stands
+    ∙ set_back (standings_of slots) place (standing_of old) (standing_at slots place old slot_at)
+
+-- an event of a job that there isn't changes nothing
+pub missing_after : MissingAreClosed → ClosedChangeNothing → (region : ℕ) (tasks : List Task) (event : Event)
+    (slots : List SlotState) (job : ℕ) → named_job event ≡ Some job → of_job job (standings_of slots) ≡ None →
+    after_event region tasks event (standings_of slots) ≡ standings_of slots
+missing_after missing closed region tasks event slots job named none =
+    closed region tasks event (standings_of slots) (missing region tasks event (standings_of slots) job named none)

@@ -1,0 +1,79 @@
+use Rattle.std.proofs.Common.{◌≡◌, ◌≤◌, ℕ, All, OnOk, subst, sym, ◌∙◌, refl, arith}
+use Rattle.job_steps.specs.Standings.{of_job, Collected}
+use Rattle.job_machine.specs.Machines.{IsWaitingOrCollected, IsDone}
+use Rattle.job_machine.proofs.Turns.{Admits, RunsIdle, AreOut, admits, turns, turn_leads, out, words_on, left_in}
+use Rattle.job_machine.proofs.machine.Machine.run_all.Given.{Over}
+use Rattle.job_machine.proofs.machine.Machine.run_all.Goals as goal
+
+pub loop-job-init : goal.loop-job-init
+loop-job-init g c =
+    let idle : All IsWaitingOrCollected c.run_admitted-ran.new.self.standings =
+    rw c.in_default.is at c.run_admitted-ran.ensures.ok in (
+      record { leads = c.run_admitted-ran.ensures.leads; no_step = c.run_admitted-ran.ensures.no_step; idle = idle },
+      c.run_admitted-ran.ensures.desk,
+    )
+
+held : (g : Over) (c : goal.After-run_job-arg-1 g) → Admits c.in-Admitted.job c.loop-job.self c.admit.new.self
+held g c =
+    admits c.admitted_have_room.ensures c.events_keep.ensures c.events_use_up.ensures c.in-Admitted.job
+    c.args.self.now c.loop-job.self c.admit.new.self c.jobs-jobs.ensures.verified c.jobs-jobs.ensures.kept
+    c.loop-job.invariant.0 (sym c.in-Admitted.ensures.answer) c.in-Admitted.ensures.state
+
+pub run_job-ran-requires-clause-words : goal.run_job-ran-requires-clause-words
+run_job-ran-requires-clause-words g c =
+    subst (λ (k : ℕ). All (λ task. task.limits.words ≤ k) c.admit.new.self.tasks) (sym c.loop-job.invariant.1)
+    (words_on _ _ _ (held g c).goes_on.leads (words_on _ _ _ c.loop-job.invariant.0.leads c.requires.words))
+
+pub run_job-ran-requires-clause-no_step : goal.run_job-ran-requires-clause-no_step
+run_job-ran-requires-clause-no_step g c = (held g c).goes_on.no_step
+
+held_err : (g : Over) (c : goal.In-Err-ran g) → Admits c.in-Admitted.job c.loop-job.self c.admit.new.self
+held_err g c =
+    admits c.admitted_have_room.ensures c.events_keep.ensures c.events_use_up.ensures c.in-Admitted.job
+    c.args.self.now c.loop-job.self c.admit.new.self c.jobs-jobs.ensures.verified c.jobs-jobs.ensures.kept
+    c.loop-job.invariant.0 (sym c.in-Admitted.ensures.answer) c.in-Admitted.ensures.state
+
+pub returns-in-Err-ran-clause-leads : goal.returns-in-Err-ran-clause-leads
+returns-in-Err-ran-clause-leads g c =
+    turn_leads c.leads_join.ensures c.in-Admitted.job _ _ _ _ c.loop-job.invariant.0.leads (held_err g c)
+    c.run_job-ran.ensures.goes_on
+
+pub returns-in-Err-ran-clause-desk : goal.returns-in-Err-ran-clause-desk
+returns-in-Err-ran-clause-desk g c = c.run_job-ran.ensures.desk ∙ c.loop-job.invariant.1
+
+held_ok : (g : Over) (c : goal.In_default-ran g) → Admits c.in-Admitted.job c.loop-job.self c.admit.new.self
+held_ok g c =
+    admits c.admitted_have_room.ensures c.events_keep.ensures c.events_use_up.ensures c.in-Admitted.job
+    c.args.self.now c.loop-job.self c.admit.new.self c.jobs-jobs.ensures.verified c.jobs-jobs.ensures.kept
+    c.loop-job.invariant.0 (sym c.in-Admitted.ensures.answer) c.in-Admitted.ensures.state
+
+pub loop-job-smaller : goal.loop-job-smaller
+loop-job-smaller g c =
+    let less = (held_ok g c).fewer in
+    let more = c.run_job-ran.ensures.no_more in
+    omega (arith, less, more)
+
+pub loop-job-preserved : goal.loop-job-preserved
+loop-job-preserved g c =
+    let done : IsDone (of_job c.in-Admitted.job c.run_job-ran.new.self.standings) =
+    rw c.in_default-ran.is at c.run_job-ran.ensures.ok in (
+      turns c.leads_join.ensures c.in-Admitted.job _ _ _ _ c.loop-job.invariant.0 (held_ok g c)
+          c.run_job-ran.ensures.goes_on done,
+      c.run_job-ran.ensures.desk ∙ c.loop-job.invariant.1,
+    )
+
+ends : (g : Over) (c : goal.In_default-admit g) → AreOut c.args.self.now c.admit.new.self
+ends g c =
+    out c.leads_join.ensures c.events_go_on.ensures c.events_keep.ensures c.args.self.now c.loop-job.self
+    c.admit.new.self c.jobs-jobs.ensures.verified c.jobs-jobs.ensures.kept c.jobs-jobs.ensures.fitting
+    c.loop-job.invariant.0
+    (λ job e. c.in_default-admit.not-Admitted job (c.admit.ensures.answer ∙ e)) c.admit.ensures.state
+
+pub returns : goal.returns
+returns g c = record {
+  leads = (ends g c).leads;
+  no_step = (ends g c).no_step;
+  ok = (ends g c).collected;
+  refused = tt;
+  desk = c.loop-job.invariant.1;
+}

@@ -1,0 +1,160 @@
+-- What a machine shows, and what events make of it.
+use Rattle.std.specs.Prelude.{◌≡◌, ℕ, zero, suc, nat_lt, Bool, false, if◌then◌else◌, List, position, Option, Some, None, refl}
+use Rattle.std.specs.Coded.{Coded, code_by, coded_ℕ, coded×, coded_list}
+use Rattle.vcode_base.specs.declared.outcome.Outcome.TheVariants.{Returned}
+use Rattle.job_steps.specs.declared.event.Event.{Event}
+use Rattle.job_steps.specs.Events.{after_event, recalled_standings, LeadTo}
+use Rattle.job_steps.specs.Runs.{outcome}
+use Rattle.job_steps.specs.Standings.{Standing, Waiting, Live, InFlight, Ended, Collected, of_job, is_waiting, admission}
+use Rattle.job_steps.specs.Standings.{executed_at, peak_at, outcome_at}
+use Rattle.job_steps.specs.States.{Task}
+use Rattle.job_steps.specs.Steps.{Ending}
+use Rattle.job_steps.specs.Tickets.{Asked}
+use Rattle.job_slots.specs.declared.status.Status.{Status}
+use Rattle.job_slots.specs.declared.answer.Begun.{Begun}
+use Rattle.job_slots.specs.declared.answer.Begun.TheVariants as begun
+use Rattle.job_slots.specs.declared.answer.Finished.{Finished}
+use Rattle.job_slots.specs.declared.answer.Finished.TheVariants as finished
+use Rattle.job_slots.specs.Slots.{status_of}
+use Rattle.job_slots.specs.Answers.{Begins, Finishes, IsReturned, is_live, is_in_flight, is_ended}
+use Rattle.job_machine.specs.declared.machine.Admission.{Admission}
+use Rattle.job_machine.specs.declared.machine.Admission.TheVariants.{Admitted, NotNow, NoneWaiting}
+
+-- the words of the region, and the jobs in order with where each stands
+pub record MachineState : Type 0 where
+  pub region : ℕ
+  pub tasks : List Task
+  pub standings : List Standing
+
+-- it is told apart by all of these
+abbrev pub machine_code : Coded Task → Coded Standing → Coded MachineState
+machine_code task standing =
+    code_by (ℕ × (List Task × List Standing)) (coded× coded_ℕ (coded× (coded_list task) (coded_list standing)))
+    (λ m. (m.region, (m.tasks, m.standings))) (λ p. record { region = p.0; tasks = p.1.0; standings = p.1.1 }) (λ _. refl)
+
+-- the same jobs, that stand otherwise
+abbrev pub with_standings : MachineState → List Standing → MachineState
+with_standings m standings = record { region = m.region; tasks = m.tasks; standings = standings }
+
+-- the machine after an event, which is passed over where it isn't open
+abbrev pub machine_after : Event → MachineState → MachineState
+machine_after event m = with_standings m (after_event m.region m.tasks event m.standings)
+
+-- some events lead from one machine to another
+abbrev pub Leads : MachineState → MachineState → Type 0
+Leads old new =
+    (new.region ≡ old.region) × (new.tasks ≡ old.tasks) × LeadTo old.region old.tasks old.standings new.standings
+
+-- ---- admission
+
+abbrev pub admission_by : Option ℕ → Option ℕ → Admission
+admission_by None next = NoneWaiting
+admission_by (Some place) None = NotNow
+admission_by (Some place) (Some job) = Admitted job
+
+-- what an admission answers: the first job that waits, where it has room
+abbrev pub admission_in : MachineState → Admission
+admission_in m = admission_by (position is_waiting m.standings) (admission m.region m.tasks m.standings)
+
+-- ---- a begin and a finish
+
+-- what a begin answers, of the job of that number, if there is one
+abbrev pub BeginsIn : {A : Type 0} → (job words : ℕ) → Option Task → Option Standing → Begun A → Type 0
+BeginsIn job words (Some task) (Some standing) answer = Begins job words task standing answer
+BeginsIn job words None standing (begun.NotReady desk) = desk ≡ words
+BeginsIn job words None standing answer = ⊥
+BeginsIn job words (Some task) None (begun.NotReady desk) = desk ≡ words
+BeginsIn job words (Some task) None answer = ⊥
+
+-- nothing changes where the job isn't ready, or the desk is too small
+abbrev pub after_begun : {A T : Type 0} → Begun A → (old next : T) → T
+after_begun (begun.Began ticket) old next = next
+after_begun (begun.Ended desk) old next = next
+after_begun (begun.NotReady desk) old next = old
+after_begun (begun.SmallDesk desk) old next = old
+
+abbrev pub FinishesIn : Asked → Option Task → Option Standing → Finished → Type 0
+FinishesIn filled (Some task) (Some standing) answer = Finishes filled.job task standing filled answer
+FinishesIn filled None standing finished.Stale = Unit {0}
+FinishesIn filled None standing answer = ⊥
+FinishesIn filled (Some task) None finished.Stale = Unit {0}
+FinishesIn filled (Some task) None answer = ⊥
+
+-- nothing changes where the step is stale
+abbrev pub after_finished : {T : Type 0} → Finished → (old next : T) → T
+after_finished finished.Done old next = next
+after_finished finished.Ended old next = next
+after_finished finished.Stale old next = old
+
+-- ---- what is told of a job, if there is one of that number
+
+abbrev pub is_flying : Option Standing → Bool
+is_flying None = false
+is_flying (Some standing) = is_in_flight standing
+
+abbrev pub is_over : Option Standing → Bool
+is_over None = false
+is_over (Some standing) = is_ended standing
+
+abbrev pub told_by : {T : Type 0} → (Task → Standing → T) → Option Task → Option Standing → Option T
+told_by of (Some task) (Some standing) = Some (of task standing)
+told_by of (Some task) None = None
+told_by of None standing = None
+
+-- what is so of the task and the standing of a job
+abbrev pub told : {T : Type 0} → (Task → Standing → T) → ℕ → MachineState → Option T
+told of job m = told_by of (of_job job m.tasks) (of_job job m.standings)
+
+abbrev pub outcome_by : Option Task → Option Standing → Option Ending
+outcome_by (Some task) (Some standing) = outcome_at task standing
+outcome_by (Some task) None = None
+outcome_by None standing = None
+
+-- the outcome of a job that is collected
+abbrev pub outcome_in : ℕ → MachineState → Option Ending
+outcome_in job m = outcome_by (of_job job m.tasks) (of_job job m.standings)
+
+-- the job of this number has ended by return
+pub record HasReturnedIn (m : MachineState) (job : ℕ) : Type 0 where
+  pub task : Task
+  pub task_is : of_job job m.tasks ≡ Some task
+  pub ended : of_job job m.standings ≡ Some Ended
+  pub returned : IsReturned (outcome task)
+
+-- ---- jobs by their places
+
+-- the place of a job, counted from 0, among so many jobs
+abbrev pub place_of : ℕ → ℕ → Option ℕ
+place_of count zero = None
+place_of count (suc place) = if nat_lt place count then Some place else None
+
+-- ---- running out
+
+-- the job runs, with no step begun
+abbrev pub is_running : Option Standing → Bool
+is_running None = false
+is_running (Some standing) = is_live standing
+
+abbrev pub IsWaitingOrCollected : Standing → Type 0
+IsWaitingOrCollected Waiting = Unit {0}
+IsWaitingOrCollected Collected = Unit {0}
+IsWaitingOrCollected standing = ⊥
+
+-- a job that didn't wait is collected; there may be no such job
+abbrev pub IsDone : Option Standing → Type 0
+IsDone None = Unit {0}
+IsDone (Some standing) = IsWaitingOrCollected standing
+
+-- no step has begun
+abbrev pub HasNoStep : MachineState → Type 0
+HasNoStep m = recalled_standings m.standings ≡ m.standings
+
+-- other jobs stand where they stood
+abbrev pub OthersStand : ℕ → MachineState → MachineState → Type 0
+OthersStand job old new = (other : ℕ) → (other ≡ job → ⊥) → of_job other new.standings ≡ of_job other old.standings
+
+-- from one machine to another by events of a job, at whose end no step has begun
+pub record GoesOn (job : ℕ) (old new : MachineState) : Type 0 where
+  pub leads : Leads old new
+  pub no_step : HasNoStep new
+  pub others : OthersStand job old new
