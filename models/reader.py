@@ -6,18 +6,8 @@ from faults import BAD_NUMBER, BAD_WORD, CODE_TOO_LARGE, FUNCTION_TWICE, MISPLAC
 from instructions import ALONE, MOVES, OF_EITHER, OF_NUMBERS, SCALARS, VECTOR_WORDS, WITH_OPTION, shown
 
 GREATEST_NAME, MOST_FUNCTIONS, MOST_IFS, MOST_ELEMENTS, GREATEST_COUNT = 64, 512, 64, 65_536, 4_096
-STRUCTURE = ["FUNC", "RET", "IF", "ELSE", "ENDIF", "CALL", "CONST", *MOVES]
-
-
-@dataclass
-class Language:
-    """The words that may stand where an instruction may, and the kinds of a CONST."""
-
-    heads: list
-    constants: dict
-
-
-WHOLE = Language([*STRUCTURE, *VECTOR_WORDS], SCALARS)
+# The words that may stand where an instruction may.
+HEADS = ["FUNC", "RET", "IF", "ELSE", "ENDIF", "CALL", "CONST", *MOVES, *VECTOR_WORDS]
 
 
 @dataclass
@@ -76,11 +66,10 @@ def number(text):
 class Reader:
     """Reads a text; the lines of what stands open are kept, the innermost last."""
 
-    def __init__(self, text, first_line, language):
+    def __init__(self, text, first_line):
         self.words = words(text, first_line)
         self.ahead = None
         self.open = []
-        self.language = language
 
     def next(self):
         """The next word; None at the end, where nothing is open."""
@@ -96,7 +85,7 @@ class Reader:
     def program(self):
         functions = []
         while (word := self.next()) is not None:
-            if word.text not in self.language.heads:
+            if word.text not in HEADS:
                 raise Fault(word.line, BAD_WORD)
             if word.text != "FUNC":
                 raise Fault(word.line, MISPLACED)
@@ -123,7 +112,7 @@ class Reader:
         items, ifs = [], []
         while True:
             word = self.next()
-            if word.text not in self.language.heads:
+            if word.text not in HEADS:
                 raise Fault(word.line, BAD_WORD)
             match word.text:
                 case "FUNC":
@@ -164,7 +153,7 @@ class Reader:
         elif head.text in MOVES:
             item = Item(head.line, "Move", head.text, numbers=[self.count(), self.count()])
         elif head.text == "CONST":
-            kind = self.kind(self.language.constants)
+            kind = self.kind(SCALARS)
             item = Item(head.line, "Const", kind=kind, numbers=self.constant(kind))
         elif head.text in OF_NUMBERS:
             item.kind = self.kind({"INT": SCALARS["INT"]})
@@ -226,9 +215,9 @@ def element(kind, word):
     return int(word.text == "T")
 
 
-def read(text, first_line, language=WHOLE):
+def read(text, first_line):
     """The functions of a text of bytes, or a Fault."""
-    return Reader(text, first_line, language).program()
+    return Reader(text, first_line).program()
 
 
 def targets(items):

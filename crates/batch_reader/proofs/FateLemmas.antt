@@ -5,7 +5,6 @@ use Rattle.std.specs.Prelude.{nat_lt}
 use Rattle.std.proofs.lemmas.Bool.Decides.{nat_tests}
 use Rattle.vcode_base.specs.declared.limits.Limits.{Limits}
 use Rattle.vcode_reader.specs.declared.fault.CodeFault.{CodeFault}
-use Rattle.vcode_reader.specs.declared.language.Language.TheVariants.{Whole}
 use Rattle.vcode_reader.specs.Reading.{ReaderState as CodeState, HasCome as CodeHasCome, reading as code_reading}
 use Rattle.vcode_reader.specs.Trees.{Program}
 use Rattle.signatures.specs.declared.fault.SignatureFault.{SignatureFault}
@@ -75,20 +74,20 @@ unfolding signed_program_of
 refused_before_code region job refusal e = rw e refl
 
 pub refused_by_code : (region : ℕ) (job : JobText) (known : List Signature) (fault : CodeFault) (line : ℕ)
-    → signatures_of region job ≡ Ok known → code_reading Whole job.code_line job.code ≡ Err (fault, line)
+    → signatures_of region job ≡ Ok known → code_reading job.code_line job.code ≡ Err (fault, line)
     → signed_program_of region job ≡ Err (Read fault, line)
 unfolding signed_program_of
 refused_by_code region job known fault line e f = rw (e, f) refl
 
 pub refused_by_kinds : (region : ℕ) (job : JobText) (known : List Signature) (program : Program) (fault : KindFault)
     (line : ℕ)
-    → signatures_of region job ≡ Ok known → code_reading Whole job.code_line job.code ≡ Ok program
+    → signatures_of region job ≡ Ok known → code_reading job.code_line job.code ≡ Ok program
     → kind_fault known program ≡ Some (fault, line) → signed_program_of region job ≡ Err (Kind fault, line)
 unfolding signed_program_of
 refused_by_kinds region job known program fault line e f k = rw (e, f, k) refl
 
 pub program_is : (region : ℕ) (job : JobText) (known : List Signature) (program : Program)
-    → signatures_of region job ≡ Ok known → code_reading Whole job.code_line job.code ≡ Ok program
+    → signatures_of region job ≡ Ok known → code_reading job.code_line job.code ≡ Ok program
     → kind_fault known program ≡ None → signed_program_of region job ≡ Ok (known, program)
 unfolding signed_program_of
 program_is region job known program e f k = rw (e, f, k) refl
@@ -97,17 +96,16 @@ program_is region job known program e f k = rw (e, f, k) refl
 
 pub code_comes_to : (region : ℕ) (known : List Signature) (r : CodeState) (job : JobText)
     (x : Result Program (CodeFault × ℕ)) → HasRead region known r job
-    → ((bytes : List ℕ) → CodeHasCome r bytes → code_reading r.language r.first_line bytes ≡ x)
-    → code_reading Whole job.code_line job.code ≡ x
+    → ((bytes : List ℕ) → CodeHasCome r bytes → code_reading r.first_line bytes ≡ x)
+    → code_reading job.code_line job.code ≡ x
 code_comes_to region known r job x read answers =
-    ap (λ n. code_reading Whole n job.code) (sym read.first_line)
-    ∙ ap (λ l. code_reading l r.first_line job.code) (sym read.language) ∙ answers job.code read.code
+    ap (λ n. code_reading n job.code) (sym read.first_line) ∙ answers job.code read.code
 
 -- what is run is well kinded by the signatures of the text
 pub is_ready : (region : ℕ) (job : JobText) (known : List Signature) (program : Program) (kept : Head (List ℕ))
     (task : Task)
     → NoFaultWhereWellKinded → ShowsHead kept job.head job.line → signatures_of region job ≡ Ok known
-    → code_reading Whole job.code_line job.code ≡ Ok program → task.verified.program ≡ program
+    → code_reading job.code_line job.code ≡ Ok program → task.verified.program ≡ program
     → IsVerifiedBy known task.verified → task.name ≡ kept.name → task.limits ≡ kept.limits → IsReady region job task
 is_ready region job known program kept task law head e f same verified name limits =
     let fits = words_within region job known e in

@@ -1,7 +1,6 @@
 -- What becomes of a job of a batch before it runs, and what a batch comes to.
 use Rattle.std.specs.Prelude.{◌≡◌, ◌≤◌, ℕ, nat_lt, if◌then◌else◌, List, [], ◌∷◌, Option, Some, None, Result, Ok, Err}
 use Rattle.vcode_base.specs.declared.limits.Limits.{Limits}
-use Rattle.vcode_reader.specs.declared.language.Language.TheVariants.{Whole}
 use Rattle.vcode_reader.specs.Reading.{reading as code_reading}
 use Rattle.vcode_reader.specs.Trees.{Program}
 use Rattle.signatures.specs.Reading.{reading as signatures_reading}
@@ -57,7 +56,7 @@ kinded_program signatures program = signed_or_fault (signatures, program) (kind_
 unfoldable pub signed_program_of : ℕ → JobText → Result SignedProgram JobRefusal
 signed_program_of region job =
     result_and_then (signatures_of region job) (λ signatures.
-    result_and_then (refusal_by Read (code_reading Whole job.code_line job.code)) (kinded_program signatures))
+    result_and_then (refusal_by Read (code_reading job.code_line job.code)) (kinded_program signatures))
 
 -- ---- fates
 

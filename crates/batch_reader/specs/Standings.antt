@@ -1,7 +1,6 @@
 -- Where a batch stands between two of its lines: the jobs that have ended, and what is known of an open one.
 use Rattle.std.specs.Prelude.{◌≡◌, ◌≤◌, ◌+◌, ℕ, false, List, [], ◌∷◌, ◌++◌, Some, Result, Ok, Err}
 use Rattle.vcode_base.specs.declared.limits.TheConstants.{MOST_JOBS}
-use Rattle.vcode_reader.specs.declared.language.Language.TheVariants.{Whole}
 use Rattle.vcode_reader.specs.Reading.{ReaderState as CodeState, HasCome as CodeHasCome}
 use Rattle.signatures.specs.Scan.{ReaderState as SignatureState, HasCome as SignaturesHaveCome}
 use Rattle.signatures.specs.Signatures.{Signature}
@@ -81,7 +80,6 @@ ShowsSignatures region (PartRefused line fault) job = limits_within region job.h
 -- the code so far has come to a reader, where the signatures were read
 pub record HasRead (region : ℕ) (known : List Signature) (r : CodeState) (job : JobText) : Type 0 where
   pub signatures : signatures_of region job ≡ Ok known
-  pub language : r.language ≡ Whole
   pub first_line : r.first_line ≡ job.code_line
   pub code : CodeHasCome r job.code
 

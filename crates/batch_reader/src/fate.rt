@@ -1,7 +1,6 @@
 //! What becomes of a job at its `END`.
 
 ghost use Rattle.std.specs.Prelude.{◌≡◌, ℕ, Ok, IfOk};
-ghost use Rattle.vcode_reader.specs.declared.language.Language.TheVariants.{Whole};
 ghost use Rattle.vcode_reader.specs.Reading.{reading};
 ghost use Rattle.job_steps.specs.Jobs.{IsName};
 ghost use Rattle.batch_reader.specs.Batches.{JobText};
@@ -72,7 +71,7 @@ fn verified_fate<A: Allocator + Copy>(
 ) -> Result<Fate<Job<A>>, AllocError>
     requires { IsName head.now.name }
     ensures { IfOk result (λ fate. (region : ℕ) (job : JobText) → ShowsHead head.now job.head job.line
-        → signatures_of region job ≡ Ok signatures.now → reading Whole job.code_line job.code ≡ Ok program
+        → signatures_of region job ≡ Ok signatures.now → reading job.code_line job.code ≡ Ok program
         → IsFate region job fate) }
 {
     match verify(alloc, program, signatures) {

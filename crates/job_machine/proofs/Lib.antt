@@ -1,4 +1,7 @@
 mod FirstSlots
+mod FreshHands
+mod HandLemmas
+mod Replaying
 mod RunningOut
 mod SoundLemmas
 mod Stepping

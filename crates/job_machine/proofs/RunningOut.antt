@@ -1,33 +1,32 @@
 -- Events of a machine's jobs, one after another.
-use Rattle.std.proofs.Common.{◌≡◌, ◌⊎◌, ℕ, zero, suc, ◌+◌, ◌<◌, ◌≤◌, Bool, true, false, List, [], ◌∷◌, ◌++◌, length, map, set}
-use Rattle.std.proofs.Common.{get_or, slice_get, position, All, Option, Some, None, is_some, refl, sym, ◌∙◌, ap, subst, arith}
-use Rattle.std.proofs.Common.{inl, inr, length-set}
-use Rattle.std.proofs.lemmas.Bool.{false≢true, cases_eq}
-use Rattle.std.proofs.lemmas.Option.{none-some, same_Some, slice_get-get_or, get_or_from_slice_get, slice_get_within}
+use Rattle.std.proofs.Common.{◌≡◌, ◌⊎◌, ℕ, zero, suc, ◌≤◌, true, false, List, [], ◌∷◌, ◌++◌, length, map, set}
+use Rattle.std.proofs.Common.{slice_get, position, All, Option, Some, None, is_some, refl, sym, ◌∙◌, ap, subst, arith}
+use Rattle.std.proofs.Common.{inl, inr}
+use Rattle.std.proofs.lemmas.Bool.{false≢true}
+use Rattle.std.proofs.lemmas.Option.{none-some, same_Some, get_or_from_slice_get, slice_get_within}
 use Rattle.job_steps.specs.declared.event.Event.{Event}
 use Rattle.job_steps.specs.declared.event.Event.TheVariants.{Admit, Begin, Finish, Recall, Collect}
 use Rattle.job_steps.specs.EventLaws.{EventsGoOn, EventsKeep, EventsUseUp, LeadsJoin, RecallsAreEvents, IsVerified, AreKept}
-use Rattle.job_steps.specs.Events.{next_standing, named_job, job_of, next_standing_in, next_standing_of, is_open, with_next}
+use Rattle.job_steps.specs.Events.{next_standing, job_of, next_standing_in, next_standing_of, is_open, with_next}
 use Rattle.job_steps.specs.Events.{after_event, after_events, recalled_standing, recalled_standings, all_recalls, LeadTo}
-use Rattle.job_steps.specs.Events.{is_recall, all_events_left, standing_after_begin, standing_after}
-use Rattle.job_steps.specs.Runs.{state_after}
+use Rattle.job_steps.specs.Events.{is_recall, all_events_left}
 use Rattle.job_steps.specs.Standings.{Standing, Waiting, Live, InFlight, Ended, Collected, of_job, with_standing}
 use Rattle.job_steps.specs.Standings.{is_waiting, admission, admission_at}
 use Rattle.job_steps.specs.States.{Task}
 use Rattle.job_machine.specs.declared.machine.Admission.{Admission}
-use Rattle.job_machine.specs.declared.machine.Admission.TheVariants.{Admitted, NotNow, NoneWaiting}
+use Rattle.job_machine.specs.declared.machine.Admission.TheVariants.{Admitted}
 use Rattle.job_machine.specs.Machines.{MachineState, with_standings, machine_after, Leads, OthersStand, HasNoStep, GoesOn}
 use Rattle.job_machine.specs.Machines.{IsWaitingOrCollected, IsDone, admission_by, admission_in, is_running}
 
--- ---- lists of standings
+-- ---- lists
 
-pub get-set_same : (xs : List Standing) (i : ℕ) (x y : Standing) → slice_get xs i ≡ Some x →
+pub get-set_same : {E : Type 0} (xs : List E) (i : ℕ) (x y : E) → slice_get xs i ≡ Some x →
     slice_get (set xs i y) i ≡ Some y
 get-set_same [] i x y e = absurd (none-some x e)
 get-set_same (z ∷ xs) zero x y e = refl
 get-set_same (z ∷ xs) (suc i) x y e = get-set_same xs i x y e
 
-get-set_other : (xs : List Standing) (i j : ℕ) (y : Standing) → (j ≡ i → ⊥) →
+pub get-set_other : {E : Type 0} (xs : List E) (i j : ℕ) (y : E) → (j ≡ i → ⊥) →
     slice_get (set xs i y) j ≡ slice_get xs j
 get-set_other [] i j y ne = refl
 get-set_other (z ∷ xs) zero zero y ne = absurd (ne refl)
@@ -35,7 +34,7 @@ get-set_other (z ∷ xs) zero (suc j) y ne = refl
 get-set_other (z ∷ xs) (suc i) zero y ne = refl
 get-set_other (z ∷ xs) (suc i) (suc j) y ne = get-set_other xs i j y (λ e. ne (ap suc e))
 
-set_twice : (xs : List Standing) (i : ℕ) (x y : Standing) → set (set xs i x) i y ≡ set xs i y
+pub set_twice : {E : Type 0} (xs : List E) (i : ℕ) (x y : E) → set (set xs i x) i y ≡ set xs i y
 set_twice [] i x y = refl
 set_twice (z ∷ xs) zero x y = refl
 set_twice (z ∷ xs) (suc i) x y = ap (λ zs. z ∷ zs) (set_twice xs i x y)
@@ -269,8 +268,8 @@ idle_by job task (InFlight n) live none closed = cc
 idle_by job task Ended live none closed = cc
 idle_by job task Collected live none closed = tt
 
-beside_at : (xs : List Standing) (ys : List Task) → length xs ≡ length ys → (i : ℕ) (x : Standing) →
-    slice_get xs i ≡ Some x → (y : Task) × (slice_get ys i ≡ Some y)
+pub beside_at : {X Y : Type 0} (xs : List X) (ys : List Y) → length xs ≡ length ys → (i : ℕ) (x : X) →
+    slice_get xs i ≡ Some x → (y : Y) × (slice_get ys i ≡ Some y)
 beside_at [] ys same i x e = absurd (none-some x e)
 beside_at (z ∷ xs) [] same i x e = absurd (omega (arith, same))
 beside_at (z ∷ xs) (y ∷ ys) same zero x e = (y, refl)

@@ -1,22 +1,22 @@
 -- A step of a job that is live, by its begin and its finish.
-use Rattle.std.proofs.Common.{◌≡◌, ℕ, zero, suc, ◌+◌, ◌<◌, ◌≤◌, Bool, true, false, List, [], ◌∷◌, length}
-use Rattle.std.proofs.Common.{get_or, slice_get, All, Option, Some, None, is_some, refl, sym, ◌∙◌, ap, subst, arith}
+use Rattle.std.proofs.Common.{◌≡◌, ℕ, zero, suc, ◌+◌, ◌<◌, ◌≤◌, true, List, [], ◌∷◌, length}
+use Rattle.std.proofs.Common.{All, Option, Some, None, is_some, refl, sym, ◌∙◌, ap, subst, arith}
 use Rattle.std.proofs.lemmas.Bool.{false≢true}
-use Rattle.std.proofs.lemmas.Option.{none-some, same_Some, get_or_from_slice_get, slice_get_within}
+use Rattle.std.proofs.lemmas.Option.{none-some, get_or_from_slice_get, slice_get_within}
 use Rattle.job_steps.specs.declared.event.Event.{Event}
-use Rattle.job_steps.specs.declared.event.Event.TheVariants.{Admit, Begin, Finish, Recall, Collect}
+use Rattle.job_steps.specs.declared.event.Event.TheVariants.{Begin, Finish}
 use Rattle.job_steps.specs.EventLaws.{EventsKeep, EventsUseUp, IsVerified, AreKept}
 use Rattle.job_steps.specs.Events.{next_standing, job_of, next_standing_in, next_standing_of, is_open, with_next}
 use Rattle.job_steps.specs.Events.{after_event, recalled_standing, recalled_standings, all_events_left, standing_after}
 use Rattle.job_steps.specs.Runs.{state_after}
-use Rattle.job_steps.specs.Standings.{Standing, Waiting, Live, InFlight, Ended, Collected, of_job, with_standing}
+use Rattle.job_steps.specs.Standings.{Standing, Live, InFlight, Ended, of_job, with_standing}
 use Rattle.job_steps.specs.States.{Task}
 use Rattle.job_steps.specs.Steps.{Progress, Running, Over, Stuck}
 use Rattle.job_steps.specs.Tickets.{Asked}
 use Rattle.job_slots.specs.declared.answer.Begun.TheVariants as begun
 use Rattle.job_slots.specs.declared.answer.Finished.{Finished}
 use Rattle.job_slots.specs.declared.answer.Finished.TheVariants as finished
-use Rattle.job_slots.specs.Answers.{question_at, IsTicketOf, Fits}
+use Rattle.job_slots.specs.Answers.{question_at, IsTicketOf}
 use Rattle.job_machine.specs.Machines.{MachineState, machine_after, HasNoStep, GoesOn, is_running}
 use Rattle.job_machine.specs.Machines.{BeginsIn, FinishesIn, after_finished}
 use Rattle.job_machine.proofs.RunningOut.{of_with, of_with_other, with_twice, no_step_with, beside}
@@ -176,7 +176,7 @@ has_begun A m job words ticket answer =
 
 -- ---- and is finished
 
-finished_by : {T : Type 0} (task : Task) (filled : Asked) (answer : Finished) (old next : T) →
+pub finished_by : {T : Type 0} (task : Task) (filled : Asked) (answer : Finished) (old next : T) →
     question_at task filled.step ≡ Some filled.question →
     FinishesIn filled (Some task) (Some (InFlight filled.step)) answer → after_finished answer old next ≡ next
 finished_by task filled finished.Done old next question answer = refl

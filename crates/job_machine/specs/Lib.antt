@@ -1,3 +1,5 @@
+pub mod Hands
 pub mod Machines
+pub mod Replays
 pub mod SlotOf
 pub mod Sound

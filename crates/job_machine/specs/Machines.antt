@@ -1,21 +1,18 @@
 -- What a machine shows, and what events make of it.
 use Rattle.std.specs.Prelude.{◌≡◌, ℕ, zero, suc, nat_lt, Bool, false, if◌then◌else◌, List, position, Option, Some, None, refl}
 use Rattle.std.specs.Coded.{Coded, code_by, coded_ℕ, coded×, coded_list}
-use Rattle.vcode_base.specs.declared.outcome.Outcome.TheVariants.{Returned}
 use Rattle.job_steps.specs.declared.event.Event.{Event}
-use Rattle.job_steps.specs.Events.{after_event, recalled_standings, LeadTo}
+use Rattle.job_steps.specs.Events.{after_event, after_events, recalled_standings, LeadTo}
 use Rattle.job_steps.specs.Runs.{outcome}
-use Rattle.job_steps.specs.Standings.{Standing, Waiting, Live, InFlight, Ended, Collected, of_job, is_waiting, admission}
-use Rattle.job_steps.specs.Standings.{executed_at, peak_at, outcome_at}
+use Rattle.job_steps.specs.Standings.{Standing, Waiting, Ended, Collected, of_job, is_waiting, admission}
+use Rattle.job_steps.specs.Standings.{outcome_at}
 use Rattle.job_steps.specs.States.{Task}
 use Rattle.job_steps.specs.Steps.{Ending}
 use Rattle.job_steps.specs.Tickets.{Asked}
-use Rattle.job_slots.specs.declared.status.Status.{Status}
 use Rattle.job_slots.specs.declared.answer.Begun.{Begun}
 use Rattle.job_slots.specs.declared.answer.Begun.TheVariants as begun
 use Rattle.job_slots.specs.declared.answer.Finished.{Finished}
 use Rattle.job_slots.specs.declared.answer.Finished.TheVariants as finished
-use Rattle.job_slots.specs.Slots.{status_of}
 use Rattle.job_slots.specs.Answers.{Begins, Finishes, IsReturned, is_live, is_in_flight, is_ended}
 use Rattle.job_machine.specs.declared.machine.Admission.{Admission}
 use Rattle.job_machine.specs.declared.machine.Admission.TheVariants.{Admitted, NotNow, NoneWaiting}
@@ -39,6 +36,14 @@ with_standings m standings = record { region = m.region; tasks = m.tasks; standi
 -- the machine after an event, which is passed over where it isn't open
 abbrev pub machine_after : Event → MachineState → MachineState
 machine_after event m = with_standings m (after_event m.region m.tasks event m.standings)
+
+-- the machine after events, one after another
+abbrev pub after_all : List Event → MachineState → MachineState
+after_all events m = with_standings m (after_events m.region m.tasks events m.standings)
+
+-- the machine with every step given up that has begun
+abbrev pub recalled : MachineState → MachineState
+recalled m = with_standings m (recalled_standings m.standings)
 
 -- some events lead from one machine to another
 abbrev pub Leads : MachineState → MachineState → Type 0

@@ -3,12 +3,19 @@
 //! A [`Machine`] admits jobs, begins and finishes their steps, and collects their outcomes. `specs/Machines.antt` says
 //! what each call makes of where the jobs stand: what the event of its name makes by the definitions of `job_steps`. So
 //! every job goes where it goes alone, whatever the others do.
+//!
+//! [`Machine::replay`] does a list of events. What goes by events as they come, as those of a schedule, does each by
+//! [`Machine::play`], with the [`Hands`] that hold the jobs' desks and computed steps.
 #![tactic(auto)]
 
+mod hands;
 mod machine;
+mod replay;
 mod run_out;
 mod setting;
 
+pub use hands::Hands;
 pub use job_slots::{Begun, Finished, Status};
 pub use job_steps::{Desk, Event, Filled, Job, JobName, Ticket, compute};
 pub use machine::{Admission, Machine};
+pub use replay::ReplayFault;

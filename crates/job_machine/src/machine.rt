@@ -267,6 +267,13 @@ impl<A: Allocator> Machine<A> {
         Arc::try_clone(&self.jobs)
     }
 
+    /// The jobs, in order.
+    pub(crate) fn in_order(&self) -> &[Job<A>]
+        ensures { result.now ≡ self.now.tasks }
+    {
+        self.jobs.as_slice()
+    }
+
     /// Whether these are the machine's jobs, in order.
     pub fn holds(&self, jobs: &[Job<A>]) -> bool
         ensures { IsTrue result ↔ (self.now.tasks ≡ jobs.now) }

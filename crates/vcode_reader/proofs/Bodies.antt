@@ -11,7 +11,6 @@ use Rattle.vcode_reader.specs.declared.keyword.Keyword.{Keyword}
 use Rattle.vcode_reader.specs.declared.keyword.Keyword.TheVariants as keyword
 use Rattle.vcode_reader.specs.declared.keyword.Slot.{Slot}
 use Rattle.vcode_reader.specs.declared.keyword.Slot.TheVariants.{Values}
-use Rattle.vcode_reader.specs.declared.language.Language.{Language}
 use Rattle.vcode_reader.specs.First.{IsReading}
 use Rattle.vcode_reader.specs.Gram.{AreValues, FillOne, Fill, IsInstruction, IsElse, IsBody, AreFunctions}
 use Rattle.vcode_reader.specs.Heads.{slots_of, head_slots}
@@ -70,72 +69,70 @@ kind_of_constant s before after ws h =
     let behind = h.5 in
     subst HasListKind behind.5.0 (kind_of_list h.0 behind.0 behind.1 behind.4)
 
-module _ (lang : Language) where
-  of_keyword : (k : Keyword) (parts : ItemParts) (ws : List Word) → Fill (keyword_slots lang k) no_parts parts ws →
-      IsBodyInstruction (instruction_of k parts)
-  of_keyword keyword.Const parts ws h = kind_of_constant _ no_parts parts ws h
-  of_keyword (keyword.Arith op) parts ws h = tt
-  of_keyword (keyword.Compare op) parts ws h = tt
-  of_keyword (keyword.Logic op) parts ws h = tt
-  of_keyword keyword.Not parts ws h = tt
-  of_keyword keyword.Select parts ws h = tt
-  of_keyword keyword.IntToBool parts ws h = tt
-  of_keyword keyword.BoolToInt parts ws h = tt
-  of_keyword (keyword.Scan f) parts ws h = tt
-  of_keyword (keyword.Reduce f) parts ws h = tt
-  of_keyword keyword.Distribute parts ws h = tt
-  of_keyword keyword.Index parts ws h = tt
-  of_keyword keyword.Permute parts ws h = tt
-  of_keyword keyword.BackPermute parts ws h = tt
-  of_keyword keyword.DefaultPermute parts ws h = tt
-  of_keyword keyword.Extract parts ws h = tt
-  of_keyword keyword.Replace parts ws h = tt
-  of_keyword keyword.Pack parts ws h = tt
-  of_keyword keyword.MakeSegdes parts ws h = tt
-  of_keyword keyword.Lengths parts ws h = tt
-  of_keyword (keyword.Move motion) parts ws h = tt
-  of_keyword keyword.Call parts ws h = tt
+of_keyword : (k : Keyword) (parts : ItemParts) (ws : List Word) → Fill (keyword_slots k) no_parts parts ws →
+    IsBodyInstruction (instruction_of k parts)
+of_keyword keyword.Const parts ws h = kind_of_constant _ no_parts parts ws h
+of_keyword (keyword.Arith op) parts ws h = tt
+of_keyword (keyword.Compare op) parts ws h = tt
+of_keyword (keyword.Logic op) parts ws h = tt
+of_keyword keyword.Not parts ws h = tt
+of_keyword keyword.Select parts ws h = tt
+of_keyword keyword.IntToBool parts ws h = tt
+of_keyword keyword.BoolToInt parts ws h = tt
+of_keyword (keyword.Scan f) parts ws h = tt
+of_keyword (keyword.Reduce f) parts ws h = tt
+of_keyword keyword.Distribute parts ws h = tt
+of_keyword keyword.Index parts ws h = tt
+of_keyword keyword.Permute parts ws h = tt
+of_keyword keyword.BackPermute parts ws h = tt
+of_keyword keyword.DefaultPermute parts ws h = tt
+of_keyword keyword.Extract parts ws h = tt
+of_keyword keyword.Replace parts ws h = tt
+of_keyword keyword.Pack parts ws h = tt
+of_keyword keyword.MakeSegdes parts ws h = tt
+of_keyword keyword.Lengths parts ws h = tt
+of_keyword (keyword.Move motion) parts ws h = tt
+of_keyword keyword.Call parts ws h = tt
 
-  proper_instruction : (i : Item) (l : ℕ) (ws : List Word) → IsInstruction lang i l ws → IsBodyInstruction i
-  proper_instruction i l ws h =
-      let slots : slots_of lang h.1.text ≡ keyword_slots lang h.0 =
-      slots_by_head lang h.1.text ∙ ap (head_slots lang) h.6.0 in
-      let filled = subst (λ slots. Fill slots no_parts h.4 h.2) slots h.8 in
-      subst IsBodyInstruction (sym h.7) (of_keyword h.0 h.4 h.2 filled)
+proper_instruction : (i : Item) (l : ℕ) (ws : List Word) → IsInstruction i l ws → IsBodyInstruction i
+proper_instruction i l ws h =
+    let slots : slots_of h.1.text ≡ keyword_slots h.0 = slots_by_head h.1.text ∙ ap head_slots h.6.0 in
+    let filled = subst (λ slots. Fill slots no_parts h.4 h.2) slots h.8 in
+    subst IsBodyInstruction (sym h.7) (of_keyword h.0 h.4 h.2 filled)
 
-  -- ---- bodies
+-- ---- bodies
 
-  proper_else : (is_part : List Word → Type 0) (second : Body) (ws : List Word) →
-      ((u : List Word) → is_part u → IsProperBody second) → IsElse lang is_part second ws → IsProperBody second
-  proper_else is_part second ws part (inl h) = subst IsProperBody (sym h.1) tt
-  proper_else is_part second ws part (inr h) = part h.1 h.4
+proper_else : (is_part : List Word → Type 0) (second : Body) (ws : List Word) →
+    ((u : List Word) → is_part u → IsProperBody second) → IsElse is_part second ws → IsProperBody second
+proper_else is_part second ws part (inl h) = subst IsProperBody (sym h.1) tt
+proper_else is_part second ws part (inr h) = part h.1 h.4
 
-  proper_body : (n : ℕ) (b : Body) (ws : List Word) → IsBody lang n b ws → IsProperBody b
-  proper_body n End ws h = tt
-  proper_body n (Do i l b) ws h = (proper_instruction i l h.0 h.3, proper_body n b h.1 h.4)
-  proper_body n (Choice l first second e b) ws h = (
-    proper_body (suc n) first h.2 h.9,
-    proper_else (IsBody lang (suc n) second) second h.3 (λ u part. proper_body (suc n) second u part) h.10,
-    proper_body n b h.4 h.11,
-  )
+proper_body : (n : ℕ) (b : Body) (ws : List Word) → IsBody n b ws → IsProperBody b
+proper_body n End ws h = tt
+proper_body n (Do i l b) ws h = (proper_instruction i l h.0 h.3, proper_body n b h.1 h.4)
+proper_body n (Choice l first second e b) ws h = (
+  proper_body (suc n) first h.2 h.9,
+  proper_else (IsBody (suc n) second) second h.3 (λ u part. proper_body (suc n) second u part) h.10,
+  proper_body n b h.4 h.11,
+)
 
-  proper_functions : (fs : List Function) (ws : List Word) → AreFunctions lang fs ws → HaveProperBodies fs
-  proper_functions [] ws h = All-nil (λ (f : Function). IsProperBody f.body)
-  proper_functions (f ∷ fs) ws h =
-      All-cons (λ (g : Function). IsProperBody g.body) f fs (proper_body 0 f.body h.3.3 h.3.8)
-      (proper_functions fs h.1 h.4)
+proper_functions : (fs : List Function) (ws : List Word) → AreFunctions fs ws → HaveProperBodies fs
+proper_functions [] ws h = All-nil (λ (f : Function). IsProperBody f.body)
+proper_functions (f ∷ fs) ws h =
+    All-cons (λ (g : Function). IsProperBody g.body) f fs (proper_body 0 f.body h.3.3 h.3.8)
+    (proper_functions fs h.1 h.4)
 
-  proper_reading : (first : ℕ) (bytes : List ℕ) (fs : List Function) →
-      reading lang first bytes ≡ Ok (record { first_line = first; functions = fs }) → HaveProperBodies fs
-  proper_reading first bytes fs e =
-      let read = subst (λ r. IsReading lang r first bytes) e (every_text_is_read lang first bytes) in
-      proper_functions fs _ read.1.1.spelled
+proper_reading : (first : ℕ) (bytes : List ℕ) (fs : List Function) →
+    reading first bytes ≡ Ok (record { first_line = first; functions = fs }) → HaveProperBodies fs
+proper_reading first bytes fs e =
+    let read = subst (λ r. IsReading r first bytes) e (every_text_is_read first bytes) in
+    proper_functions fs _ read.1.1.spelled
 
-  -- the functions that bytes come to
-  pub proper_outcome : (s : Scan Parse) (first : ℕ) (failed : Bool) (fs : List Function) →
-      IsOfBytes s lang first failed → failed ≡ false → outcome s ≡ Ok fs → HaveProperBodies fs
-  unfolding reading
-  proper_outcome s first failed fs h going e =
-      let bytes = h going in
-      proper_reading first bytes.0 fs
-      (ap (λ r. program_at first (outcome r)) (sym bytes.1) ∙ ap (program_at first) e)
+-- the functions that bytes come to
+pub proper_outcome : (s : Scan Parse) (first : ℕ) (failed : Bool) (fs : List Function) →
+    IsOfBytes s first failed → failed ≡ false → outcome s ≡ Ok fs → HaveProperBodies fs
+unfolding reading
+proper_outcome s first failed fs h going e =
+    let bytes = h going in
+    proper_reading first bytes.0 fs
+    (ap (λ r. program_at first (outcome r)) (sym bytes.1) ∙ ap (program_at first) e)

@@ -8,8 +8,6 @@ use Rattle.vcode_reader.specs.declared.head.Head.TheVariants as head
 use Rattle.vcode_reader.specs.declared.keyword.Keyword.{Keyword}
 use Rattle.vcode_reader.specs.declared.keyword.Slot.{Slot}
 use Rattle.vcode_reader.specs.declared.keyword.Slot.TheVariants.{Int, Kind, Values, Count, Callee}
-use Rattle.vcode_reader.specs.declared.language.Language.{Language}
-use Rattle.vcode_reader.specs.declared.language.Language.TheVariants.{First, Whole}
 use Rattle.vcode_reader.specs.declared.place.Place.TheVariants.{Outside}
 use Rattle.vcode_reader.specs.declared.place.OpenIf.{OpenIf}
 use Rattle.vcode_reader.specs.Drafts.{open_if}
@@ -32,15 +30,13 @@ use Rattle.vcode_reader.proofs.Sound.{at_start, faulty_run, some_none}
 word : List ℕ → Word
 word t = record { text = t; line = 0 }
 
-return_head : (lang : Language) → head_of lang (codes "RET") ≡ head.Return
+return_head : head_of (codes "RET") ≡ head.Return
 unfolding head_of rows
-return_head First = refl
-return_head Whole = refl
+return_head = refl
 
-endif_head : (lang : Language) → head_of lang (codes "ENDIF") ≡ head.Endif
+endif_head : head_of (codes "ENDIF") ≡ head.Endif
 unfolding head_of rows
-endif_head First = refl
-endif_head Whole = refl
+endif_head = refl
 
 -- a value of each kind
 value : (k : Scalar) → (t : List ℕ) × (n : ℤ) × (value_of k t ≡ Some n)
@@ -63,143 +59,137 @@ fitting Callee q = (codes "f", _, (record { bare = refl; good = refl; short = li
 pub run-last : (ws : List Word) (w : Word) (p : Parse) → run p (ws ++ w ∷ []) ≡ take w.text w.line (run p ws)
 run-last ws w p = run-append p ws (w ∷ []) ∙ word_run _ _ _ w [] refl (no_run _)
 
-module _ (lang : Language) where
-  -- some words lead from p to the end of a function
-  Ends : Parse → Type 0
-  Ends p = (more : List Word) × (fs : List Function) × (run p more ≡ between lang fs)
+-- some words lead from p to the end of a function
+Ends : Parse → Type 0
+Ends p = (more : List Word) × (fs : List Function) × (run p more ≡ between fs)
 
-  after_word : (t : List ℕ) (p q : Parse) → take t 0 p ≡ q → Ends q → Ends p
-  unfolding Ends word
-  after_word t p q e (more, fs, r) = (word t ∷ more, fs, word_run p q _ (word t) more e r)
+after_word : (t : List ℕ) (p q : Parse) → take t 0 p ≡ q → Ends q → Ends p
+unfolding Ends word
+after_word t p q e (more, fs, r) = (word t ∷ more, fs, word_run p q _ (word t) more e r)
 
-  at_end : (fs : List Function) → Ends (between lang fs)
-  unfolding Ends
-  at_end fs = ([], fs, no_run _)
+at_end : (fs : List Function) → Ends (between fs)
+unfolding Ends
+at_end fs = ([], fs, no_run _)
 
-  endif_ends : (c : Bool) (b : Bool) (l : ℕ) (is : List OpenIf) (fs : List Function) (name : List ℕ) (line : ℕ)
-      (code : List CodeLine) →
-      ((more : List CodeLine) → Ends (within lang false (opened fs name line more is))) →
-      Ends (within lang b (opened fs name line code (open_if l c ∷ is)))
-  unfolding word
-  endif_ends true b l is fs name line code h =
-      after_word
-      (codes "ENDIF") _ _ (take_endif lang b (word (codes "ENDIF")) fs name line code l is (endif_head lang))
-      (h _)
-  endif_ends false b l is fs name line code h =
-      after_word
-      (codes "ENDIF")
-      _ _ (take_endif_alone lang b (word (codes "ENDIF")) fs name line code l is (endif_head lang)) (h _)
+endif_ends : (c : Bool) (b : Bool) (l : ℕ) (is : List OpenIf) (fs : List Function) (name : List ℕ) (line : ℕ)
+    (code : List CodeLine) →
+    ((more : List CodeLine) → Ends (within false (opened fs name line more is))) →
+    Ends (within b (opened fs name line code (open_if l c ∷ is)))
+unfolding word
+endif_ends true b l is fs name line code h =
+    after_word
+    (codes "ENDIF") _ _ (take_endif b (word (codes "ENDIF")) fs name line code l is endif_head) (h _)
+endif_ends false b l is fs name line code h =
+    after_word
+    (codes "ENDIF") _ _ (take_endif_alone b (word (codes "ENDIF")) fs name line code l is endif_head) (h _)
 
-  ifs_end : (ifs : List OpenIf) (b : Bool) (fs : List Function) (name : List ℕ) (line : ℕ) (code : List CodeLine) →
-      Ends (within lang b (opened fs name line code ifs))
-  unfolding word
-  ifs_end [] b fs name line code =
-      after_word (codes "RET") _ _ (take_return lang b (word (codes "RET")) fs name line code (return_head lang))
-      (at_end _)
-  ifs_end (i ∷ is) b fs name line code =
-      endif_ends i.has_else b i.line is fs name line code (λ more. ifs_end is false fs name line more)
+ifs_end : (ifs : List OpenIf) (b : Bool) (fs : List Function) (name : List ℕ) (line : ℕ) (code : List CodeLine) →
+    Ends (within b (opened fs name line code ifs))
+unfolding word
+ifs_end [] b fs name line code =
+    after_word (codes "RET") _ _ (take_return b (word (codes "RET")) fs name line code return_head) (at_end _)
+ifs_end (i ∷ is) b fs name line code =
+    endif_ends i.has_else b i.line is fs name line code (λ more. ifs_end is false fs name line more)
 
-  inside_ends : (b : Bool) (o : Open) → Ends (within lang b o)
-  inside_ends b o = ifs_end o.ifs b o.functions o.name o.line o.code
+inside_ends : (b : Bool) (o : Open) → Ends (within b o)
+inside_ends b o = ifs_end o.ifs b o.functions o.name o.line o.code
 
-  going_ends : (slots : List Slot) (k : Keyword) (begun : ℕ) (q : ItemParts) (o : Open) →
-      Ends (going lang k begun slots q o)
-  unfolding going
-  going_ends [] k begun q o = inside_ends (takes_int k) (with_item o (instruction_of k q) begun)
-  going_ends (s ∷ slots) k begun q o =
-      let (t, r, h) = fitting s q in
-      after_word t _ _ (take_word lang s t q r k begun 0 slots o h) (going_ends slots k begun r o)
+going_ends : (slots : List Slot) (k : Keyword) (begun : ℕ) (q : ItemParts) (o : Open) → Ends (going k begun slots q o)
+unfolding going
+going_ends [] k begun q o = inside_ends (takes_int k) (with_item o (instruction_of k q) begun)
+going_ends (s ∷ slots) k begun q o =
+    let (t, r, h) = fitting s q in
+    after_word t _ _ (take_word s t q r k begun 0 slots o h) (going_ends slots k begun r o)
 
-  ends_at : (p q : Parse) → p ≡ q → Ends q → Ends p
-  ends_at p q e h = subst Ends (sym e) h
+ends_at : (p q : Parse) → p ≡ q → Ends q → Ends p
+ends_at p q e h = subst Ends (sym e) h
 
-  ends : (p : Parse) (ws : List Word) → Stands lang p ws → Ends p
-  ends p ws (at_outside fs e g) = ends_at p _ e (at_end fs)
-  ends p ws (at_name fs u func e f h g r) =
-      let new = new_name_for fs in
-      ends_at p _ e (after_word new.0 _ _ (take_name lang new.0 func.line 0 fs new.1 new.2) (inside_ends _ _))
-  ends p ws (at_inside b o e h m) = ends_at p _ e (inside_ends b o)
-  ends p ws (at_words k s slots q o first done e h) = ends_at p _ e (going_ends (s ∷ slots) k first.line q o)
-  ends p ws (at_elements k slots before ns o first opened done inner e u f h t m le) =
-      ends_at p _ e
-      (after_word (codes ")") _ _ (take_close lang k first.line opened.line 0 slots _ o)
-      (going_ends slots k first.line _ o))
+ends : (p : Parse) (ws : List Word) → Stands p ws → Ends p
+ends p ws (at_outside fs e g) = ends_at p _ e (at_end fs)
+ends p ws (at_name fs u func e f h g r) =
+    let new = new_name_for fs in
+    ends_at p _ e (after_word new.0 _ _ (take_name new.0 func.line 0 fs new.1 new.2) (inside_ends _ _))
+ends p ws (at_inside b o e h m) = ends_at p _ e (inside_ends b o)
+ends p ws (at_words k s slots q o first done e h) = ends_at p _ e (going_ends (s ∷ slots) k first.line q o)
+ends p ws (at_elements k slots before ns o first opened done inner e u f h t m le) =
+    ends_at p _ e
+    (after_word (codes ")") _ _ (take_close k first.line opened.line 0 slots _ o)
+    (going_ends slots k first.line _ o))
 
-  inside_not_outside : (b : Bool) (o : Open) (p : Parse) → p ≡ within lang b o → p.place ≡ Outside → ⊥
-  unfolding within
-  inside_not_outside true o p e h = let d = ap (λ (q : Parse). q.place) e in cc
-  inside_not_outside false o p e h = let d = ap (λ (q : Parse). q.place) e in cc
+inside_not_outside : (b : Bool) (o : Open) (p : Parse) → p ≡ within b o → p.place ≡ Outside → ⊥
+unfolding within
+inside_not_outside true o p e h = let d = ap (λ (q : Parse). q.place) e in cc
+inside_not_outside false o p e h = let d = ap (λ (q : Parse). q.place) e in cc
 
-  outside_gram : (p : Parse) (ws : List Word) → Stands lang p ws → p.place ≡ Outside →
-      (fs : List Function) × (p ≡ between lang fs) × Gram lang fs ws
-  unfolding naming_at within going in_elements
-  outside_gram p ws (at_outside fs e g) h = (fs, e, g)
-  outside_gram p ws (at_name fs u func e f t g r) h = absurd (let d = ap (λ (q : Parse). q.place) e in cc)
-  outside_gram p ws (at_inside b o e g m) h = absurd (inside_not_outside b o p e h)
-  outside_gram p ws (at_words k s slots ns o first done e g) h = absurd (let d = ap (λ (q : Parse). q.place) e in cc)
-  outside_gram p ws (at_elements k slots before ns o first opened done inner e u f g t m le) h =
-      absurd (let d = ap (λ (q : Parse). q.place) e in cc)
+outside_gram : (p : Parse) (ws : List Word) → Stands p ws → p.place ≡ Outside →
+    (fs : List Function) × (p ≡ between fs) × Gram fs ws
+unfolding naming_at within going in_elements
+outside_gram p ws (at_outside fs e g) h = (fs, e, g)
+outside_gram p ws (at_name fs u func e f t g r) h = absurd (let d = ap (λ (q : Parse). q.place) e in cc)
+outside_gram p ws (at_inside b o e g m) h = absurd (inside_not_outside b o p e h)
+outside_gram p ws (at_words k s slots ns o first done e g) h = absurd (let d = ap (λ (q : Parse). q.place) e in cc)
+outside_gram p ws (at_elements k slots before ns o first opened done inner e u f g t m le) h =
+    absurd (let d = ap (λ (q : Parse). q.place) e in cc)
 
-  -- what stands can be completed
-  pub stands_good : (p : Parse) (ws : List Word) → Stands lang p ws → IsGood lang ws
-  unfolding Ends between
-  stands_good p ws st =
-      let (more, fs, r) = ends p ws st in
-      let fine = ap (λ (q : Parse). q.fault) r in
-      let found = outside_gram _ _ (run_sound lang more p ws st fine) (ap (λ (q : Parse). q.place) r) in
-      (more, found.0, found.2)
+-- what stands can be completed
+pub stands_good : (p : Parse) (ws : List Word) → Stands p ws → IsGood ws
+unfolding Ends between
+stands_good p ws st =
+    let (more, fs, r) = ends p ws st in
+    let fine = ap (λ (q : Parse). q.fault) r in
+    let found = outside_gram _ _ (run_sound more p ws st fine) (ap (λ (q : Parse). q.place) r) in
+    (more, found.0, found.2)
 
-  -- what has a fault can't be
-  faulty_not_good : (ws : List Word) (x : Fault) → (run (start lang) ws).fault ≡ Some x → IsGood lang ws → ⊥
-  unfolding between
-  faulty_not_good ws x h (more, fs, g) =
-      some_none (run (start lang) ws).fault x h
-      (ap (λ (q : Parse). q.fault)
-      (sym (faulty_run more (run (start lang) ws) x h)
-      ∙ (sym (run-append (start lang) ws more) ∙ gram_run lang fs (ws ++ more) g)))
+-- what has a fault can't be
+faulty_not_good : (ws : List Word) (x : Fault) → (run start ws).fault ≡ Some x → IsGood ws → ⊥
+unfolding between
+faulty_not_good ws x h (more, fs, g) =
+    some_none (run start ws).fault x h
+    (ap (λ (q : Parse). q.fault)
+    (sym (faulty_run more (run start ws) x h)
+    ∙ (sym (run-append start ws more) ∙ gram_run fs (ws ++ more) g)))
 
-  -- the words so far, where they have no fault
-  pub run_stands : (ws : List Word) → (run (start lang) ws).fault ≡ None → Stands lang (run (start lang) ws) ws
-  run_stands ws h = run_sound lang ws (start lang) [] (at_start lang) h
+-- the words so far, where they have no fault
+pub run_stands : (ws : List Word) → (run start ws).fault ≡ None → Stands (run start ws) ws
+run_stands ws h = run_sound ws start [] at_start h
 
-  pub run_gram : (ws : List Word) → (run (start lang) ws).fault ≡ None → (run (start lang) ws).place ≡ Outside →
-      (fs : List Function) × (run (start lang) ws ≡ between lang fs) × Gram lang fs ws
-  run_gram ws h k = outside_gram (run (start lang) ws) ws (run_stands ws h) k
+pub run_gram : (ws : List Word) → (run start ws).fault ≡ None → (run start ws).place ≡ Outside →
+    (fs : List Function) × (run start ws ≡ between fs) × Gram fs ws
+run_gram ws h k = outside_gram (run start ws) ws (run_stands ws h) k
 
-  -- the word w makes the fault
-  faulty_word : (before ws : List Word) (w : Word) (fault : Fault) → (run (start lang) before).fault ≡ None →
-      (take w.text w.line (run (start lang) before)).fault ≡ Some fault → FirstFault lang (before ++ w ∷ ws) fault
-  faulty_word before ws w fault h k = record {
-    before = before;
-    word = w;
-    after = ws;
-    words_are = refl;
-    good = stands_good _ before (run_stands before h);
-    not_good =
-        faulty_not_good (before ++ w ∷ []) fault (ap (λ (q : Parse). q.fault) (run-last before w (start lang)) ∙ k);
-    refusal = k;
-  }
+-- the word w makes the fault
+faulty_word : (before ws : List Word) (w : Word) (fault : Fault) → (run start before).fault ≡ None →
+    (take w.text w.line (run start before)).fault ≡ Some fault → FirstFault (before ++ w ∷ ws) fault
+faulty_word before ws w fault h k = record {
+  before = before;
+  word = w;
+  after = ws;
+  words_are = refl;
+  good = stands_good _ before (run_stands before h);
+  not_good =
+      faulty_not_good (before ++ w ∷ []) fault (ap (λ (q : Parse). q.fault) (run-last before w start) ∙ k);
+  refusal = k;
+}
 
-  -- where the words have a fault, one of them is the first that has one
-  pub faulty : (ws before : List Word) (fault : Fault) → (run (start lang) before).fault ≡ None →
-      (run (run (start lang) before) ws).fault ≡ Some fault → FirstFault lang (before ++ ws) fault
-  faulty [] before fault h k =
-      some_none (run (start lang) before).fault fault (ap (λ (q : Parse). q.fault) (sym (no_run _)) ∙ k) h
-  faulty (w ∷ ws) before fault h k =
-      by_fault (take w.text w.line (run (start lang) before)).fault w ws before fault refl h
-      (ap (λ (q : Parse). q.fault) (sym (word_run _ _ _ w ws refl refl)) ∙ k) (faulty ws (before ++ w ∷ []) fault)
-    where
-      by_fault : (o : Option Fault) (w : Word) (ws before : List Word) (fault : Fault) →
-          (take w.text w.line (run (start lang) before)).fault ≡ o → (run (start lang) before).fault ≡ None →
-          (run (take w.text w.line (run (start lang) before)) ws).fault ≡ Some fault →
-          ((run (start lang) (before ++ w ∷ [])).fault ≡ None →
-          (run (run (start lang) (before ++ w ∷ [])) ws).fault ≡ Some fault →
-          FirstFault lang ((before ++ w ∷ []) ++ ws) fault) → FirstFault lang (before ++ w ∷ ws) fault
-      by_fault (Some x) w ws before fault e h k more =
-          faulty_word before ws w fault h
-          (ap (λ (q : Parse). q.fault) (sym (faulty_run ws (take w.text w.line (run (start lang) before)) x e))
-          ∙ k)
-      by_fault None w ws before fault e h k more =
-          subst (λ z. FirstFault lang z fault) (append_assoc before (w ∷ []) ws)
-          (more (ap (λ (q : Parse). q.fault) (run-last before w (start lang)) ∙ e)
-          (ap (λ z. (run z ws).fault) (run-last before w (start lang)) ∙ k))
+-- where the words have a fault, one of them is the first that has one
+pub faulty : (ws before : List Word) (fault : Fault) → (run start before).fault ≡ None →
+    (run (run start before) ws).fault ≡ Some fault → FirstFault (before ++ ws) fault
+faulty [] before fault h k =
+    some_none (run start before).fault fault (ap (λ (q : Parse). q.fault) (sym (no_run _)) ∙ k) h
+faulty (w ∷ ws) before fault h k =
+    by_fault (take w.text w.line (run start before)).fault w ws before fault refl h
+    (ap (λ (q : Parse). q.fault) (sym (word_run _ _ _ w ws refl refl)) ∙ k) (faulty ws (before ++ w ∷ []) fault)
+  where
+    by_fault : (o : Option Fault) (w : Word) (ws before : List Word) (fault : Fault) →
+        (take w.text w.line (run start before)).fault ≡ o → (run start before).fault ≡ None →
+        (run (take w.text w.line (run start before)) ws).fault ≡ Some fault →
+        ((run start (before ++ w ∷ [])).fault ≡ None →
+        (run (run start (before ++ w ∷ [])) ws).fault ≡ Some fault →
+        FirstFault ((before ++ w ∷ []) ++ ws) fault) → FirstFault (before ++ w ∷ ws) fault
+    by_fault (Some x) w ws before fault e h k more =
+        faulty_word before ws w fault h
+        (ap (λ (q : Parse). q.fault) (sym (faulty_run ws (take w.text w.line (run start before)) x e)) ∙ k)
+    by_fault None w ws before fault e h k more =
+        subst (λ z. FirstFault z fault) (append_assoc before (w ∷ []) ws)
+        (more (ap (λ (q : Parse). q.fault) (run-last before w start) ∙ e)
+        (ap (λ z. (run z ws).fault) (run-last before w start) ∙ k))

@@ -1,6 +1,6 @@
 -- How many lines a text has.
 use Rattle.std.proofs.Common.{◌≡◌, ◌∙◌, ℕ, ◌+◌, ◌<◌, ◌≤◌, Bool, true, false, ◌||◌, ◌==◌, List, [], ◌∷◌, ◌++◌, Option}
-use Rattle.std.proofs.Common.{Some, None, cond, suc, refl, arith, ap, add-zero, sym, length, drop, get_or, add-one}
+use Rattle.std.proofs.Common.{Some, None, cond, refl, arith, ap, add-zero, sym, length, drop, get_or, add-one}
 use Rattle.std.proofs.Common.{drop-cons}
 use Rattle.vcode_reader.specs.declared.class.Class.{Class}
 use Rattle.vcode_reader.specs.declared.class.Class.TheVariants.{LineFeed, Blank, OpenBrace, CloseBrace, Parenthesis}

@@ -14,8 +14,6 @@ use Rattle.vcode_reader.specs.declared.head.Head.TheVariants as head
 use Rattle.vcode_reader.specs.declared.keyword.Keyword.{Keyword}
 use Rattle.vcode_reader.specs.declared.keyword.Slot.{Slot}
 use Rattle.vcode_reader.specs.declared.keyword.Slot.TheVariants.{Int, Kind, Values, Count, Callee}
-use Rattle.vcode_reader.specs.declared.language.Language.{Language}
-use Rattle.vcode_reader.specs.declared.language.Language.TheVariants.{First, Whole}
 use Rattle.vcode_reader.specs.declared.place.Place.{Place}
 use Rattle.vcode_reader.specs.declared.place.Place.TheVariants.{Name, Words, Elements}
 use Rattle.vcode_reader.specs.Decode.{tree_of, tree_of-body_lines}
@@ -151,10 +149,9 @@ whole f fs l e =
     ap (λ z. let g : Function = record f { body = tree_of (body_lines f.body); ret = z } in g) e
     ∙ ap (λ b. let g : Function = record f { body = b } in g) (tree_of-body_lines f.body)
 
-int_begins_nothing : (lang : Language) → head_of lang (codes "INT") ≡ head.Other
+int_begins_nothing : head_of (codes "INT") ≡ head.Other
 unfolding head_of rows
-int_begins_nothing First = refl
-int_begins_nothing Whole = refl
+int_begins_nothing = refl
 
 start_not_other : (k : Keyword) → head.Start k ≡ head.Other → ⊥
 start_not_other k h = cc
@@ -179,308 +176,304 @@ regroup a x y b i m n = simp append_assoc
 room : (done : List ℤ) (n : ℤ) (ns : List ℤ) → length (done ++ n ∷ ns) ≤ MOST_ELEMENTS → length done < MOST_ELEMENTS
 room done n ns h = omega (arith, length-append done (n ∷ ns))
 
-module _ (lang : Language) where
-  -- after some functions
-  unfoldable pub between : List Function → Parse
-  between fs = record (start lang) { functions = fs }
+-- after some functions
+unfoldable pub between : List Function → Parse
+between fs = record start { functions = fs }
 
-  unfoldable pub naming_at : List Function → ℕ → Parse
-  naming_at fs l = record (start lang) { functions = fs; place = Name; line = l }
+unfoldable pub naming_at : List Function → ℕ → Parse
+naming_at fs l = record start { functions = fs; place = Name; line = l }
 
-  -- inside a function, where an item may begin, or where b also a word INT may stand
-  unfoldable pub within : Bool → Open → Parse
-  within b o = record {
-    language = lang;
-    functions = o.functions;
-    place = item_place b;
-    name = o.name;
-    line = o.line;
-    draft = record { lines = o.code; ifs = o.ifs };
-    slots = [];
-    parts = no_parts;
-    fault = None;
-  }
+-- inside a function, where an item may begin, or where b also a word INT may stand
+unfoldable pub within : Bool → Open → Parse
+within b o = record {
+  functions = o.functions;
+  place = item_place b;
+  name = o.name;
+  line = o.line;
+  draft = record { lines = o.code; ifs = o.ifs };
+  slots = [];
+  parts = no_parts;
+  fault = None;
+}
 
-  -- behind some words of an instruction
-  unfoldable pub going : Keyword → ℕ → List Slot → ItemParts → Open → Parse
-  going k begun [] q o = within (takes_int k) (with_item o (instruction_of k q) begun)
-  going k begun (s ∷ slots) q o = record (within false o) { place = Words k s begun; slots = slots; parts = q }
+-- behind some words of an instruction
+unfoldable pub going : Keyword → ℕ → List Slot → ItemParts → Open → Parse
+going k begun [] q o = within (takes_int k) (with_item o (instruction_of k q) begun)
+going k begun (s ∷ slots) q o = record (within false o) { place = Words k s begun; slots = slots; parts = q }
 
-  -- in a list
-  unfoldable pub in_elements : Keyword → ℕ → ℕ → List Slot → ItemParts → Open → Parse
-  in_elements k begun opened slots q o =
-      record (within false o) { place = Elements k begun opened; slots = slots; parts = q }
+-- in a list
+unfoldable pub in_elements : Keyword → ℕ → ℕ → List Slot → ItemParts → Open → Parse
+in_elements k begun opened slots q o =
+    record (within false o) { place = Elements k begun opened; slots = slots; parts = q }
 
-  pub after_slot-going : (k : Keyword) (begun : ℕ) (slots : List Slot) (place : Place) (left : List Slot)
-      (q : ItemParts) (o : Open) →
-      after_slot k begun slots (record (within false o) { place = place; slots = left; parts = q })
-      ≡ going k begun slots q o
-  unfolding within going with_item
-  after_slot-going k begun [] place left q o = refl
-  after_slot-going k begun (s ∷ slots) place left q o = refl
+pub after_slot-going : (k : Keyword) (begun : ℕ) (slots : List Slot) (place : Place) (left : List Slot)
+    (q : ItemParts) (o : Open) →
+    after_slot k begun slots (record (within false o) { place = place; slots = left; parts = q })
+    ≡ going k begun slots q o
+unfolding within going with_item
+after_slot-going k begun [] place left q o = refl
+after_slot-going k begun (s ∷ slots) place left q o = refl
 
-  -- ---- the words of an instruction
+-- ---- the words of an instruction
 
-  known_not_int : (t : List ℕ) → (head_of lang t ≡ head.Other → ⊥) → bytes_eq t (codes "INT") ≡ false
-  known_not_int t h =
-      not_true (bytes_eq t (codes "INT"))
-      (λ b. h (ap (head_of lang) ((bytes_eq-Decides t (codes "INT")).0 b) ∙ int_begins_nothing lang))
+known_not_int : (t : List ℕ) → (head_of t ≡ head.Other → ⊥) → bytes_eq t (codes "INT") ≡ false
+known_not_int t h =
+    not_true (bytes_eq t (codes "INT"))
+    (λ b. h (ap head_of ((bytes_eq-Decides t (codes "INT")).0 b) ∙ int_begins_nothing))
 
-  take_item : (b : Bool) (w : Word) (o : Open) → (head_of lang w.text ≡ head.Other → ⊥) →
-      take w.text w.line (within b o) ≡ inside (head_of lang w.text) (slots_of lang w.text) w.line (within b o)
-  unfolding take within
-  take_item true w o h = rw (known_not_int w.text h) refl
-  take_item false w o h = refl
+take_item : (b : Bool) (w : Word) (o : Open) → (head_of w.text ≡ head.Other → ⊥) →
+    take w.text w.line (within b o) ≡ inside (head_of w.text) (slots_of w.text) w.line (within b o)
+unfolding take within
+take_item true w o h = rw (known_not_int w.text h) refl
+take_item false w o h = refl
 
-  pub take_first : (b : Bool) (w : Word) (k : Keyword) (o : Open) → head_of lang w.text ≡ head.Start k →
-      take w.text w.line (within b o) ≡ going k w.line (slots_of lang w.text) no_parts o
-  unfolding within
-  take_first b w k o h =
-      take_item b w o (λ e. start_not_other k (sym h ∙ e))
-      ∙ (ap (λ x. inside x (slots_of lang w.text) w.line (within b o)) h
-      ∙ after_slot-going k w.line (slots_of lang w.text) (item_place b) [] no_parts o)
+pub take_first : (b : Bool) (w : Word) (k : Keyword) (o : Open) → head_of w.text ≡ head.Start k →
+    take w.text w.line (within b o) ≡ going k w.line (slots_of w.text) no_parts o
+unfolding within
+take_first b w k o h =
+    take_item b w o (λ e. start_not_other k (sym h ∙ e))
+    ∙ (ap (λ x. inside x (slots_of w.text) w.line (within b o)) h
+    ∙ after_slot-going k w.line (slots_of w.text) (item_place b) [] no_parts o)
 
-  pub take_int : (l : ℕ) (o : Open) → take (codes "INT") l (within true o) ≡ within false o
-  unfolding take within
-  take_int l o = refl
+pub take_int : (l : ℕ) (o : Open) → take (codes "INT") l (within true o) ≡ within false o
+unfolding take within
+take_int l o = refl
 
-  pub take_word : (s : Slot) (t : List ℕ) (q r : ItemParts) (k : Keyword) (begun l : ℕ) (slots : List Slot)
-      (o : Open) → Fits s t q r →
-      take t l (going k begun (s ∷ slots) q o) ≡ going k begun slots r o
-  unfolding take going within
-  take_word s t q r k begun l slots o h =
-      rw (fits_no_list s t q r h, fits_given s t q r h) (after_slot-going k begun slots (Words k s begun) slots r o)
+pub take_word : (s : Slot) (t : List ℕ) (q r : ItemParts) (k : Keyword) (begun l : ℕ) (slots : List Slot)
+    (o : Open) → Fits s t q r →
+    take t l (going k begun (s ∷ slots) q o) ≡ going k begun slots r o
+unfolding take going within
+take_word s t q r k begun l slots o h =
+    rw (fits_no_list s t q r h, fits_given s t q r h) (after_slot-going k begun slots (Words k s begun) slots r o)
 
-  pub take_open : (k : Keyword) (begun l : ℕ) (slots : List Slot) (q : ItemParts) (o : Open) →
-      take (codes "(") l (going k begun (Values ∷ slots) q o)
-      ≡ in_elements k begun l slots (record q { numbers = [] }) o
-  unfolding take going within in_elements
-  take_open k begun l slots q o = refl
+pub take_open : (k : Keyword) (begun l : ℕ) (slots : List Slot) (q : ItemParts) (o : Open) →
+    take (codes "(") l (going k begun (Values ∷ slots) q o)
+    ≡ in_elements k begun l slots (record q { numbers = [] }) o
+unfolding take going within in_elements
+take_open k begun l slots q o = refl
 
-  pub take_close : (k : Keyword) (begun opened l : ℕ) (slots : List Slot) (q : ItemParts) (o : Open) →
-      take (codes ")") l (in_elements k begun opened slots q o) ≡ going k begun slots q o
-  unfolding take within in_elements
-  take_close k begun opened l slots q o = after_slot-going k begun slots (Elements k begun opened) slots q o
+pub take_close : (k : Keyword) (begun opened l : ℕ) (slots : List Slot) (q : ItemParts) (o : Open) →
+    take (codes ")") l (in_elements k begun opened slots q o) ≡ going k begun slots q o
+unfolding take within in_elements
+take_close k begun opened l slots q o = after_slot-going k begun slots (Elements k begun opened) slots q o
 
-  take_element : (t : List ℕ) (n : ℤ) (k : Keyword) (begun opened l : ℕ) (slots : List Slot) (q : ItemParts)
-      (o : Open) → value_of q.kind t ≡ Some n → length q.numbers < MOST_ELEMENTS →
-      take t l (in_elements k begun opened slots q o)
-      ≡ in_elements k begun opened slots (record q { numbers = q.numbers ++ n ∷ [] }) o
-  unfolding take within in_elements
-  take_element t n k begun opened l slots q o h lt =
-      rw (paren_is_no_value q.kind 41 (close_is_no_value q.kind) t n h, h, less (length q.numbers) MOST_ELEMENTS lt)
-      refl
+take_element : (t : List ℕ) (n : ℤ) (k : Keyword) (begun opened l : ℕ) (slots : List Slot) (q : ItemParts)
+    (o : Open) → value_of q.kind t ≡ Some n → length q.numbers < MOST_ELEMENTS →
+    take t l (in_elements k begun opened slots q o)
+    ≡ in_elements k begun opened slots (record q { numbers = q.numbers ++ n ∷ [] }) o
+unfolding take within in_elements
+take_element t n k begun opened l slots q o h lt =
+    rw (paren_is_no_value q.kind 41 (close_is_no_value q.kind) t n h, h, less (length q.numbers) MOST_ELEMENTS lt)
+    refl
 
-  elements_run : (ns : List ℤ) (ws : List Word) (k : Keyword) (begun opened : ℕ) (slots : List Slot) (q : ItemParts)
-      (o : Open) (done : List ℤ) → AreValues q.kind ns ws → length (done ++ ns) ≤ MOST_ELEMENTS →
-      run (in_elements k begun opened slots (record q { numbers = done }) o) ws
-      ≡ in_elements k begun opened slots (record q { numbers = done ++ ns }) o
-  elements_run [] [] k begun opened slots q o done h le =
-      no_run _ ∙ ap (λ z. in_elements k begun opened slots (record q { numbers = z }) o) (sym (add_nil done))
-  elements_run [] (w ∷ ws) k begun opened slots q o done h le = absurd h
-  elements_run (n ∷ ns) [] k begun opened slots q o done h le = absurd h
-  elements_run (n ∷ ns) (w ∷ ws) k begun opened slots q o done h le =
-      let regroup : (done ++ n ∷ []) ++ ns ≡ done ++ n ∷ ns = append_assoc done (n ∷ []) ns in
-      word_run _ _ _ w ws
-      (take_element w.text n k begun opened w.line slots (record q { numbers = done }) o h.0 (room done n ns le))
-      (elements_run ns ws k begun opened slots q o (done ++ n ∷ []) h.1 (rw regroup le)
-      ∙ ap (λ z. in_elements k begun opened slots (record q { numbers = z }) o) regroup)
+elements_run : (ns : List ℤ) (ws : List Word) (k : Keyword) (begun opened : ℕ) (slots : List Slot) (q : ItemParts)
+    (o : Open) (done : List ℤ) → AreValues q.kind ns ws → length (done ++ ns) ≤ MOST_ELEMENTS →
+    run (in_elements k begun opened slots (record q { numbers = done }) o) ws
+    ≡ in_elements k begun opened slots (record q { numbers = done ++ ns }) o
+elements_run [] [] k begun opened slots q o done h le =
+    no_run _ ∙ ap (λ z. in_elements k begun opened slots (record q { numbers = z }) o) (sym (add_nil done))
+elements_run [] (w ∷ ws) k begun opened slots q o done h le = absurd h
+elements_run (n ∷ ns) [] k begun opened slots q o done h le = absurd h
+elements_run (n ∷ ns) (w ∷ ws) k begun opened slots q o done h le =
+    let regroup : (done ++ n ∷ []) ++ ns ≡ done ++ n ∷ ns = append_assoc done (n ∷ []) ns in
+    word_run _ _ _ w ws
+    (take_element w.text n k begun opened w.line slots (record q { numbers = done }) o h.0 (room done n ns le))
+    (elements_run ns ws k begun opened slots q o (done ++ n ∷ []) h.1 (rw regroup le)
+    ∙ ap (λ z. in_elements k begun opened slots (record q { numbers = z }) o) regroup)
 
-  list_run : (before after : ItemParts) (ws : List Word) (k : Keyword) (begun : ℕ) (slots : List Slot) (o : Open) →
-      AreListed before after ws →
-      run (going k begun (Values ∷ slots) before o) ws ≡ going k begun slots after o
-  list_run before after ws k begun slots o (opened, closed, inner, ns, e, f, g, le, h, r) =
-      from_words _ _ _ _ e
-      (word_run _ _ _ opened _ (of_text (codes "(") opened _ _ f (take_open k begun opened.line slots before o))
-      (then_run _ _ _ inner (closed ∷ []) (elements_run ns inner k begun opened.line slots before o [] h le)
-      (word_run _ _ _ closed []
-      (of_text (codes ")") closed _ _ g
-      (take_close k begun opened.line closed.line slots (record before { numbers = ns }) o))
-      (no_run _ ∙ ap (λ z. going k begun slots z o) (sym r)))))
-
-  one_run : (s : Slot) (before after : ItemParts) (ws : List Word) (k : Keyword) (begun : ℕ) (slots : List Slot)
-      (o : Open) → FillOne s before after ws →
-      run (going k begun (s ∷ slots) before o) ws ≡ going k begun slots after o
-  one_run s before after ws k begun slots o (inl (w, e, h)) =
-      from_words _ _ _ _ e (word_run _ _ _ w [] (take_word s w.text before after k begun w.line slots o h) (no_run _))
-  one_run s before after ws k begun slots o (inr (e, h)) =
-      ap (λ z. run (going k begun (z ∷ slots) before o) ws) e ∙ list_run before after ws k begun slots o h
-
-  fill_run : (slots : List Slot) (before after : ItemParts) (ws : List Word) (k : Keyword) (begun : ℕ) (o : Open) →
-      Fill slots before after ws →
-      run (going k begun slots before o) ws ≡ within (takes_int k) (with_item o (instruction_of k after) begun)
-  unfolding going
-  fill_run [] before after ws k begun o (e, f) =
-      from_words _ _ ws [] f (no_run _ ∙ ap (λ z. within (takes_int k) (with_item o (instruction_of k z) begun)) e)
-  fill_run (s ∷ slots) before after ws k begun o (next, u, rest, e, i, h) =
-      from_words _ _ _ _ e
-      (then_run _ _ _ u rest (one_run s before next u k begun slots o i)
-      (fill_run slots next after rest k begun o h))
-
-  int_run : (b : Bool) (ws : List Word) (o : Open) → MayBeInt b ws → (c : Bool) × (run (within b o) ws ≡ within c o)
-  int_run b ws o (inl e) = (b, from_words _ _ ws [] e (no_run _))
-  int_run b ws o (inr (t, w, e, h)) = (
-    false,
+list_run : (before after : ItemParts) (ws : List Word) (k : Keyword) (begun : ℕ) (slots : List Slot) (o : Open) →
+    AreListed before after ws →
+    run (going k begun (Values ∷ slots) before o) ws ≡ going k begun slots after o
+list_run before after ws k begun slots o (opened, closed, inner, ns, e, f, g, le, h, r) =
     from_words _ _ _ _ e
-        (word_run _ _ _ w []
-        (ap (λ z. take w.text w.line (within z o)) t ∙ of_text (codes "INT") w _ _ h (take_int w.line o))
-        (no_run _)),
-  )
+    (word_run _ _ _ opened _ (of_text (codes "(") opened _ _ f (take_open k begun opened.line slots before o))
+    (then_run _ _ _ inner (closed ∷ []) (elements_run ns inner k begun opened.line slots before o [] h le)
+    (word_run _ _ _ closed []
+    (of_text (codes ")") closed _ _ g
+    (take_close k begun opened.line closed.line slots (record before { numbers = ns }) o))
+    (no_run _ ∙ ap (λ z. going k begun slots z o) (sym r)))))
 
-  pub instruction_run : (b : Bool) (i : Item) (l : ℕ) (ws : List Word) (o : Open) → IsInstruction lang i l ws →
-      (c : Bool) × (run (within b o) ws ≡ within c (with_item o i l))
-  instruction_run b i l ws o (k, first, rest, last, q, e, h, f, g, m) =
-      let (c, r) = int_run (takes_int k) last (with_item o (instruction_of k q) first.line) m in (
-        c,
-        from_words _ _ _ _ e
-            (word_run _ _ _ first _ (take_first b first k o h.0)
-            (then_run _ _ _ rest last (fill_run (slots_of lang first.text) no_parts q rest k first.line o g)
-            (r ∙ (ap (λ z. within c (with_item o z first.line)) (sym f)
-            ∙ ap (λ z. within c (with_item o i z)) h.1)))),
-      )
+one_run : (s : Slot) (before after : ItemParts) (ws : List Word) (k : Keyword) (begun : ℕ) (slots : List Slot)
+    (o : Open) → FillOne s before after ws →
+    run (going k begun (s ∷ slots) before o) ws ≡ going k begun slots after o
+one_run s before after ws k begun slots o (inl (w, e, h)) =
+    from_words _ _ _ _ e (word_run _ _ _ w [] (take_word s w.text before after k begun w.line slots o h) (no_run _))
+one_run s before after ws k begun slots o (inr (e, h)) =
+    ap (λ z. run (going k begun (z ∷ slots) before o) ws) e ∙ list_run before after ws k begun slots o h
 
-  -- ---- bodies and functions
+fill_run : (slots : List Slot) (before after : ItemParts) (ws : List Word) (k : Keyword) (begun : ℕ) (o : Open) →
+    Fill slots before after ws →
+    run (going k begun slots before o) ws ≡ within (takes_int k) (with_item o (instruction_of k after) begun)
+unfolding going
+fill_run [] before after ws k begun o (e, f) =
+    from_words _ _ ws [] f (no_run _ ∙ ap (λ z. within (takes_int k) (with_item o (instruction_of k z) begun)) e)
+fill_run (s ∷ slots) before after ws k begun o (next, u, rest, e, i, h) =
+    from_words _ _ _ _ e
+    (then_run _ _ _ u rest (one_run s before next u k begun slots o i)
+    (fill_run slots next after rest k begun o h))
 
-  pub take_if : (b : Bool) (w : Word) (o : Open) → head_of lang w.text ≡ head.If → length o.ifs < MOST_OPEN_IFS →
-      take w.text w.line (within b o) ≡ within false (if_at o w.line)
-  unfolding within if_at
-  take_if b w o h lt =
-      take_item b w o (λ e. if_not_other (sym h ∙ e))
-      ∙ (ap (λ x. inside x (slots_of lang w.text) w.line (within b o)) h
-      ∙ rw (less (length o.ifs) MOST_OPEN_IFS lt) refl)
+int_run : (b : Bool) (ws : List Word) (o : Open) → MayBeInt b ws → (c : Bool) × (run (within b o) ws ≡ within c o)
+int_run b ws o (inl e) = (b, from_words _ _ ws [] e (no_run _))
+int_run b ws o (inr (t, w, e, h)) = (
+  false,
+  from_words _ _ _ _ e
+      (word_run _ _ _ w []
+      (ap (λ z. take w.text w.line (within z o)) t ∙ of_text (codes "INT") w _ _ h (take_int w.line o))
+      (no_run _)),
+)
 
-  pub take_else : (b : Bool) (w : Word) (fs : List Function) (name : List ℕ) (line : ℕ) (code : List CodeLine) (l : ℕ)
-      (is : List OpenIf) → head_of lang w.text ≡ head.Else →
-      take w.text w.line (within b (opened fs name line code (open_if l false ∷ is)))
-      ≡ within false (opened fs name line (code ++ line_of code_item.Else l ∷ []) (open_if l true ∷ is))
-  unfolding within
-  take_else b w fs name line code l is h =
-      take_item b w (opened fs name line code (open_if l false ∷ is)) (λ e. else_not_other (sym h ∙ e))
-      ∙ ap (λ x. inside x (slots_of lang w.text) w.line (within b (opened fs name line code (open_if l false ∷ is))))
-      h
-
-  pub take_endif : (b : Bool) (w : Word) (fs : List Function) (name : List ℕ) (line : ℕ) (code : List CodeLine)
-      (l : ℕ) (is : List OpenIf) → head_of lang w.text ≡ head.Endif →
-      take w.text w.line (within b (opened fs name line code (open_if l true ∷ is)))
-      ≡ within false (opened fs name line (code ++ line_of code_item.Endif w.line ∷ []) is)
-  unfolding within
-  take_endif b w fs name line code l is h =
-      take_item b w (opened fs name line code (open_if l true ∷ is)) (λ e. endif_not_other (sym h ∙ e))
-      ∙ ap (λ x. inside x (slots_of lang w.text) w.line (within b (opened fs name line code (open_if l true ∷ is)))) h
-
-  pub take_endif_alone : (b : Bool) (w : Word) (fs : List Function) (name : List ℕ) (line : ℕ) (code : List CodeLine)
-      (l : ℕ) (is : List OpenIf) → head_of lang w.text ≡ head.Endif →
-      take w.text w.line (within b (opened fs name line code (open_if l false ∷ is)))
-      ≡ within false
-      (opened fs name line ((code ++ line_of code_item.Else l ∷ []) ++ line_of code_item.Endif w.line ∷ []) is)
-  unfolding within
-  take_endif_alone b w fs name line code l is h =
-      take_item b w (opened fs name line code (open_if l false ∷ is)) (λ e. endif_not_other (sym h ∙ e))
-      ∙ ap (λ x. inside x (slots_of lang w.text) w.line (within b (opened fs name line code (open_if l false ∷ is))))
-      h
-
-  -- a body behind these lines
-  abbrev Runs : Bool → Body → List Word → Open → Type 0
-  Runs b body ws o = (c : Bool) × (run (within b o) ws ≡ within c (with_code o (o.code ++ body_lines body)))
-
-  -- what follows the first part of an IF, up to its ENDIF
-  second_run : (c : Bool) (l e : ℕ) (second : Body) (m : List Word) (end : Word) (fs : List Function) (name : List ℕ)
-      (line : ℕ) (code : List CodeLine) (is : List OpenIf) →
-      IsElse lang (IsBody lang (suc (length is)) second) second m → IsHead lang head.Endif e end →
-      ((u : List Word) (o : Open) → IsBody lang (length o.ifs) second u → Runs false second u o) →
-      run (within c (opened fs name line code (open_if l false ∷ is))) (m ++ end ∷ [])
-      ≡ within false
-      (opened fs name line
-      (((code ++ line_of code_item.Else l ∷ []) ++ body_lines second) ++ line_of code_item.Endif e ∷ []) is)
-  unfolding with_code
-  second_run c l e second m end fs name line code is (inl (none, f)) he more =
-      from_words _ _ _ _ (ap (λ z. z ++ end ∷ []) none)
-      (word_run _ _ _ end [] (take_endif_alone c end fs name line code l is he.0)
-      (no_run _
-      ∙ (ap (λ z. within false
-      (opened fs name line ((code ++ line_of code_item.Else l ∷ []) ++ line_of code_item.Endif z ∷ []) is)) he.1
-      ∙ ap (λ z. within false (opened fs name line (z ++ line_of code_item.Endif e ∷ []) is))
-      (sym (ap (λ z. (code ++ line_of code_item.Else l ∷ []) ++ body_lines z) f
-      ∙ add_nil (code ++ line_of code_item.Else l ∷ []))))))
-  second_run c l e second m end fs name line code is (inr (w, u, f, hw, hb)) he more =
-      let (d, r) = more u (opened fs name line (code ++ line_of code_item.Else l ∷ []) (open_if l true ∷ is)) hb in
-      from_words _ _ _ _ (ap (λ z. z ++ end ∷ []) f)
-      (word_run _ _ _ w (u ++ end ∷ []) (take_else c w fs name line code l is hw)
-      (then_run _ _ _ u (end ∷ []) r
-      (word_run _ _ _ end []
-      (take_endif d end fs name line ((code ++ line_of code_item.Else l ∷ []) ++ body_lines second) l is he.0)
-      (no_run _
-      ∙ ap (λ z. within false
-      (opened fs name line
-      (((code ++ line_of code_item.Else l ∷ []) ++ body_lines second) ++ line_of code_item.Endif z ∷ []) is))
-      he.1))))
-
-  pub body_run : (b : Bool) (body : Body) (ws : List Word) (o : Open) → IsBody lang (length o.ifs) body ws →
-      Runs b body ws o
-  unfolding with_item with_code if_at
-  body_run b End ws o h =
-      (b, from_words _ _ ws [] h (no_run _ ∙ ap (λ z. within b (with_code o z)) (sym (add_nil o.code))))
-  body_run b (Do i l body) ws o (u, v, e, h, t) =
-      let (c, r) = instruction_run b i l u o h in
-      let (d, s) = body_run c body v (with_item o i l) t in (
-        d,
-        from_words _ _ _ _ e
-            (then_run _ _ _ u v r
-            (s ∙ ap (λ z. within d (with_code o z))
-            (append_assoc o.code (instruction_line i l ∷ []) (body_lines body)))),
-      )
-  body_run b (Choice l first second e body) ws o (begun, end, u, m, v, q, lt, hi, he, hf, hs, hr) =
-      let (c, r) = body_run false first u (if_at o l) hf in
-      let code : List CodeLine = (o.code ++ line_of code_item.If l ∷ []) ++ body_lines first in
-      let s = second_run c l e second m end o.functions o.name o.line code o.ifs hs he
-      (λ u2 o2 h2. body_run false second u2 o2 h2) in
-      let last : List CodeLine =
-      ((code ++ line_of code_item.Else l ∷ []) ++ body_lines second) ++ line_of code_item.Endif e ∷ [] in
-      let (d, t) = body_run false body v (with_code o last) hr in (
-        d,
-        from_words _ _ _ _ q
-            (word_run _ _ _ begun _ (take_if b begun o hi.0 lt ∙ ap (λ z. within false (if_at o z)) hi.1)
-            (then_run _ _ _ u (m ++ (end ∷ v)) r
-            (from_words _ _ _ _ (sym (append_assoc m (end ∷ []) v))
-            (then_run _ _ _ (m ++ end ∷ []) v s
-            (t ∙ ap (λ z. within d (with_code o z))
-            (regroup o.code (body_lines first) (body_lines second) (body_lines body) (line_of code_item.If l)
-            (line_of code_item.Else l) (line_of code_item.Endif e))))))),
-      )
-
-  pub take_func : (w : Word) (fs : List Function) → head_of lang w.text ≡ head.Func → length fs < MOST_FUNCTIONS →
-      take w.text w.line (between fs) ≡ naming_at fs w.line
-  unfolding take between naming_at
-  take_func w fs h lt = ap (λ x. outside x w.line (between fs)) h ∙ rw (less (length fs) MOST_FUNCTIONS lt) refl
-
-  pub take_name : (t : List ℕ) (l k : ℕ) (fs : List Function) → IsName t → has_name t fs ≡ false →
-      take t k (naming_at fs l) ≡ within false (record { functions = fs; name = t; line = l; code = []; ifs = [] })
-  unfolding take naming_at within
-  take_name t l k fs h new = rw (h.bare, h.good, not_less LONGEST_NAME (length t) h.short, new) refl
-
-  pub take_return : (b : Bool) (w : Word) (fs : List Function) (name : List ℕ) (line : ℕ) (code : List CodeLine) →
-      head_of lang w.text ≡ head.Return →
-      take w.text w.line (within b (opened fs name line code []))
-      ≡ between (fs ++ closed_at (opened fs name line code []) w.line ∷ [])
-  unfolding within between closed_at
-  take_return b w fs name line code h =
-      take_item b w (opened fs name line code []) (λ e. return_not_other (sym h ∙ e))
-      ∙ ap (λ x. inside x (slots_of lang w.text) w.line (within b (opened fs name line code []))) h
-
-  function_run : (f : Function) (ws : List Word) (fs : List Function) → IsFunction lang f ws →
-      has_name f.name fs ≡ false → length fs < MOST_FUNCTIONS →
-      run (between fs) ws ≡ between (fs ++ f ∷ [])
-  unfolding with_code
-  function_run f ws fs (func, name, ret, u, e, wf, wn, good, hb, wr) new lt =
-      let (c, r) =
-      body_run false f.body u (record { functions = fs; name = f.name; line = f.line; code = []; ifs = [] }) hb in
+pub instruction_run : (b : Bool) (i : Item) (l : ℕ) (ws : List Word) (o : Open) → IsInstruction i l ws →
+    (c : Bool) × (run (within b o) ws ≡ within c (with_item o i l))
+instruction_run b i l ws o (k, first, rest, last, q, e, h, f, g, m) =
+    let (c, r) = int_run (takes_int k) last (with_item o (instruction_of k q) first.line) m in (
+      c,
       from_words _ _ _ _ e
-      (word_run _ _ _ func _ (take_func func fs wf.0 lt ∙ ap (naming_at fs) wf.1)
-      (word_run _ _ _ name _ (of_text f.name name _ _ wn (take_name f.name f.line name.line fs good new))
-      (then_run _ _ _ u (ret ∷ []) r
-      (word_run _ _ _ ret []
-      (take_return c ret fs f.name f.line (body_lines f.body) wr.0
-      ∙ ap (λ g. between (fs ++ g ∷ [])) (whole f fs ret.line wr.1)) (no_run _)))))
+          (word_run _ _ _ first _ (take_first b first k o h.0)
+          (then_run _ _ _ rest last (fill_run (slots_of first.text) no_parts q rest k first.line o g)
+          (r ∙ (ap (λ z. within c (with_item o z first.line)) (sym f)
+          ∙ ap (λ z. within c (with_item o i z)) h.1)))),
+    )
+
+-- ---- bodies and functions
+
+pub take_if : (b : Bool) (w : Word) (o : Open) → head_of w.text ≡ head.If → length o.ifs < MOST_OPEN_IFS →
+    take w.text w.line (within b o) ≡ within false (if_at o w.line)
+unfolding within if_at
+take_if b w o h lt =
+    take_item b w o (λ e. if_not_other (sym h ∙ e))
+    ∙ (ap (λ x. inside x (slots_of w.text) w.line (within b o)) h
+    ∙ rw (less (length o.ifs) MOST_OPEN_IFS lt) refl)
+
+pub take_else : (b : Bool) (w : Word) (fs : List Function) (name : List ℕ) (line : ℕ) (code : List CodeLine) (l : ℕ)
+    (is : List OpenIf) → head_of w.text ≡ head.Else →
+    take w.text w.line (within b (opened fs name line code (open_if l false ∷ is)))
+    ≡ within false (opened fs name line (code ++ line_of code_item.Else l ∷ []) (open_if l true ∷ is))
+unfolding within
+take_else b w fs name line code l is h =
+    take_item b w (opened fs name line code (open_if l false ∷ is)) (λ e. else_not_other (sym h ∙ e))
+    ∙ ap (λ x. inside x (slots_of w.text) w.line (within b (opened fs name line code (open_if l false ∷ is)))) h
+
+pub take_endif : (b : Bool) (w : Word) (fs : List Function) (name : List ℕ) (line : ℕ) (code : List CodeLine)
+    (l : ℕ) (is : List OpenIf) → head_of w.text ≡ head.Endif →
+    take w.text w.line (within b (opened fs name line code (open_if l true ∷ is)))
+    ≡ within false (opened fs name line (code ++ line_of code_item.Endif w.line ∷ []) is)
+unfolding within
+take_endif b w fs name line code l is h =
+    take_item b w (opened fs name line code (open_if l true ∷ is)) (λ e. endif_not_other (sym h ∙ e))
+    ∙ ap (λ x. inside x (slots_of w.text) w.line (within b (opened fs name line code (open_if l true ∷ is)))) h
+
+pub take_endif_alone : (b : Bool) (w : Word) (fs : List Function) (name : List ℕ) (line : ℕ) (code : List CodeLine)
+    (l : ℕ) (is : List OpenIf) → head_of w.text ≡ head.Endif →
+    take w.text w.line (within b (opened fs name line code (open_if l false ∷ is)))
+    ≡ within false
+    (opened fs name line ((code ++ line_of code_item.Else l ∷ []) ++ line_of code_item.Endif w.line ∷ []) is)
+unfolding within
+take_endif_alone b w fs name line code l is h =
+    take_item b w (opened fs name line code (open_if l false ∷ is)) (λ e. endif_not_other (sym h ∙ e))
+    ∙ ap (λ x. inside x (slots_of w.text) w.line (within b (opened fs name line code (open_if l false ∷ is)))) h
+
+-- a body behind these lines
+abbrev Runs : Bool → Body → List Word → Open → Type 0
+Runs b body ws o = (c : Bool) × (run (within b o) ws ≡ within c (with_code o (o.code ++ body_lines body)))
+
+-- what follows the first part of an IF, up to its ENDIF
+second_run : (c : Bool) (l e : ℕ) (second : Body) (m : List Word) (end : Word) (fs : List Function) (name : List ℕ)
+    (line : ℕ) (code : List CodeLine) (is : List OpenIf) →
+    IsElse (IsBody (suc (length is)) second) second m → IsHead head.Endif e end →
+    ((u : List Word) (o : Open) → IsBody (length o.ifs) second u → Runs false second u o) →
+    run (within c (opened fs name line code (open_if l false ∷ is))) (m ++ end ∷ [])
+    ≡ within false
+    (opened fs name line
+    (((code ++ line_of code_item.Else l ∷ []) ++ body_lines second) ++ line_of code_item.Endif e ∷ []) is)
+unfolding with_code
+second_run c l e second m end fs name line code is (inl (none, f)) he more =
+    from_words _ _ _ _ (ap (λ z. z ++ end ∷ []) none)
+    (word_run _ _ _ end [] (take_endif_alone c end fs name line code l is he.0)
+    (no_run _
+    ∙ (ap (λ z. within false
+    (opened fs name line ((code ++ line_of code_item.Else l ∷ []) ++ line_of code_item.Endif z ∷ []) is)) he.1
+    ∙ ap (λ z. within false (opened fs name line (z ++ line_of code_item.Endif e ∷ []) is))
+    (sym (ap (λ z. (code ++ line_of code_item.Else l ∷ []) ++ body_lines z) f
+    ∙ add_nil (code ++ line_of code_item.Else l ∷ []))))))
+second_run c l e second m end fs name line code is (inr (w, u, f, hw, hb)) he more =
+    let (d, r) = more u (opened fs name line (code ++ line_of code_item.Else l ∷ []) (open_if l true ∷ is)) hb in
+    from_words _ _ _ _ (ap (λ z. z ++ end ∷ []) f)
+    (word_run _ _ _ w (u ++ end ∷ []) (take_else c w fs name line code l is hw)
+    (then_run _ _ _ u (end ∷ []) r
+    (word_run _ _ _ end []
+    (take_endif d end fs name line ((code ++ line_of code_item.Else l ∷ []) ++ body_lines second) l is he.0)
+    (no_run _
+    ∙ ap (λ z. within false
+    (opened fs name line
+    (((code ++ line_of code_item.Else l ∷ []) ++ body_lines second) ++ line_of code_item.Endif z ∷ []) is))
+    he.1))))
+
+pub body_run : (b : Bool) (body : Body) (ws : List Word) (o : Open) → IsBody (length o.ifs) body ws →
+    Runs b body ws o
+unfolding with_item with_code if_at
+body_run b End ws o h =
+    (b, from_words _ _ ws [] h (no_run _ ∙ ap (λ z. within b (with_code o z)) (sym (add_nil o.code))))
+body_run b (Do i l body) ws o (u, v, e, h, t) =
+    let (c, r) = instruction_run b i l u o h in
+    let (d, s) = body_run c body v (with_item o i l) t in (
+      d,
+      from_words _ _ _ _ e
+          (then_run _ _ _ u v r
+          (s ∙ ap (λ z. within d (with_code o z))
+          (append_assoc o.code (instruction_line i l ∷ []) (body_lines body)))),
+    )
+body_run b (Choice l first second e body) ws o (begun, end, u, m, v, q, lt, hi, he, hf, hs, hr) =
+    let (c, r) = body_run false first u (if_at o l) hf in
+    let code : List CodeLine = (o.code ++ line_of code_item.If l ∷ []) ++ body_lines first in
+    let s = second_run c l e second m end o.functions o.name o.line code o.ifs hs he
+    (λ u2 o2 h2. body_run false second u2 o2 h2) in
+    let last : List CodeLine =
+    ((code ++ line_of code_item.Else l ∷ []) ++ body_lines second) ++ line_of code_item.Endif e ∷ [] in
+    let (d, t) = body_run false body v (with_code o last) hr in (
+      d,
+      from_words _ _ _ _ q
+          (word_run _ _ _ begun _ (take_if b begun o hi.0 lt ∙ ap (λ z. within false (if_at o z)) hi.1)
+          (then_run _ _ _ u (m ++ (end ∷ v)) r
+          (from_words _ _ _ _ (sym (append_assoc m (end ∷ []) v))
+          (then_run _ _ _ (m ++ end ∷ []) v s
+          (t ∙ ap (λ z. within d (with_code o z))
+          (regroup o.code (body_lines first) (body_lines second) (body_lines body) (line_of code_item.If l)
+          (line_of code_item.Else l) (line_of code_item.Endif e))))))),
+    )
+
+pub take_func : (w : Word) (fs : List Function) → head_of w.text ≡ head.Func → length fs < MOST_FUNCTIONS →
+    take w.text w.line (between fs) ≡ naming_at fs w.line
+unfolding take between naming_at
+take_func w fs h lt = ap (λ x. outside x w.line (between fs)) h ∙ rw (less (length fs) MOST_FUNCTIONS lt) refl
+
+pub take_name : (t : List ℕ) (l k : ℕ) (fs : List Function) → IsName t → has_name t fs ≡ false →
+    take t k (naming_at fs l) ≡ within false (record { functions = fs; name = t; line = l; code = []; ifs = [] })
+unfolding take naming_at within
+take_name t l k fs h new = rw (h.bare, h.good, not_less LONGEST_NAME (length t) h.short, new) refl
+
+pub take_return : (b : Bool) (w : Word) (fs : List Function) (name : List ℕ) (line : ℕ) (code : List CodeLine) →
+    head_of w.text ≡ head.Return →
+    take w.text w.line (within b (opened fs name line code []))
+    ≡ between (fs ++ closed_at (opened fs name line code []) w.line ∷ [])
+unfolding within between closed_at
+take_return b w fs name line code h =
+    take_item b w (opened fs name line code []) (λ e. return_not_other (sym h ∙ e))
+    ∙ ap (λ x. inside x (slots_of w.text) w.line (within b (opened fs name line code []))) h
+
+function_run : (f : Function) (ws : List Word) (fs : List Function) → IsFunction f ws →
+    has_name f.name fs ≡ false → length fs < MOST_FUNCTIONS →
+    run (between fs) ws ≡ between (fs ++ f ∷ [])
+unfolding with_code
+function_run f ws fs (func, name, ret, u, e, wf, wn, good, hb, wr) new lt =
+    let (c, r) =
+    body_run false f.body u (record { functions = fs; name = f.name; line = f.line; code = []; ifs = [] }) hb in
+    from_words _ _ _ _ e
+    (word_run _ _ _ func _ (take_func func fs wf.0 lt ∙ ap (naming_at fs) wf.1)
+    (word_run _ _ _ name _ (of_text f.name name _ _ wn (take_name f.name f.line name.line fs good new))
+    (then_run _ _ _ u (ret ∷ []) r
+    (word_run _ _ _ ret []
+    (take_return c ret fs f.name f.line (body_lines f.body) wr.0
+    ∙ ap (λ g. between (fs ++ g ∷ [])) (whole f fs ret.line wr.1)) (no_run _)))))
 
 all_at : {A : Type 0} (P : A → Type 0) (xs : List A) (y : A) (zs : List A) → AllByRecursion P (xs ++ y ∷ zs) → P y
 all_at P [] y zs h = h.0
@@ -501,18 +494,17 @@ fewer : (done : List Function) (f : Function) (fs : List Function) → length (d
     length done < MOST_FUNCTIONS
 fewer done f fs h = omega (arith, length-append done (f ∷ fs))
 
-module _ (lang : Language) where
-  functions_run : (fs done : List Function) (ws : List Word) → AreFunctions lang fs ws → NamesDiffer (done ++ fs) →
-      length (done ++ fs) ≤ MOST_FUNCTIONS →
-      run (between lang done) ws ≡ between lang (done ++ fs)
-  functions_run [] done ws h n l = from_words _ _ ws [] h (no_run _ ∙ ap (between lang) (sym (add_nil done)))
-  functions_run (f ∷ fs) done ws (u, v, e, g, h) n l =
-      let regroup : (done ++ f ∷ []) ++ fs ≡ done ++ f ∷ fs = append_assoc done (f ∷ []) fs in
-      from_words _ _ _ _ e
-      (then_run _ _ _ u v (function_run lang f u done g (new_name done f fs n) (fewer done f fs l))
-      (functions_run fs (done ++ f ∷ []) v h (rw regroup n) (rw regroup l) ∙ ap (between lang) regroup))
+functions_run : (fs done : List Function) (ws : List Word) → AreFunctions fs ws → NamesDiffer (done ++ fs) →
+    length (done ++ fs) ≤ MOST_FUNCTIONS →
+    run (between done) ws ≡ between (done ++ fs)
+functions_run [] done ws h n l = from_words _ _ ws [] h (no_run _ ∙ ap between (sym (add_nil done)))
+functions_run (f ∷ fs) done ws (u, v, e, g, h) n l =
+    let regroup : (done ++ f ∷ []) ++ fs ≡ done ++ f ∷ fs = append_assoc done (f ∷ []) fs in
+    from_words _ _ _ _ e
+    (then_run _ _ _ u v (function_run f u done g (new_name done f fs n) (fewer done f fs l))
+    (functions_run fs (done ++ f ∷ []) v h (rw regroup n) (rw regroup l) ∙ ap between regroup))
 
-  -- what is in the grammar is read, to its program
-  pub gram_run : (fs : List Function) (ws : List Word) → Gram lang fs ws → run (start lang) ws ≡ between lang fs
-  unfolding between
-  gram_run fs ws g = functions_run fs [] ws g.spelled g.differ g.few
+-- what is in the grammar is read, to its program
+pub gram_run : (fs : List Function) (ws : List Word) → Gram fs ws → run start ws ≡ between fs
+unfolding between
+gram_run fs ws g = functions_run fs [] ws g.spelled g.differ g.few

@@ -8,8 +8,6 @@ use Rattle.std.proofs.lemmas.Slice.Eq.{bytes_eq-Decides}
 use Rattle.vcode_reader.specs.declared.head.Head.{Head}
 use Rattle.vcode_reader.specs.declared.head.Head.TheVariants.{Other}
 use Rattle.vcode_reader.specs.declared.keyword.Slot.{Slot}
-use Rattle.vcode_reader.specs.declared.language.Language.{Language}
-use Rattle.vcode_reader.specs.declared.language.Language.TheVariants.{First, Whole}
 use Rattle.vcode_reader.specs.Heads.{Row, rows, look_up, rows_with, head_of_length, head_longer, head_slots, head_of}
 use Rattle.vcode_reader.specs.Heads.{slots_of}
 
@@ -42,44 +40,42 @@ look_up-rows_with column missing is_such (r ∷ rs) word h =
     look_up-row column missing is_such r (rows_with is_such rs) rs word (is_such (length r.word)) h refl
     (look_up-rows_with column missing is_such rs word h)
 
-pub among_length : (n : ℕ) (word : List ℕ) → length word ≡ n → head_of_length n word ≡ head_of Whole word
+pub among_length : (n : ℕ) (word : List ℕ) → length word ≡ n → head_of_length n word ≡ head_of word
 unfolding head_of_length head_of
 among_length n word h =
     let same : (length word == n) ≡ true = grind (arith, nat_tests) in
-    look_up-rows_with (λ (r : Row). r.head) Other (λ m. m == n) (rows Whole) word same
+    look_up-rows_with (λ (r : Row). r.head) Other (λ m. m == n) rows word same
 
-pub among_longer : (n : ℕ) (word : List ℕ) → n < length word → head_longer n word ≡ head_of Whole word
+pub among_longer : (n : ℕ) (word : List ℕ) → n < length word → head_longer n word ≡ head_of word
 unfolding head_longer head_of
 among_longer n word h =
     let same : nat_lt n (length word) ≡ true = grind (arith, nat_tests) in
-    look_up-rows_with (λ (r : Row). r.head) Other (nat_lt n) (rows Whole) word same
+    look_up-rows_with (λ (r : Row). r.head) Other (nat_lt n) rows word same
 
 -- no row has the word of no bytes
-pub no_word : (word : List ℕ) → length word ≡ 0 → Other ≡ head_of Whole word
+pub no_word : (word : List ℕ) → length word ≡ 0 → Other ≡ head_of word
 unfolding head_of_length rows
 no_word word h = among_length 0 word h
 
 -- ---- what stands behind a word, by what the word begins
 
-abbrev agrees : Language → Row → Type 0
-agrees language r = r.slots ≡ head_slots language r.head
+abbrev agrees : Row → Type 0
+agrees r = r.slots ≡ head_slots r.head
 
-look_up-slots : (language : Language) (rs : List Row) (word : List ℕ) → AllByRecursion (agrees language) rs →
-    look_up (λ (r : Row). r.slots) [] rs word ≡ head_slots language (look_up (λ (r : Row). r.head) Other rs word)
-look_up-slots language [] word h = refl
-look_up-slots language (r ∷ rs) word h =
-    chosen language (bytes_eq word r.word) r _ _ h.0 (look_up-slots language rs word h.1)
+look_up-slots : (rs : List Row) (word : List ℕ) → AllByRecursion agrees rs →
+    look_up (λ (r : Row). r.slots) [] rs word ≡ head_slots (look_up (λ (r : Row). r.head) Other rs word)
+look_up-slots [] word h = refl
+look_up-slots (r ∷ rs) word h =
+    chosen (bytes_eq word r.word) r _ _ h.0 (look_up-slots rs word h.1)
   where
-    chosen : (language : Language) (t : Bool) (r : Row) (slots : List Slot) (head : Head) → agrees language r →
-        slots ≡ head_slots language head →
-        cond t r.slots slots ≡ head_slots language (cond t r.head head)
-    chosen language true r slots head e f = e
-    chosen language false r slots head e f = f
+    chosen : (t : Bool) (r : Row) (slots : List Slot) (head : Head) → agrees r → slots ≡ head_slots head →
+        cond t r.slots slots ≡ head_slots (cond t r.head head)
+    chosen true r slots head e f = e
+    chosen false r slots head e f = f
 
-rows_agree : (language : Language) → AllByRecursion (agrees language) (rows language)
+rows_agree : AllByRecursion agrees rows
 unfolding rows
-rows_agree First = (refl, (refl, (refl, (refl, (refl, (refl, tt))))))
-rows_agree Whole = (
+rows_agree = (
   refl,
   (
     refl,
@@ -243,7 +239,6 @@ rows_agree Whole = (
   ),
 )
 
-pub slots_by_head : (language : Language) (word : List ℕ) →
-    slots_of language word ≡ head_slots language (head_of language word)
+pub slots_by_head : (word : List ℕ) → slots_of word ≡ head_slots (head_of word)
 unfolding slots_of head_of
-slots_by_head language word = look_up-slots language (rows language) word (rows_agree language)
+slots_by_head word = look_up-slots rows word rows_agree

@@ -11,7 +11,6 @@ use Rattle.vcode_reader.specs.declared.head.Head.TheVariants.{Func, Return, If, 
 use Rattle.vcode_reader.specs.declared.keyword.Keyword.{Keyword}
 use Rattle.vcode_reader.specs.declared.keyword.Slot.{Slot}
 use Rattle.vcode_reader.specs.declared.keyword.Slot.TheVariants.{Int, Kind, Values, Count, Callee}
-use Rattle.vcode_reader.specs.declared.language.Language.{Language}
 use Rattle.vcode_reader.specs.Heads.{head_of, slots_of}
 use Rattle.vcode_reader.specs.Keywords.{ItemParts, no_parts, takes_int, instruction_of}
 use Rattle.vcode_reader.specs.Numbers.{number_of, value_of}
@@ -69,42 +68,41 @@ Fill (s ∷ slots) before after ws = (next : ItemParts) × (u rest : List Word) 
 abbrev pub MayBeInt : Bool → List Word → Type 0
 MayBeInt may ws = (ws ≡ []) ⊎ ((may ≡ true) × (w : Word) × (ws ≡ w ∷ []) × (w.text ≡ codes "INT"))
 
-module _ (language : Language) where
-  -- a word that begins this, on this line
-  abbrev pub IsHead : Head → ℕ → Word → Type 0
-  IsHead h l w = (head_of language w.text ≡ h) × (w.line ≡ l)
+-- a word that begins this, on this line
+abbrev pub IsHead : Head → ℕ → Word → Type 0
+IsHead h l w = (head_of w.text ≡ h) × (w.line ≡ l)
 
-  -- the first word of an instruction, words that fill its slots, and those that mean nothing
-  abbrev pub IsInstruction : Item → ℕ → List Word → Type 0
-  IsInstruction i l ws =
-      (k : Keyword) × (first : Word) × (rest last : List Word) × (parts : ItemParts) × (ws ≡ first ∷ (rest ++ last)) ×
-      IsHead (Start k) l first × (i ≡ instruction_of k parts) ×
-      Fill (slots_of language first.text) no_parts parts rest × MayBeInt (takes_int k) last
+-- the first word of an instruction, words that fill its slots, and those that mean nothing
+abbrev pub IsInstruction : Item → ℕ → List Word → Type 0
+IsInstruction i l ws =
+    (k : Keyword) × (first : Word) × (rest last : List Word) × (parts : ItemParts) × (ws ≡ first ∷ (rest ++ last)) ×
+    IsHead (Start k) l first × (i ≡ instruction_of k parts) ×
+    Fill (slots_of first.text) no_parts parts rest × MayBeInt (takes_int k) last
 
-  -- no words, or ELSE and a part
-  abbrev pub IsElse : (List Word → Type 0) → Body → List Word → Type 0
-  IsElse is_part second ws =
-      ((ws ≡ []) × (second ≡ End))
-      ⊎ ((w : Word) × (u : List Word) × (ws ≡ w ∷ u) × (head_of language w.text ≡ Else) × is_part u)
+-- no words, or ELSE and a part
+abbrev pub IsElse : (List Word → Type 0) → Body → List Word → Type 0
+IsElse is_part second ws =
+    ((ws ≡ []) × (second ≡ End))
+    ⊎ ((w : Word) × (u : List Word) × (ws ≡ w ∷ u) × (head_of w.text ≡ Else) × is_part u)
 
-  -- the items of a body, round which so many IFs are open
-  abbrev pub IsBody : ℕ → Body → List Word → Type 0
-  IsBody n End ws = ws ≡ []
-  IsBody n (Do i l b) ws = (u v : List Word) × (ws ≡ u ++ v) × IsInstruction i l u × IsBody n b v
-  IsBody n (Choice l first second e b) ws =
-      (begun end : Word) × (u m v : List Word) × (ws ≡ begun ∷ (u ++ (m ++ (end ∷ v)))) × (n < MOST_OPEN_IFS) ×
-      IsHead If l begun × IsHead Endif e end × IsBody (suc n) first u × IsElse (IsBody (suc n) second) second m ×
-      IsBody n b v
+-- the items of a body, round which so many IFs are open
+abbrev pub IsBody : ℕ → Body → List Word → Type 0
+IsBody n End ws = ws ≡ []
+IsBody n (Do i l b) ws = (u v : List Word) × (ws ≡ u ++ v) × IsInstruction i l u × IsBody n b v
+IsBody n (Choice l first second e b) ws =
+    (begun end : Word) × (u m v : List Word) × (ws ≡ begun ∷ (u ++ (m ++ (end ∷ v)))) × (n < MOST_OPEN_IFS) ×
+    IsHead If l begun × IsHead Endif e end × IsBody (suc n) first u × IsElse (IsBody (suc n) second) second m ×
+    IsBody n b v
 
-  abbrev pub IsFunction : Function → List Word → Type 0
-  IsFunction f ws =
-      (func name ret : Word) × (u : List Word) × (ws ≡ func ∷ name ∷ (u ++ ret ∷ [])) × IsHead Func f.line func ×
-      (name.text ≡ f.name) × IsName f.name × IsBody 0 f.body u × IsHead Return f.ret ret
+abbrev pub IsFunction : Function → List Word → Type 0
+IsFunction f ws =
+    (func name ret : Word) × (u : List Word) × (ws ≡ func ∷ name ∷ (u ++ ret ∷ [])) × IsHead Func f.line func ×
+    (name.text ≡ f.name) × IsName f.name × IsBody 0 f.body u × IsHead Return f.ret ret
 
-  -- functions one after another
-  abbrev pub AreFunctions : List Function → List Word → Type 0
-  AreFunctions [] ws = ws ≡ []
-  AreFunctions (f ∷ fs) ws = (u v : List Word) × (ws ≡ u ++ v) × IsFunction f u × AreFunctions fs v
+-- functions one after another
+abbrev pub AreFunctions : List Function → List Word → Type 0
+AreFunctions [] ws = ws ≡ []
+AreFunctions (f ∷ fs) ws = (u v : List Word) × (ws ≡ u ++ v) × IsFunction f u × AreFunctions fs v
 
 -- no two functions have one name
 abbrev pub NamesDiffer : List Function → Type 0
@@ -112,7 +110,7 @@ NamesDiffer [] = Unit {0}
 NamesDiffer (f ∷ fs) = AllByRecursion (λ g. f.name ≢ g.name) fs × NamesDiffer fs
 
 -- these words are these functions
-pub record Gram (language : Language) (fs : List Function) (ws : List Word) : Type 0 where
-  pub spelled : AreFunctions language fs ws
+pub record Gram (fs : List Function) (ws : List Word) : Type 0 where
+  pub spelled : AreFunctions fs ws
   pub differ : NamesDiffer fs
   pub few : length fs ≤ MOST_FUNCTIONS

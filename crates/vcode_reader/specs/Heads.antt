@@ -20,8 +20,6 @@ use Rattle.vcode_reader.specs.declared.keyword.Keyword.TheVariants.{Extract, Rep
 use Rattle.vcode_reader.specs.declared.keyword.Keyword.TheVariants.{Call}
 use Rattle.vcode_reader.specs.declared.keyword.Slot.{Slot}
 use Rattle.vcode_reader.specs.declared.keyword.Slot.TheVariants.{Int, Kind, Values, Count, Callee}
-use Rattle.vcode_reader.specs.declared.language.Language.{Language}
-use Rattle.vcode_reader.specs.declared.language.Language.TheVariants.{First, Whole}
 use Rattle.vcode_reader.specs.Keywords.{keyword_slots}
 
 -- a word, what it begins, and what each word behind it must be
@@ -38,16 +36,8 @@ frame word head = record { word = word; head = head; slots = [] }
 abbrev pub row : List ℕ → Keyword → List Slot → Row
 row word keyword slots = record { word = word; head = Start keyword; slots = slots }
 
-unfoldable pub rows : Language → List Row
-rows First =
-    frame (codes "FUNC") Func
-    ∷ frame (codes "RET") Return
-    ∷ frame (codes "ELSE") Else
-    ∷ frame (codes "ENDIF") Endif
-    ∷ row (codes "CONST") Const (Int ∷ Values ∷ [])
-    ∷ row (codes "+") (Arith Add) (Int ∷ [])
-    ∷ []
-rows Whole =
+unfoldable pub rows : List Row
+rows =
     frame (codes "FUNC") Func
     ∷ frame (codes "RET") Return
     ∷ frame (codes "IF") If
@@ -110,12 +100,12 @@ look_up column missing [] word = missing
 look_up column missing (r ∷ rs) word = if bytes_eq word r.word then column r else look_up column missing rs word
 
 -- what a word begins
-unfoldable pub head_of : Language → List ℕ → Head
-head_of language word = look_up (λ r. r.head) Other (rows language) word
+unfoldable pub head_of : List ℕ → Head
+head_of word = look_up (λ r. r.head) Other rows word
 
 -- what each word behind it must be
-unfoldable pub slots_of : Language → List ℕ → List Slot
-slots_of language word = look_up (λ r. r.slots) [] (rows language) word
+unfoldable pub slots_of : List ℕ → List Slot
+slots_of word = look_up (λ r. r.slots) [] rows word
 
 -- ---- the same, sought among the words of a length, and by what a word begins
 
@@ -126,12 +116,12 @@ rows_with is_such (r ∷ rs) = if is_such (length r.word) then r ∷ rows_with i
 
 -- what a word of this length begins, and what a longer one
 unfoldable pub head_of_length : ℕ → List ℕ → Head
-head_of_length n word = look_up (λ r. r.head) Other (rows_with (λ m. m == n) (rows Whole)) word
+head_of_length n word = look_up (λ r. r.head) Other (rows_with (λ m. m == n) rows) word
 
 unfoldable pub head_longer : ℕ → List ℕ → Head
-head_longer n word = look_up (λ r. r.head) Other (rows_with (nat_lt n) (rows Whole)) word
+head_longer n word = look_up (λ r. r.head) Other (rows_with (nat_lt n) rows) word
 
 -- what each word behind one that begins this must be
-abbrev pub head_slots : Language → Head → List Slot
-head_slots language (Start k) = keyword_slots language k
-head_slots language _ = []
+abbrev pub head_slots : Head → List Slot
+head_slots (Start k) = keyword_slots k
+head_slots _ = []

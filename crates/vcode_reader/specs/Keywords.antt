@@ -14,8 +14,6 @@ use Rattle.vcode_reader.specs.declared.keyword.Keyword.{Keyword}
 use Rattle.vcode_reader.specs.declared.keyword.Keyword.TheVariants as keyword
 use Rattle.vcode_reader.specs.declared.keyword.Slot.{Slot}
 use Rattle.vcode_reader.specs.declared.keyword.Slot.TheVariants as slot
-use Rattle.vcode_reader.specs.declared.language.Language.{Language}
-use Rattle.vcode_reader.specs.declared.language.Language.TheVariants.{First, Whole}
 use Rattle.vcode_reader.specs.declared.parts.Parts.{Parts}
 use Rattle.vcode_reader.specs.Trees.{Item}
 
@@ -26,11 +24,6 @@ ItemParts = Parts (List ℤ) (List ℕ)
 abbrev pub no_parts : ItemParts
 no_parts = record { kind = scalar.Int; lower = 0; upper = 0; numbers = []; callee = [] }
 
--- the kinds that CONST takes
-abbrev pub constant_slot : Language → Slot
-constant_slot First = slot.Int
-constant_slot Whole = slot.Kind
-
 abbrev pub folding_slots : Folding → List Slot
 folding_slots folding.Sum = slot.Int ∷ []
 folding_slots folding.Product = slot.Int ∷ []
@@ -39,29 +32,29 @@ folding_slots folding.Min = slot.Int ∷ []
 folding_slots (folding.Logic op) = slot.Kind ∷ []
 
 -- what each word behind the first must be, by the first: as the table of words says
-abbrev pub keyword_slots : Language → Keyword → List Slot
-keyword_slots language keyword.Const = constant_slot language ∷ slot.Values ∷ []
-keyword_slots language (keyword.Arith op) = slot.Int ∷ []
-keyword_slots language (keyword.Compare op) = slot.Int ∷ []
-keyword_slots language (keyword.Logic op) = slot.Kind ∷ []
-keyword_slots language keyword.Not = slot.Kind ∷ []
-keyword_slots language keyword.Select = slot.Kind ∷ []
-keyword_slots language keyword.IntToBool = []
-keyword_slots language keyword.BoolToInt = []
-keyword_slots language (keyword.Scan f) = folding_slots f
-keyword_slots language (keyword.Reduce f) = folding_slots f
-keyword_slots language keyword.Distribute = slot.Kind ∷ []
-keyword_slots language keyword.Index = []
-keyword_slots language keyword.Permute = slot.Kind ∷ []
-keyword_slots language keyword.BackPermute = slot.Kind ∷ []
-keyword_slots language keyword.DefaultPermute = slot.Kind ∷ []
-keyword_slots language keyword.Extract = slot.Kind ∷ []
-keyword_slots language keyword.Replace = slot.Kind ∷ []
-keyword_slots language keyword.Pack = slot.Kind ∷ []
-keyword_slots language keyword.MakeSegdes = []
-keyword_slots language keyword.Lengths = []
-keyword_slots language (keyword.Move motion) = slot.Count entries.Lower ∷ slot.Count entries.Upper ∷ []
-keyword_slots language keyword.Call = slot.Callee ∷ []
+abbrev pub keyword_slots : Keyword → List Slot
+keyword_slots keyword.Const = slot.Kind ∷ slot.Values ∷ []
+keyword_slots (keyword.Arith op) = slot.Int ∷ []
+keyword_slots (keyword.Compare op) = slot.Int ∷ []
+keyword_slots (keyword.Logic op) = slot.Kind ∷ []
+keyword_slots keyword.Not = slot.Kind ∷ []
+keyword_slots keyword.Select = slot.Kind ∷ []
+keyword_slots keyword.IntToBool = []
+keyword_slots keyword.BoolToInt = []
+keyword_slots (keyword.Scan f) = folding_slots f
+keyword_slots (keyword.Reduce f) = folding_slots f
+keyword_slots keyword.Distribute = slot.Kind ∷ []
+keyword_slots keyword.Index = []
+keyword_slots keyword.Permute = slot.Kind ∷ []
+keyword_slots keyword.BackPermute = slot.Kind ∷ []
+keyword_slots keyword.DefaultPermute = slot.Kind ∷ []
+keyword_slots keyword.Extract = slot.Kind ∷ []
+keyword_slots keyword.Replace = slot.Kind ∷ []
+keyword_slots keyword.Pack = slot.Kind ∷ []
+keyword_slots keyword.MakeSegdes = []
+keyword_slots keyword.Lengths = []
+keyword_slots (keyword.Move motion) = slot.Count entries.Lower ∷ slot.Count entries.Upper ∷ []
+keyword_slots keyword.Call = slot.Callee ∷ []
 
 -- behind these one word INT may stand, which means nothing
 abbrev pub takes_int : Keyword → Bool

@@ -2,7 +2,6 @@
 use Rattle.std.specs.Prelude.{ℕ, Bool, List, Option, refl}
 use Rattle.std.specs.Coded.{Coded, code_by, coded_ℕ, coded_bool, coded×, coded_list}
 use Rattle.vcode_reader.specs.declared.keyword.Slot.{Slot}
-use Rattle.vcode_reader.specs.declared.language.Language.{Language}
 use Rattle.vcode_reader.specs.declared.place.OpenIf.{OpenIf}
 use Rattle.vcode_reader.specs.declared.place.Place.{Place}
 use Rattle.vcode_reader.specs.Decode.{function_code}
@@ -14,27 +13,24 @@ use Rattle.vcode_reader.specs.Refusals.{Fault}
 use Rattle.vcode_reader.specs.Scan.{Scan}
 use Rattle.vcode_reader.specs.Trees.{CodeLine, Function}
 
-abbrev pub parse_code : Coded Language → Coded CodeLine → Coded OpenIf → Coded Place → Coded Slot → Coded ItemParts →
+abbrev pub parse_code : Coded CodeLine → Coded OpenIf → Coded Place → Coded Slot → Coded ItemParts →
     Coded (Option Fault) → Coded Parse
-parse_code language line ifs place slot parts fault =
-    code_by (Language ×
-    (List Function × (Place × (List ℕ × (ℕ × (DraftState × (List Slot × (ItemParts × Option Fault))))))))
-    (coded× language
+parse_code line ifs place slot parts fault =
+    code_by (List Function × (Place × (List ℕ × (ℕ × (DraftState × (List Slot × (ItemParts × Option Fault)))))))
     (coded× (coded_list (function_code line))
     (coded× place
     (coded× (coded_list coded_ℕ)
-    (coded× coded_ℕ (coded× (draft_code line ifs) (coded× (coded_list slot) (coded× parts fault))))))))
-    (λ p. (p.language, (p.functions, (p.place, (p.name, (p.line, (p.draft, (p.slots, (p.parts, p.fault)))))))))
+    (coded× coded_ℕ (coded× (draft_code line ifs) (coded× (coded_list slot) (coded× parts fault)))))))
+    (λ p. (p.functions, (p.place, (p.name, (p.line, (p.draft, (p.slots, (p.parts, p.fault))))))))
     (λ t. record {
-      language = t.0;
-      functions = t.1.0;
-      place = t.1.1.0;
-      name = t.1.1.1.0;
-      line = t.1.1.1.1.0;
-      draft = t.1.1.1.1.1.0;
-      slots = t.1.1.1.1.1.1.0;
-      parts = t.1.1.1.1.1.1.1.0;
-      fault = t.1.1.1.1.1.1.1.1;
+      functions = t.0;
+      place = t.1.0;
+      name = t.1.1.0;
+      line = t.1.1.1.0;
+      draft = t.1.1.1.1.0;
+      slots = t.1.1.1.1.1.0;
+      parts = t.1.1.1.1.1.1.0;
+      fault = t.1.1.1.1.1.1.1;
     })
     (λ _. refl)
 
@@ -44,8 +40,8 @@ scan_code {P} found comment =
     (λ s. (s.found, (s.line, (s.word, s.comment))))
     (λ t. record { found = t.0; line = t.1.0; word = t.1.1.0; comment = t.1.1.1 }) (λ _. refl)
 
-abbrev pub fed_code : Coded (Scan Parse) → Coded Language → Coded ReaderState
-fed_code scan language =
-    code_by (Scan Parse × (Language × (ℕ × Bool))) (coded× scan (coded× language (coded× coded_ℕ coded_bool)))
-    (λ r. (r.scan, (r.language, (r.first_line, r.failed))))
-    (λ t. record { scan = t.0; language = t.1.0; first_line = t.1.1.0; failed = t.1.1.1 }) (λ _. refl)
+abbrev pub fed_code : Coded (Scan Parse) → Coded ReaderState
+fed_code scan =
+    code_by (Scan Parse × (ℕ × Bool)) (coded× scan (coded× coded_ℕ coded_bool))
+    (λ r. (r.scan, (r.first_line, r.failed))) (λ t. record { scan = t.0; first_line = t.1.0; failed = t.1.1 })
+    (λ _. refl)

@@ -16,7 +16,6 @@ use Rattle.vcode_reader.specs.declared.keyword.Entries.TheVariants.{Lower, Upper
 use Rattle.vcode_reader.specs.declared.keyword.Keyword.{Keyword}
 use Rattle.vcode_reader.specs.declared.keyword.Slot.{Slot}
 use Rattle.vcode_reader.specs.declared.keyword.Slot.TheVariants as slot
-use Rattle.vcode_reader.specs.declared.language.Language.{Language}
 use Rattle.vcode_reader.specs.declared.place.Place.{Place}
 use Rattle.vcode_reader.specs.declared.place.Place.TheVariants.{Outside, Name, Inside, InsideOrInt, Words, Elements}
 use Rattle.vcode_reader.specs.Decode.{tree_of}
@@ -31,7 +30,6 @@ use Rattle.vcode_reader.specs.Trees.{Function}
 -- whole functions, then what is open: the name and the line of a function with its lines and its open IFs so far, and
 -- of an instruction what its next words must be and what its words so far gave
 pub record Parse : Type 0 where
-  pub language : Language
   pub functions : List Function
   pub place : Place
   pub name : List ℕ
@@ -41,10 +39,9 @@ pub record Parse : Type 0 where
   pub parts : ItemParts
   pub fault : Option Fault
 
-abbrev pub start : Language → Parse
-start language =
+abbrev pub start : Parse
+start =
     record {
-      language = language;
       functions = [];
       place = Outside;
       name = [];
@@ -225,12 +222,11 @@ inside head.Func slots l p = with_fault Misplaced l p
 -- ---- a word
 
 abbrev pub at_place : Place → List ℕ → ℕ → Parse → Parse
-at_place Outside t l p = outside (head_of p.language t) l p
+at_place Outside t l p = outside (head_of t) l p
 at_place Name t l p = after_name t l p
-at_place Inside t l p = inside (head_of p.language t) (slots_of p.language t) l p
+at_place Inside t l p = inside (head_of t) (slots_of t) l p
 at_place InsideOrInt t l p =
-    if bytes_eq t (codes "INT") then record p { place = Inside } else inside (head_of p.language t)
-    (slots_of p.language t) l p
+    if bytes_eq t (codes "INT") then record p { place = Inside } else inside (head_of t) (slots_of t) l p
 at_place (Words k s begun) t l p = in_slot s k begun t l p
 at_place (Elements k begun opened) t l p = in_list k begun t l p
 

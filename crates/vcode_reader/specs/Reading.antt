@@ -2,8 +2,6 @@
 use Rattle.std.specs.Prelude.{◌≡◌, ℕ, Bool, false, List, Option, Some, None, Result, Ok, Err, Vec}
 use Rattle.vcode_reader.specs.declared.fault.CodeFault.TheVariants.{Unfinished}
 use Rattle.vcode_base.specs.TextAnswers.{Fails}
-use Rattle.vcode_reader.specs.declared.language.Language.{Language}
-use Rattle.vcode_reader.specs.declared.language.Language.TheVariants.{First}
 use Rattle.vcode_reader.specs.declared.place.Place.{Place}
 use Rattle.vcode_reader.specs.declared.place.Place.TheVariants.{Outside, Name, Inside, InsideOrInt, Words, Elements}
 use Rattle.vcode_reader.specs.Drafts.{innermost_line}
@@ -40,13 +38,9 @@ abbrev pub program_at : ℕ → Result (List Function) Fault → Result Program 
 program_at first (Ok fs) = Ok (record { first_line = first; functions = fs })
 program_at first (Err fault) = Err fault
 
--- what a text comes to in a language whose first line has this number
-unfoldable pub reading : Language → ℕ → List ℕ → Result Program Fault
-reading language first bytes = program_at first (outcome (scan_all take (beginning (start language) first) bytes))
-
--- what it comes to in the first language
-abbrev pub first_reading : ℕ → List ℕ → Result Program Fault
-first_reading first bytes = reading First first bytes
+-- what a text comes to, whose first line has this number
+unfoldable pub reading : ℕ → List ℕ → Result Program Fault
+reading first bytes = program_at first (outcome (scan_all take (beginning start first) bytes))
 
 -- what was answered, in a Vec, is what is wanted, unless there was no memory
 abbrev pub Gives : {A : Type 0} → Result (Vec Function A) ReadFault → Result (List Function) Fault → Type 0
@@ -54,22 +48,20 @@ Gives (Ok found) wanted = wanted ≡ Ok found.items
 Gives (Err fault) wanted = Fails fault wanted
 
 -- these bytes have come, from this line on
-abbrev pub HasScanned : Scan Parse → Language → ℕ → List ℕ → Type 0
-HasScanned s language first bytes = s ≡ scan_all take (beginning (start language) first) bytes
+abbrev pub HasScanned : Scan Parse → ℕ → List ℕ → Type 0
+HasScanned s first bytes = s ≡ scan_all take (beginning start first) bytes
 
 -- unless the reading has failed, some bytes have come
-abbrev pub IsOfBytes : Scan Parse → Language → ℕ → Bool → Type 0
-IsOfBytes s language first failed = failed ≡ false → (bytes : List ℕ) × HasScanned s language first bytes
+abbrev pub IsOfBytes : Scan Parse → ℕ → Bool → Type 0
+IsOfBytes s first failed = failed ≡ false → (bytes : List ℕ) × HasScanned s first bytes
 
--- a reader of pieces: where its text stands, its language, the number of the first line, and whether it failed for
--- want of memory
+-- a reader of pieces: where its text stands, the number of the first line, and whether it failed for want of memory
 pub record ReaderState : Type 0 where
   pub scan : Scan Parse
-  pub language : Language
   pub first_line : ℕ
   pub failed : Bool
 
 -- the pieces so far are these bytes, and the reader hasn't failed
 pub record HasCome (r : ReaderState) (bytes : List ℕ) : Type 0 where
   pub going : r.failed ≡ false
-  pub scanned : HasScanned r.scan r.language r.first_line bytes
+  pub scanned : HasScanned r.scan r.first_line bytes

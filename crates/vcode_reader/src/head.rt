@@ -1,11 +1,9 @@
 //! What a word begins.
 
 ghost use Rattle.std.specs.Prelude.{◌≡◌};
-ghost use Rattle.vcode_reader.specs.declared.language.Language.TheVariants.{First, Whole};
 ghost use Rattle.vcode_reader.specs.Heads.{head_of_length, head_longer, head_of};
 
 use crate::keyword::{Folding, Keyword};
-use crate::language::Language;
 use vcode_base::{Arith, Comparison, Logic, StackMove};
 
 /// What a word begins, where an item of a function or a function must stand.
@@ -19,27 +17,6 @@ pub enum Head {
     Start(Keyword),
     /// Nothing.
     Other,
-}
-
-#[tactic(auto, unfolding(crate::specs::Heads::head_of, crate::specs::Heads::rows))]
-fn first_head(word: &[u8]) -> Head
-    ensures { result ≡ head_of First word.now }
-{
-    if word == b"FUNC".as_slice() {
-        Head::Func
-    } else if word == b"RET".as_slice() {
-        Head::Return
-    } else if word == b"ELSE".as_slice() {
-        Head::Else
-    } else if word == b"ENDIF".as_slice() {
-        Head::Endif
-    } else if word == b"CONST".as_slice() {
-        Head::Start(Keyword::Const)
-    } else if word == b"+".as_slice() {
-        Head::Start(Keyword::Arith(Arith::Add))
-    } else {
-        Head::Other
-    }
 }
 
 /// Words of one byte.
@@ -222,9 +199,10 @@ fn of_more(word: &[u8]) -> Head
     }
 }
 
+/// What a word begins.
 #[tactic(auto, using(crate::proofs::Spelling::no_word, crate::proofs::Spelling::among_length))]
-fn whole_head(word: &[u8]) -> Head
-    ensures { result ≡ head_of Whole word.now }
+pub fn head_of(word: &[u8]) -> Head
+    ensures { result ≡ head_of word.now }
 {
     match word.len() {
         0 => Head::Other,
@@ -237,15 +215,5 @@ fn whole_head(word: &[u8]) -> Head
         7 => of_seven(word),
         8 => of_eight(word),
         _ => of_more(word),
-    }
-}
-
-/// What a word begins in a language.
-pub fn head_of(language: Language, word: &[u8]) -> Head
-    ensures { result ≡ head_of language word.now }
-{
-    match language {
-        Language::First => first_head(word),
-        Language::Whole => whole_head(word),
     }
 }

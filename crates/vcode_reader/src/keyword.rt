@@ -4,7 +4,6 @@ ghost use Rattle.std.specs.Prelude.{◌≡◌, []};
 ghost use Rattle.vcode_reader.specs.Firsts.{TakesOff};
 ghost use Rattle.vcode_reader.specs.Keywords.{fold_of, folding_slots, keyword_slots, takes_int, instruction_of};
 
-use crate::language::Language;
 use crate::parts::InstructionParts;
 use std::alloc::Allocator;
 use std::marker::Model;
@@ -99,14 +98,11 @@ impl Folding {
 
 impl Keyword {
     /// What the words behind it must be.
-    pub fn slots(self, language: Language) -> Slots
-        ensures { result ≡ keyword_slots language self }
+    pub fn slots(self) -> Slots
+        ensures { result ≡ keyword_slots self }
     {
         let left: &'static [Slot] = match self {
-            Keyword::Const => match language {
-                Language::First => &[Slot::Int, Slot::Values],
-                Language::Whole => &[Slot::Kind, Slot::Values],
-            },
+            Keyword::Const => &[Slot::Kind, Slot::Values],
             Keyword::Arith(_) | Keyword::Compare(_) => &[Slot::Int],
             Keyword::Scan(folding) | Keyword::Reduce(folding) => folding.slots(),
             Keyword::IntToBool

@@ -8,8 +8,8 @@ ghost use Rattle.vcode_reader.specs.First.{EveryTextIsRead, WholeTextsAreRead, O
 use crate::program::Program;
 use std::alloc::Allocator;
 
-/// Whatever the text, its reading in a language is by the grammar of that language: the program that
-/// the grammar relates to its words, or else its first fault with the line.
+/// Whatever the text, its reading is by the grammar: the program that the grammar relates to its words,
+/// or else its first fault with the line.
 pub fn every_text_is_read()
     ensures { EveryTextIsRead }
 {}

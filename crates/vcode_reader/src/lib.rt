@@ -30,9 +30,6 @@
 //! `n` is a number within 0 to 4,096. There are at most 512 functions, at most 64 IFs open at a
 //! time, and at most 65,536 values in a list. An item stands on the line of its first word.
 //!
-//! [`read_first`] reads the first language: of the items `CONST INT ints` and `+ INT` alone, and any
-//! other instruction word is nothing known.
-//!
 //! **Refusals.** The first word that no words behind it could make a program is refused, on its line:
 //! [`CodeFault::BadWord`] for one that is nothing known where an item or `FUNC` must stand, a kind that
 //! the instruction doesn't take, no truth value where one must stand, a parenthesis for a name, or a
@@ -59,7 +56,6 @@ mod code;
 mod fault;
 mod head;
 mod keyword;
-mod language;
 pub mod laws;
 mod line;
 mod link;
@@ -72,7 +68,6 @@ mod reader;
 mod word;
 
 pub use fault::{CodeFault, ReadFault};
-pub use language::Language;
 pub use line::{CodeItem, CodeLine, Numbered};
 pub use program::{Function, Program};
-pub use reader::{CodeReader, read, read_first};
+pub use reader::{CodeReader, read};

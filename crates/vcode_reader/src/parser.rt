@@ -15,7 +15,6 @@ use crate::code::Draft;
 use crate::fault::{CodeFault, ReadFault};
 use crate::head::{Head, head_of};
 use crate::keyword::{Entries, Keyword, Slot, Slots};
-use crate::language::Language;
 use crate::number::value_of;
 use crate::parts::{InstructionParts, no_parts};
 use crate::place::Place;
@@ -30,7 +29,6 @@ use vcode_base::{FunctionName, Scalar};
 /// What the words so far come to, and what stands open behind them.
 #[derive(Drop)]
 pub struct Parser<A: Allocator> {
-    language: Language,
     functions: Vec<Function<A>, A>,
     place: Place,
     name: FunctionName<A>,
@@ -50,10 +48,9 @@ impl<A: Allocator> Model for Parser<A> {
     ghost use Rattle.std.specs.Coded.{codes};
     ghost use Rattle.vcode_reader.specs.ParseCode.{parse_code};
 
-    ghost coded = { parse_code (Prim.hlevel codes) (Prim.hlevel codes) (Prim.hlevel codes) (Prim.hlevel codes) (Prim.hlevel codes) (Prim.hlevel codes) (Prim.hlevel codes) };
+    ghost coded = { parse_code (Prim.hlevel codes) (Prim.hlevel codes) (Prim.hlevel codes) (Prim.hlevel codes) (Prim.hlevel codes) (Prim.hlevel codes) };
 
     ghost view = { λ p. record {
-      language = p.language;
       functions = p.functions.items;
       place = p.place;
       name = p.name;
@@ -94,12 +91,11 @@ fn name_of<A: Allocator>(alloc: A, word: &[u8]) -> Result<FunctionName<A>, Alloc
 }
 
 impl<A: Allocator + Clone> Parser<A> {
-    /// Before the first word of a text in this language.
-    pub fn new(alloc: A, language: Language) -> Result<Parser<A>, AllocError>
-        ensures { IfOk result (λ p. p ≡ start language) }
+    /// Before the first word of a text.
+    pub fn new(alloc: A) -> Result<Parser<A>, AllocError>
+        ensures { IfOk result (λ p. p ≡ start) }
     {
         Ok(Parser {
-            language,
             functions: Vec::new(alloc.clone()?),
             place: Place::Outside,
             name: FunctionName::from_vec(Vec::new(alloc.clone()?)),
@@ -375,7 +371,7 @@ impl<A: Allocator + Clone> Parser<A> {
     }
 
     fn inside(&mut self, head: Head, line: u64) -> Result<(), AllocError>
-        ensures { OnOk result (self.new ≡ inside head (head_slots self.old.language head) line self.old) }
+        ensures { OnOk result (self.new ≡ inside head (head_slots head) line self.old) }
     {
         match head {
             Head::Return => self.at_return(line)?,
@@ -383,7 +379,7 @@ impl<A: Allocator + Clone> Parser<A> {
             Head::Else => self.at_else(line)?,
             Head::Endif => self.at_endif(line)?,
             Head::Start(keyword) => {
-                self.slots = keyword.slots(self.language);
+                self.slots = keyword.slots();
                 self.next_slot(keyword, line)?;
             }
             Head::Other => self.refuse(CodeFault::BadWord, line),
@@ -401,14 +397,14 @@ impl<A: Allocator + Clone> Parser<A> {
             return Ok(());
         }
         match self.place {
-            Place::Outside => self.outside(head_of(self.language, word), line),
+            Place::Outside => self.outside(head_of(word), line),
             Place::Name => self.name_function(word, line)?,
-            Place::Inside => self.inside(head_of(self.language, word), line)?,
+            Place::Inside => self.inside(head_of(word), line)?,
             Place::InsideOrInt => {
                 if word == b"INT".as_slice() {
                     self.place = Place::Inside;
                 } else {
-                    self.inside(head_of(self.language, word), line)?;
+                    self.inside(head_of(word), line)?;
                 }
             }
             Place::Words(keyword, slot, begun) => {

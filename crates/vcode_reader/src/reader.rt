@@ -5,16 +5,14 @@ ghost use Rattle.vcode_reader.specs.declared.class.Class.TheVariants.{LineFeed};
 ghost use Rattle.vcode_base.specs.Lines.{line_feeds};
 ghost use Rattle.vcode_base.specs.TextAnswers.{Answers};
 ghost use Rattle.vcode_base.specs.declared.fault.TextFault.TheVariants.{Memory};
-ghost use Rattle.vcode_reader.specs.declared.language.Language.TheVariants.{First, Whole};
 ghost use Rattle.vcode_reader.specs.Classes.{class_of};
 ghost use Rattle.vcode_reader.specs.First.{IsAnswer};
 ghost use Rattle.vcode_reader.specs.Parsing.{start, take};
-ghost use Rattle.vcode_reader.specs.Reading.{outcome, reading, first_reading, Gives, HasCome};
+ghost use Rattle.vcode_reader.specs.Reading.{outcome, reading, Gives, HasCome};
 ghost use Rattle.vcode_reader.specs.Scan.{beginning, end_word, lone_word, in_text, in_comment, scan_byte, scan_all};
 
 use crate::class::{Class, class_of};
 use crate::fault::ReadFault;
-use crate::language::Language;
 use crate::parser::Parser;
 use crate::program::{Function, Program};
 use std::alloc::{AllocError, Allocator};
@@ -38,18 +36,18 @@ impl<A: Allocator> Model for Scanner<A> {
     ghost use Rattle.std.specs.Coded.{codes};
     ghost use Rattle.vcode_reader.specs.ParseCode.{parse_code, scan_code};
 
-    ghost coded = { scan_code (parse_code (Prim.hlevel codes) (Prim.hlevel codes) (Prim.hlevel codes) (Prim.hlevel codes) (Prim.hlevel codes) (Prim.hlevel codes) (Prim.hlevel codes)) (Prim.hlevel codes) };
+    ghost coded = { scan_code (parse_code (Prim.hlevel codes) (Prim.hlevel codes) (Prim.hlevel codes) (Prim.hlevel codes) (Prim.hlevel codes) (Prim.hlevel codes)) (Prim.hlevel codes) };
 
     ghost view = { λ s. record { found = s.parser; line = s.line; word = s.word.items; comment = s.comment } };
 }
 
 impl<A: Allocator + Clone> Scanner<A> {
-    fn new(alloc: A, language: Language, first_line: u64) -> Result<Scanner<A>, AllocError>
-        ensures { IfOk result (λ s. s ≡ beginning (start language) first_line) }
+    fn new(alloc: A, first_line: u64) -> Result<Scanner<A>, AllocError>
+        ensures { IfOk result (λ s. s ≡ beginning start first_line) }
     {
         Ok(Scanner {
             word: Vec::new(alloc.clone()?),
-            parser: Parser::new(alloc, language)?,
+            parser: Parser::new(alloc)?,
             line: first_line,
             comment: None,
         })
@@ -150,7 +148,6 @@ impl<A: Allocator + Clone> Scanner<A> {
 #[derive(Drop)]
 pub struct CodeReader<A: Allocator> {
     scanner: Scanner<A>,
-    language: Language,
     first_line: u64,
     failed: bool,
 }
@@ -163,13 +160,13 @@ impl<A: Allocator> Model for CodeReader<A> {
     ghost use Rattle.std.specs.Coded.{codes};
     ghost use Rattle.vcode_reader.specs.ParseCode.{parse_code, scan_code, fed_code};
 
-    ghost coded = { fed_code (scan_code (parse_code (Prim.hlevel codes) (Prim.hlevel codes) (Prim.hlevel codes) (Prim.hlevel codes) (Prim.hlevel codes) (Prim.hlevel codes) (Prim.hlevel codes)) (Prim.hlevel codes)) (Prim.hlevel codes) };
+    ghost coded = { fed_code (scan_code (parse_code (Prim.hlevel codes) (Prim.hlevel codes) (Prim.hlevel codes) (Prim.hlevel codes) (Prim.hlevel codes) (Prim.hlevel codes)) (Prim.hlevel codes)) };
 
-    ghost view = { λ r. record { scan = r.scanner; language = r.language; first_line = r.first_line; failed = r.failed } };
+    ghost view = { λ r. record { scan = r.scanner; first_line = r.first_line; failed = r.failed } };
 
     ghost use Rattle.vcode_reader.specs.Reading.{IsOfBytes};
 
-    ghost invariant = { λ r. IsOfBytes r.scanner r.language r.first_line r.failed };
+    ghost invariant = { λ r. IsOfBytes r.scanner r.first_line r.failed };
 }
 
 impl<A: Allocator + Clone> CodeReader<A> {
@@ -178,30 +175,14 @@ impl<A: Allocator + Clone> CodeReader<A> {
     /// # Errors
     ///
     /// [`AllocError`] where its memory is refused.
+    #[tactic(auto, unfolding(crate::specs::Scan::scan_all))]
     pub fn new(alloc: A, first_line: u64) -> Result<CodeReader<A>, AllocError>
         ensures come { IfOk result (λ r. HasCome r []) }
-        ensures language { IfOk result (λ r. r.language ≡ Whole) }
-        ensures first_line { IfOk result (λ r. r.first_line ≡ first_line) }
-        ensures line { IfOk result (λ r. r.scan.line ≡ first_line) }
-    {
-        CodeReader::in_language(alloc, Language::Whole, first_line)
-    }
-
-    /// The same of a text in this language.
-    #[tactic(auto, unfolding(crate::specs::Scan::scan_all))]
-    fn in_language(
-        alloc: A,
-        language: Language,
-        first_line: u64,
-    ) -> Result<CodeReader<A>, AllocError>
-        ensures come { IfOk result (λ r. HasCome r []) }
-        ensures language { IfOk result (λ r. r.language ≡ language) }
         ensures first_line { IfOk result (λ r. r.first_line ≡ first_line) }
         ensures line { IfOk result (λ r. r.scan.line ≡ first_line) }
     {
         Ok(CodeReader {
-            scanner: Scanner::new(alloc, language, first_line)?,
-            language,
+            scanner: Scanner::new(alloc, first_line)?,
             first_line,
             failed: false,
         })
@@ -216,7 +197,6 @@ impl<A: Allocator + Clone> CodeReader<A> {
         requires { self.old.failed ≡ false → self.old.scan.line + line_feeds piece.now < 2 ^ 64 }
         // Behind the bytes before stand those of the piece.
         ensures fed { OnOk result ((before : List ℕ) → HasCome self.old before → HasCome self.new (before ++ piece.now)) }
-        ensures language { self.new.language ≡ self.old.language }
         ensures first_line { self.new.first_line ≡ self.old.first_line }
         ensures line { OnOk result (self.new.scan.line ≡ self.old.scan.line + line_feeds piece.now) }
         ensures failed { OnErr result (IsTrue self.new.failed) }
@@ -238,7 +218,7 @@ impl<A: Allocator + Clone> CodeReader<A> {
     ///
     /// The first fault of the text with its line; `Memory` where memory is refused, or was in a piece.
     pub fn finish(self) -> Result<Program<A>, ReadFault>
-        ensures answer { (bytes : List ℕ) → HasCome self bytes → Answers result (reading self.language self.first_line bytes) }
+        ensures answer { (bytes : List ℕ) → HasCome self bytes → Answers result (reading self.first_line bytes) }
         ensures failed { IsTrue self.failed → IsErrOf result Memory }
     {
         if self.failed {
@@ -251,49 +231,23 @@ impl<A: Allocator + Clone> CodeReader<A> {
     }
 }
 
-fn read_in<A: Allocator + Clone>(
-    alloc: A,
-    language: Language,
-    text: &[u8],
-    first_line: u64,
-) -> Result<Program<A>, ReadFault>
-    requires { first_line + line_feeds text.now < 2 ^ 64 }
-    ensures { Answers result (reading language first_line text.now) }
-{
-    let mut reader = CodeReader::in_language(alloc, language, first_line)?;
-    reader.feed(text)?;
-    reader.finish()
-}
-
 /// Reads a program from the bytes of its code, whose first line has the number `first_line`.
 ///
 /// The answer is the program that the grammar relates to the words of the text, or else the first fault
 /// of the text with its line, or want of memory. Lines are counted on from `first_line`; the number of
 /// the last must fit.
+#[tactic(auto, using(crate::proofs::Answers::is_answer))]
 pub fn read<A: Allocator + Clone>(
     alloc: A,
     text: &[u8],
     first_line: u64,
 ) -> Result<Program<A>, ReadFault>
     requires { first_line + line_feeds text.now < 2 ^ 64 }
-    ensures answer { Answers result (reading Whole first_line text.now) }
+    ensures answer { Answers result (reading first_line text.now) }
     // What is answered is by the grammar.
-    ensures grammar { IsAnswer Whole result first_line text.now }
+    ensures grammar { IsAnswer result first_line text.now }
 {
-    read_in(alloc, Language::Whole, text, first_line)
-}
-
-/// Reads a program of the first language, as [`read`] does one of the whole: of the instruction words
-/// it knows `CONST`, `+` and `RET` alone, and of the kinds `INT`.
-pub fn read_first<A: Allocator + Clone>(
-    alloc: A,
-    text: &[u8],
-    first_line: u64,
-) -> Result<Program<A>, ReadFault>
-    requires { first_line + line_feeds text.now < 2 ^ 64 }
-    ensures answer { Answers result (first_reading first_line text.now) }
-    // What is answered is by the grammar.
-    ensures grammar { IsAnswer First result first_line text.now }
-{
-    read_in(alloc, Language::First, text, first_line)
+    let mut reader = CodeReader::new(alloc, first_line)?;
+    reader.feed(text)?;
+    reader.finish()
 }

@@ -1,17 +1,13 @@
 //! What a case comes to.
 
-ghost use Rattle.std.specs.Prelude.{◌≤◌, length};
-ghost use Rattle.worked_texts.specs.declared.escape.TheConstants.{MOST_BYTES};
-
 use crate::escape::bytes_of;
 use crate::fault::CaseFault;
-use crate::pieces::{CODE_LINE, program_however_cut, signatures_however_cut};
+use crate::pieces::{program_however_cut, signatures_however_cut};
 use crate::show::{kinds_text, program_text, shortened, signatures_text, verified_text};
 use signatures::Signatures;
 use std::alloc::Global;
-use vcode_base::laws::line_feeds_are_few;
+use vcode_reader::Program;
 use vcode_reader::laws::equal_programs;
-use vcode_reader::{Language, Program, read_first};
 use verifier::laws::equal_verified;
 use verifier::{Verified, verify};
 
@@ -19,8 +15,7 @@ use verifier::{Verified, verify};
 pub fn answer(alloc: Global, line: &str) -> Result<String, CaseFault> {
     let (word, text) = line.split_once(' ').unwrap_or((line, ""));
     match word {
-        "code" => code(alloc, Language::Whole, text),
-        "first" => code(alloc, Language::First, text),
+        "code" => code(alloc, text),
         "equal" => equal(alloc, text),
         "position" => position(alloc, text),
         "signatures" => signatures(alloc, text),
@@ -31,8 +26,8 @@ pub fn answer(alloc: Global, line: &str) -> Result<String, CaseFault> {
     }
 }
 
-fn code(alloc: Global, language: Language, text: &str) -> Result<String, CaseFault> {
-    let program = program_of(alloc, language, text)?;
+fn code(alloc: Global, text: &str) -> Result<String, CaseFault> {
+    let program = program_of(alloc, text)?;
     let text = program_text(alloc, &program)?;
     Ok(shortened(alloc, text, program.functions().len(), "functions")?)
 }
@@ -45,13 +40,13 @@ fn equal(alloc: Global, text: &str) -> Result<String, CaseFault> {
 
 /// Whether two codes are read as equal programs.
 fn are_equal(alloc: Global, left: &str, right: &str) -> Result<bool, CaseFault> {
-    let left = program_of(alloc, Language::Whole, left)?;
+    let left = program_of(alloc, left)?;
     is_read_as(alloc, right, &left)
 }
 
 fn position(alloc: Global, text: &str) -> Result<String, CaseFault> {
     let (name, code) = halves(text)?;
-    let place = program_of(alloc, Language::Whole, code)?.position(name.as_bytes());
+    let place = program_of(alloc, code)?.position(name.as_bytes());
     Ok(format!(in alloc; "{place:?}")?)
 }
 
@@ -116,25 +111,14 @@ fn halves(text: &str) -> Result<(&str, &str), CaseFault> {
 
 /// Whether a code is read as this program.
 fn is_read_as(alloc: Global, code: &str, program: &Program<Global>) -> Result<bool, CaseFault> {
-    let read = program_of(alloc, Language::Whole, code)?;
+    let read = program_of(alloc, code)?;
     Ok(equal_programs(&read, program))
 }
 
 /// The program of a code whose first line is line 5.
-fn program_of(alloc: Global, language: Language, text: &str) -> Result<Program<Global>, CaseFault> {
+fn program_of(alloc: Global, text: &str) -> Result<Program<Global>, CaseFault> {
     let bytes = bytes_of(alloc, text)?;
-    match language {
-        Language::Whole => program_however_cut(alloc, bytes.as_slice()),
-        Language::First => first_program(alloc, bytes.as_slice()),
-    }
-}
-
-/// The program of a code of the first language.
-fn first_program(alloc: Global, code: &[u8]) -> Result<Program<Global>, CaseFault>
-    requires { length code.now ≤ MOST_BYTES }
-{
-    line_feeds_are_few();
-    Ok(read_first(alloc, code, CODE_LINE)?)
+    program_however_cut(alloc, bytes.as_slice())
 }
 
 /// The signatures of a text whose first line is line 3.
@@ -146,6 +130,6 @@ fn signatures_of(alloc: Global, text: &str) -> Result<Signatures<Global>, CaseFa
 /// The program of a code, well kinded by signatures.
 fn verified_of(alloc: Global, known: &str, code: &str) -> Result<Verified<Global>, CaseFault> {
     let known = signatures_of(alloc, known)?;
-    let program = program_of(alloc, Language::Whole, code)?;
+    let program = program_of(alloc, code)?;
     Ok(verify(alloc, program, &known)?)
 }

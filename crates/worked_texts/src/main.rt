@@ -6,7 +6,7 @@
 //!
 //! | Word | Text | Answer |
 //! |---|---|---|
-//! | `code`, `first` | code, in the whole language or in the first | its functions, line by line |
+//! | `code` | code | its functions, line by line |
 //! | `equal` | code, `\|`, code | whether they are read as equal programs |
 //! | `position` | a name, `\|`, code | the place of the first function of this name |
 //! | `signatures` | signatures | names and kinds |
@@ -14,7 +14,7 @@
 //! | `kinds` | signatures, `\|`, code | whether the code is well kinded, and the kinds of what its `MAIN` leaves |
 //! | `same` | signatures, `\|`, signatures, `\|`, code | whether the code is verified alike by both |
 //!
-//! Each code in the whole language and each text of signatures is read at once, and in pieces of 1 and of 7 bytes: where these
+//! Each code and each text of signatures is read at once, and in pieces of 1 and of 7 bytes: where these
 //! come to something else, the answer is `otherwise in pieces`.
 //!
 //! The first line of a code is line 5, and that of signatures line 3. Of what is long only the number of

@@ -12,7 +12,7 @@ use vcode_reader::laws::equal_programs;
 use vcode_reader::{CodeReader, Program, ReadFault, read};
 
 /// The first line of a code.
-pub const CODE_LINE: u64 = 5;
+const CODE_LINE: u64 = 5;
 
 /// The first line of a text of signatures.
 const SIGNATURES_LINE: u64 = 3;

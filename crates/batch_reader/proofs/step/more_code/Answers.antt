@@ -7,7 +7,6 @@ unfolding signatures_of
 returns-in_ok-feed-in-Reading-clause-shown g c =
     λ region job shown. let read = rw c.in-Reading.is at shown in record {
       signatures = read.signatures;
-      language = c.in_ok-feed-in-Reading.ensures.language ∙ read.language;
       first_line = c.in_ok-feed-in-Reading.ensures.first_line ∙ read.first_line;
       code = c.in_ok-feed-in-Reading.ensures.fed _ read.code;
     }

@@ -9,7 +9,7 @@ use Rattle.vcode_reader.proofs.reader.CodeReader.finish.Goals as goal
 pub new-requires : goal.new-requires
 new-requires g c =
     let inside = c.self.inside in
-    proper_outcome inside.language inside.scanner inside.first_line inside.failed c.in-Ok.functions.items
+    proper_outcome inside.scanner inside.first_line inside.failed c.in-Ok.functions.items
     c.self.invariant c.if-self.false c.in-Ok.ensures
 
 pub returns-in-Err-clause-answer : goal.returns-in-Err-clause-answer

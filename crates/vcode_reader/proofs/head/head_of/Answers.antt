@@ -1,6 +1,6 @@
 use Rattle.std.proofs.Common.{◌<◌, ◌∙◌, length, arith}
 use Rattle.vcode_reader.proofs.Spelling.{among_longer}
-use Rattle.vcode_reader.proofs.head.whole_head.Goals as goal
+use Rattle.vcode_reader.proofs.head.head_of.Goals as goal
 
 pub returns-in_default : goal.returns-in_default
 returns-in_default c =

@@ -1,0 +1,68 @@
+-- A desk for each job, where no step has begun.
+use Rattle.std.proofs.Common.{◌≡◌, ℕ, zero, suc, ◌<◌, false, List, [], ◌∷◌, ◌++◌, length, map, take, get_or}
+use Rattle.std.proofs.Common.{slice_get, option_map, Some, refl, sym, ◌∙◌, ap, subst}
+use Rattle.std.proofs.Math.Seq.{take-suc}
+use Rattle.std.proofs.lemmas.List.{map-append, length-map}
+use Rattle.std.proofs.lemmas.Option.{none-some, same_Some, slice_get-map}
+use Rattle.job_steps.specs.Events.{recalled_standing}
+use Rattle.job_steps.specs.Standings.{Standing, Waiting, Live, InFlight, Ended, Collected, of_job}
+use Rattle.job_steps.specs.States.{Task}
+use Rattle.job_slots.specs.Answers.{is_in_flight}
+use Rattle.job_machine.specs.declared.hands.Hand.{Hand}
+use Rattle.job_machine.specs.declared.hands.Hand.TheVariants as hand
+use Rattle.job_machine.specs.Machines.{MachineState, recalled}
+use Rattle.job_machine.specs.Hands.{HandFits, FitsIn, HandsFit}
+use Rattle.job_machine.proofs.RunningOut.{beside_at}
+
+-- a desk for each job, of its words
+abbrev pub fresh : {A : Type 0} → List Task → List (Hand A)
+fresh tasks = map (λ task. hand.Free task.limits.words) tasks
+
+-- one desk more
+pub fresh_more : {A : Type 0} (tasks : List Task) (hands after : List (Hand A)) (place next desk : ℕ) (task : Task) →
+    next ≡ suc place → place < length tasks → task ≡ get_or tasks place task → hands ≡ fresh (take place tasks) →
+    desk ≡ task.limits.words → after ≡ hands ++ hand.Free desk ∷ [] → after ≡ fresh (take next tasks)
+fresh_more {A} tasks hands after place next desk task next_is within task_is hands_are desk_is after_is =
+    let words_of : Task → Hand A = λ task. hand.Free task.limits.words in
+    let own : hand.Free desk ≡ words_of (get_or tasks place task) =
+    ap (λ words. hand.Free words) desk_is ∙ ap words_of task_is in
+    after_is
+    ∙ ((λ i. hands_are i ++ own i ∷ [])
+    ∙ (sym (map-append words_of (take place tasks) (get_or tasks place task ∷ []))
+    ∙ ap fresh (sym (ap (λ k. take k tasks) next_is ∙ take-suc tasks place task within))))
+
+rests : (s : Standing) → is_in_flight (recalled_standing s) ≡ false
+rests Waiting = refl
+rests (Live n) = refl
+rests (InFlight n) = refl
+rests Ended = refl
+rests Collected = refl
+
+fresh_at : {A : Type 0} (tasks : List Task) (i : ℕ) (h : Hand A) → slice_get (fresh tasks) i ≡ Some h →
+    (task : Task) × (slice_get tasks i ≡ Some task) × (hand.Free task.limits.words ≡ h)
+fresh_at [] i h is = absurd (none-some h is)
+fresh_at (task ∷ tasks) zero h is = (task, refl, same_Some (hand.Free task.limits.words) h is)
+fresh_at (task ∷ tasks) (suc i) h is = fresh_at tasks i h is
+
+fresh_fits : {A : Type 0} (m : MachineState) → length m.standings ≡ length m.tasks → (job : ℕ) (h : Hand A) →
+    of_job job (fresh m.tasks) ≡ Some h → FitsIn (recalled m) job h
+fresh_fits m same zero h is = absurd (none-some h is)
+fresh_fits m same (suc i) h is =
+    let t = fresh_at m.tasks i h is in
+    let s = beside_at m.tasks m.standings (sym same) i t.0 t.1 in
+    record {
+      task = t.0;
+      standing = recalled_standing s.0;
+      task_is = t.1;
+      standing_is = slice_get-map recalled_standing m.standings i ∙ ap (option_map recalled_standing) s.1;
+      fits = subst (HandFits (suc i) t.0 (recalled_standing s.0)) t.2 (refl, rests s.0);
+    }
+
+pub fresh_fit : {A : Type 0} (m : MachineState) (hands : List (Hand A)) → length m.standings ≡ length m.tasks →
+    hands ≡ fresh m.tasks → HandsFit (recalled m) hands
+fresh_fit {A} m hands same hands_are =
+    let all : HandsFit {A = A} (recalled m) (fresh m.tasks) = record {
+      count = length-map m.tasks (λ task. hand.Free task.limits.words);
+      each = fresh_fits m same;
+    } in
+    subst (HandsFit (recalled m)) (sym hands_are) all

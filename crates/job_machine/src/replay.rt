@@ -1,0 +1,136 @@
+//! A machine that is led through events which are given, as those of a schedule or of a log.
+
+ghost use Rattle.std.specs.Prelude.{◌≡◌, take, OnOk, OnErr, IfErr};
+ghost use Rattle.job_steps.specs.declared.event.Event.TheVariants.{Begin, Finish, Recall};
+ghost use Rattle.job_machine.specs.Machines.{machine_after, after_all, recalled, Leads};
+ghost use Rattle.job_machine.specs.Hands.{HandsFit};
+ghost use Rattle.job_machine.specs.Replays.{IsRefusable, IsRefusedAt, StopsWith};
+
+use crate::hands::{Hand, Hands};
+use crate::machine::Machine;
+use job_steps::Event;
+use job_steps::laws::others_stay;
+use std::alloc::{AllocError, Allocator};
+
+/// What a replay was refused memory for.
+#[derive(Clone, Copy, PartialEq, Eq, Debug)]
+pub enum ReplayFault {
+    /// For the desks. Nothing was done.
+    Desks,
+    /// For the results of a job, by the event at this place, counted from 0, which collects it. The events before it were
+    /// done.
+    Collect(usize),
+}
+
+impl<A: Allocator + Clone> Machine<A> {
+    /// Does an event, or passes it over where it isn't open.
+    ///
+    /// A step is begun on the desk in the job's hand and computed at once; the hand holds it until it is finished or
+    /// given up, and has the desk again then. So the hands have to fit the machine, as they do after
+    /// [`Hands::new`] where no step has begun, and they still do after each event.
+    ///
+    /// # Errors
+    ///
+    /// [`AllocError`] where the collection of a job that returned was refused memory. Nothing changed then.
+    pub fn play(&mut self, event: Event, hands: &mut Hands<A>) -> Result<(), AllocError>
+        requires { HandsFit self.old hands.old }
+        ensures ok { OnOk result (self.new ≡ machine_after event self.old) }
+        ensures unchanged { OnErr result (self.new ≡ self.old) }
+        ensures refused { OnErr result (IsRefusable event self.old) }
+        ensures fit { HandsFit self.new hands.new }
+        ensures leads { Leads self.old self.new }
+    {
+        others_stay();
+        match event {
+            Event::Admit => {
+                self.admit();
+            }
+            Event::Begin(job) => self.play_begin(job, hands),
+            Event::Finish(job) => self.play_finish(job, hands),
+            Event::Recall(job) => self.play_recall(job, hands),
+            Event::Collect(job) => {
+                self.collect(job)?;
+            }
+        }
+        Ok(())
+    }
+
+    /// Gives up all steps that have begun, does events in order, passing over those that are not open, and gives up what
+    /// has begun.
+    ///
+    /// The desks for the steps, one for each job, take memory from `alloc`.
+    ///
+    /// # Errors
+    ///
+    /// [`ReplayFault::Desks`] where memory for a desk was refused: nothing changed. [`ReplayFault::Collect`] where the
+    /// collection of a job that returned was refused memory: the events before it were done, and no step has begun.
+    pub fn replay(&mut self, alloc: A, events: &[Event]) -> Result<(), ReplayFault>
+        ensures ok { OnOk result (self.new ≡ recalled (after_all events.now (recalled self.old))) }
+        ensures fault { IfErr result (StopsWith events.now self.old self.new) }
+    {
+        let Ok(mut hands) = Hands::new(alloc, self) else {
+            return Err(ReplayFault::Desks);
+        };
+        self.recall_all();
+        let played = self.play_all(events, &mut hands);
+        self.recall_all();
+        played.map_err(ReplayFault::Collect)
+    }
+
+    /// Does events in order; the place of one that was refused memory stands in the error.
+    fn play_all(&mut self, events: &[Event], hands: &mut Hands<A>) -> Result<(), usize>
+        requires { HandsFit self.old hands.old }
+        ensures ok { OnOk result (self.new ≡ after_all events.now self.old) }
+        ensures refused { IfErr result (λ place. IsRefusedAt events.now self.old place × (self.new ≡ after_all (take place events.now) self.old)) }
+    {
+        for place in 0..events.len() {
+            if self.play(events[place], hands).is_err() {
+                return Err(place);
+            }
+        }
+        Ok(())
+    }
+}
+
+impl<A: Allocator> Machine<A> {
+    /// Begins the next step of a job on the desk in its hand, and computes it where it began.
+    fn play_begin(&mut self, job: usize, hands: &mut Hands<A>)
+        requires { HandsFit self.old hands.old }
+        ensures state { self.new ≡ machine_after (Begin job) self.old }
+        ensures fit { HandsFit self.new hands.new }
+    {
+        others_stay();
+        let Some(desk) = hands.take_desk(job) else {
+            return;
+        };
+        let begun = self.begin(job, desk);
+        hands.exchange(job, Hand::after(begun));
+    }
+
+    /// Finishes the step that the hand of a job holds.
+    fn play_finish(&mut self, job: usize, hands: &mut Hands<A>)
+        requires { HandsFit self.old hands.old }
+        ensures state { self.new ≡ machine_after (Finish job) self.old }
+        ensures fit { HandsFit self.new hands.new }
+    {
+        others_stay();
+        let Some(filled) = hands.take_filled(job) else {
+            return;
+        };
+        let (_, desk) = self.finish(filled);
+        hands.exchange(job, Hand::Free(desk));
+    }
+
+    /// Gives up the step that the hand of a job holds.
+    fn play_recall(&mut self, job: usize, hands: &mut Hands<A>)
+        requires { HandsFit self.old hands.old }
+        ensures state { self.new ≡ machine_after (Recall job) self.old }
+        ensures fit { HandsFit self.new hands.new }
+    {
+        others_stay();
+        self.recall(job);
+        if let Some(filled) = hands.take_filled(job) {
+            hands.exchange(job, Hand::Free(filled.into_desk()));
+        }
+    }
+}

@@ -1,6 +1,0 @@
-use Rattle.vcode_reader.specs.declared.language.Language.TheVariants.{Whole}
-use Rattle.vcode_reader.proofs.Answers.{is_answer}
-use Rattle.vcode_reader.proofs.reader.read.Goals as goal
-
-pub returns-clause-grammar : goal.returns-clause-grammar
-returns-clause-grammar g c = is_answer Whole c.read_in.result c.args.first_line c.args.text.now c.read_in.ensures

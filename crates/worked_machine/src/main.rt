@@ -1,0 +1,46 @@
+//! Prints a table of calls on machines with what each answers.
+//!
+//! Each line of standard input is a call, which is printed as it stands, and behind it ` = ` and the answer. Blank lines
+//! and those that begin with `#` are printed alone. A line `machine` makes a machine, on which the calls behind it are
+//! made; jobs, steps and tickets are numbers, tickets from 0 on in the order of their begins.
+//!
+//! | Line | Call |
+//! |---|---|
+//! | `machine REGION JOBS` | a machine of these jobs over a region of so many words |
+//! | `admit`, `used`, `jobs`, `run_out` | that call; `run_out` on a desk of the region's words |
+//! | `begin JOB WORDS` | `begin` on a new desk of so many words |
+//! | `finish TICKET` | `compute` and `finish` |
+//! | `recall JOB`, `collect JOB`, `status JOB`, `outcome JOB`, `executed JOB`, `peak JOB` | that call |
+//! | `replay EVENTS` | that call; an event is `a` (admit), or `b` (begin), `f` (finish), `r` (recall) or `c` (collect) with the number of a job |
+//! | `list` | whether `holds` is true of the machine's own `list` |
+//! | `holds JOBS` | whether `holds` is true of these jobs |
+//!
+//! `JOBS` are `CODE BUDGET WORDS ..`: a code, the budget of each job, and the words of each. The code is `nothing`,
+//! which is `RET` alone, or `seven`, which leaves `INT (7)`.
+#![tactic(auto)]
+
+mod call;
+mod events;
+mod fault;
+mod jobs;
+mod player;
+
+use call::answer;
+use std::io;
+
+fn main(rt: HostRuntime) -> io::Result<()> {
+    let mut player = None;
+    for line in rt.lines(rt.alloc()) {
+        let line = line?;
+        let line = line.as_str();
+        if line.is_empty() || line.starts_with('#') {
+            println!(rt; "{line}")?;
+            continue;
+        }
+        match answer(rt.alloc(), &mut player, line) {
+            Ok(value) => println!(rt; "{line} = {value}")?,
+            Err(fault) => println!(rt; "{line} = {fault}")?,
+        }
+    }
+    Ok(())
+}
