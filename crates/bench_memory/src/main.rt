@@ -1,8 +1,8 @@
 //! Times a fragmenting load of a region: blocks of mixed lengths are released and made in no order.
 //!
 //! With no argument it is a short load over a small region, and what stands at the end is printed. With the argument
-//! `time` it is 4,096 live blocks that nearly fill a region of 1,048,576 words, and nanoseconds an operation are printed
-//! too, where an operation is a release and a make.
+//! `time` it is 4,096 live blocks that nearly fill the largest region, and nanoseconds an operation are printed too,
+//! where an operation is a release and a make.
 #![tactic(auto)]
 
 ghost use Rattle.std.specs.Prelude.{◌≤◌, ◌<◌};
@@ -13,6 +13,7 @@ use std::alloc::Global;
 use std::rt::Runtime;
 use std::time::Instant;
 use std::{env, io};
+use vcode_base::limits::MOST_WORDS;
 
 /// How large the load is.
 #[derive(Clone, Copy, Debug)]
@@ -31,7 +32,7 @@ const SHORT: Load = Load {
 };
 
 const LONG: Load = Load {
-    region: 1_048_576,
+    region: MOST_WORDS,
     blocks: 4_096,
     longest: 495,
     operations: 200_000,

@@ -3,6 +3,7 @@ use batch_front::{Device, FrontFault, Options, Status, run_alone};
 use std::alloc::Global;
 use std::io::{Error, ErrorKind, Read, Result as IoResult, Write, repeat};
 use std::test::Fail;
+use vcode_base::limits::MOST_BATCH_BYTES;
 
 const BATCH: &[u8] =
     b"JOB t 9 16 4 100\nSIGNATURES\nMAIN () -> (INT)\nCODE\nFUNC MAIN\nCONST INT 7\nRET\nEND\n";
@@ -175,7 +176,7 @@ fn a_reader_has_no_end(rt: HostRuntime) {
 
 #[test]
 fn a_batch_is_as_long_as_it_may_be(rt: HostRuntime) {
-    let mut reader = Device::new(repeat(b' ').take(16_777_216));
+    let mut reader = Device::new(repeat(b' ').take(MOST_BATCH_BYTES as u64));
     let mut writer = Device::new(Vec::new(rt.alloc()));
     let options = Options { region: 64 };
     let outcome = run_alone(rt.alloc(), &mut reader, &mut writer, &options);

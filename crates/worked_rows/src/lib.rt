@@ -1,6 +1,6 @@
-//! Worked batches through the whole program: its bytes in, its report and its exit out.
+//! What no table of batches can say: readers and writers that fail, command lines, and the texts of faults.
 //!
-//! This crate has tests alone. Each batch and its report was worked out by hand from docs/FORMATS.md.
+//! This crate has tests alone. Reports were worked out by hand from docs/FORMATS.md.
 #![tactic(auto)]
 
 #[cfg(test)]
@@ -8,12 +8,4 @@ mod devices;
 #[cfg(test)]
 mod faults;
 #[cfg(test)]
-mod jobs;
-#[cfg(test)]
 mod lines;
-#[cfg(test)]
-mod refusals;
-#[cfg(test)]
-mod rows;
-#[cfg(test)]
-mod run;

@@ -2,6 +2,7 @@
 use batch_front::{Line, LineFault, arguments_fault, read_line};
 use std::io::ErrorKind;
 use std::test::Fail;
+use vcode_base::limits::MOST_WORDS;
 
 #[test]
 fn reads_a_region_and_standard_input(rt: HostRuntime) {
@@ -16,7 +17,7 @@ fn reads_a_file_alone(rt: HostRuntime) {
     let line = read_line(rt.alloc(), &["vjobs", "batch.vcode"]);
     assert!(rt;
         matches!(&line, Ok(Line::Run(options, file))
-        if options.region == 1_048_576 && file.as_str() == "batch.vcode")
+        if options.region as usize == MOST_WORDS && file.as_str() == "batch.vcode")
     );
 }
 

@@ -1,0 +1,77 @@
+//! Runs the jobs of tables, and compares each report byte by byte with the one that the table has.
+//!
+//! Each line of standard input names a table. A table has cases, and this is one:
+//!
+//! ```text
+//! === job NAME, region WORDS
+//! the lines of the batch
+//! === report, exit NUMBER
+//! the lines of the report
+//! ```
+//!
+//! A blank line or the end of the table stands behind the report, and remarks may follow. In a batch and in a report,
+//!
+//! - lines between `=== N times` and `=== once` stand there N times, and `#` in them is the number of the time, from 1;
+//! - `=== open` takes the LF off the line above it.
+//!
+//! For each table it is printed how many of its jobs give their reports and exits, however the batch is cut into
+//! pieces. A job that doesn't is named above that, with what it comes to.
+#![tactic(auto)]
+
+mod case;
+
+use case::{Case, case_of, written_out};
+use std::alloc::{AllocError, Global};
+use std::io::Write;
+use std::{fs, io};
+use worked_runs::{Ending, ending_however_cut};
+
+/// Whether a batch comes to what its case says.
+fn is_wanted(alloc: Global, case: Case<'_>, ending: &Ending) -> Result<bool, AllocError> {
+    let mut report = written_out(alloc, case.report)?;
+    report.push('\n')?;
+    Ok(ending.exit == case.exit && ending.report.as_slice() == report.as_bytes())
+}
+
+/// Runs a case. Answers whether it comes to what it says; if not, prints what it comes to.
+fn gives_report(rt: &HostRuntime, case: Case<'_>) -> io::Result<bool> {
+    let name = case.name;
+    let batch = written_out(rt.alloc(), case.batch)?;
+    let Some(ending) = ending_however_cut(rt.alloc(), batch.as_bytes(), &case.options) else {
+        println!(rt; "{name} comes to something else in pieces")?;
+        return Ok(false);
+    };
+    if is_wanted(rt.alloc(), case, &ending)? {
+        return Ok(true);
+    }
+    println!(rt;
+        "{name} exits with {} and gives another report:",
+        ending.exit
+    )?;
+    rt.stdout().write_all(&ending.report)?;
+    Ok(false)
+}
+
+/// Runs the table of this name, and prints how many of its cases come to what they say.
+fn show(rt: &HostRuntime, name: &str) -> io::Result<()> {
+    let table = fs::read_to_string(rt, name)?;
+    let mut good: usize = 0;
+    for text in table.split("=== job ").skip(1) {
+        match case_of(text) {
+            Some(case) => {
+                if gives_report(rt, case)? {
+                    good = good.saturating_add(1);
+                }
+            }
+            None => println!(rt; "no case: {text}")?,
+        }
+    }
+    println!(rt; "{name}: {good} jobs give their reports")
+}
+
+fn main(rt: HostRuntime) -> io::Result<()> {
+    for name in rt.lines(rt.alloc()) {
+        show(&rt, name?.as_str())?;
+    }
+    Ok(())
+}
