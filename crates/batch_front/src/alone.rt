@@ -11,9 +11,9 @@ ghost use Rattle.batch_front.specs.Inputs.{first_bytes, AreFirstBytes, IsBatchIn
 ghost use Rattle.batch_front.specs.Reports.{report_of, status_of};
 
 use crate::answer::answer;
-use crate::command_line::Options;
 use crate::device::{Device, MOST_INTERRUPTIONS, Trouble};
 use crate::fault::FrontFault;
+use crate::options::Options;
 use crate::status::Status;
 use batch_reader::{Batch, Feed, JobEntries};
 use std::alloc::Allocator;
@@ -151,7 +151,8 @@ fn write_all<W: Write>(writer: &mut Device<W>, bytes: &[u8], spent: u64) -> Resu
 /// Reads a batch, runs its jobs over one region on the calling thread, and then writes the report and nothing else.
 ///
 /// Of the reader no more is read than one byte more than a batch may have, [`MOST_BATCH_BYTES`]. Neither device was used
-/// before. An interruption is no fault by itself: the call is made again, but for the interruption that passes
+/// before. The jobs take the turns of the schedule first, if there is one, and are run out then; the report is the same
+/// with any schedule or none. An interruption is no fault by itself: the call is made again, but for the interruption that passes
 /// [`MOST_INTERRUPTIONS`] in this run. [`FrontFault::Read`] and [`FrontFault::Memory`] come before the first write,
 /// and how much was read until then is not said. At [`FrontFault::Write`] the writer has the first bytes of the report,
 /// perhaps none and perhaps all of them.
@@ -194,7 +195,7 @@ pub fn run_alone<A: Allocator + Copy, R: Read, W: Write>(
         (has_failed writer.new ≡ true) ⊎ (interrupts_of reader.new + interrupts_of writer.new ≡ MOST_INTERRUPTIONS + 1) }
 {
     let batch = read_batch(alloc, reader, options.region)?;
-    let (report, status) = answer(alloc, batch, options.region)?;
+    let (report, status) = answer(alloc, batch, options)?;
     write_all(writer, report.as_slice(), reader.interrupts())?;
     Ok(status)
 }

@@ -7,6 +7,8 @@ ghost use Rattle.batch_reader.specs.Feeds.{HasFewJobs};
 ghost use Rattle.batch_front.specs.Reports.{jobs_status, jobs_text, report_of, status_of};
 ghost use Rattle.batch_front.specs.Seats.{AreAmong, BatchFits, EntriesFit, HasRunOut, report_text, seats_status};
 
+use crate::follow::follow;
+use crate::options::Options;
 use crate::report::{put_end, put_fault};
 use crate::seats::{Seat, all_returned, put_seats, seats};
 use crate::status::Status;
@@ -18,16 +20,15 @@ use std::alloc::{AllocError, Allocator};
 pub(crate) fn answer<A: Allocator + Copy>(
     alloc: A,
     batch: Batch<JobEntries<A>>,
-    region: u32,
+    options: &Options,
 ) -> Result<(Vec<u8, A>, Status), AllocError>
-    requires in_region { (1 ≤ region) × (region ≤ MOST_WORDS) }
     requires few { HasFewJobs batch }
-    requires fits { BatchFits region batch }
+    requires fits { BatchFits options.now.region batch }
     ensures report { IfOk result (λ r. r.0.items ≡ report_of batch) }
     ensures status { IfOk result (λ r. r.1 ≡ status_of batch) }
 {
     let mut report = Vec::new(alloc);
-    let status = put_batch(alloc, &mut report, batch, region)?;
+    let status = put_batch(alloc, &mut report, batch, options)?;
     Ok((report, status))
 }
 
@@ -37,11 +38,10 @@ fn put_batch<A: Allocator + Copy>(
     alloc: A,
     report: &mut Vec<u8, A>,
     batch: Batch<JobEntries<A>>,
-    region: u32,
+    options: &Options,
 ) -> Result<Status, AllocError>
-    requires in_region { (1 ≤ region) × (region ≤ MOST_WORDS) }
     requires few { HasFewJobs batch }
-    requires fits { BatchFits region batch }
+    requires fits { BatchFits options.now.region batch }
     ensures report { OnOk result (report.new.items ≡ report.old.items ++ report_of batch) }
     ensures status { IfOk result (λ status. status ≡ status_of batch) }
 {
@@ -50,7 +50,7 @@ fn put_batch<A: Allocator + Copy>(
             put_fault(report, b"BATCH ", line, fault.text())?;
             Ok(Status::BatchRefused)
         }
-        Batch::Jobs(entries) => put_jobs(alloc, report, entries, region),
+        Batch::Jobs(entries) => put_jobs(alloc, report, entries, options),
     }
 }
 
@@ -59,17 +59,16 @@ fn put_jobs<A: Allocator + Copy>(
     alloc: A,
     report: &mut Vec<u8, A>,
     entries: JobEntries<A>,
-    region: u32,
+    options: &Options,
 ) -> Result<Status, AllocError>
-    requires in_region { (1 ≤ region) × (region ≤ MOST_WORDS) }
     requires few { length entries ≤ MOST_JOBS }
-    requires fits { EntriesFit region entries }
+    requires fits { EntriesFit options.now.region entries }
     ensures report { OnOk result (report.new.items ≡ report.old.items ++ jobs_text entries) }
     ensures status { IfOk result (λ status. status ≡ jobs_status entries) }
 {
     let mut jobs = Vec::new(alloc);
     let seats = seats(alloc, entries.into_vec(), &mut jobs)?;
-    let machine = run(alloc, jobs, region)?;
+    let machine = run(alloc, jobs, &seats, options)?;
     put_report(report, &machine, &seats)?;
     Ok(status(&machine, &seats))
 }
@@ -105,22 +104,43 @@ fn status<A: Allocator>(machine: &Machine<A>, seats: &[Seat<A>]) -> Status
     }
 }
 
-/// Runs jobs over a region to their ends.
+/// Runs jobs over a region to their ends, first by the schedule, if there is one.
 fn run<A: Allocator + Copy>(
     alloc: A,
     jobs: Vec<Job<A>, A>,
-    region: u32,
+    seats: &[Seat<A>],
+    options: &Options,
 ) -> Result<Machine<A>, AllocError>
-    requires in_region { (1 ≤ region) × (region ≤ MOST_WORDS) }
     requires few { length jobs.items ≤ MOST_JOBS }
-    requires fit { All (λ task. task.limits.words ≤ region) jobs.items }
+    requires fit { All (λ task. task.limits.words ≤ options.now.region) jobs.items }
     ensures tasks { IfOk result (λ m. m.tasks ≡ jobs.items) }
     ensures out { IfOk result HasRunOut }
 {
     let words = greatest_words(&jobs);
-    let machine = Machine::new(alloc, region as usize, jobs)?;
+    let machine = machine_after_schedule(alloc, jobs, seats, options)?;
     let desk = Desk::new(alloc, words)?;
     run_out(machine, desk)
+}
+
+/// A machine of jobs over a region, when they have taken their turns by the schedule, if there is one.
+fn machine_after_schedule<A: Allocator + Copy>(
+    alloc: A,
+    jobs: Vec<Job<A>, A>,
+    seats: &[Seat<A>],
+    options: &Options,
+) -> Result<Machine<A>, AllocError>
+    requires few { length jobs.items ≤ MOST_JOBS }
+    requires fit { All (λ task. task.limits.words ≤ options.now.region) jobs.items }
+    ensures tasks { IfOk result (λ m. m.tasks ≡ jobs.items) }
+{
+    let mut machine = Machine::new(alloc, options.region as usize, jobs)?;
+    match &options.schedule {
+        Some(schedule) => {
+            follow(alloc, &mut machine, seats, schedule)?;
+            Ok(machine)
+        }
+        None => Ok(machine),
+    }
 }
 
 /// The words of the job that has the most, and 0 where there is none.

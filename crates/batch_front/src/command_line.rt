@@ -1,25 +1,18 @@
 //! The command line.
 
-ghost use Rattle.std.specs.Prelude.{◌≡◌, ◌≢◌, ◌≤◌};
+ghost use Rattle.std.specs.Prelude.{◌≡◌, ◌≢◌, IfOk};
 ghost use Rattle.std.specs.declared.io.ErrorKind.TheVariants.{InvalidData};
-ghost use Rattle.vcode_base.specs.declared.limits.TheConstants.{MOST_WORDS};
 ghost use Rattle.batch_front.specs.declared.fault.LineFault.TheVariants.{Memory};
+ghost use Rattle.batch_front.specs.CommandLines.{LineFits};
 
 use crate::fault::LineFault;
+use crate::options::Options;
+use crate::schedule::parse_schedule;
 use clap::error::ErrorKind;
 use clap::{Arg, ArgMatches, Command, value_parser};
 use std::alloc::Global;
 use std::io::ErrorKind as IoErrorKind;
 use vcode_base::limits::MOST_WORDS;
-
-/// How a batch is run.
-#[derive(Clone, Copy, PartialEq, Eq, Debug)]
-pub struct Options {
-    /// The words of the region that the jobs share, at least 1 and at most
-    /// [`MOST_WORDS`](vcode_base::limits::MOST_WORDS).
-    pub region: u32,
-    pub ghost region_fits: { (1 ≤ region) × (region ≤ MOST_WORDS) },
-}
 
 /// What a command line asks for.
 #[derive(Drop)]
@@ -44,6 +37,10 @@ fn command<'a>(alloc: Global) -> Result<Command<'a>, clap::Error> {
         .value_parser(value_parser!(u32).range(1..=i64::from(MOST_REGION)))
         .default_value(MOST_REGION_TEXT)
         .help("Words of the region that the jobs share");
+    let schedule = Arg::new(alloc, "schedule")
+        .long("schedule")
+        .value_name("LIST")
+        .help("Turns that the jobs take first, as in 1,b2,1,f2");
     let file = Arg::new(alloc, "file")
         .value_name("FILE")
         .required(true)
@@ -53,15 +50,23 @@ fn command<'a>(alloc: Global) -> Result<Command<'a>, clap::Error> {
             .about("Runs a batch of VCODE jobs and prints a report")
             .version("0.1.0")
             .arg(region)?
+            .arg(schedule)?
             .arg(file)?,
     )
 }
 
 /// What was matched.
-fn run_of(alloc: Global, matches: &ArgMatches<'_>) -> Result<Line, LineFault> {
+fn run_of(alloc: Global, matches: &ArgMatches<'_>) -> Result<Line, LineFault>
+    ensures { IfOk result LineFits }
+{
     let region = matches.get_one::<u32>("region").unwrap_or(MOST_REGION);
+    let schedule = match matches.get_str("schedule") {
+        Some(list) => Some(parse_schedule(alloc, list)?),
+        None => None,
+    };
     let options = Options {
         region: region.clamp(1, MOST_REGION),
+        schedule,
     };
     let file = matches.get_str("file").unwrap_or("-");
     let file = String::from_str(alloc, file).map_err(|_| LineFault::Memory)?;
@@ -69,7 +74,9 @@ fn run_of(alloc: Global, matches: &ArgMatches<'_>) -> Result<Line, LineFault> {
 }
 
 /// What clap answered in place of matches.
-fn line_of(alloc: Global, error: &clap::Error) -> Result<Line, LineFault> {
+fn line_of(alloc: Global, error: &clap::Error) -> Result<Line, LineFault>
+    ensures { IfOk result LineFits }
+{
     if error.kind() == ErrorKind::OutOfMemory {
         return Err(LineFault::Memory);
     }
@@ -81,11 +88,18 @@ fn line_of(alloc: Global, error: &clap::Error) -> Result<Line, LineFault> {
     }
 }
 
-/// Reads a command line, the program's name first: `vjobs [--region N] FILE`.
+/// Reads a command line, the program's name first: `vjobs [--region N] [--schedule LIST] FILE`.
 ///
-/// The region is at least 1 word and at most [`MOST_WORDS`], and that where none is given. A line that asks for help or
-/// for the version is [`Line::Help`]. A line that is refused is [`LineFault::Usage`].
-pub fn read_line(alloc: Global, words: &[&str]) -> Result<Line, LineFault> {
+/// The region is at least 1 word and at most [`MOST_WORDS`], and that where none is given. The schedule is what
+/// [`parse_schedule`] reads of the list. A line that asks for help or for the version is [`Line::Help`].
+///
+/// # Errors
+///
+/// [`LineFault::Usage`] where the line is refused, [`LineFault::BadSchedule`] where its list is no schedule, and
+/// [`LineFault::Memory`] where a growth was refused.
+pub fn read_line(alloc: Global, words: &[&str]) -> Result<Line, LineFault>
+    ensures { IfOk result LineFits }
+{
     let command = match command(alloc) {
         Ok(command) => command,
         Err(error) => return line_of(alloc, &error),

@@ -5,6 +5,7 @@ ghost use Rattle.job_steps.specs.Standings.{of_job};
 ghost use Rattle.batch_front.specs.Reports.{end_text};
 ghost use Rattle.batch_front.specs.Seats.{AreAmong, AreSeatsOf, HasRunOut, IsAmong, IsFateOn, IsSeatOf, IsTask};
 ghost use Rattle.batch_front.specs.Seats.{fate_tasks, fate_text_on, has_returned_on, have_returned_on, seat_text, seats_text, tasks_of, told_text};
+ghost use Rattle.batch_front.specs.Turns.{number_of};
 
 use crate::report::{put_fault, put_job, put_outcome, put_used};
 use batch_reader::{Entry, Fate, JobEntry};
@@ -58,6 +59,17 @@ pub(crate) fn seats<A: Allocator>(
         seats.push(seat)?;
     }
     Ok(seats)
+}
+
+/// The number on a machine of the job at this place in the batch, counted from 1, if there is one that may run.
+pub(crate) fn number_of<A: Allocator>(seats: &[Seat<A>], place: usize) -> Option<usize>
+    ensures { result ≡ number_of seats.now place }
+{
+    let seat = seats.get(place.checked_sub(1)?)?;
+    match &seat.fate {
+        Fate::Ready(number) => Some(*number),
+        Fate::Refused(..) => None,
+    }
 }
 
 /// Appends how a job on a machine ended and what it used.

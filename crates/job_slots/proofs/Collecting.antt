@@ -1,33 +1,20 @@
 -- What the cells of a job that has ended hold.
-use Rattle.std.proofs.Common.{◌≡◌, ℕ, List, [], Option, Some, None, refl, ap, subst}
-use Rattle.std.proofs.lemmas.List.Elements.{All-nil}
-use Rattle.std.specs.Prelude.{All}
+use Rattle.std.proofs.Common.{◌≡◌, ℕ, List, [], Option, Some, None, subst}
 use Rattle.vcode_base.specs.declared.outcome.Outcome.{Outcome}
-use Rattle.refcounts.specs.SharedState.{Slot, slot_in}
+use Rattle.refcounts.specs.SharedState.{Slot}
 use Rattle.job_memory.specs.JobBlocks.{JobBlocks, own_slots}
 use Rattle.job_steps.specs.States.{Vector, Task}
 use Rattle.job_steps.specs.Tracks.{Trace}
 use Rattle.job_slots.specs.declared.status.Status.{Status}
 use Rattle.job_slots.specs.declared.status.Status.TheVariants.{Ended}
-use Rattle.job_slots.specs.Holdings.{Cell, HoldStack, HoldSomeStack, HoldNothing, AreAlike}
+use Rattle.job_slots.specs.Holdings.{HoldSomeStack}
 use Rattle.job_slots.specs.Slots.{SlotState, Shows, ShowsAs, Leaves, HasEnded}
-
-holds_nothing : (slots : List Slot) (ids : List ℕ) → HoldNothing slots ids → HoldStack slots ids []
-holds_nothing slots ids h = record {
-  cells = [];
-  ids_are = h.no_cell;
-  entries_are = refl;
-  held = record {
-    words = All-nil (λ (c : Cell). (slot_in slots c.id).words ≡ c.entry.value.words);
-    counts = λ id. ap (λ (slot : Slot). slot.count) (h.no_block id);
-    alike = All-nil (λ (x : Cell). All (AreAlike x) []);
-  };
-}
+use Rattle.job_slots.proofs.Holding.{none_held}
 
 left_holds : (slots : List Slot) (task : Task) (t : Trace ℕ) (o : Option (Outcome (List Vector))) →
     Leaves slots task t o → HoldSomeStack slots t.cells
 left_holds slots task t None left = (left.stack, left.holds)
-left_holds slots task t (Some ending) (is, none, nothing) = ([], holds_nothing slots t.cells nothing)
+left_holds slots task t (Some ending) (is, none, nothing) = ([], none_held slots t.cells nothing)
 
 has_ended : (number : ℕ) (blocks : JobBlocks) (task : Task) (slot : SlotState) → Shows number blocks task slot →
     slot.status ≡ Ended → HasEnded (own_slots number blocks) task slot.trace slot.outcome

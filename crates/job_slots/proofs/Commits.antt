@@ -16,10 +16,11 @@ use Rattle.job_steps.specs.Motions.{top_entries, operand_count, stack_after, sta
 use Rattle.job_steps.specs.States.{Vector, Entry, new_entries}
 use Rattle.job_slots.specs.Holdings.{Cell, ids_of, entries_of, AreHeld}
 use Rattle.job_memory.specs.JobBlocks.{JobBlocks, AreOwn, ChangesOnlyOf, own_slots, with_memory, with_block}
-use Rattle.job_slots.specs.Commits.{moved_ids, blocks_after_taking, CanTake, ArePlaced}
+use Rattle.job_slots.specs.Commits.{moved_ids, taken_ids, blocks_after_taking, CanTake, ArePlaced}
 use Rattle.job_memory.specs.Laws.{BlocksChangeOnlyTheirJob, SharesChangeOnlyTheirJob, ReleasesChangeOnlyTheirJob}
 use Rattle.job_memory.specs.Laws.{ChangesJoin}
-use Rattle.job_slots.proofs.Moves.{All-reverse, All-move, reverse-cons, map-top, map-lower, map-stack_after}
+use Rattle.job_slots.proofs.Moves.{All-move, map-top, map-lower, map-stack_after}
+use Rattle.job_slots.proofs.Reversed.{reverse-cons, All-reverse}
 use Rattle.job_slots.proofs.Counts.{times, times_append, times_reverse, times_split, times_top}
 use Rattle.job_slots.proofs.Takes.{Among, placed_one, own_taken, held_released, own_shared, live_shared, held_shared}
 
@@ -119,6 +120,18 @@ module _ (laws : BlockLaws) (job : ℕ) (old placed : JobBlocks) where
         others = (laws.changes_join job).both old placed _ is.others
             (laws.releases_change_only_their_job placed job (ids_of taken) own);
       }
+
+  -- a commit where what it takes is known, with what it leaves
+  commits : (op : Op) (cells news : List Cell) → CanTake job op (ids_of cells) placed →
+      AreHeld (own_slots job (blocks_after_taking op (ids_of cells) placed)) (stack_after op news cells) →
+      ChangesOnlyOf job old (blocks_after_taking op (ids_of cells) placed) → CanCommit job op old placed cells news
+  commits op cells news can_take held others = record {
+    can_take = can_take;
+    held = held;
+    ids = map-stack_after (λ (c : Cell). c.id) op news cells;
+    entries = map-stack_after (λ (c : Cell). c.entry) op news cells;
+    others = others;
+  }
 
   -- so many cells are taken off the stack, and the new ones lie on the others
   pushed : (n : ℕ) (cells news : List Cell) → IsPlaced job old placed (reverse news ++ cells) →
@@ -239,98 +252,38 @@ module _ (laws : BlockLaws) (job : ℕ) (old placed : JobBlocks) where
         subst (λ (ids : List ℕ). IsShared job old placed ids (stack_after_move Copy lower upper cells))
         (map-lower (λ (c : Cell). c.id) lower upper cells) copied_by
 
-    -- which cells, and which entries
-    ids_same : (motion : StackMove) →
-        ids_of (stack_after_move motion lower upper cells) ≡ stack_after_move motion lower upper (ids_of cells)
-    ids_same motion = map-stack_after (λ (c : Cell). c.id) (Move motion lower upper) [] cells
-
-    entries_same : (motion : StackMove) →
-        entries_of (stack_after_move motion lower upper cells) ≡ stack_after_move motion lower upper (entries_of cells)
-    entries_same motion = map-stack_after (λ (c : Cell). c.entry) (Move motion lower upper) [] cells
-
     by_motion : (motion : StackMove) → CanCommit job (Move motion lower upper) old placed cells []
-    by_motion Copy = record {
-      can_take = copied.live;
-      held = copied.held;
-      ids = ids_same Copy;
-      entries = entries_same Copy;
-      others = copied.others;
-    }
-    by_motion Pop = record {
-      can_take = popped.own;
-      held = popped.held;
-      ids = ids_same Pop;
-      entries = entries_same Pop;
-      others = popped.others;
-    }
-    by_motion MoveToTop = record {
-      can_take = tt;
-      held = turned.held;
-      ids = ids_same MoveToTop;
-      entries = entries_same MoveToTop;
-      others = is.others;
-    }
+    by_motion Copy = commits (Move Copy lower upper) cells [] copied.live copied.held copied.others
+    by_motion Pop = commits (Move Pop lower upper) cells [] popped.own popped.held popped.others
+    by_motion MoveToTop = commits (Move MoveToTop lower upper) cells [] tt turned.held is.others
 
   -- ---- the instructions
+
+  -- what it takes are its operands, and its results lie on the other cells
+  by_operands : (op : Op) (cells news : List Cell) →
+      (AreOwn job placed (taken_ids op (ids_of cells)) → CanTake job op (ids_of cells) placed) →
+      with_memory placed (state_after_releases placed.memory (taken_ids op (ids_of cells)))
+      ≡ blocks_after_taking op (ids_of cells) placed →
+      reverse news ++ drop (operand_count op) cells ≡ stack_after op news cells →
+      IsPlaced job old placed (reverse news ++ cells) → CanCommit job op old placed cells news
+  by_operands op cells news can_take blocks stack is =
+      let r = pushed (operand_count op) cells news is in
+      let left : JobBlocks = with_memory placed (state_after_releases placed.memory (taken_ids op (ids_of cells))) in
+      commits op cells news (can_take r.own)
+      (subst (λ (b : JobBlocks). AreHeld (own_slots job b) (stack_after op news cells)) blocks
+      (subst (λ (cs : List Cell). AreHeld (own_slots job left) cs) stack r.held))
+      (subst (λ (b : JobBlocks). ChangesOnlyOf job old b) blocks r.others)
 
   by_op : (op : Op) (cells news : List Cell) → length news ≡ length (result_kinds op) →
       IsPlaced job old placed (reverse news ++ cells) → CanCommit job op old placed cells news
   by_op (Move motion lower upper) cells [] count is = by_motion lower upper cells is motion
   by_op (Move motion lower upper) cells (c ∷ news) count is = absurd (omega (arith, count))
-  by_op (Const k) cells news count is =
-      let r = pushed 0 cells news is in
-      record {
-        can_take = r.own;
-        held = r.held;
-        ids = map-stack_after (λ (c : Cell). c.id) (Const k) news cells;
-        entries = map-stack_after (λ (c : Cell). c.entry) (Const k) news cells;
-        others = r.others;
-      }
-  by_op (Elementwise e) cells news count is =
-      let r = pushed (operand_count (Elementwise e)) cells news is in
-      record {
-        can_take = r.own;
-        held = r.held;
-        ids = map-stack_after (λ (c : Cell). c.id) (Elementwise e) news cells;
-        entries = map-stack_after (λ (c : Cell). c.entry) (Elementwise e) news cells;
-        others = r.others;
-      }
-  by_op (Segmented e) cells news count is =
-      let r = pushed (operand_count (Segmented e)) cells news is in
-      record {
-        can_take = r.own;
-        held = r.held;
-        ids = map-stack_after (λ (c : Cell). c.id) (Segmented e) news cells;
-        entries = map-stack_after (λ (c : Cell). c.entry) (Segmented e) news cells;
-        others = r.others;
-      }
-  by_op If cells news count is =
-      let r = pushed 1 cells news is in
-      record {
-        can_take = r.own;
-        held = r.held;
-        ids = map-stack_after (λ (c : Cell). c.id) If news cells;
-        entries = map-stack_after (λ (c : Cell). c.entry) If news cells;
-        others = r.others;
-      }
-  by_op Call cells news count is =
-      let r = pushed 0 cells news is in
-      record {
-        can_take = r.own;
-        held = r.held;
-        ids = map-stack_after (λ (c : Cell). c.id) Call news cells;
-        entries = map-stack_after (λ (c : Cell). c.entry) Call news cells;
-        others = r.others;
-      }
-  by_op Return cells news count is =
-      let r = pushed 0 cells news is in
-      record {
-        can_take = r.own;
-        held = r.held;
-        ids = map-stack_after (λ (c : Cell). c.id) Return news cells;
-        entries = map-stack_after (λ (c : Cell). c.entry) Return news cells;
-        others = r.others;
-      }
+  by_op (Const k) cells news count is = by_operands (Const k) cells news (λ own. own) refl refl is
+  by_op (Elementwise e) cells news count is = by_operands (Elementwise e) cells news (λ own. own) refl refl is
+  by_op (Segmented e) cells news count is = by_operands (Segmented e) cells news (λ own. own) refl refl is
+  by_op If cells news count is = by_operands If cells news (λ own. own) refl refl is
+  by_op Call cells news count is = by_operands Call cells news (λ own. own) refl refl is
+  by_op Return cells news count is = by_operands Return cells news (λ own. own) refl refl is
 
 pub can_commit : BlockLaws → (job : ℕ) (op : Op) (old placed : JobBlocks) (cells news : List Cell) (next : ℕ)
     (values : List Vector) → AreHeld (own_slots job old) cells → All (λ (c : Cell). c.entry.tag < next) cells →

@@ -2,6 +2,7 @@
 use Rattle.std.proofs.Common.{◌≡◌, ◌≢◌, ◌∙◌, ◌+◌, ◌-◌, ◌<◌, ℕ, List, [], ◌∷◌, length, Option, Some, None, refl, sym, ap}
 use Rattle.std.proofs.Common.{subst, arith}
 use Rattle.vcode_base.specs.declared.fault.DataFault.{DataFault}
+use Rattle.vcode_base.specs.declared.outcome.Outcome.{Outcome}
 use Rattle.vcode_base.specs.declared.outcome.Outcome.TheVariants.{Fault}
 use Rattle.vcode_base.specs.Instructions.{op_of}
 use Rattle.vcode_base.specs.Meaning.{value_fault}
@@ -18,13 +19,14 @@ use Rattle.job_steps.specs.Questions.{Question}
 use Rattle.job_steps.specs.Reached.{Reaches, EndIsOwn, IsVerifiedTask}
 use Rattle.job_steps.specs.Runs.{state_after, peak}
 use Rattle.job_steps.specs.Standings.{Standing, Live, InFlight, Ended, held_in, left_words}
-use Rattle.job_steps.specs.States.{Task, Active, State}
+use Rattle.job_steps.specs.States.{Vector, Task, Active, State}
 use Rattle.job_steps.specs.Steps.{Progress, Running, Over, Stuck, next_item, sources_of, question_of, flag_of}
 use Rattle.job_steps.specs.Steps.{calls_after, progress_by}
 use Rattle.job_steps.specs.Tickets.{Asked}
 use Rattle.job_steps.specs.Tracks.{Trace, functions_of}
 use Rattle.job_slots.specs.declared.answer.Finished.{Finished}
 use Rattle.job_slots.specs.declared.answer.Finished.TheVariants as finished
+use Rattle.job_slots.specs.declared.status.Status.{Status}
 use Rattle.job_slots.specs.declared.status.Status.TheVariants as status
 use Rattle.job_slots.specs.Answers.{Fits, Finishes, IsEnding, question_at, line_at, line_in, line_before}
 use Rattle.job_slots.specs.Slots.{SlotState, Shows, ShowsAs, IsRunningSlot, IsFlyingSlot, HasEnded, IsAfter}
@@ -200,6 +202,17 @@ module _ (reaches : Reaches) (end_is_own : EndIsOwn) (number : ℕ) (task : Task
   next = next_is number task (standing_of old) old.trace.executed
       (fits.flying ∙ ap InFlight (sym step))
 
+  shows_as : (by : Status) (outcome : Option (Outcome (List Vector))) → grant_of blocks' number ≡ grant_by task by →
+      ShowsAs (own_slots number blocks') task mid.trace outcome by →
+      Shows number blocks' task (record { status = by; trace = mid.trace; outcome = outcome })
+  shows_as by outcome grant_is shown = record {
+    is_job = still_job number blocks blocks' executed.others shows.is_job;
+    verified = shows.verified;
+    limits = executed.limits ∙ shows.limits;
+    grant = grant_is;
+    shown = shown;
+  }
+
   pub committed : (result : Finished) (new : SlotState) → GoesOn mid new result →
       IsCommitted number task (standing_of old) filled blocks' result new
   committed finished.Done new goes =
@@ -212,13 +225,7 @@ module _ (reaches : Reaches) (end_is_own : EndIsOwn) (number : ℕ) (task : Task
         answer = (fits, lives ∙ ap (λ (n : ℕ). Some (Live (n + 1))) step);
         shows =
             subst (λ (s : SlotState). Shows number blocks' task s) (sym done.1)
-            (record {
-              is_job = still_job number blocks blocks' executed.others shows.is_job;
-              verified = shows.verified;
-              limits = executed.limits ∙ shows.limits;
-              grant = grant;
-              shown = on.running;
-            });
+            (shows_as status.Live mid.outcome grant on.running);
         standing =
             ap (λ (s : SlotState). Some (standing_of s)) done.1
             ∙ ap (λ (n : ℕ). Some (Live n)) on.executed
@@ -234,13 +241,7 @@ module _ (reaches : Reaches) (end_is_own : EndIsOwn) (number : ℕ) (task : Task
         answer = (fits, ends);
         shows =
             subst (λ (s : SlotState). Shows number blocks' task s) (sym ended.1)
-            (record {
-              is_job = still_job number blocks blocks' executed.others shows.is_job;
-              verified = shows.verified;
-              limits = executed.limits ∙ shows.limits;
-              grant = grant;
-              shown = over.ended;
-            });
+            (shows_as status.Ended None grant over.ended);
         standing = ap (λ (s : SlotState). Some (standing_of s)) ended.1 ∙ sym ends;
       }
   committed finished.Stale new goes = absurd (goes.not_stale refl)

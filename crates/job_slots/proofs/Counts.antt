@@ -10,7 +10,7 @@ use Rattle.std.proofs.lemmas.List.Elements.{All-nil, All-cons, All-head, All-tai
 use Rattle.refcounts.specs.SharedState.{occurrences}
 use Rattle.job_steps.specs.Motions.{top_entries}
 use Rattle.job_slots.specs.Holdings.{Cell, ids_of}
-use Rattle.job_slots.proofs.Moves.{reverse-cons}
+use Rattle.job_slots.proofs.Reversed.{reverse-cons}
 
 -- how often cells name a block
 abbrev pub times : ℕ → List Cell → ℕ

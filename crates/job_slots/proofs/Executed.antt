@@ -286,12 +286,13 @@ executable laws job old task t op flag first second flying verified tidy answere
     (subst (λ (f : Bool). CanExecute job old task t (op_of item) f first second) flag_is found)
 
 -- the instruction is executed where the track and the blocks went past it
-pub executed_past : (job : ℕ) (old placed gone_past : JobBlocks) (task : Task) (t u : Trace ℕ) (op : Op) (flag : Bool)
-    (first second : List ℤ) (ids : List ℕ) (held : ℕ) → CanExecute job old task t op flag first second →
+pub executed_past : {job : ℕ} {old placed gone_past : JobBlocks} {task : Task} {t u : Trace ℕ} {op : Op} {flag : Bool}
+    {first second : List ℤ} {ids : List ℕ} {held : ℕ} → CanExecute job old task t op flag first second →
     HasPlaced job op first second ids old placed → gone_past ≡ blocks_after_taking op t.cells placed →
     held ≡ held_words job old → Advances task op flag ids (held + length first + length second) t u →
     IsExecuted job old gone_past task t u
-executed_past job old placed gone_past task t u op flag first second ids held can has past held_is advances =
+executed_past {job} {old} {placed} {gone_past} {task} {t} {u} {op} {flag} {first} {second} {ids} can has past held_is
+    advances =
     subst (λ (b : JobBlocks). IsExecuted job old b task t u) (sym past)
     (can.executes ids placed u has
     (subst (λ (h : ℕ). Advances task op flag ids (h + length first + length second) t u) held_is advances))

@@ -10,7 +10,20 @@ use Rattle.std.proofs.lemmas.List.Sums.{sum_by-cons}
 use Rattle.refcounts.specs.SharedState.{Slot, SharedState, empty_slot, slot_in, slot_at, words_in, blocks_in, occurrences, IsTidy}
 use Rattle.refcounts.specs.Owners.{slot_seen_by, slots_seen_by}
 use Rattle.job_steps.specs.States.{has_tag, held_words}
-use Rattle.job_slots.specs.Holdings.{Cell, ids_of, entries_of, AreAlike, AreHeld}
+use Rattle.job_slots.specs.Holdings.{Cell, ids_of, entries_of, AreAlike, AreHeld, HoldStack, HoldNothing}
+
+-- no cell holds the empty stack
+pub none_held : (slots : List Slot) (ids : List ℕ) → HoldNothing slots ids → HoldStack slots ids []
+none_held slots ids h = record {
+  cells = [];
+  ids_are = h.no_cell;
+  entries_are = refl;
+  held = record {
+    words = All-nil (λ (c : Cell). (slot_in slots c.id).words ≡ c.entry.value.words);
+    counts = λ id. ap (λ (slot : Slot). slot.count) (h.no_block id);
+    alike = All-nil (λ (x : Cell). All (AreAlike x) []);
+  };
+}
 
 -- ---- how often a block is named
 

@@ -3,51 +3,18 @@ use Rattle.std.proofs.Common.{◌≡◌, ◌≤◌, ℕ, Bool, List, [], ◌∷�
 use Rattle.std.specs.Prelude.{ℤ}
 use Rattle.vcode_base.specs.declared.instr.Instr.TheVariants as instr
 use Rattle.vcode_base.specs.declared.kind.Kind.{Kind}
-use Rattle.vcode_base.specs.declared.op.Elementwise.{Elementwise as ElementwiseOp}
-use Rattle.vcode_base.specs.declared.op.Elementwise.TheVariants.{Arith, Compare, Logic, Not, Select, IntToBool, BoolToInt}
-use Rattle.vcode_base.specs.declared.op.Segmented.{Segmented as SegmentedOp}
-use Rattle.vcode_base.specs.declared.op.Segmented.TheVariants as segmented
 use Rattle.vcode_base.specs.declared.op.Op.{Op}
-use Rattle.vcode_base.specs.declared.op.Op.TheVariants.{Const, Elementwise, Segmented, If, Move, Call, Return}
+use Rattle.vcode_base.specs.declared.op.Op.TheVariants.{Return}
 use Rattle.vcode_base.specs.Instructions.{op_of}
-use Rattle.vcode_base.specs.Kinds.{HaveKinds, result_kinds, elementwise_results, segmented_results}
+use Rattle.vcode_base.specs.Kinds.{HaveKinds, result_kinds}
 use Rattle.vcode_reader.specs.Trees.{Item, Body, End, Do, Choice}
 use Rattle.job_steps.specs.Motions.{stack_after}
 use Rattle.job_steps.specs.States.{Task, Entry, Active, Callee, calls_with, callee_named, new_entries}
 use Rattle.job_steps.specs.Steps.{calls_past, calls_after, first_item, vectors_of}
 
-one_elementwise : (e : ElementwiseOp) → length (elementwise_results e) ≤ 2
-one_elementwise (Arith op) = omega arith
-one_elementwise (Compare op) = omega arith
-one_elementwise (Logic op k) = omega arith
-one_elementwise (Not k) = omega arith
-one_elementwise (Select k) = omega arith
-one_elementwise IntToBool = omega arith
-one_elementwise BoolToInt = omega arith
-
-two_segmented : (s : SegmentedOp) → length (segmented_results s) ≤ 2
-two_segmented (segmented.Scan f) = omega arith
-two_segmented (segmented.Reduce f) = omega arith
-two_segmented (segmented.Distribute k) = omega arith
-two_segmented segmented.Index = omega arith
-two_segmented (segmented.Permute k) = omega arith
-two_segmented (segmented.BackPermute k) = omega arith
-two_segmented (segmented.DefaultPermute k) = omega arith
-two_segmented (segmented.Extract k) = omega arith
-two_segmented (segmented.Replace k) = omega arith
-two_segmented (segmented.Pack k) = omega arith
-two_segmented segmented.MakeSegdes = omega arith
-two_segmented segmented.Lengths = omega arith
-
 -- an instruction has at most two results
 pub two_results : (op : Op) → length (result_kinds op) ≤ 2
-two_results (Const k) = omega arith
-two_results (Elementwise e) = one_elementwise e
-two_results (Segmented s) = two_segmented s
-two_results If = omega arith
-two_results (Move motion lower upper) = omega arith
-two_results Call = omega arith
-two_results Return = omega arith
+two_results op = grind arith
 
 -- there is a list for each kind
 pub length_by_kinds : (kinds : List Kind) (lists : List (List ℤ)) → HaveKinds kinds lists → length lists ≡ length kinds

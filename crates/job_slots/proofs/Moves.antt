@@ -1,24 +1,15 @@
 -- What an instruction does to a stack, seen through a function of its entries.
-use Rattle.std.proofs.Common.{◌≡◌, ℕ, List, [], ◌∷◌, ◌++◌, map, take, drop, refl, sym, ◌∙◌, ap, subst}
+use Rattle.std.proofs.Common.{◌≡◌, ℕ, List, ◌++◌, map, take, drop, refl, sym, ◌∙◌, ap}
 use Rattle.std.specs.Prelude.{All, reverse}
-use Rattle.std.proofs.lemmas.List.{map-append, take-map, drop-map, reverse-append}
-use Rattle.std.proofs.lemmas.List.Elements.{All-nil, All-cons, All-head, All-tail, All-append, All-take, All-drop}
+use Rattle.std.proofs.lemmas.List.{map-append, take-map, drop-map}
+use Rattle.std.proofs.lemmas.List.Elements.{All-append, All-take, All-drop}
 use Rattle.vcode_base.specs.declared.op.Op.{Op}
 use Rattle.vcode_base.specs.declared.op.Op.TheVariants.{Const, Elementwise, Segmented, If, Move, Call, Return}
 use Rattle.vcode_base.specs.declared.op.StackMove.{StackMove}
 use Rattle.vcode_base.specs.declared.op.StackMove.TheVariants.{Copy, Pop, MoveToTop}
 use Rattle.vcode_base.specs.Motions.{entries_after_move}
 use Rattle.job_steps.specs.Motions.{top_entries, operand_count, stack_after, stack_after_move}
-
-pub reverse-cons : {A : Type 0} (x : A) (xs : List A) → reverse (x ∷ xs) ≡ reverse xs ++ x ∷ []
-reverse-cons x xs = reverse-append (x ∷ []) xs
-
-map-reverse : {A B : Type 0} (f : A → B) (xs : List A) → map f (reverse xs) ≡ reverse (map f xs)
-map-reverse f [] = refl
-map-reverse f (x ∷ xs) =
-    ap (map f) (reverse-cons x xs)
-    ∙ (map-append f (reverse xs) (x ∷ [])
-    ∙ (ap (λ ys. ys ++ f x ∷ []) (map-reverse f xs) ∙ sym (reverse-cons (f x) (map f xs))))
+use Rattle.job_slots.proofs.Reversed.{map-reverse, All-reverse}
 
 both_ends : {A : Type 0} (xs ys zs ws : List A) → xs ≡ ys → zs ≡ ws → xs ++ zs ≡ ys ++ ws
 both_ends xs ys zs ws p q = ap (λ l. l ++ zs) p ∙ ap (λ l. ys ++ l) q
@@ -72,13 +63,6 @@ module _ {A B : Type 0} (f : A → B) where
   map-stack_after Return news xs = map-pushed 0 news xs
 
 -- ---- what holds of each entry
-
-pub All-reverse : {E : Type 0} (P : E → Type 0) (xs : List E) → All P xs → All P (reverse xs)
-All-reverse P [] all = All-nil P
-All-reverse P (x ∷ xs) all =
-    subst (All P) (sym (reverse-cons x xs))
-    (All-append P (reverse xs) (x ∷ []) (All-reverse P xs (All-tail P x xs all))
-    (All-cons P x [] (All-head P x xs all) (All-nil P)))
 
 All-moved : {E : Type 0} (P : E → Type 0) (motion : StackMove) (lower upper : List E) → All P lower → All P upper →
     All P (entries_after_move motion lower upper)

@@ -1,25 +1,18 @@
 -- The words of the operands that an instruction takes, by their places.
 use Rattle.std.proofs.Common.{◌≡◌, ℕ, ℤ, ◌-◌, ◌≤◌, List, [], ◌∷◌, ◌++◌, length, map, take, drop, reverse, refl}
-use Rattle.std.proofs.Common.{sym, ◌∙◌, ap, subst, arith, length-drop}
+use Rattle.std.proofs.Common.{sym, ◌∙◌, ap, arith, length-drop}
 use Rattle.std.specs.Prelude.{All}
 use Rattle.std.specs.Borrow.{Bor}
-use Rattle.std.proofs.lemmas.List.{take-map, length-reverse, reverse-append}
-use Rattle.std.proofs.lemmas.List.{take-append-drop, drop_at, map-append}
-use Rattle.std.proofs.lemmas.List.Elements.{All-nil, All-cons, All-head, All-tail, All-take, All-append}
+use Rattle.std.proofs.lemmas.List.{take-map, length-reverse, reverse-append, take-append-drop, drop_at}
+use Rattle.std.proofs.lemmas.List.Elements.{All-take}
 use Rattle.vcode_base.specs.declared.op.Op.{Op}
 use Rattle.vcode_base.specs.declared.op.Op.TheVariants.{Const, Elementwise, Segmented, If, Move, Call, Return}
-use Rattle.vcode_base.specs.declared.op.Elementwise.{Elementwise as ElementwiseOp}
-use Rattle.vcode_base.specs.declared.op.Elementwise.TheVariants.{Arith, Compare, Logic, Not, Select, IntToBool}
-use Rattle.vcode_base.specs.declared.op.Elementwise.TheVariants.{BoolToInt}
-use Rattle.vcode_base.specs.declared.op.Segmented.{Segmented as SegmentedOp}
-use Rattle.vcode_base.specs.declared.op.Segmented.TheVariants.{Scan, Reduce, Distribute, Index, Permute, BackPermute}
-use Rattle.vcode_base.specs.declared.op.Segmented.TheVariants.{DefaultPermute, Extract, Replace, Pack, MakeSegdes}
-use Rattle.vcode_base.specs.declared.op.Segmented.TheVariants.{Lengths}
-use Rattle.vcode_base.specs.Kinds.{elementwise_operands, segmented_operands}
 use Rattle.vcode_base.specs.Meaning.{operand}
 use Rattle.vcode_base.specs.Operands.{contents}
 use Rattle.job_steps.specs.Motions.{operand_count, top_entries}
 use Rattle.job_steps.specs.Tracks.{IsDeep}
+use Rattle.job_slots.proofs.Moves.{map-top}
+use Rattle.job_slots.proofs.Reversed.{All-reverse}
 
 -- what stands at five places
 abbrev five_of : List (List ℤ) → List (List ℤ)
@@ -45,37 +38,8 @@ lent n ws a b c d e long few first second third fourth fifth =
     ∙ (ap (take n) shown ∙ (ap (λ k. take k (five_of ws)) long
     ∙ five ws few))
 
-few_elementwise : (op : ElementwiseOp) → length (elementwise_operands op) ≤ 5
-few_elementwise (Arith op) = omega arith
-few_elementwise (Compare op) = omega arith
-few_elementwise (Logic op k) = omega arith
-few_elementwise (Not k) = omega arith
-few_elementwise (Select k) = omega arith
-few_elementwise IntToBool = omega arith
-few_elementwise BoolToInt = omega arith
-
-few_segmented : (op : SegmentedOp) → length (segmented_operands op) ≤ 5
-few_segmented (Scan f) = omega arith
-few_segmented (Reduce f) = omega arith
-few_segmented (Distribute k) = omega arith
-few_segmented Index = omega arith
-few_segmented (Permute k) = omega arith
-few_segmented (BackPermute k) = omega arith
-few_segmented (DefaultPermute k) = omega arith
-few_segmented (Extract k) = omega arith
-few_segmented (Replace k) = omega arith
-few_segmented (Pack k) = omega arith
-few_segmented MakeSegdes = omega arith
-few_segmented Lengths = omega arith
-
 pub few_operands : (op : Op) → operand_count op ≤ 5
-few_operands (Const k) = omega arith
-few_operands (Elementwise op) = few_elementwise op
-few_operands (Segmented op) = few_segmented op
-few_operands If = omega arith
-few_operands (Move motion lower upper) = omega arith
-few_operands Call = omega arith
-few_operands Return = omega arith
+few_operands op = grind arith
 
 pub deep_enough : (op : Op) (depth : ℕ) → IsDeep op depth → operand_count op ≤ depth
 deep_enough (Const k) depth h = h
@@ -88,30 +52,10 @@ deep_enough Return depth h = h
 
 -- ---- the top of a stack, from the bottom up
 
-reverse-cons : {E : Type 0} (x : E) (xs : List E) → reverse (x ∷ xs) ≡ reverse xs ++ x ∷ []
-reverse-cons x xs = reverse-append (x ∷ []) xs
-
-map-reverse : {E F : Type 0} (f : E → F) (xs : List E) → map f (reverse xs) ≡ reverse (map f xs)
-map-reverse f [] = refl
-map-reverse f (x ∷ xs) =
-    ap (map f) (reverse-cons x xs)
-    ∙ (map-append f (reverse xs) (x ∷ [])
-    ∙ (ap (λ ys. ys ++ f x ∷ []) (map-reverse f xs) ∙ sym (reverse-cons (f x) (map f xs))))
-
-map_top : {E F : Type 0} (f : E → F) (n : ℕ) (xs : List E) → map f (top_entries n xs) ≡ top_entries n (map f xs)
-map_top f n xs = map-reverse f (take n xs) ∙ ap reverse (sym (take-map f n xs))
-
 -- what two lists have in common, their tops have too
 pub same_top : {E F G : Type 0} (f : E → G) (g : F → G) (n : ℕ) (xs : List E) (ys : List F) → map f xs ≡ map g ys →
     map f (top_entries n xs) ≡ map g (top_entries n ys)
-same_top f g n xs ys same = map_top f n xs ∙ (ap (top_entries n) same ∙ sym (map_top g n ys))
-
-All-reverse : {E : Type 0} (P : E → Type 0) (xs : List E) → All P xs → All P (reverse xs)
-All-reverse P [] all = All-nil P
-All-reverse P (x ∷ xs) all =
-    subst (All P) (sym (reverse-cons x xs))
-    (All-append P (reverse xs) (x ∷ []) (All-reverse P xs (All-tail P x xs all))
-    (All-cons P x [] (All-head P x xs all) (All-nil P)))
+same_top f g n xs ys same = map-top f n xs ∙ (ap (top_entries n) same ∙ sym (map-top g n ys))
 
 pub All-top : {E : Type 0} (P : E → Type 0) (n : ℕ) (xs : List E) → All P xs → All P (top_entries n xs)
 All-top P n xs all = All-reverse P (take n xs) (All-take P n xs all)

@@ -2,8 +2,8 @@
 use Rattle.std.proofs.Common.{◌≡◌, ℕ, ℤ, ◌+◌, ◌<◌, Bool, true, false, cond, eqb, List, [], ◌∷◌, ◌++◌, length, get_or, take}
 use Rattle.std.proofs.Common.{refl, sym, ◌∙◌, ap, subst, arith}
 use Rattle.std.specs.Prelude.{All, map, min, reverse}
-use Rattle.std.proofs.lemmas.List.{length-map, get_or-map, map-append, reverse-append, take_more, take_all}
-use Rattle.std.proofs.lemmas.List.Elements.{All-nil, All-cons, All-head, All-tail, All-append, All-weaker}
+use Rattle.std.proofs.lemmas.List.{length-map, get_or-map, take_more, take_all}
+use Rattle.std.proofs.lemmas.List.Elements.{All-nil, All-cons, All-weaker}
 use Rattle.vcode_base.specs.declared.kind.Kind.{Kind}
 use Rattle.vcode_base.specs.declared.kind.Kind.TheVariants.{Int}
 use Rattle.vcode_base.specs.declared.outcome.Outcome.{Outcome}
@@ -21,6 +21,7 @@ use Rattle.job_slots.specs.Holdings.{Cell, ids_of, entries_of}
 use Rattle.job_slots.specs.Slots.{HasReturned}
 use Rattle.job_slots.proofs.Endings.{over_at}
 use Rattle.job_slots.proofs.Holding.{named_here, named_more, own_slot}
+use Rattle.job_slots.proofs.Reversed.{map-reverse, All-reverse}
 
 -- the results of a job that returns
 abbrev pub values_in : Outcome (List Vector) → List Vector
@@ -36,23 +37,6 @@ abbrev any_cell : Cell
 any_cell = record { id = 0; entry = record { tag = 0; value = any_vector } }
 
 -- ---- lists
-
-reverse-cons : {A : Type 0} (x : A) (xs : List A) → reverse (x ∷ xs) ≡ reverse xs ++ x ∷ []
-reverse-cons x xs = reverse-append (x ∷ []) xs
-
-map-reverse : {A B : Type 0} (f : A → B) (xs : List A) → map f (reverse xs) ≡ reverse (map f xs)
-map-reverse f [] = refl
-map-reverse f (x ∷ xs) =
-    ap (map f) (reverse-cons x xs)
-    ∙ (map-append f (reverse xs) (x ∷ [])
-    ∙ (ap (λ ys. ys ++ f x ∷ []) (map-reverse f xs) ∙ sym (reverse-cons (f x) (map f xs))))
-
-All-reverse : (P : Cell → Type 0) (xs : List Cell) → All P xs → All P (reverse xs)
-All-reverse P [] h = All-nil P
-All-reverse P (x ∷ xs) h =
-    subst (All P) (sym (reverse-cons x xs))
-    (All-append P (reverse xs) (x ∷ []) (All-reverse P xs (All-tail P x xs h))
-    (All-cons P x [] (All-head P x xs h) (All-nil P)))
 
 all_named : (cells : List Cell) → All (λ c. 0 < occurrences c.id (ids_of cells)) cells
 all_named [] = All-nil (λ (c : Cell). 0 < occurrences c.id (ids_of []))

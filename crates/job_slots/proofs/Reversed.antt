@@ -1,10 +1,10 @@
 -- Parts of lists from the other end.
-use Rattle.std.proofs.Common.{◌≡◌, ◌∙◌, ◌+◌, ◌-◌, ◌≤◌, ℕ, List, [], ◌∷◌, ◌++◌, length, take, drop, reverse, sym, ap, subst}
-use Rattle.std.proofs.Common.{arith}
+use Rattle.std.proofs.Common.{◌≡◌, ◌∙◌, ◌+◌, ◌-◌, ◌≤◌, ℕ, List, [], ◌∷◌, ◌++◌, length, map, take, drop, reverse, refl}
+use Rattle.std.proofs.Common.{sym, ap, subst, arith}
 use Rattle.std.specs.Prelude.{All}
 use Rattle.std.proofs.lemmas.List.{length-reverse, length-take, length-drop, reverse-append, reverse-reverse}
-use Rattle.std.proofs.lemmas.List.{take-append-drop, take_all, drop-take}
-use Rattle.std.proofs.lemmas.List.Elements.{All-nil, All-cons, All-head, All-tail, All-append}
+use Rattle.std.proofs.lemmas.List.{map-append, take-append-drop, take_all, drop-take}
+use Rattle.std.proofs.lemmas.List.Sorted.{All-permutation, IsPermutation-reverse}
 use Rattle.std.proofs.Math.Seq.{drop-append_seam, take-append_seam}
 use Rattle.vcode_base.specs.declared.op.Op.{Op}
 use Rattle.vcode_base.specs.declared.op.Op.TheVariants.{Move}
@@ -13,6 +13,23 @@ use Rattle.job_memory.specs.JobBlocks.{JobBlocks}
 use Rattle.job_steps.specs.Motions.{top_entries}
 use Rattle.job_slots.specs.Commits.{moved_ids}
 use Rattle.job_slots.specs.Executions.{AreFew, CanShare}
+
+-- ---- a list turned round
+
+pub reverse-cons : {E : Type 0} (x : E) (xs : List E) → reverse (x ∷ xs) ≡ reverse xs ++ x ∷ []
+reverse-cons x xs = reverse-append (x ∷ []) xs
+
+pub map-reverse : {E F : Type 0} (f : E → F) (xs : List E) → map f (reverse xs) ≡ reverse (map f xs)
+map-reverse f [] = refl
+map-reverse f (x ∷ xs) =
+    ap (map f) (reverse-cons x xs)
+    ∙ (map-append f (reverse xs) (x ∷ [])
+    ∙ (ap (λ ys. ys ++ f x ∷ []) (map-reverse f xs) ∙ sym (reverse-cons (f x) (map f xs))))
+
+pub All-reverse : {E : Type 0} (P : E → Type 0) (xs : List E) → All P xs → All P (reverse xs)
+All-reverse P xs all = All-permutation P xs (reverse xs) (IsPermutation-reverse xs) all
+
+-- ---- its parts
 
 module _ (xs : List ℕ) (k : ℕ) (within : k ≤ length xs) where
   split : reverse xs ≡ reverse (drop (length xs - k) xs) ++ reverse (take (length xs - k) xs)
@@ -66,13 +83,6 @@ moved_slice xs lower upper within =
     ∙ sym (drop-take from lower xs)
     ∙ ap (λ n. drop from (take n xs)) end
     ∙ moved_below xs lower upper within
-
-pub All-reverse : {E : Type 0} (P : E → Type 0) (xs : List E) → All P xs → All P (reverse xs)
-All-reverse P [] all = All-nil P
-All-reverse P (x ∷ xs) all =
-    subst (All P) (sym (reverse-append (x ∷ []) xs))
-    (All-append P (reverse xs) (x ∷ []) (All-reverse P xs (All-tail P x xs all))
-    (All-cons P x [] (All-head P x xs all) (All-nil P)))
 
 -- the blocks that an instruction copies are few
 pub few_copied : (op : Op) (lower upper : ℕ) (ids cells slice : List ℕ) (blocks : JobBlocks) → op ≡ Move Copy lower upper →

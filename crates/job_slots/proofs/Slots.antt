@@ -1,12 +1,10 @@
 -- Slots of jobs that wait, that are admitted, and whose step is given up.
-use Rattle.std.proofs.Common.{◌≡◌, ℕ, ◌-◌, ◌<◌, List, [], length, Option, Some, None, refl}
+use Rattle.std.proofs.Common.{◌≡◌, ℕ, ◌-◌, ◌<◌, List, length, Option, Some, None, refl}
 use Rattle.std.proofs.Common.{sym, ◌∙◌, ap, subst, arith}
 use Rattle.std.proofs.lemmas.List.{length-set, get_or-set_same}
-use Rattle.std.specs.Prelude.{All}
-use Rattle.std.proofs.lemmas.List.Elements.{All-nil}
 use Rattle.vcode_base.specs.declared.outcome.Outcome.{Outcome}
 use Rattle.refcounts.specs.SharedState as shared
-use Rattle.refcounts.specs.SharedState.{empty_slot, slot_in}
+use Rattle.refcounts.specs.SharedState.{empty_slot}
 use Rattle.job_memory.specs.JobBlocks.{JobBlocks, grant_of, own_slots, with_grant}
 use Rattle.job_steps.specs.Runs.{state_after}
 use Rattle.job_steps.specs.Standings.{Live}
@@ -15,10 +13,10 @@ use Rattle.job_steps.specs.Tracks.{Trace}
 use Rattle.job_slots.specs.declared.status.Status.{Status}
 use Rattle.job_slots.specs.declared.status.Status.TheVariants as status
 use Rattle.job_slots.specs.declared.status.Status.TheVariants.{Waiting, InFlight, Ended, Collected}
-use Rattle.job_slots.specs.Holdings.{Cell, AreAlike, HoldStack, HoldNothing}
 use Rattle.job_slots.specs.Laws.{NewIsShown, RecalledIsShown}
 use Rattle.job_slots.specs.Slots.{SlotState, Shows, ShowsAs, IsRunningSlot, IsWaitingSlot, standing_of}
 use Rattle.job_slots.specs.Slots.{grant_by, recalled_status}
+use Rattle.job_slots.proofs.Holding.{none_held}
 
 -- ---- a new slot
 
@@ -60,19 +58,6 @@ recalled_is_shown number blocks task slot h = record {
 }
 
 -- ---- an admission
-
--- no cell holds the empty stack
-none_held : (slots : List shared.Slot) (ids : List ℕ) → HoldNothing slots ids → HoldStack slots ids []
-none_held slots ids h = record {
-  cells = [];
-  ids_are = h.no_cell;
-  entries_are = refl;
-  held = record {
-    words = All-nil (λ (c : Cell). (slot_in slots c.id).words ≡ c.entry.value.words);
-    counts = λ id. ap (λ (s : shared.Slot). s.count) (h.no_block id);
-    alike = All-nil (λ (x : Cell). All (AreAlike x) []);
-  };
-}
 
 -- a job that waits is where its run begins
 runs_at_first : (slots : List shared.Slot) (task : Task) (t : Trace ℕ) → IsWaitingSlot slots task t →

@@ -20,7 +20,10 @@ fn show(rt: &HostRuntime, name: &str) -> io::Result<()> {
     let batch = fs::read(rt, batch.as_str())?;
     let wanted = format!(in rt.alloc(); "{name}.report")?;
     let wanted = fs::read(rt, wanted.as_str())?;
-    let options = Options { region: REGION };
+    let options = Options {
+        region: REGION,
+        schedule: None,
+    };
     let Some(ending) = ending_however_cut(rt.alloc(), &batch, &options) else {
         return println!(rt; "{name} comes to something else in pieces");
     };

@@ -1,6 +1,9 @@
 //! The cases of a table.
 
-use batch_front::Options;
+ghost use Rattle.std.specs.Prelude.{◌≤◌};
+ghost use Rattle.vcode_base.specs.declared.limits.TheConstants.{MOST_WORDS};
+
+use batch_front::{Options, parse_schedule};
 use std::alloc::{AllocError, Global};
 use vcode_base::limits::MOST_WORDS;
 
@@ -8,11 +11,29 @@ use vcode_base::limits::MOST_WORDS;
 #[derive(Clone, Copy)]
 pub struct Case<'a> {
     pub name: &'a str,
-    pub options: Options,
+    /// The words of the region.
+    region: u32,
+    /// The schedules by which it is run, with blanks or LFs between them; none where it is run without one.
+    pub schedules: &'a str,
     pub batch: &'a str,
     pub exit: u8,
     /// Without the last LF.
     pub report: &'a str,
+    ghost region_fits: { (1 ≤ region) × (region ≤ MOST_WORDS) },
+}
+
+impl Case<'_> {
+    /// A run by a schedule or without one, if the text of the schedule is one.
+    pub fn options(self, alloc: Global, schedule: Option<&str>) -> Option<Options> {
+        let schedule = match schedule {
+            Some(list) => Some(parse_schedule(alloc, list).ok()?),
+            None => None,
+        };
+        Some(Options {
+            region: self.region,
+            schedule,
+        })
+    }
 }
 
 /// The case that a table has behind `=== job `, if it is one.
@@ -20,24 +41,21 @@ pub fn case_of(text: &str) -> Option<Case<'_>> {
     let (head, text) = text.split_once('\n')?;
     let (name, region) = head.split_once(", region ")?;
     let (batch, text) = text.split_once("=== report, exit ")?;
+    let (schedules, batch) = batch.split_once("=== batch\n").unwrap_or(("", batch));
     let (exit, text) = text.split_once('\n')?;
     let (report, _remarks) = text.split_once("\n\n").unwrap_or((text.trim_end(), ""));
+    let region: u32 = region.parse().ok()?;
+    if region == 0 || region as usize > MOST_WORDS {
+        return None;
+    }
     Some(Case {
         name,
-        options: options_of(region)?,
+        region,
+        schedules,
         batch,
         exit: exit.parse().ok()?,
         report,
     })
-}
-
-/// A run over a region of so many words, if it may have them.
-fn options_of(words: &str) -> Option<Options> {
-    let region: u32 = words.parse().ok()?;
-    if region == 0 || region as usize > MOST_WORDS {
-        return None;
-    }
-    Some(Options { region })
 }
 
 /// The lines of a batch or a report, as often as they are to stand there.

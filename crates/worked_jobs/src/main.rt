@@ -4,6 +4,7 @@
 //!
 //! ```text
 //! === job NAME, region WORDS
+//! schedules with blanks or LFs between them, and then a line === batch; or neither
 //! the lines of the batch
 //! === report, exit NUMBER
 //! the lines of the report
@@ -33,11 +34,15 @@ fn is_wanted(alloc: Global, case: Case<'_>, ending: &Ending) -> Result<bool, All
     Ok(ending.exit == case.exit && ending.report.as_slice() == report.as_bytes())
 }
 
-/// Runs a case. Answers whether it comes to what it says; if not, prints what it comes to.
-fn gives_report(rt: &HostRuntime, case: Case<'_>) -> io::Result<bool> {
+/// Runs a case by a schedule or without one. Answers whether it comes to what it says; if not, prints what it comes to.
+fn gives_report(rt: &HostRuntime, case: Case<'_>, schedule: Option<&str>) -> io::Result<bool> {
     let name = case.name;
     let batch = written_out(rt.alloc(), case.batch)?;
-    let Some(ending) = ending_however_cut(rt.alloc(), batch.as_bytes(), &case.options) else {
+    let Some(options) = case.options(rt.alloc(), schedule) else {
+        println!(rt; "{name} has a schedule that is none")?;
+        return Ok(false);
+    };
+    let Some(ending) = ending_however_cut(rt.alloc(), batch.as_bytes(), &options) else {
         println!(rt; "{name} comes to something else in pieces")?;
         return Ok(false);
     };
@@ -52,6 +57,20 @@ fn gives_report(rt: &HostRuntime, case: Case<'_>) -> io::Result<bool> {
     Ok(false)
 }
 
+/// Runs a case by each of its schedules, or without one where it has none. Answers whether it always comes to what it
+/// says.
+fn gives_reports(rt: &HostRuntime, case: Case<'_>) -> io::Result<bool> {
+    if case.schedules.is_empty() {
+        return gives_report(rt, case, None);
+    }
+    for list in case.schedules.split_whitespace() {
+        if !gives_report(rt, case, Some(list))? {
+            return Ok(false);
+        }
+    }
+    Ok(true)
+}
+
 /// Runs the table of this name, and prints how many of its cases come to what they say.
 fn show(rt: &HostRuntime, name: &str) -> io::Result<()> {
     let table = fs::read_to_string(rt, name)?;
@@ -59,7 +78,7 @@ fn show(rt: &HostRuntime, name: &str) -> io::Result<()> {
     for text in table.split("=== job ").skip(1) {
         match case_of(text) {
             Some(case) => {
-                if gives_report(rt, case)? {
+                if gives_reports(rt, case)? {
                     good = good.saturating_add(1);
                 }
             }

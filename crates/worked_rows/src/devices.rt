@@ -90,7 +90,10 @@ impl Write for Writer {
 fn run(alloc: Global, reader: Reader, writer: Writer) -> (Result<Status, FrontFault>, Vec<u8>) {
     let mut reader = Device::new(reader);
     let mut writer = Device::new(writer);
-    let options = Options { region: 64 };
+    let options = Options {
+        region: 64,
+        schedule: None,
+    };
     let outcome = run_alone(alloc, &mut reader, &mut writer, &options);
     (outcome, writer.into_inner().taken)
 }
@@ -165,7 +168,10 @@ fn interruptions_add_up(rt: HostRuntime) {
 fn a_reader_has_no_end(rt: HostRuntime) {
     let mut reader = Device::new(b"\n\n\n".as_slice().chain(repeat(b' ')));
     let mut writer = Device::new(Vec::new(rt.alloc()));
-    let options = Options { region: 64 };
+    let options = Options {
+        region: 64,
+        schedule: None,
+    };
     let outcome = run_alone(rt.alloc(), &mut reader, &mut writer, &options);
     assert_eq!(rt; outcome, Ok(Status::BatchRefused));
     assert_eq!(rt;
@@ -178,7 +184,10 @@ fn a_reader_has_no_end(rt: HostRuntime) {
 fn a_batch_is_as_long_as_it_may_be(rt: HostRuntime) {
     let mut reader = Device::new(repeat(b' ').take(MOST_BATCH_BYTES as u64));
     let mut writer = Device::new(Vec::new(rt.alloc()));
-    let options = Options { region: 64 };
+    let options = Options {
+        region: 64,
+        schedule: None,
+    };
     let outcome = run_alone(rt.alloc(), &mut reader, &mut writer, &options);
     assert_eq!(rt; outcome, Ok(Status::AllReturned));
     assert_eq!(rt;

@@ -1,4 +1,4 @@
-//! What no table of batches can say: readers and writers that fail, command lines, and the texts of faults.
+//! What no table of batches can say: readers and writers that fail, command lines, schedules, and the texts of faults.
 //!
 //! This crate has tests alone. Reports were worked out by hand from docs/FORMATS.md.
 #![tactic(auto)]
@@ -9,3 +9,5 @@ mod devices;
 mod faults;
 #[cfg(test)]
 mod lines;
+#[cfg(test)]
+mod schedules;

@@ -1,40 +1,42 @@
-use Rattle.job_slots.proofs.Begins.{can_begin, is_next, line_of, deep_line}
+use Rattle.job_steps.specs.StepLaws.{CanBegin}
+use Rattle.job_slots.proofs.Begins.{IsLineOf, can_begin, is_next, line_of, deep_line}
 use Rattle.job_slots.proofs.Held.{are_there}
+use Rattle.job_slots.proofs.next.read_next.Given.{Over}
 use Rattle.job_slots.proofs.next.read_next.Goals as goal
+use Rattle.job_slots.proofs.next.read_next.Goals.{After-program, After-line-line}
+
+can : (g : Over) (c : goal.After-program g) →
+    CanBegin c.args.job.now c.args.track.now.executed c.requires.running.state c.args.track.now
+can g c =
+    can_begin c.steps_can_begin.ensures _ c.args.job.now c.args.track.now c.requires.running c.requires.verified
+
+is_line : (g : Over) (c : goal.After-line-line g) → IsLineOf c.args.job.now c.args.track.now c.line-line.result.now
+is_line g c =
+    line_of c.args.job.now c.args.track.now c.program.result.now c.verified.result.now c.line-line.result.now
+    c.program.ensures.same c.verified.ensures.same c.line-line.ensures.item
 
 pub line-line-requires : goal.line-line-requires
-line-line-requires g c =
-    let job = c.args.job.now in
-    let can = can_begin c.steps_can_begin.ensures _ job c.args.track.now c.requires.running c.requires.verified in
-    rw (c.program.ensures.same, c.verified.ensures.same) can.active
+line-line-requires g c = rw (c.program.ensures.same, c.verified.ensures.same) (can g c).active
 
 pub operands_of-requires : goal.operands_of-requires
 operands_of-requires g c =
-    let job = c.args.job.now in
+    let at = goal.at.operands_of-requires g c in
     let track = c.args.track.now in
     let run = c.requires.running in
-    let can = can_begin c.steps_can_begin.ensures _ job track run c.requires.verified in
-    let line = c.line-line.result.now in
-    let is_line =
-    line_of job track c.program.result.now c.verified.result.now line c.program.ensures.same c.verified.ensures.same
-    c.line-line.ensures.item in
     record {
-      deep = deep_line job track run.state line can is_line;
+      deep = deep_line c.args.job.now track run.state c.line-line.result.now (can g at.After-program)
+          (is_line g at.After-line-line);
       live = (are_there c.args.number c.args.blocks.now.memory track.cells run.state.stack run.holds).live;
     }
 
 pub returns : goal.returns
 returns g c =
-    let job = c.args.job.now in
+    let at = goal.at.returns g c in
     let track = c.args.track.now in
     let run = c.requires.running in
-    let can = can_begin c.steps_can_begin.ensures _ job track run c.requires.verified in
-    let line = c.line-line.result.now in
-    let is_line =
-    line_of job track c.program.result.now c.verified.result.now line c.program.ensures.same c.verified.ensures.same
-    c.line-line.ensures.item in
     let there = are_there c.args.number c.args.blocks.now.memory track.cells run.state.stack run.holds in
     let next =
-    is_next job track run.state line c.op_of.result _ run.running can is_line c.op_of.ensures
+    is_next c.args.job.now track run.state c.line-line.result.now c.op_of.result _ run.running
+    (can g at.After-program) (is_line g at.After-line-line) c.op_of.ensures
     (c.operands_of.ensures run.state.stack there.lists) in
     record { next = next.next; kinds = next.kinds }

@@ -1,69 +1,71 @@
-use Rattle.std.proofs.Common.{◌≡◌, ◌≤◌, Some, sym, subst, ap, arith}
+use Rattle.std.proofs.Common.{◌≡◌, ◌≤◌, Some, sym, ◌∙◌, subst, ap, arith}
 use Rattle.vcode_base.specs.declared.limits.Limits.{Limits}
-use Rattle.job_steps.specs.declared.event.Event.TheVariants as event
-use Rattle.job_steps.specs.Events.{next_standing}
-use Rattle.job_steps.specs.Standings.{InFlight, Ended}
-use Rattle.job_slots.specs.Answers.{IsEnding, IsTicketOf, or_same}
-use Rattle.job_slots.specs.Slots.{SlotState, Shows, standing_of}
-use Rattle.job_slots.proofs.Started.{ends, is_ticket, shows_flying, stands_flying, next_of, stands_ended}
+use Rattle.job_steps.specs.Standings.{InFlight}
+use Rattle.job_slots.specs.declared.status.Status.TheVariants as status
+use Rattle.job_slots.specs.Answers.{IsAskedOf, early_end_at}
+use Rattle.job_slots.specs.Slots.{SlotState, Shows}
+use Rattle.job_slots.proofs.Started.{flying, ends, is_ticket, shows_flying, stands_flying, next_of, stands_ended}
+use Rattle.job_slots.proofs.slot.Slot.begin.Given.{Over}
 use Rattle.job_slots.proofs.slot.Slot.begin.Goals as goal
+use Rattle.job_slots.proofs.slot.Slot.begin.Goals.{In-Live, In-Ok, In-Err}
+
+live : (g : Over) (c : goal.In-Live g) → c.args.self.now.status ≡ status.Live
+live g c = sym (ap (λ (s : SlotState). s.status) c.self.view_is) ∙ c.in-Live.is
+
+-- ---- the job ends
+
+halts : (g : Over) (c : goal.In-Err g) →
+    early_end_at c.args.job.now c.args.self.now.trace.executed ≡ Some c.in-Err.halted.ending
+halts g c =
+    subst (λ (s : SlotState). early_end_at c.args.job.now s.trace.executed ≡ Some c.in-Err.halted.ending)
+    c.self.view_is c.in-Err.ensures.0
 
 pub end-requires-clause-ending : goal.end-requires-clause-ending
 end-requires-clause-ending g c =
-    let number = c.args.number in
-    let blocks = c.args.blocks.now in
-    let job = c.args.job.now in
-    let shows = subst (λ (s : SlotState). Shows number blocks job s) (sym c.self.view_is) c.requires in
-    let ending = c.in-Err.halted.ending in
-    subst (λ (s : SlotState). IsEnding job s.trace.executed s.trace.peak ending) c.self.view_is
-    (ends c.early_ends_end.ensures number blocks job _ ending shows c.in-Live.is c.in-Err.ensures.0)
-
-pub returns-in-Ok-clause-answer : goal.returns-in-Ok-clause-answer
-returns-in-Ok-clause-answer g c =
-    let number = c.args.number in
-    let blocks = c.args.blocks.now in
-    let job = c.args.job.now in
-    let shows = subst (λ (s : SlotState). Shows number blocks job s) (sym c.self.view_is) c.requires in
-    subst (λ (s : SlotState). IsTicketOf number c.args.desk job (standing_of s) c.in-Ok.ticket) c.self.view_is
-    (is_ticket number c.args.desk blocks job _ c.in-Ok.ticket shows c.in-Live.is c.in-Ok.ensures)
-
-pub returns-in-Ok-clause-shows : goal.returns-in-Ok-clause-shows
-returns-in-Ok-clause-shows g c =
-    let number = c.args.number in
-    let blocks = c.args.blocks.now in
-    let job = c.args.job.now in
-    let shows = subst (λ (s : SlotState). Shows number blocks job s) (sym c.self.view_is) c.requires in
-    shows_flying number blocks job _ shows c.in-Live.is c.in-Ok.ensures.goes_on
-
-pub returns-in-Ok-clause-standing : goal.returns-in-Ok-clause-standing
-returns-in-Ok-clause-standing g c =
-    let number = c.args.number in
-    let blocks = c.args.blocks.now in
-    let job = c.args.job.now in
-    let shows = subst (λ (s : SlotState). Shows number blocks job s) (sym c.self.view_is) c.requires in
-    subst (λ (s : SlotState). InFlight c.self.inside.track.executed ≡ or_same (standing_of s)
-    (next_standing (event.Begin number) job (standing_of s))) c.self.view_is
-    (stands_flying number blocks job _ shows c.in-Live.is c.in-Ok.ensures.goes_on)
+    let at = goal.at.end-requires-clause-ending g c in
+    ends c.early_ends_end.ensures c.args.number c.args.blocks.now c.args.job.now c.args.self.now
+    c.in-Err.halted.ending c.requires (live g at.In-Live) (halts g at.In-Err)
 
 pub returns-in-Err-clause-answer : goal.returns-in-Err-clause-answer
 returns-in-Err-clause-answer g c =
-    let number = c.args.number in
-    let blocks = c.args.blocks.now in
-    let job = c.args.job.now in
-    let shows = subst (λ (s : SlotState). Shows number blocks job s) (sym c.self.view_is) c.requires in
+    let at = goal.at.returns-in-Err-clause-answer g c in
     let next =
-    subst (λ (s : SlotState). next_standing (event.Begin number) job (standing_of s) ≡ Some Ended) c.self.view_is
-    (next_of number blocks job _ (Some c.in-Err.halted.ending) shows c.in-Live.is c.in-Err.ensures.0) in
-    let enough : job.limits.words ≤ c.args.desk = omega (arith, ap (λ (l : Limits). l.words) c.limits.ensures) in
+    next_of c.args.number c.args.blocks.now c.args.job.now c.args.self.now (Some c.in-Err.halted.ending) c.requires
+    (live g at.In-Live) (halts g at.In-Err) in
+    let enough : c.args.job.now.limits.words ≤ c.args.desk =
+    omega (arith, ap (λ (l : Limits). l.words) c.limits.ensures) in
     (next, enough, c.in-Err.ensures.1)
 
 pub returns-in-Err-clause-standing : goal.returns-in-Err-clause-standing
 returns-in-Err-clause-standing g c =
-    let number = c.args.number in
-    let blocks = c.args.blocks.now in
-    let job = c.args.job.now in
-    let shows = subst (λ (s : SlotState). Shows number blocks job s) (sym c.self.view_is) c.requires in
-    subst (λ (s : SlotState). standing_of c.end.new.self ≡ or_same (standing_of s)
-    (next_standing (event.Begin number) job (standing_of s))) c.self.view_is
-    (stands_ended number blocks job _ c.end.new.self c.in-Err.halted.ending shows c.in-Live.is c.in-Err.ensures.0
-    c.end.ensures.ended)
+    let at = goal.at.returns-in-Err-clause-standing g c in
+    stands_ended c.args.number c.args.blocks.now c.args.job.now c.args.self.now c.end.new.self
+    c.in-Err.halted.ending c.requires (live g at.In-Live) (halts g at.In-Err) c.end.ensures.ended
+
+-- ---- the step begins
+
+asked : (g : Over) (c : goal.In-Ok g) →
+    IsAskedOf c.args.number c.args.desk c.args.job.now c.args.self.now.trace.executed c.in-Ok.ticket
+asked g c =
+    subst (λ (s : SlotState). IsAskedOf c.args.number c.args.desk c.args.job.now s.trace.executed c.in-Ok.ticket)
+    c.self.view_is c.in-Ok.ensures
+
+pub returns-in-Ok-clause-answer : goal.returns-in-Ok-clause-answer
+returns-in-Ok-clause-answer g c =
+    let at = goal.at.returns-in-Ok-clause-answer g c in
+    is_ticket c.args.number c.args.desk c.args.blocks.now c.args.job.now c.args.self.now c.in-Ok.ticket c.requires
+    (live g at.In-Live) (asked g at.In-Ok)
+
+pub returns-in-Ok-clause-shows : goal.returns-in-Ok-clause-shows
+returns-in-Ok-clause-shows g c =
+    let at = goal.at.returns-in-Ok-clause-shows g c in
+    subst (λ (s : SlotState). Shows c.args.number c.args.blocks.now c.args.job.now (flying s)) (sym c.self.view_is)
+    (shows_flying c.args.number c.args.blocks.now c.args.job.now c.args.self.now c.requires (live g at.In-Live)
+    (asked g at.In-Ok).goes_on)
+
+pub returns-in-Ok-clause-standing : goal.returns-in-Ok-clause-standing
+returns-in-Ok-clause-standing g c =
+    let at = goal.at.returns-in-Ok-clause-standing g c in
+    ap (λ (s : SlotState). InFlight s.trace.executed) c.self.view_is
+    ∙ stands_flying c.args.number c.args.blocks.now c.args.job.now c.args.self.now c.requires (live g at.In-Live)
+    (asked g at.In-Ok).goes_on

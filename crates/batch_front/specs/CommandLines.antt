@@ -1,0 +1,22 @@
+-- What a command line can ask for.
+use Rattle.std.specs.Prelude.{◌≡◌, ℕ, ◌≤◌, List, Some, IfSome}
+use Rattle.vcode_base.specs.declared.limits.TheConstants.{MOST_WORDS}
+use Rattle.batch_front.specs.declared.command_line.Line.{Line}
+use Rattle.batch_front.specs.declared.command_line.Line.TheVariants.{Run, Help}
+use Rattle.batch_front.specs.declared.options.Options.{Options}
+use Rattle.batch_front.specs.declared.schedule.Item.{Item}
+use Rattle.batch_front.specs.Schedules.{schedule_of}
+
+-- the items that some text gives
+abbrev pub IsSchedule : List Item → Type 0
+IsSchedule items = (text : List ℕ) × (schedule_of text ≡ Some items)
+
+-- a region within its limits, and a schedule, if there is one
+abbrev pub OptionsFit : Options → Type 0
+OptionsFit options =
+    (1 ≤ options.region) × (options.region ≤ MOST_WORDS) × IfSome options.schedule (λ items. IsSchedule items.items)
+
+-- the options of a run fit
+abbrev pub LineFits : Line → Type 0
+LineFits (Run options file) = OptionsFit options
+LineFits (Help text) = Unit {0}

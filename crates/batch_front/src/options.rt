@@ -1,0 +1,15 @@
+ghost use Rattle.std.specs.Prelude.{◌≤◌};
+ghost use Rattle.vcode_base.specs.declared.limits.TheConstants.{MOST_WORDS};
+
+use crate::schedule::Item;
+
+/// How a batch is run.
+#[derive(PartialEq, Eq, Debug, Drop)]
+pub struct Options {
+    /// The words of the region that the jobs share, at least 1 and at most
+    /// [`MOST_WORDS`](vcode_base::limits::MOST_WORDS).
+    pub region: u32,
+    /// The turns that the jobs take before they are run out, if any are asked for.
+    pub schedule: Option<Vec<Item>>,
+    pub ghost region_fits: { (1 ≤ region) × (region ≤ MOST_WORDS) },
+}

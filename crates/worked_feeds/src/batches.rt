@@ -1,0 +1,157 @@
+//! Batches in pieces.
+use crate::course::{Course, Cuts, End, Reader, Text, read_in_pieces};
+use crate::shortage::Shortage;
+use crate::sweeps::{is_read_however_cut, tells_each_refusal};
+use batch_reader::{Batch, BatchFault, Fate, Feed, JobEntries, JobEntry, JobFault};
+use linked_list_allocator::LocalHeap;
+use signatures::SignatureFault;
+use std::alloc::{AllocError, Allocator};
+use std::test::Fail;
+use vcode_reader::CodeFault;
+use verifier::KindFault;
+
+/// The words of the region.
+const REGION: usize = 64;
+
+/// A job that may run, and one for each fault of a job; CRLFs, comments that hold lines, and a last line without LF.
+const FIVE_JOBS: &[u8] = b"JOB runs 9 16 4 100\r\nSIGNATURES\r\nMAIN () -> (INT)\r\nCODE\r\n\
+    FUNC MAIN { one\r\nEND two }\r\nCONST INT 1\r\nRET\r\nEND\r\n \r\n\
+    JOB wide 65 16 4 100\nSIGNATURES\nCODE\nEND\n\
+    JOB twice 9 16 4 100\nSIGNATURES\nf()->()\nf()->()\nCODE\nEND\n\
+    JOB bad 9 16 4 100\nSIGNATURES\nCODE\nFUNK\nEND\n\
+    JOB bare 9 16 4 100\nSIGNATURES\nCODE\nFUNC MAIN\nRET\nEND";
+
+/// Two jobs, of which the first may run.
+const TWO_JOBS: &[u8] =
+    b"JOB a 9 16 4 100\r\nSIGNATURES\nMAIN () -> ()\nCODE\nFUNC MAIN{}CONST INT(1 2)\r\n\
+    POP 1 0\nRET\nEND\n\nJOB b 9 16 4 100\nSIGNATURES\nf\nCODE\nEND";
+
+/// The second job has no `END`.
+const UNFINISHED: &[u8] =
+    b"JOB a 9 16 4 100\nSIGNATURES\nCODE\nEND\n\nJOB b 9 16 4 100\nSIGNATURES\nCODE\n{ END }\n";
+
+/// Behind the job stands a line that is none of a job.
+const BAD_LINE: &[u8] = b"JOB a 9 16 4 100\nSIGNATURES\nCODE\nEND\r\nEND\r\nJOB b 9 16 4 100";
+
+/// What a batch comes to, or a refusal of memory.
+type Reading<A> = Result<Batch<JobEntries<A>>, AllocError>;
+
+/// A feed, and what the batch in one piece is.
+#[derive(Drop)]
+struct BatchInPieces<'h> {
+    feed: Feed<&'h LocalHeap>,
+    whole: Reading<&'h LocalHeap>,
+}
+
+impl Reader for BatchInPieces<'_> {
+    ghost has_room = { λ _ _. Unit {0} };
+
+    fn feed(&mut self, piece: &[u8], _behind: usize) -> Result<(), AllocError> {
+        self.feed.feed(piece)
+    }
+
+    fn end(self) -> End {
+        let answer = self.feed.end();
+        End::of(answer == Err(AllocError), answer == self.whole)
+    }
+}
+
+/// A batch in one piece.
+fn read<A: Allocator + Copy>(alloc: A, text: &[u8]) -> Reading<A> {
+    let mut feed = Feed::new(alloc, REGION)?;
+    feed.feed(text)?;
+    feed.end()
+}
+
+/// A batch.
+#[derive(Clone, Copy)]
+struct Jobs(&'static [u8]);
+
+impl Text for Jobs {
+    fn len(&self) -> usize {
+        self.0.len()
+    }
+
+    fn read<'h>(
+        &self,
+        heap: &'h LocalHeap,
+        cuts: Cuts,
+        shortage: &mut Shortage<'h>,
+    ) -> Result<Course, AllocError> {
+        let whole = read(heap, self.0);
+        shortage.next_call()?;
+        let Ok(feed) = Feed::new(heap, REGION) else {
+            return Ok(Course::Refused);
+        };
+        read_in_pieces(BatchInPieces { feed, whole }, self.0, cuts, shortage)
+    }
+}
+
+/// Whether a job has this name, and is refused at this line for this fault, or may run.
+fn is_told<A: Allocator>(
+    entry: Option<&JobEntry<A>>,
+    name: &str,
+    refusal: Option<(u64, JobFault)>,
+) -> bool {
+    let Some(entry) = entry else {
+        return false;
+    };
+    let told = match &entry.fate {
+        Fate::Ready(_) => None,
+        Fate::Refused(line, fault) => Some((*line, *fault)),
+    };
+    entry.name.as_slice() == name.as_bytes() && told == refusal
+}
+
+#[test]
+fn five_jobs_have_these_fates(rt: HostRuntime) -> Result<(), Fail> {
+    let Batch::Jobs(entries) = read(rt.alloc(), FIVE_JOBS)? else {
+        return Err(Fail::from("the batch is refused"));
+    };
+    let entries = entries.as_slice();
+    assert_eq!(rt; entries.len(), 5);
+    for (place, name, refusal) in [
+        (0, "runs", None),
+        (1, "wide", Some((11, JobFault::WordsPastRegion))),
+        (
+            2,
+            "twice",
+            Some((18, JobFault::Sig(SignatureFault::NameTwice))),
+        ),
+        (3, "bad", Some((24, JobFault::Read(CodeFault::BadWord)))),
+        (
+            4,
+            "bare",
+            Some((29, JobFault::Kind(KindFault::NoSignature))),
+        ),
+    ] {
+        assert!(rt; is_told(entries.get(place), name, refusal), "{name}");
+    }
+    Ok(())
+}
+
+#[test]
+fn two_batches_are_refused(rt: HostRuntime) {
+    for (text, line, fault) in [
+        (UNFINISHED, 6, BatchFault::UnfinishedJob),
+        (BAD_LINE, 5, BatchFault::BadJobLine),
+    ] {
+        assert!(rt; read(rt.alloc(), text) == Ok(Batch::Refused(line, fault)));
+    }
+}
+
+#[test]
+fn batches_are_read_however_cut(rt: HostRuntime) -> Result<(), Fail> {
+    for text in [FIVE_JOBS, TWO_JOBS, UNFINISHED, BAD_LINE] {
+        is_read_however_cut(&rt, rt.alloc(), &Jobs(text))?;
+    }
+    Ok(())
+}
+
+#[test]
+fn batches_tell_each_refusal(rt: HostRuntime) -> Result<(), Fail> {
+    for text in [TWO_JOBS, UNFINISHED] {
+        tells_each_refusal(&rt, rt.alloc(), &Jobs(text), 4)?;
+    }
+    Ok(())
+}

@@ -1,0 +1,71 @@
+//! Batches as long as they may be.
+use batch_reader::{Batch, BatchFault, Feed};
+use std::alloc::{AllocError, Global};
+use std::test::Fail;
+use vcode_base::limits::MOST_BATCH_BYTES;
+
+/// A batch of one job, which is refused, on 4 lines.
+const JOB: &[u8] = b"JOB a 9 16 4 100\nSIGNATURES\nCODE\nEND\n";
+
+/// How many bytes a batch may have behind so many.
+fn bytes_behind(bytes: usize) -> usize {
+    MOST_BATCH_BYTES.saturating_sub(bytes)
+}
+
+/// So many blanks.
+fn blanks(alloc: Global, count: usize) -> Result<Vec<u8>, AllocError> {
+    let mut blanks = Vec::new(alloc);
+    for _ in 0..count {
+        blanks.push(b' ')?;
+    }
+    Ok(blanks)
+}
+
+/// Feeds so many blanks in pieces.
+fn feed_blanks(feed: &mut Feed<Global>, piece: &[u8], count: usize) -> Result<(), AllocError> {
+    let mut left = count;
+    for _ in 0..count {
+        let now = left.min(piece.len());
+        if now == 0 {
+            break;
+        }
+        feed.feed(piece.split_at(now).0)?;
+        left = left.saturating_sub(now);
+    }
+    Ok(())
+}
+
+/// What a batch comes to that has so many bytes more than it may: a job, and blanks in pieces of this size.
+fn ends(alloc: Global, size: usize, more: usize) -> Result<Option<(u64, BatchFault)>, AllocError> {
+    let piece = blanks(alloc, size)?;
+    let mut feed = Feed::new(alloc, 64)?;
+    feed.feed(JOB)?;
+    let count = bytes_behind(JOB.len()).saturating_add(more);
+    feed_blanks(&mut feed, piece.as_slice(), count)?;
+    match feed.end()? {
+        Batch::Jobs(_) => Ok(None),
+        Batch::Refused(line, fault) => Ok(Some((line, fault))),
+    }
+}
+
+#[test]
+fn a_batch_may_have_so_many_bytes(rt: HostRuntime) -> Result<(), Fail> {
+    for size in [4_096, 65_536] {
+        assert_eq!(rt; ends(rt.alloc(), size, 0)?, None, "{size}");
+    }
+    Ok(())
+}
+
+#[test]
+fn a_batch_has_a_byte_too_many(rt: HostRuntime) -> Result<(), Fail> {
+    for size in [4_096, 65_536] {
+        for more in [1, 10_000] {
+            assert_eq!(rt;
+                ends(rt.alloc(), size, more)?,
+                Some((5, BatchFault::TooLarge)),
+                "{size}"
+            );
+        }
+    }
+    Ok(())
+}

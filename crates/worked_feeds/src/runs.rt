@@ -1,0 +1,41 @@
+//! The whole program over a heap of few bytes.
+use batch_front::{Device, FrontFault, Options, Status, run_alone};
+use linked_list_allocator::LocalHeap;
+use std::test::Fail;
+
+/// The most bytes of a heap.
+const MOST_BYTES: usize = 1_048_576;
+
+/// Jobs that return, that are refused, and that want more words than they have.
+const BATCH: &[u8] =
+    b"JOB a 9 16 4 100\nSIGNATURES\nMAIN () -> (INT)\nCODE\nFUNC MAIN\nCONST INT (1 2)\nRET\nEND\n\
+    JOB b 9 16 4 100\nSIGNATURES\nCODE\nEND\n\
+    JOB c 1 16 4 100\nSIGNATURES\nMAIN () -> (INT)\nCODE\nFUNC MAIN\nCONST INT (1 2)\nRET\nEND\n";
+
+const REPORT: &[u8] = b"JOB 1 a RETURNED\nINT (1 2)\nUSED 2 instructions 2 words\n\
+    JOB 2 b REFUSED line 12 V7 NO_MAIN\n\
+    JOB 3 c MEMORY line 18 M1 WORDS\nUSED 0 instructions 0 words\nEND 3 jobs 1 refused\n";
+
+#[test]
+fn a_run_ends_whole_or_with_nothing(rt: HostRuntime) -> Result<(), Fail> {
+    for size in (0..MOST_BYTES).step_by(16) {
+        let heap = LocalHeap::new(rt.alloc(), size)?;
+        let mut reader = Device::new(BATCH);
+        let mut writer = Device::new(Vec::new(rt.alloc()));
+        let options = Options {
+            region: 64,
+            schedule: None,
+        };
+        let outcome = run_alone(&heap, &mut reader, &mut writer, &options);
+        let written = writer.into_inner();
+        assert_eq!(rt; heap.used(), 0);
+        if outcome == Ok(Status::SomeNot) {
+            assert_eq!(rt; written.as_slice(), REPORT);
+            assert!(rt; size > 0);
+            return Ok(());
+        }
+        assert_eq!(rt; outcome, Err(FrontFault::Memory), "{size}");
+        assert!(rt; written.is_empty());
+    }
+    Err(Fail::from("no heap is large enough"))
+}

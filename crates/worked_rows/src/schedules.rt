@@ -1,0 +1,43 @@
+//! Schedules as texts.
+use batch_front::{Item, LineFault, ScheduleFault, parse_schedule, read_line};
+use std::test::Fail;
+
+#[test]
+fn reads_items(rt: HostRuntime) -> Result<(), Fail> {
+    let items = parse_schedule(rt.alloc(), "01,b2,f64");
+    assert!(rt;
+        matches!(&items, Ok(items)
+        if items.as_slice() == [Item::Step(1), Item::Begin(2), Item::Finish(64)].as_slice())
+    );
+    Ok(())
+}
+
+#[test]
+fn refuses_other_texts(rt: HostRuntime) {
+    for text in ["", "0", "65", "1,", "b,1", "1 ,2", "x1"] {
+        let items = parse_schedule(rt.alloc(), text);
+        assert!(rt; matches!(&items, Err(ScheduleFault::Bad)), "{text}");
+    }
+}
+
+#[test]
+fn takes_no_line_with_a_bad_schedule(rt: HostRuntime) {
+    for list in ["1,x", ""] {
+        let line = read_line(rt.alloc(), &["vjobs", "--schedule", list, "FILE"]);
+        assert!(rt; matches!(&line, Err(LineFault::BadSchedule)), "{list}");
+        assert_eq!(rt; line.err().map(|fault| fault.exit_status()), Some(2));
+    }
+}
+
+#[test]
+fn tells_faults_of_schedules(rt: HostRuntime) -> Result<(), Fail> {
+    for (fault, text) in [
+        (ScheduleFault::Bad, "vjobs: bad schedule"),
+        (ScheduleFault::Memory, "vjobs: out of memory"),
+    ] {
+        assert_eq!(rt; format!(in rt.alloc(); "{fault}")?.as_str(), text);
+        let fault = LineFault::from(fault);
+        assert_eq!(rt; format!(in rt.alloc(); "{fault}")?.as_str(), text);
+    }
+    Ok(())
+}
