@@ -5,7 +5,8 @@
 
 Run it at the top of the repository, once `make models` has built the programs. The modules of this folder say in plain Python what
 docs/LANGUAGE.md and docs/FORMATS.md say of reading, kinds, vectors, runs and batches, and share nothing with the crates. Each of COUNT texts of code and signatures goes to `worked_texts`, each of COUNT instructions to `worked_vectors`, each of
-a hundredth as many batches to `bin/vjobs`; their answers, reports and exit statuses must be those of the modules.
+a hundredth as many batches to `bin/vjobs`, once without a schedule and once with one; their answers, reports and exit statuses must be those of the
+modules, which know of no schedule.
 
 Where a PROGRAM of the same behaviour is named, only COUNT batches are compared, with it.
 """
@@ -108,11 +109,12 @@ def differing_batches(program, cases, count):
     for _ in range(count):
         batch, region = cases.whole_batch()
         want = batches.report(batch, region)
-        words = ["--region", str(region), "-"]
-        run = subprocess.run([*program, *words], input=batch, capture_output=True)
-        answer = run.stdout.decode("latin1"), run.returncode
-        if answer != want or run.stderr:
-            differing.append(((batch, words, want), (answer, run.stderr)))
+        for options in ([], ["--schedule", cases.schedule()]):
+            words = ["--region", str(region), *options, "-"]
+            run = subprocess.run([*program, *words], input=batch, capture_output=True)
+            answer = run.stdout.decode("latin1"), run.returncode
+            if answer != want or run.stderr:
+                differing.append(((batch, words, want), (answer, run.stderr)))
     return told(program[0], differing)
 
 

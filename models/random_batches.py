@@ -182,3 +182,13 @@ class RandomBatches(Random):
         widest, together = max((words for _, words in made), default=1), sum(words for _, words in made)
         region = self.pick([widest, widest, widest + 1, widest + 5, together, MOST_WORDS, max(widest - 1, 1)])
         return text, min(max(region, 1), MOST_WORDS)
+
+    # ---- schedules
+
+    def schedule(self):
+        """Turns of the first jobs mostly, of any job sometimes, in steps and in halves of steps."""
+        items = []
+        for _ in range(self.random.randint(1, 60)):
+            job = self.random.randint(1, 4 if self.chance(0.9) else MOST_JOBS)
+            items.append(f"{self.pick(['', '', 'b', 'f'])}{job:0{self.random.randint(1, 2)}}")
+        return ",".join(items)
