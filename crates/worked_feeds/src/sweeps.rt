@@ -5,7 +5,7 @@ use linked_list_allocator::LocalHeap;
 use std::alloc::{AllocError, Global};
 use std::process::Abort;
 
-/// The answer is that of the text in one piece, wherever it is cut into two, and in pieces of 1, 7 and 4,096 bytes.
+/// Cut into two at any place, and in pieces of three sizes, the text is answered as it is in one piece.
 pub fn is_read_however_cut<T: Text>(
     rt: &impl Abort,
     alloc: Global,
