@@ -1,6 +1,8 @@
 //! Batches in pieces.
-use crate::course::{Course, Cuts, End, Reader, Text, read_in_pieces};
-use crate::shortage::Shortage;
+ghost use Rattle.std.specs.Prelude.{◌^◌};
+
+use crate::course::{End, Reader};
+use crate::shortage::HEAP;
 use crate::sweeps::{is_read_however_cut, tells_each_refusal};
 use batch_reader::{Batch, BatchFault, Fate, Feed, JobEntries, JobEntry, JobFault};
 use linked_list_allocator::LocalHeap;
@@ -11,7 +13,10 @@ use vcode_reader::CodeFault;
 use verifier::KindFault;
 
 /// The words of the region.
-const REGION: usize = 64;
+pub const REGION: usize = 64;
+
+/// The bytes of the pieces among which memory is refused: in pieces of one byte a batch takes too long.
+const PIECE: usize = 4;
 
 /// A job that may run, and one for each fault of a job; CRLFs, comments that hold lines, and a last line without LF.
 const FIVE_JOBS: &[u8] = b"JOB runs 9 16 4 100\r\nSIGNATURES\r\nMAIN () -> (INT)\r\nCODE\r\n\
@@ -36,26 +41,6 @@ const BAD_LINE: &[u8] = b"JOB a 9 16 4 100\nSIGNATURES\nCODE\nEND\r\nEND\r\nJOB 
 /// What a batch comes to, or a refusal of memory.
 type Reading<A> = Result<Batch<JobEntries<A>>, AllocError>;
 
-/// A feed, and what the batch in one piece is.
-#[derive(Drop)]
-struct BatchInPieces<'h> {
-    feed: Feed<&'h LocalHeap>,
-    whole: Reading<&'h LocalHeap>,
-}
-
-impl Reader for BatchInPieces<'_> {
-    ghost has_room = { λ _ _. Unit {0} };
-
-    fn feed(&mut self, piece: &[u8], _behind: usize) -> Result<(), AllocError> {
-        self.feed.feed(piece)
-    }
-
-    fn end(self) -> End {
-        let answer = self.feed.end();
-        End::of(answer == Err(AllocError), answer == self.whole)
-    }
-}
-
 /// A batch in one piece.
 fn read<A: Allocator + Copy>(alloc: A, text: &[u8]) -> Reading<A> {
     let mut feed = Feed::new(alloc, REGION)?;
@@ -63,27 +48,26 @@ fn read<A: Allocator + Copy>(alloc: A, text: &[u8]) -> Reading<A> {
     feed.end()
 }
 
-/// A batch.
-#[derive(Clone, Copy)]
-struct Jobs(&'static [u8]);
+impl<'h> Reader<'h> for Feed<&'h LocalHeap> {
+    type Reading = Result<Batch<JobEntries<&'h LocalHeap>>, AllocError>;
 
-impl Text for Jobs {
-    fn len(&self) -> usize {
-        self.0.len()
+    ghost room = { λ _. 2 ^ 64 };
+
+    fn at_once(heap: &'h LocalHeap, text: &[u8]) -> Reading<&'h LocalHeap> {
+        read(heap, text)
     }
 
-    fn read<'h>(
-        &self,
-        heap: &'h LocalHeap,
-        cuts: Cuts,
-        shortage: &mut Shortage<'h>,
-    ) -> Result<Course, AllocError> {
-        let whole = read(heap, self.0);
-        shortage.next_call()?;
-        let Ok(feed) = Feed::new(heap, REGION) else {
-            return Ok(Course::Refused);
-        };
-        read_in_pieces(BatchInPieces { feed, whole }, self.0, cuts, shortage)
+    fn begin(heap: &'h LocalHeap) -> Result<Feed<&'h LocalHeap>, AllocError> {
+        Feed::new(heap, REGION)
+    }
+
+    fn take(&mut self, piece: &[u8]) -> Result<(), AllocError> {
+        self.feed(piece)
+    }
+
+    fn end_beside(self, whole: &Reading<&'h LocalHeap>) -> End {
+        let answer = self.end();
+        End::of(answer == Err(AllocError), answer == *whole)
     }
 }
 
@@ -142,16 +126,18 @@ fn two_batches_are_refused(rt: HostRuntime) {
 
 #[test]
 fn batches_are_read_however_cut(rt: HostRuntime) -> Result<(), Fail> {
+    let heap = LocalHeap::new(rt.alloc(), HEAP)?;
     for text in [FIVE_JOBS, TWO_JOBS, UNFINISHED, BAD_LINE] {
-        is_read_however_cut(&rt, rt.alloc(), &Jobs(text))?;
+        is_read_however_cut::<Feed<_>>(&rt, rt.alloc(), &heap, text)?;
     }
     Ok(())
 }
 
 #[test]
 fn batches_tell_each_refusal(rt: HostRuntime) -> Result<(), Fail> {
+    let heap = LocalHeap::new(rt.alloc(), HEAP)?;
     for text in [TWO_JOBS, UNFINISHED] {
-        tells_each_refusal(&rt, rt.alloc(), &Jobs(text), 4)?;
+        tells_each_refusal::<Feed<_>>(&rt, rt.alloc(), &heap, text, PIECE)?;
     }
     Ok(())
 }

@@ -1,9 +1,8 @@
 //! Code in pieces.
-ghost use Rattle.std.specs.Prelude.{◌≡◌, ◌+◌, ◌≤◌, false};
-ghost use Rattle.worked_feeds.specs.declared.codes.TheConstants.{FIRST_LINE, MOST_BYTES};
+ghost use Rattle.std.specs.Prelude.{◌-◌, ◌^◌, cond};
 
-use crate::course::{Course, Cuts, End, Reader, Text, read_in_pieces};
-use crate::shortage::Shortage;
+use crate::course::{End, Reader};
+use crate::shortage::HEAP;
 use crate::sweeps::{is_read_however_cut, tells_each_refusal};
 use linked_list_allocator::LocalHeap;
 use std::alloc::AllocError;
@@ -15,9 +14,6 @@ use vcode_reader::{CodeReader, Program, ReadFault, read};
 /// The number of the first line.
 const FIRST_LINE: u64 = 5;
 
-/// The most bytes of a text.
-const MOST_BYTES: usize = 1_000;
-
 /// Two functions, with CRLFs and comments that hold lines.
 const TWO_FUNCTIONS: &[u8] =
     b"FUNC MAIN\r\n{ one\r\n{two }CONST INT(1 -23\n) CONST BOOL T\r\nIF CALL f ENDIF\nRET\r\nFUNC f{}RET{}";
@@ -28,70 +24,45 @@ const OPEN_COMMENT: &[u8] = b"FUNC MAIN\nRET\n{ open\r\nRET";
 /// The word on the second line is none.
 const BAD_WORD: &[u8] = b"FUNC MAIN\r\nCONSTANT INT 1\r\nRET\r\n{ open";
 
-/// A program, or why there is none.
-type Reading<'h> = Result<Program<&'h LocalHeap>, ReadFault>;
+impl<'h> Reader<'h> for CodeReader<&'h LocalHeap> {
+    type Reading = Result<Program<&'h LocalHeap>, ReadFault>;
 
-/// A reader, and what the text in one piece is.
-#[derive(Drop)]
-struct CodeInPieces<'h> {
-    reader: CodeReader<&'h LocalHeap>,
-    whole: Reading<'h>,
-}
+    ghost room = { λ r. cond r.failed (2 ^ 64) (2 ^ 64 - 1 - r.scan.line) };
 
-impl Reader for CodeInPieces<'_> {
-    ghost has_room = { λ c n. c.reader.failed ≡ false → c.reader.scan.line + n ≤ MOST_BYTES + FIRST_LINE };
-
-    fn feed(&mut self, piece: &[u8], _behind: usize) -> Result<(), AllocError> {
+    fn at_once(heap: &'h LocalHeap, text: &[u8]) -> Result<Program<&'h LocalHeap>, ReadFault> {
         line_feeds_are_few();
-        self.reader.feed(piece)
+        read(heap, text, FIRST_LINE)
     }
 
-    fn end(self) -> End {
-        let answer = self.reader.finish();
-        End::of(answer == Err(TextFault::Memory), answer == self.whole)
-    }
-}
-
-/// A code.
-#[derive(Clone, Copy)]
-struct Code(&'static [u8]);
-
-impl Text for Code {
-    fn len(&self) -> usize {
-        self.0.len()
+    fn begin(heap: &'h LocalHeap) -> Result<CodeReader<&'h LocalHeap>, AllocError> {
+        CodeReader::new(heap, FIRST_LINE)
     }
 
-    fn read<'h>(
-        &self,
-        heap: &'h LocalHeap,
-        cuts: Cuts,
-        shortage: &mut Shortage<'h>,
-    ) -> Result<Course, AllocError> {
-        if self.0.len() > MOST_BYTES {
-            return Ok(Course::Wrong);
-        }
+    fn take(&mut self, piece: &[u8]) -> Result<(), AllocError> {
         line_feeds_are_few();
-        let whole = read(heap, self.0, FIRST_LINE);
-        shortage.next_call()?;
-        let Ok(reader) = CodeReader::new(heap, FIRST_LINE) else {
-            return Ok(Course::Refused);
-        };
-        read_in_pieces(CodeInPieces { reader, whole }, self.0, cuts, shortage)
+        self.feed(piece)
+    }
+
+    fn end_beside(self, whole: &Result<Program<&'h LocalHeap>, ReadFault>) -> End {
+        let answer = self.finish();
+        End::of(answer == Err(TextFault::Memory), answer == *whole)
     }
 }
 
 #[test]
 fn code_is_read_however_cut(rt: HostRuntime) -> Result<(), Fail> {
+    let heap = LocalHeap::new(rt.alloc(), HEAP)?;
     for text in [TWO_FUNCTIONS, OPEN_COMMENT, BAD_WORD] {
-        is_read_however_cut(&rt, rt.alloc(), &Code(text))?;
+        is_read_however_cut::<CodeReader<_>>(&rt, rt.alloc(), &heap, text)?;
     }
     Ok(())
 }
 
 #[test]
 fn code_tells_each_refusal(rt: HostRuntime) -> Result<(), Fail> {
+    let heap = LocalHeap::new(rt.alloc(), HEAP)?;
     for text in [TWO_FUNCTIONS, OPEN_COMMENT, BAD_WORD] {
-        tells_each_refusal(&rt, rt.alloc(), &Code(text), 1)?;
+        tells_each_refusal::<CodeReader<_>>(&rt, rt.alloc(), &heap, text, 1)?;
     }
     Ok(())
 }

@@ -1,9 +1,13 @@
 //! How a text is read in pieces.
-ghost use Rattle.std.specs.Prelude.{ℕ, ◌+◌, length};
+ghost use Rattle.std.specs.Prelude.{◌≡◌, ◌≤◌, ◌+◌, ℕ, IfOk, length};
+ghost use Rattle.worked_feeds.specs.declared.course.TheConstants.{MOST_BYTES};
 
 use crate::shortage::Shortage;
 use linked_list_allocator::LocalHeap;
 use std::alloc::AllocError;
+
+/// The most bytes of a text.
+pub const MOST_BYTES: usize = 1_000;
 
 /// Where a text is cut: its first piece has so many bytes, and each further one so many.
 #[derive(Clone, Copy)]
@@ -67,28 +71,59 @@ impl End {
     }
 }
 
-/// A reader of a text in pieces, beside what the text in one piece comes to.
-pub trait Reader: Drop {
-    /// Whether so many bytes may come.
-    ghost has_room: { Self → ℕ → Type 0 };
+/// A reader that is fed a text, with memory of a heap.
+pub trait Reader<'h>: Drop {
+    /// What a text comes to, or a refusal of memory.
+    type Reading: Drop;
 
-    /// Takes the next piece, behind which so many bytes may come.
-    fn feed(&mut self, piece: &[u8], behind: usize) -> Result<(), AllocError>
-        requires { has_room self.old (length piece.now + behind) }
-        ensures { has_room self.new behind };
+    /// How many bytes may still come.
+    ghost room: { Self → ℕ };
 
-    /// How the text ends.
-    fn end(self) -> End;
+    /// Reads a text in one piece.
+    fn at_once(heap: &'h LocalHeap, text: &[u8]) -> Self::Reading
+        requires { length text.now ≤ MOST_BYTES };
+
+    /// A reader of which nothing has come.
+    fn begin(heap: &'h LocalHeap) -> Result<Self, AllocError>
+        ensures { IfOk result (λ reader. MOST_BYTES ≤ room reader) };
+
+    /// Takes the next piece.
+    fn take(&mut self, piece: &[u8]) -> Result<(), AllocError>
+        requires { length piece.now ≤ room self.old }
+        ensures { room self.old ≤ length piece.now + room self.new };
+
+    /// How the text ends, beside what it comes to in one piece.
+    fn end_beside(self, whole: &Self::Reading) -> End;
 }
 
-/// What a text comes to in pieces, over a heap that runs short before one of the calls.
-pub fn read_in_pieces<R: Reader>(
-    mut reader: R,
+/// What a text comes to in one piece, and then in pieces over a heap that runs short before one of the calls.
+pub fn read_in_pieces<'h, R: Reader<'h>>(
+    heap: &'h LocalHeap,
     text: &[u8],
     cuts: Cuts,
-    shortage: &mut Shortage<'_>,
+    shortage: &mut Shortage<'h>,
+) -> Result<Course, AllocError> {
+    if text.len() > MOST_BYTES {
+        return Ok(Course::Wrong);
+    }
+    let whole = R::at_once(heap, text);
+    shortage.next_call()?;
+    let Ok(mut reader) = R::begin(heap) else {
+        return Ok(Course::Refused);
+    };
+    let course = feed_pieces(&mut reader, text, cuts, shortage)?;
+    shortage.next_call()?;
+    Ok(course.at_end(reader.end_beside(&whole)))
+}
+
+/// Feeds a text in pieces.
+fn feed_pieces<'h, R: Reader<'h>>(
+    reader: &mut R,
+    text: &[u8],
+    cuts: Cuts,
+    shortage: &mut Shortage<'h>,
 ) -> Result<Course, AllocError>
-    requires { R.has_room reader (length text.now) }
+    requires { length text.now ≤ R.room reader.old }
 {
     let mut course = Course::Right;
     let mut size = cuts.first;
@@ -96,7 +131,7 @@ pub fn read_in_pieces<R: Reader>(
     'pieces: for _ in 0..=text.len() {
         let (piece, behind) = rest.split_at(size.min(rest.len()));
         shortage.next_call()?;
-        let fed = reader.feed(piece, behind.len());
+        let fed = reader.take(piece);
         if fed.is_err() {
             shortage.end();
         }
@@ -107,20 +142,5 @@ pub fn read_in_pieces<R: Reader>(
             break;
         }
     }
-    shortage.next_call()?;
-    Ok(course.at_end(reader.end()))
-}
-
-/// A text and its reader.
-pub trait Text {
-    /// How many bytes the text has.
-    fn len(&self) -> usize;
-
-    /// Reads the text at once, and then in pieces over a heap that runs short.
-    fn read<'h>(
-        &self,
-        heap: &'h LocalHeap,
-        cuts: Cuts,
-        shortage: &mut Shortage<'h>,
-    ) -> Result<Course, AllocError>;
+    Ok(course)
 }

@@ -1,4 +1,5 @@
 //! Batches as long as they may be.
+use crate::batches::REGION;
 use batch_reader::{Batch, BatchFault, Feed};
 use std::alloc::{AllocError, Global};
 use std::test::Fail;
@@ -6,6 +7,15 @@ use vcode_base::limits::MOST_BATCH_BYTES;
 
 /// A batch of one job, which is refused, on 4 lines.
 const JOB: &[u8] = b"JOB a 9 16 4 100\nSIGNATURES\nCODE\nEND\n";
+
+/// The bytes of the pieces in which a batch comes.
+const PIECES: [usize; 2] = [4_096, 65_536];
+
+/// By how many bytes a batch is too long: by one, and by more than a short piece has.
+const EXCESSES: [usize; 2] = [1, 10_000];
+
+/// The line of the first blank.
+const BLANK_LINE: u64 = 5;
 
 /// How many bytes a batch may have behind so many.
 fn bytes_behind(bytes: usize) -> usize {
@@ -38,7 +48,7 @@ fn feed_blanks(feed: &mut Feed<Global>, piece: &[u8], count: usize) -> Result<()
 /// What a batch comes to that has so many bytes more than it may: a job, and blanks in pieces of this size.
 fn ends(alloc: Global, size: usize, more: usize) -> Result<Option<(u64, BatchFault)>, AllocError> {
     let piece = blanks(alloc, size)?;
-    let mut feed = Feed::new(alloc, 64)?;
+    let mut feed = Feed::new(alloc, REGION)?;
     feed.feed(JOB)?;
     let count = bytes_behind(JOB.len()).saturating_add(more);
     feed_blanks(&mut feed, piece.as_slice(), count)?;
@@ -50,7 +60,7 @@ fn ends(alloc: Global, size: usize, more: usize) -> Result<Option<(u64, BatchFau
 
 #[test]
 fn a_batch_may_have_so_many_bytes(rt: HostRuntime) -> Result<(), Fail> {
-    for size in [4_096, 65_536] {
+    for size in PIECES {
         assert_eq!(rt; ends(rt.alloc(), size, 0)?, None, "{size}");
     }
     Ok(())
@@ -58,11 +68,11 @@ fn a_batch_may_have_so_many_bytes(rt: HostRuntime) -> Result<(), Fail> {
 
 #[test]
 fn a_batch_has_a_byte_too_many(rt: HostRuntime) -> Result<(), Fail> {
-    for size in [4_096, 65_536] {
-        for more in [1, 10_000] {
+    for size in PIECES {
+        for more in EXCESSES {
             assert_eq!(rt;
                 ends(rt.alloc(), size, more)?,
-                Some((5, BatchFault::TooLarge)),
+                Some((BLANK_LINE, BatchFault::TooLarge)),
                 "{size}"
             );
         }

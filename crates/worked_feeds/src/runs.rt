@@ -1,10 +1,14 @@
 //! The whole program over a heap of few bytes.
+use crate::shortage::LEAST_BLOCK;
 use batch_front::{Device, FrontFault, Options, Status, run_alone};
 use linked_list_allocator::LocalHeap;
 use std::test::Fail;
 
 /// The most bytes of a heap.
 const MOST_BYTES: usize = 1_048_576;
+
+/// The words of the region.
+const REGION: u32 = 64;
 
 /// Jobs that return, that are refused, and that want more words than they have.
 const BATCH: &[u8] =
@@ -18,12 +22,12 @@ const REPORT: &[u8] = b"JOB 1 a RETURNED\nINT (1 2)\nUSED 2 instructions 2 words
 
 #[test]
 fn a_run_ends_whole_or_with_nothing(rt: HostRuntime) -> Result<(), Fail> {
-    for size in (0..MOST_BYTES).step_by(16) {
+    for size in (0..MOST_BYTES).step_by(LEAST_BLOCK) {
         let heap = LocalHeap::new(rt.alloc(), size)?;
         let mut reader = Device::new(BATCH);
         let mut writer = Device::new(Vec::new(rt.alloc()));
         let options = Options {
-            region: 64,
+            region: REGION,
             schedule: None,
         };
         let outcome = run_alone(&heap, &mut reader, &mut writer, &options);

@@ -5,6 +5,12 @@ use std::alloc::{AllocError, Global};
 /// The bytes of a heap.
 pub const HEAP: usize = 262_144;
 
+/// The bytes of the shortest block of a heap, of which the length of each other is a multiple.
+pub const LEAST_BLOCK: usize = 16;
+
+/// The bytes of the blocks that are taken where all but a few are to go, the longest first.
+const BLOCKS: [usize; 4] = [65_536, 4_096, 256, LEAST_BLOCK];
+
 /// Takes what is free of a heap before one of the calls of a run, but so many bytes.
 #[derive(Drop)]
 pub struct Shortage<'h> {
@@ -54,7 +60,7 @@ impl<'h> Shortage<'h> {
 
     /// Takes blocks, the longest first, while more than the spare bytes are free.
     fn take_all(&mut self) -> Result<(), AllocError> {
-        for size in [65_536, 4_096, 256, 16] {
+        for size in BLOCKS {
             for _ in 0..HEAP {
                 if self.heap.free() < self.spare.saturating_add(size) {
                     break;

@@ -1,9 +1,8 @@
 //! Signatures in pieces.
-ghost use Rattle.std.specs.Prelude.{◌≡◌, ◌+◌, ◌≤◌, false};
-ghost use Rattle.worked_feeds.specs.declared.signature_lines.TheConstants.{FIRST_LINE, MOST_BYTES};
+ghost use Rattle.std.specs.Prelude.{◌-◌, ◌^◌, cond};
 
-use crate::course::{Course, Cuts, End, Reader, Text, read_in_pieces};
-use crate::shortage::Shortage;
+use crate::course::{End, Reader};
+use crate::shortage::HEAP;
 use crate::sweeps::{is_read_however_cut, tells_each_refusal};
 use linked_list_allocator::LocalHeap;
 use signatures::{SigFault, SigReader, Signatures, read};
@@ -14,9 +13,6 @@ use vcode_base::laws::line_feeds_are_few;
 
 /// The number of the first line.
 const FIRST_LINE: u64 = 3;
-
-/// The most bytes of a text.
-const MOST_BYTES: usize = 1_000;
 
 /// Three signatures, with CRLFs, of which the last line has no LF.
 const THREE: &[u8] =
@@ -31,25 +27,29 @@ const BAD_LINE: &[u8] = b"MAIN () -> (INT)\r\nf () (INT)\r\nMAIN () -> (INT)";
 /// Signatures, or why there are none.
 type Reading<'h> = Result<Signatures<&'h LocalHeap>, SigFault>;
 
-/// A reader, and what the text in one piece is.
-#[derive(Drop)]
-struct SignaturesInPieces<'h> {
-    reader: SigReader<&'h LocalHeap>,
-    whole: Reading<'h>,
-}
+impl<'h> Reader<'h> for SigReader<&'h LocalHeap> {
+    type Reading = Result<Signatures<&'h LocalHeap>, SigFault>;
 
-impl Reader for SignaturesInPieces<'_> {
-    ghost has_room = { λ s n. s.reader.failed ≡ false → s.reader.scan.number + n ≤ MOST_BYTES + FIRST_LINE };
+    ghost room = { λ r. cond r.failed (2 ^ 64) (2 ^ 64 - 1 - r.scan.number) };
 
-    fn feed(&mut self, piece: &[u8], _behind: usize) -> Result<(), AllocError> {
+    fn at_once(heap: &'h LocalHeap, text: &[u8]) -> Reading<'h> {
         line_feeds_are_few();
-        self.reader.feed(piece)
+        read(heap, text, FIRST_LINE)
     }
 
-    fn end(self) -> End {
-        let answer = self.reader.finish();
+    fn begin(heap: &'h LocalHeap) -> Result<SigReader<&'h LocalHeap>, AllocError> {
+        Ok(SigReader::new(heap, FIRST_LINE))
+    }
+
+    fn take(&mut self, piece: &[u8]) -> Result<(), AllocError> {
+        line_feeds_are_few();
+        self.feed(piece)
+    }
+
+    fn end_beside(self, whole: &Reading<'h>) -> End {
+        let answer = self.finish();
         let is_refusal = matches!(answer, Err(TextFault::Memory));
-        End::of(is_refusal, are_read_alike(&answer, &self.whole))
+        End::of(is_refusal, are_read_alike(&answer, whole))
     }
 }
 
@@ -68,44 +68,20 @@ fn are_same(left: &Signatures<&LocalHeap>, right: &Signatures<&LocalHeap>) -> bo
     (0..=left.len()).all(|place| left.at(place) == right.at(place))
 }
 
-/// A text of signatures.
-#[derive(Clone, Copy)]
-struct Lines(&'static [u8]);
-
-impl Text for Lines {
-    fn len(&self) -> usize {
-        self.0.len()
-    }
-
-    fn read<'h>(
-        &self,
-        heap: &'h LocalHeap,
-        cuts: Cuts,
-        shortage: &mut Shortage<'h>,
-    ) -> Result<Course, AllocError> {
-        if self.0.len() > MOST_BYTES {
-            return Ok(Course::Wrong);
-        }
-        line_feeds_are_few();
-        let whole = read(heap, self.0, FIRST_LINE);
-        shortage.next_call()?;
-        let reader = SigReader::new(heap, FIRST_LINE);
-        read_in_pieces(SignaturesInPieces { reader, whole }, self.0, cuts, shortage)
-    }
-}
-
 #[test]
 fn signatures_are_read_however_cut(rt: HostRuntime) -> Result<(), Fail> {
+    let heap = LocalHeap::new(rt.alloc(), HEAP)?;
     for text in [THREE, NAME_TWICE, BAD_LINE] {
-        is_read_however_cut(&rt, rt.alloc(), &Lines(text))?;
+        is_read_however_cut::<SigReader<_>>(&rt, rt.alloc(), &heap, text)?;
     }
     Ok(())
 }
 
 #[test]
 fn signatures_tell_each_refusal(rt: HostRuntime) -> Result<(), Fail> {
+    let heap = LocalHeap::new(rt.alloc(), HEAP)?;
     for text in [THREE, NAME_TWICE, BAD_LINE] {
-        tells_each_refusal(&rt, rt.alloc(), &Lines(text), 1)?;
+        tells_each_refusal::<SigReader<_>>(&rt, rt.alloc(), &heap, text, 1)?;
     }
     Ok(())
 }

@@ -1,43 +1,46 @@
 //! Each cut of a text, and each refusal.
-use crate::course::{Course, Cuts, Text};
-use crate::shortage::{HEAP, Shortage};
+use crate::course::{Course, Cuts, Reader, read_in_pieces};
+use crate::shortage::{HEAP, LEAST_BLOCK, Shortage};
 use linked_list_allocator::LocalHeap;
 use std::alloc::{AllocError, Global};
 use std::process::Abort;
 
+/// The bytes of the pieces of a text that is cut into more than two: one, a few, and more than any text has.
+const PIECES: [usize; 3] = [1, 7, 4_096];
+
 /// Cut into two at any place, and in pieces of three sizes, the text is answered as it is in one piece.
-pub fn is_read_however_cut<T: Text>(
+pub fn is_read_however_cut<'h, R: Reader<'h>>(
     rt: &impl Abort,
     alloc: Global,
-    text: &T,
+    heap: &'h LocalHeap,
+    text: &[u8],
 ) -> Result<(), AllocError> {
-    let heap = LocalHeap::new(alloc, HEAP)?;
     for first in 0..=text.len() {
         let cuts = Cuts {
             first,
             further: text.len(),
         };
-        reads_right(rt, alloc, &heap, text, cuts)?;
+        reads_right::<R>(rt, alloc, heap, text, cuts)?;
     }
-    for size in [1, 7, 4_096] {
+    for size in PIECES {
         let cuts = Cuts {
             first: size,
             further: size,
         };
-        reads_right(rt, alloc, &heap, text, cuts)?;
+        reads_right::<R>(rt, alloc, heap, text, cuts)?;
     }
     Ok(())
 }
 
 /// So cut, the answer is that of the text in one piece, and no memory is kept.
-fn reads_right<T: Text>(
+fn reads_right<'h, R: Reader<'h>>(
     rt: &impl Abort,
     alloc: Global,
-    heap: &LocalHeap,
-    text: &T,
+    heap: &'h LocalHeap,
+    text: &[u8],
     cuts: Cuts,
 ) -> Result<(), AllocError> {
-    let course = text.read(heap, cuts, &mut Shortage::never(alloc, heap))?;
+    let course = read_in_pieces::<R>(heap, text, cuts, &mut Shortage::never(alloc, heap))?;
     assert_eq!(rt;
         course,
         Course::Right,
@@ -51,13 +54,13 @@ fn reads_right<T: Text>(
 
 /// Whichever growth is refused of the text in pieces of so many bytes, each later call tells it; without a refusal the
 /// answer is right.
-pub fn tells_each_refusal<T: Text>(
+pub fn tells_each_refusal<'h, R: Reader<'h>>(
     rt: &impl Abort,
     alloc: Global,
-    text: &T,
+    heap: &'h LocalHeap,
+    text: &[u8],
     size: usize,
 ) -> Result<(), AllocError> {
-    let heap = LocalHeap::new(alloc, HEAP)?;
     let cuts = Cuts {
         first: size,
         further: size,
@@ -65,28 +68,28 @@ pub fn tells_each_refusal<T: Text>(
     let mut refusals = 0;
     // One call makes the reader, and one ends the text.
     for call in 0..(text.len() / size.max(1)).saturating_add(3) {
-        refusals = refusals.max(refusals_from(rt, alloc, &heap, text, cuts, call)?);
+        refusals = refusals.max(refusals_from::<R>(rt, alloc, heap, text, cuts, call)?);
     }
     assert!(rt; refusals > 0);
     Ok(())
 }
 
 /// How many refusals there are before the heap has room enough that is taken before the call of this number.
-fn refusals_from<T: Text>(
+fn refusals_from<'h, R: Reader<'h>>(
     rt: &impl Abort,
     alloc: Global,
-    heap: &LocalHeap,
-    text: &T,
+    heap: &'h LocalHeap,
+    text: &[u8],
     cuts: Cuts,
     call: usize,
 ) -> Result<usize, AllocError> {
-    for spare in (0..HEAP).step_by(16) {
+    for spare in (0..HEAP).step_by(LEAST_BLOCK) {
         let mut shortage = Shortage::before(alloc, heap, call, spare);
-        let course = text.read(heap, cuts, &mut shortage)?;
+        let course = read_in_pieces::<R>(heap, text, cuts, &mut shortage)?;
         shortage.end();
         assert_eq!(rt; heap.used(), 0);
         if course == Course::Right {
-            return Ok(spare / 16);
+            return Ok(spare / LEAST_BLOCK);
         }
         assert_eq!(rt; course, Course::Refused, "{call} and {spare}");
     }
