@@ -4,4 +4,5 @@ pub mod ReportLemmas
 pub mod RunLemmas
 pub mod ScheduleLemmas
 pub mod SeatLemmas
+pub mod Settling
 pub mod TurnLemmas

@@ -8,6 +8,12 @@ use Rattle.batch_front.specs.declared.schedule.Item.TheVariants.{Step, Begin, Fi
 
 -- ---- one item
 
+-- the place in the batch of the job whose turn it is
+abbrev pub place_of : Item → ℕ
+place_of (Step place) = place
+place_of (Begin place) = place
+place_of (Finish place) = place
+
 abbrev pub digit_of : ℕ → Option ℕ
 digit_of b = if nat_le 48 b && nat_le b 57 then Some (b - 48) else None
 

@@ -1,12 +1,13 @@
 -- The turns that the jobs of a machine take by a schedule.
-use Rattle.std.specs.Prelude.{ℕ, zero, suc, List, [], ◌∷◌, length, Option, Some, None}
+use Rattle.std.specs.Prelude.{◌≡◌, ◌≢◌, ℕ, zero, suc, false, List, [], ◌∷◌, length, Option, Some, None}
 use Rattle.job_steps.specs.declared.event.Event.TheVariants as event
-use Rattle.job_steps.specs.Standings.{of_job}
-use Rattle.job_machine.specs.Machines.{MachineState, machine_after}
+use Rattle.job_steps.specs.Standings.{of_job, admission}
+use Rattle.job_machine.specs.Machines.{MachineState, is_over, machine_after}
 use Rattle.batch_reader.specs.declared.entry.Fate.{Fate}
 use Rattle.batch_reader.specs.declared.entry.Fate.TheVariants.{Ready, Refused}
 use Rattle.batch_front.specs.declared.schedule.Item.{Item}
 use Rattle.batch_front.specs.declared.schedule.Item.TheVariants.{Step, Begin, Finish}
+use Rattle.batch_front.specs.Schedules.{place_of}
 use Rattle.batch_front.specs.Seats.{Seat}
 
 -- ---- between two turns
@@ -25,6 +26,20 @@ after_admissions (suc n) m = machine_after event.Admit (after_admissions n m)
 unfoldable pub settled : MachineState → MachineState
 settled m = after_admissions (length m.tasks) (after_collections (length m.tasks) m)
 
+-- no job has ended
+abbrev pub NoneEnded : MachineState → Type 0
+NoneEnded m = (job : ℕ) → is_over (of_job job m.standings) ≡ false
+
+-- no job has ended, nor has one room that waits
+pub record IsSettled (m : MachineState) : Type 0 where
+  pub none_ended : NoneEnded m
+  pub none_fits : admission m.region m.tasks m.standings ≡ None
+
+-- the same, but that this job may have ended
+pub record IsSettledBut (job : ℕ) (m : MachineState) : Type 0 where
+  pub none_ended : (other : ℕ) → other ≢ job → is_over (of_job other m.standings) ≡ false
+  pub none_fits : admission m.region m.tasks m.standings ≡ None
+
 -- ---- turns
 
 abbrev pub fate_number : Fate ℕ → Option ℕ
@@ -39,25 +54,26 @@ seat_number (Some seat) = fate_number seat.fate
 abbrev pub number_of : List Seat → ℕ → Option ℕ
 number_of seats place = seat_number (of_job place seats)
 
--- the machine after the begin or the finish of a job's next step, if there is the job
-abbrev pub after_begin : Option ℕ → MachineState → MachineState
-after_begin None m = m
-after_begin (Some job) m = machine_after (event.Begin job) m
+-- the machine after a turn of the job of this number
+abbrev pub after_turn : Item → ℕ → MachineState → MachineState
+after_turn (Step place) job m = machine_after (event.Finish job) (machine_after (event.Begin job) m)
+after_turn (Begin place) job m = machine_after (event.Begin job) m
+after_turn (Finish place) job m = machine_after (event.Finish job) m
 
-abbrev pub after_finish : Option ℕ → MachineState → MachineState
-after_finish None m = m
-after_finish (Some job) m = machine_after (event.Finish job) m
+-- if there is such a job
+abbrev pub after_turn_of : Item → Option ℕ → MachineState → MachineState
+after_turn_of item None m = m
+after_turn_of item (Some job) m = after_turn item job m
 
-abbrev pub after_turn : List Seat → Item → MachineState → MachineState
-after_turn seats (Step place) m = after_finish (number_of seats place) (after_begin (number_of seats place) m)
-after_turn seats (Begin place) m = after_begin (number_of seats place) m
-after_turn seats (Finish place) m = after_finish (number_of seats place) m
+-- the machine after an item of a schedule, when it has settled
+abbrev pub after_item : List Seat → Item → MachineState → MachineState
+after_item seats item m = settled (after_turn_of item (number_of seats (place_of item)) m)
 
--- the machine after these turns, each of which lets it settle
-abbrev pub after_turns : List Seat → List Item → MachineState → MachineState
-after_turns seats [] m = m
-after_turns seats (item ∷ items) m = after_turns seats items (settled (after_turn seats item m))
+-- after these items, one after another
+abbrev pub after_items : List Seat → List Item → MachineState → MachineState
+after_items seats [] m = m
+after_items seats (item ∷ items) m = after_items seats items (after_item seats item m)
 
 -- the machine after a schedule
 abbrev pub after_schedule : List Seat → List Item → MachineState → MachineState
-after_schedule seats items m = after_turns seats items (settled m)
+after_schedule seats items m = after_items seats items (settled m)

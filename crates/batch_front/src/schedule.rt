@@ -19,6 +19,19 @@ pub enum Item {
     Finish(usize),
 }
 
+impl Item {
+    ghost use Rattle.batch_front.specs.Schedules.{place_of};
+
+    /// The place in the batch of the job whose turn it is.
+    pub(crate) fn place(self) -> usize
+        ensures { result ≡ place_of self }
+    {
+        match self {
+            Item::Step(place) | Item::Begin(place) | Item::Finish(place) => place,
+        }
+    }
+}
+
 /// The digit that a byte is.
 fn digit(byte: u8) -> Option<usize>
     ensures { result ≡ digit_of byte }

@@ -1,11 +1,12 @@
 use Rattle.std.proofs.Common.{◌≡◌, take}
 use Rattle.job_machine.specs.Hands.{HandsFit}
-use Rattle.batch_front.specs.Turns.{after_turns, settled}
+use Rattle.batch_front.specs.Turns.{IsSettled, after_items, settled}
 use Rattle.batch_front.proofs.follow.follow.Given as goal
 
 abbrev pub invariant-loop-item : goal.invariant-loop-item
 invariant-loop-item g l = record {
-  state : l.machine ≡ after_turns l.seats (take l.item-index l.schedule) (settled l.fn.machine);
+  state : l.machine ≡ after_items l.seats (take l.item-index l.schedule) (settled l.fn.machine);
+  settled : IsSettled l.machine;
   tasks : l.machine.tasks ≡ l.fn.machine.tasks;
   fit : HandsFit l.machine l.hands;
 }
