@@ -39,12 +39,15 @@ impl<A: Allocator> Model for Blocks<A> {
     ghost invariant = { λ b. AreSpans b.words.items b.starts.items b.spans };
 }
 
-// Copies the new words to a place of the region.
+// Copies the new words to a place of the region. One word alone costs no call.
 fn write_words(region: &mut [i64], place: usize, words: &[i64])
     requires { place + length words.now ≤ length region.old }
     ensures { IsWritten region.old region.new place words.now }
 {
-    region[place..place + words.len()].copy_from_slice(words);
+    match words {
+        [word] => region[place] = *word,
+        _ => region[place..place + words.len()].copy_from_slice(words),
+    }
 }
 
 // Moves so many words from one place of the region to another, and answers how many: none where it is the same place.

@@ -1,5 +1,5 @@
 -- What a begin and a finish answer, and where they leave the job.
-use Rattle.std.specs.Prelude.{◌≡◌, ℕ, ℤ, ◌+◌, ◌<◌, ◌≤◌, Bool, true, false, List, [], ◌∷◌, Option, Some, None}
+use Rattle.std.specs.Prelude.{◌≡◌, ℕ, ℤ, ◌+◌, ◌<◌, ◌≤◌, Bool, true, false, ⊤, List, [], ◌∷◌, Option, Some, None}
 use Rattle.vcode_base.specs.declared.op.Op.{Op}
 use Rattle.job_steps.specs.declared.event.Event.TheVariants as event
 use Rattle.job_steps.specs.Events.{early_end, next_standing}
@@ -102,6 +102,13 @@ Begins job words task standing (begun.Ended desk) =
 Begins job words task standing (begun.NotReady desk) = (is_live standing ≡ false) × (desk ≡ words)
 Begins job words task standing (begun.SmallDesk desk) =
     (is_live standing ≡ true) × (words < task.limits.words) × (desk ≡ words)
+
+-- no step began and the job did not end
+abbrev pub IsPutOff : {A : Type 0} → Begun A → Type 0
+IsPutOff (begun.Began ticket) = ⊥
+IsPutOff (begun.Ended desk) = ⊥
+IsPutOff (begun.NotReady desk) = ⊤
+IsPutOff (begun.SmallDesk desk) = ⊤
 
 -- where a begin leaves the job
 abbrev pub standing_after_begun : {A : Type 0} → Begun A → (old next : Standing) → Standing

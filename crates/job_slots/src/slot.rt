@@ -1,6 +1,6 @@
 //! A job with where it stands.
 
-ghost use Rattle.std.specs.Prelude.{◌≡◌, ◌≢◌, ◌+◌, ◌<◌, ◌≤◌, ◌↔◌, [], length, IsErr, IfOk, OnOk, OnErr, None, Some, option_copied};
+ghost use Rattle.std.specs.Prelude.{◌≡◌, ◌≢◌, ◌+◌, ◌<◌, ◌≤◌, ◌↔◌, [], false, length, IsErr, IfOk, OnOk, OnErr, None, Some, option_copied};
 ghost use Rattle.vcode_base.specs.declared.limits.TheConstants.{MOST_WORDS};
 ghost use Rattle.vcode_base.specs.declared.outcome.Outcome.TheVariants.{Returned};
 ghost use Rattle.refcounts.specs.SharedState.{block_count};
@@ -14,7 +14,7 @@ ghost use Rattle.job_slots.specs.declared.status.Status.TheVariants as status;
 ghost use Rattle.job_slots.specs.declared.answer.Finished.TheVariants as finished;
 ghost use Rattle.job_slots.specs.Holdings.{HoldSomeStack, HoldNothing};
 ghost use Rattle.job_slots.specs.Slots.{Shows, Leaves, IsActive, IsNewSlot, standing_of, told_outcome, recalled_slot};
-ghost use Rattle.job_slots.specs.Answers.{Begins, Finishes, Fits, IsEnding, is_ended, is_in_flight, or_same, standing_after_begun, standing_after_finished, IsReturned};
+ghost use Rattle.job_slots.specs.Answers.{Begins, IsPutOff, Finishes, Fits, IsEnding, is_ended, is_in_flight, or_same, standing_after_begun, standing_after_finished, IsReturned};
 
 use crate::answer::{Begun, Finished};
 use crate::collect::results;
@@ -146,6 +146,7 @@ impl<A: Allocator> Slot<A> {
         ensures others { ChangesOnlyOf number blocks.old blocks.new }
         ensures standing { standing_of self.new ≡ standing_after_begun result (standing_of self.old)
             (or_same (standing_of self.old) (next_standing (event.Begin number) job.now (standing_of self.old))) }
+        ensures unchanged { IsPutOff result → (self.new ≡ self.old) × (blocks.new ≡ blocks.old) }
     {
         changes_join();
         early_ends_end();
@@ -240,6 +241,7 @@ impl<A: Allocator> Slot<A> {
         ensures standing { OnOk result (standing_of self.new ≡ or_same (standing_of self.old) (next_standing (event.Collect number) job.now (standing_of self.old))) }
         ensures shows { Shows number blocks.new job.now self.new }
         ensures others { ChangesOnlyOf number blocks.old blocks.new }
+        ensures nothing_to_collect { IfOk result (λ yes. yes ≡ false → (self.new ≡ self.old) × (blocks.new ≡ blocks.old)) }
         ensures unchanged { OnErr result ((self.new ≡ self.old) × (blocks.new ≡ blocks.old)) }
         ensures returned { OnErr result ((standing_of self.old ≡ Ended) × IsReturned (outcome job.now)) }
     {

@@ -1,6 +1,6 @@
 -- Lists one behind another.
 use Rattle.std.proofs.Common.{◌≡◌, ℕ, ℤ, ◌+◌, ◌≤◌, List, [], ◌∷◌, length, take, drop, sum, get_or}
-use Rattle.std.proofs.Common.{refl, sym, ◌∙◌, ap, arith, zero, suc}
+use Rattle.std.proofs.Common.{refl, sym, ◌∙◌, ap, arith, zero, suc, ◌<◌, slice_set, slice_index_or}
 use Rattle.std.specs.declared.vec.Vec.{Vec}
 use Rattle.std.specs.Vec.{with_items}
 use Rattle.std.proofs.lemmas.List.{with_items_is}
@@ -81,3 +81,12 @@ loaded room words lists count ls ms xs same front held = cc (take-pieces_of coun
 pub items_after_write : {X Z : Type 0} (v : Vec X Z) (old new : List X)
     → old ≡ v.items → length new ≡ length old → (with_items v new).items ≡ new
 items_after_write v old new whole same = with_items_is v new (same ∙ (ap length whole ∙ sym v.ok.0))
+
+-- one element written over the only one
+pub one_written : {T : Type 0} (old new : List T) (d : T)
+    → length old ≡ length new → 1 ≤ length new → length new < 2 → slice_set old 0 (slice_index_or new 0 d) ≡ new
+one_written old [] d same some few = absurd (omega arith)
+one_written [] (x ∷ []) d same some few = absurd (omega arith)
+one_written (y ∷ []) (x ∷ []) d same some few = refl
+one_written (y ∷ z ∷ old) (x ∷ []) d same some few = absurd (omega arith)
+one_written old (x ∷ y ∷ new) d same some few = absurd (omega arith)

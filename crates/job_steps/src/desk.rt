@@ -18,7 +18,7 @@ use vcode_base::Op;
 /// In a contract a desk is the number of words that it was made with.
 #[derive(Drop)]
 pub struct Desk<A: Allocator> {
-    pub(crate) buffers: Buffers<A>,
+    pub(crate) buffers: Box<Buffers<A>, A>,
 }
 
 impl<A: Allocator> Model for Desk<A> {
@@ -26,7 +26,7 @@ impl<A: Allocator> Model for Desk<A> {
 
     ghost Value = { ℕ };
 
-    ghost view = { λ d. d.buffers.words };
+    ghost view = { λ d. d.buffers.value.words };
 }
 
 impl<A: Allocator + Clone> Desk<A> {
@@ -41,14 +41,14 @@ impl<A: Allocator + Clone> Desk<A> {
         ensures { IfOk result (λ d. d ≡ words) }
     {
         let operands = OperandBuffer::new(alloc.clone()?, MOST_OPERANDS * words)?;
-        let results = vec![in alloc; 0; words]?;
-        Ok(Desk {
-            buffers: Buffers {
-                words,
-                operands,
-                results,
-            },
-        })
+        let results = vec![in alloc.clone()?; 0; words]?;
+        let buffers = Buffers {
+            words,
+            operands,
+            results,
+        };
+        let buffers = Box::new(alloc, buffers)?;
+        Ok(Desk { buffers })
     }
 }
 

@@ -29,10 +29,10 @@ impl<A: Allocator> Model for Filled<A> {
 
     ghost view = { λ f.
         let step = f.computed in
-        asked_by step.job step.number step.op step.buffers.operands.lists step.buffers.words };
+        asked_by step.job step.number step.op step.buffers.value.operands.lists step.buffers.value.words };
 
     ghost invariant = { λ f.
-        let buffers = f.computed.buffers in
+        let buffers = f.computed.buffers.value in
         IsAnswer (question_by f.computed.op buffers.operands.lists) f.answer buffers.results.items };
 }
 
@@ -136,33 +136,27 @@ impl<A: Allocator> Filled<A> {
 pub fn compute<A: Allocator>(ticket: Ticket<A>) -> Filled<A>
     ensures { result ≡ ticket }
 {
-    let Ticket { begun } = ticket;
-    let Step {
-        job,
-        number,
-        op,
-        buffers,
-    } = begun;
-    let Buffers {
-        words,
-        operands,
-        mut results,
-    } = buffers;
-    let lists = operands.lists();
-    let answer = fill_front(op, &lists[..operands.count()], results.as_mut_slice());
+    let Ticket { mut begun } = ticket;
+    let answer = fill_results(begun.op, &mut begun.buffers);
     Filled {
-        computed: Step {
-            job,
-            number,
-            op,
-            buffers: Buffers {
-                words,
-                operands,
-                results,
-            },
-        },
+        computed: begun,
         answer,
     }
+}
+
+/// Writes what the instruction makes of the operands in front of the results' room, and answers the results' lengths.
+fn fill_results<A: Allocator>(
+    op: Op,
+    buffers: &mut Buffers<A>,
+) -> Result<(usize, usize), DataFault>
+    requires { CanAnswer buffers.old.words (question_by op buffers.old.operands.lists) }
+    ensures answer { IsAnswer (question_by op buffers.old.operands.lists) result buffers.new.results.items }
+    ensures words { buffers.new.words ≡ buffers.old.words }
+    ensures operands { buffers.new.operands ≡ buffers.old.operands }
+{
+    let lists = buffers.operands.lists();
+    let count = buffers.operands.count();
+    fill_front(op, &lists[..count], buffers.results.as_mut_slice())
 }
 
 /// Writes the results of the instruction to the front, one behind the other, and answers their

@@ -128,6 +128,17 @@ fn copy_in_a_row(lists: &[&[i64]], buffer: &mut [i64])
         return;
     };
     let (front, rest) = buffer.split_at_mut(first.len());
-    front.copy_from_slice(first);
+    copy_words(first, front);
     copy_in_a_row(others, rest);
+}
+
+/// Copies words to a place of as many. One word alone, as of a scalar, costs no call.
+fn copy_words(words: &[i64], place: &mut [i64])
+    requires { length place.old ≡ length words.now }
+    ensures { place.new ≡ words.now }
+{
+    match words {
+        [word] => place[0] = *word,
+        _ => place.copy_from_slice(words),
+    }
 }

@@ -72,9 +72,7 @@ impl<T: Copy, A: Allocator> Pile<T, A> {
         requires { length self.old.entries < self.old.room }
         ensures { self.new ≡ record self.old { entries = entry ∷ self.old.entries } }
     {
-        let Ok(()) = self.entries.push(entry) else {
-            unreachable!()
-        };
+        self.entries.push_reserved(entry);
     }
 
     /// Puts these on the others, the last of them at the top.
@@ -82,9 +80,9 @@ impl<T: Copy, A: Allocator> Pile<T, A> {
         requires { length self.old.entries + length entries.now ≤ self.old.room }
         ensures { self.new ≡ record self.old { entries = reverse entries.now ++ self.old.entries } }
     {
-        let Ok(()) = self.entries.extend_from_slice(entries) else {
-            unreachable!()
-        };
+        for entry in entries {
+            self.push(*entry);
+        }
     }
 
     /// Takes so many off the top.

@@ -24,5 +24,5 @@ pub(crate) struct Step<A: Allocator> {
     /// How many instructions the job executed before.
     pub(crate) number: u64,
     pub(crate) op: Op,
-    pub(crate) buffers: Buffers<A>,
+    pub(crate) buffers: Box<Buffers<A>, A>,
 }
