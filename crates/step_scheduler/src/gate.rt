@@ -1,0 +1,15 @@
+//! What a worker passes in the middle of each step.
+
+/// What a worker calls between the begin and the finish of each step, while it doesn't hold the lock.
+pub trait Gate {
+    /// `job` is the number of the job, from 1 on, and `step` how many instructions it executed before.
+    fn between(&self, job: usize, step: u64);
+}
+
+/// A gate that does nothing.
+#[derive(Clone, Copy)]
+pub struct NoGate;
+
+impl Gate for NoGate {
+    fn between(&self, _job: usize, _step: u64) {}
+}

@@ -1,0 +1,54 @@
+//! Machines of the jobs of a batch.
+
+ghost use Rattle.std.specs.Prelude.{◌≤◌, length, All, IfOk, OnOk};
+ghost use Rattle.vcode_base.specs.declared.limits.TheConstants.{MOST_JOBS, MOST_WORDS};
+
+use batch_reader::{Batch, Fate, Feed, JobEntry};
+use job_machine::{Job, Machine};
+use std::alloc::{AllocError, Global};
+use std::test::Fail;
+use vcode_base::limits::MOST_JOBS;
+
+/// Puts the job of an entry behind the others.
+fn put_job(entry: JobEntry<Global>, jobs: &mut Vec<Job<Global>>, most: usize) -> Result<(), Fail>
+    requires few { length jobs.old.items ≤ MOST_JOBS }
+    requires words { All (λ job. job.limits.words ≤ most) jobs.old.items }
+    ensures few { OnOk result (length jobs.new.items ≤ MOST_JOBS) }
+    ensures words { OnOk result (All (λ job. job.limits.words ≤ most) jobs.new.items) }
+{
+    let Fate::Ready(job) = entry.fate else {
+        return Err(Fail::from("a job is refused"));
+    };
+    if jobs.len() == MOST_JOBS || job.limits().words > most {
+        return Err(Fail::from("a job has no room"));
+    }
+    jobs.push(job).map_err(AllocError::from)?;
+    Ok(())
+}
+
+/// The jobs of a batch, each of at most so many words.
+fn jobs(alloc: Global, batch: &[u8], most: usize) -> Result<Vec<Job<Global>>, Fail>
+    requires { most ≤ MOST_WORDS }
+    ensures few { IfOk result (λ jobs. length jobs.items ≤ MOST_JOBS) }
+    ensures words { IfOk result (λ jobs. All (λ job. job.limits.words ≤ most) jobs.items) }
+{
+    let mut feed = Feed::new(alloc, most)?;
+    feed.feed(batch)?;
+    let Batch::Jobs(entries) = feed.end()? else {
+        return Err(Fail::from("the batch is refused"));
+    };
+    let mut jobs = Vec::new(alloc);
+    for entry in entries.into_vec() {
+        put_job(entry, &mut jobs, most)?;
+    }
+    Ok(jobs)
+}
+
+/// The words of each region.
+pub const REGION: usize = 64;
+
+/// A machine over 64 words with the jobs of a batch.
+pub fn machine(alloc: Global, batch: &[u8]) -> Result<Machine<Global>, Fail> {
+    let jobs = jobs(alloc, batch, REGION)?;
+    Ok(Machine::new(alloc, REGION, jobs)?)
+}
