@@ -7,3 +7,4 @@ mod SoundLemmas
 mod Stepping
 mod TurnLemmas
 mod Turns
+mod WordLemmas

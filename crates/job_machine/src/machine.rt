@@ -12,7 +12,7 @@ ghost use Rattle.job_slots.specs.Slots.{status_of};
 ghost use Rattle.job_machine.specs.Machines.{machine_after, Leads, admission_in, BeginsIn, after_begun, FinishesIn, after_finished, is_flying, is_over, told, outcome_in, HasReturnedIn, HasNoStep, place_of};
 ghost use Rattle.job_machine.specs.SlotOf.{IsSlotIn};
 
-use crate::setting::{all_cells, first_waiting, new_slots, same_jobs};
+use crate::setting::{all_cells, first_waiting, most_words, new_slots, same_jobs};
 use job_memory::JobMemory;
 use job_memory::laws::changes_join;
 use job_slots::laws::{new_is_shown, others_are_shown, recalled_is_shown, shown_is_alone};
@@ -265,6 +265,14 @@ impl<A: Allocator> Machine<A> {
         ensures { IfOk result (λ list. (arc_value list).items ≡ self.now.tasks) }
     {
         Arc::try_clone(&self.jobs)
+    }
+
+    /// The words of the job that has the most, and 0 where there is no job: a desk of so many serves each job.
+    pub fn most_words(&self) -> usize
+        ensures each { All (λ task. task.limits.words ≤ result) self.now.tasks }
+        ensures within { result ≤ MOST_WORDS }
+    {
+        most_words(self.in_order())
     }
 
     /// The jobs, in order.

@@ -14,8 +14,8 @@ use job_steps::{Desk, compute};
 use std::alloc::{AllocError, Allocator};
 
 impl<A: Allocator> Machine<A> {
-    /// Gives up all steps that have begun.
-    pub(crate) fn recall_all(&mut self)
+    /// Gives up all steps that have begun. Each of their jobs stands as before its step's begin.
+    pub fn recall_all(&mut self)
         ensures recalled { self.new ≡ with_standings self.old (recalled_standings self.old.standings) }
         ensures leads { Leads self.old self.new }
         ensures no_step { HasNoStep self.new }

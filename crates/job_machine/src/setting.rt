@@ -1,7 +1,7 @@
 //! The slots of a machine's jobs.
 
-ghost use Rattle.std.specs.Prelude.{◌≡◌, ◌*◌, ◌<◌, ◌≤◌, ◌↔◌, length, position, sum_by, slice_get, Some, IfOk, IfSome, IsTrue, ℕ};
-ghost use Rattle.vcode_base.specs.declared.limits.TheConstants.{MOST_JOBS, MOST_CELLS};
+ghost use Rattle.std.specs.Prelude.{◌≡◌, ◌*◌, ◌<◌, ◌≤◌, ◌↔◌, length, All, position, sum_by, slice_get, Some, IfOk, IfSome, IsTrue, ℕ};
+ghost use Rattle.vcode_base.specs.declared.limits.TheConstants.{MOST_JOBS, MOST_CELLS, MOST_WORDS};
 ghost use Rattle.job_steps.specs.States.{Task};
 ghost use Rattle.job_steps.specs.Standings.{is_waiting};
 ghost use Rattle.job_slots.specs.Slots.{SlotState, IsNewSlot, standing_of};
@@ -38,6 +38,18 @@ pub(crate) fn all_cells<A: Allocator>(jobs: &[Job<A>]) -> usize
         cells += job.limits().cells;
     }
     cells
+}
+
+/// The words of the job that has the most, and 0 where there is none.
+pub(crate) fn most_words<A: Allocator>(jobs: &[Job<A>]) -> usize
+    ensures each { All (λ task. task.limits.words ≤ result) jobs.now }
+    ensures within { result ≤ MOST_WORDS }
+{
+    let mut most = 0;
+    for job in jobs {
+        most = most.max(job.limits().words);
+    }
+    most
 }
 
 /// The place of the first job that waits, counted from 0.

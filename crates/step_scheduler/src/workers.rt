@@ -1,15 +1,22 @@
 //! A run of a machine's jobs by workers.
 
-ghost use Rattle.std.specs.Prelude.{◌≡◌, ◌+◌, ◌≤◌, sum, vec_len, All, IfOk};
+ghost use Rattle.std.specs.Prelude.{◌≡◌, ◌+◌, ◌≤◌, sum, vec_len, All, IfOk, OnOk};
 ghost use Rattle.vcode_base.specs.declared.limits.TheConstants.{MOST_WORKERS, MOST_WORDS};
 ghost use Rattle.job_steps.specs.Standings.{Collected};
 ghost use Rattle.step_scheduler.specs.Tallies.{executed_sum};
 
+use crate::counts::{count_laws, executed_in_all};
 use crate::gate::Gate;
+use crate::guarded::{GuardedMachine, Opening, WorkerShare};
+use crate::shares::{merge_shares, split_shares};
 use crate::tally::{RunFault, Tally};
-use job_machine::{Desk, Job, Machine};
-use std::alloc::Allocator;
+use crate::worker::{SharedMachine, work};
+use job_machine::{Desk, Machine};
+use std::alloc::{AllocError, Allocator};
+use std::marker::Brand;
 use std::sync::Wait;
+use std::sync::ledger::{Blank, Ledger};
+use std::thread;
 use std::thread::Threads;
 
 /// Runs all jobs of a machine on so many worker threads, 1 to 16, and collects them.
@@ -42,26 +49,91 @@ where
     ensures workers { IfOk result (λ ran. vec_len ran.1.workers ≡ workers) }
     ensures counted { IfOk result (λ ran. executed_sum ran.0 ≡ executed_sum machine + (sum ran.1.workers.items + ran.1.caller)) }
 {
+    let blank = Blank::new(workers as u64 + 1);
+    run_under::<Brand, A, R, G>(rt, alloc, machine, workers, gate, blank)
+}
+
+/// The run, over a ledger with a part for each worker and one for the calling thread.
+fn run_under<L, A, R, G>(
+    rt: &R,
+    alloc: A,
+    machine: Machine<A>,
+    workers: usize,
+    gate: &G,
+    blank: Blank,
+) -> Result<(Machine<A>, Tally<A>), RunFault>
+where
+    L: Opening + Send + Sync,
+    A: Allocator + Copy + Send + Sync,
+    R: Threads + Wait + Sync,
+    G: Gate + Sync,
+    requires workers { workers ≤ MOST_WORKERS }
+    requires name { blank.name ≡ L.name }
+    requires parts { (blank.parts ≡ L.parts) × (blank.parts ≡ workers + 1) }
+    requires before { executed_sum machine ≡ L.executed_before }
+    ensures jobs { IfOk result (λ ran. ran.0.tasks ≡ machine.tasks) }
+    ensures collected { IfOk result (λ ran. All (λ standing. standing ≡ Collected) ran.0.standings) }
+    ensures workers { IfOk result (λ ran. vec_len ran.1.workers ≡ workers) }
+    ensures counted { IfOk result (λ ran. executed_sum ran.0 ≡ executed_sum machine + (sum ran.1.workers.items + ran.1.caller)) }
+{
     let mut machine = machine;
     let list = machine.list()?;
-    let desk = Desk::new(alloc, greatest_words(list.as_slice()))?;
-    let workers = vec![in alloc; 0; workers]?;
-    let (done, _) = machine.run_out(desk);
-    done?;
+    let words = machine.most_words();
+    let desk = Desk::new(alloc, words)?;
+    count_laws();
+    machine.recall_all();
+    let (book, mut all) = blank.open::<L>();
+    let mut shares = split_shares(alloc, &mut all, workers)?;
+    let shared = SharedMachine::new(GuardedMachine::new(machine, book));
+    start_workers(rt, alloc, &shared, gate, shares.as_mut_slice(), words);
+    let (mut machine, mut book) = shared.into_inner().into_parts();
+    let workers = merge_shares(alloc, &mut all, shares)?;
+    book.audit(&mut all);
     if !machine.holds(list.as_slice()) {
         return Err(RunFault::Mixed);
     }
-    Ok((machine, Tally { workers, caller: 0 }))
+    let caller = run_out(&mut machine, desk)?;
+    Ok((machine, Tally { workers, caller }))
 }
 
-/// The words of the job that has the most, and 0 where there is none.
-fn greatest_words<A: Allocator>(jobs: &[Job<A>]) -> usize
-    ensures each { All (λ task. task.limits.words ≤ result) jobs.now }
-    ensures within { result ≤ MOST_WORDS }
+/// Starts a worker for each share, and waits until all are done. One that can't be started is missed.
+fn start_workers<L, A, R, G>(
+    rt: &R,
+    alloc: A,
+    shared: &SharedMachine<L, A>,
+    gate: &G,
+    shares: &mut [WorkerShare<L>],
+    words: usize,
+)
+where
+    L: Opening + Send + Sync,
+    A: Allocator + Copy + Send + Sync,
+    R: Threads + Wait + Sync,
+    G: Gate + Sync,
+    requires { words ≤ MOST_WORDS }
 {
-    let mut most = 0;
-    for job in jobs {
-        most = most.max(job.limits().words);
-    }
-    most
+    thread::scope(thread::scope_env(), rt, |scope| {
+        for mine in shares.iter_mut() {
+            let _ = scope.spawn(move || work(rt, alloc, shared, gate, mine, words));
+        }
+    });
+}
+
+/// Runs what is left on this thread, on a desk of at least the words of each job, and counts it.
+///
+/// # Errors
+///
+/// [`AllocError`] where memory for the results of a job was refused.
+fn run_out<A: Allocator + Clone>(machine: &mut Machine<A>, desk: Desk<A>) -> Result<u64, AllocError>
+    requires { All (λ task. task.limits.words ≤ desk) machine.old.tasks }
+    ensures jobs { machine.new.tasks ≡ machine.old.tasks }
+    ensures collected { OnOk result (All (λ standing. standing ≡ Collected) machine.new.standings) }
+    ensures counted { IfOk result (λ count. executed_sum machine.new ≡ executed_sum machine.old + count) }
+{
+    count_laws();
+    let _jobs = machine.jobs();
+    let before = executed_in_all(machine);
+    let (done, _) = machine.run_out(desk);
+    done?;
+    Ok(executed_in_all(machine) - before)
 }

@@ -1,0 +1,440 @@
+-- How many instructions the jobs have executed, after events.
+use Rattle.std.proofs.Common.{◌≡◌, ℕ, zero, suc, ◌+◌, ◌*◌, ◌<◌, ◌≤◌, Bool, true, false, List, [], ◌∷◌, length, map, set, take}
+use Rattle.std.proofs.Common.{cond, get_or, slice_get, All, Option, Some, None, is_some, refl, sym, ◌∙◌, ap, subst, arith}
+use Rattle.std.proofs.Common.{add-one}
+use Rattle.std.specs.Option.{unwrap_or}
+use Rattle.std.proofs.lemmas.Bool.{false≢true}
+use Rattle.std.proofs.lemmas.Option.{none-some, same_Some, get_or_from_slice_get, slice_get_within}
+use Rattle.vcode_base.specs.declared.fault.DataFault.{DataFault}
+use Rattle.vcode_base.specs.declared.limits.TheConstants.{MOST_BUDGET, MOST_JOBS}
+use Rattle.job_steps.specs.declared.event.Event.{Event}
+use Rattle.job_steps.specs.declared.event.Event.TheVariants.{Admit, Begin, Finish, Recall, Collect}
+use Rattle.job_steps.specs.EventLaws.{IsVerified, AreKept, IsRunning, HasBegun, StandsOnRun, HasRoom, IsReady}
+use Rattle.job_steps.specs.EventLaws.{AdmittedHaveRoom, EarlyEndsEnd, OthersAreReady, EventsKeep, UseIsWithin}
+use Rattle.job_steps.specs.Events.{early_end, next_standing, job_of, next_standing_in, next_standing_of, with_next}
+use Rattle.job_steps.specs.Events.{standing_after_begin, standing_after, after_event, after_events, recalled_standing, LeadTo}
+use Rattle.job_steps.specs.Reached.{Reaches, EndIsOwn}
+use Rattle.job_steps.specs.Runs.{state_after, executed_count}
+use Rattle.job_steps.specs.Standings.{Standing, Waiting, Live, InFlight, Ended, Collected, of_job, with_standing}
+use Rattle.job_steps.specs.Standings.{sum_over, executed_at, admission}
+use Rattle.job_steps.specs.States.{Task, Active, State}
+use Rattle.job_steps.specs.Steps.{Ending, Progress, Running, Over, Stuck, progress_by}
+use Rattle.vcode_reader.specs.declared.line.Numbered.{Numbered}
+use Rattle.vcode_reader.specs.Trees.{Item}
+use Rattle.job_steps.specs.Tickets.{Asked}
+use Rattle.job_slots.specs.declared.answer.Finished.{Finished}
+use Rattle.job_slots.specs.declared.answer.Finished.TheVariants as finished
+use Rattle.job_machine.specs.Machines.{MachineState, with_standings, machine_after, Leads, told, told_by}
+use Rattle.job_machine.specs.Machines.{FinishesIn, after_finished}
+use Rattle.step_scheduler.specs.Tallies.{executed_sum, IsKept, is_finish, OthersCountNothing, RaisesByItsJob}
+use Rattle.step_scheduler.specs.Tallies.{FinishesRaise, RecallsCountNothing, EventsKeepCounts, CountsAreWithin}
+
+-- ---- sums
+
+sum_set : (number : Task → Standing → ℕ) (tasks : List Task) (standings : List Standing) (i : ℕ) (task : Task)
+    (old new : Standing) → slice_get tasks i ≡ Some task → slice_get standings i ≡ Some old →
+    sum_over number tasks (set standings i new) + number task old ≡ sum_over number tasks standings + number task new
+sum_set number [] standings i task old new t e = absurd (none-some task t)
+sum_set number (k ∷ tasks) [] i task old new t e = absurd (none-some old e)
+sum_set number (k ∷ tasks) (s ∷ standings) zero task old new t e =
+    let late : number k new ≡ number task new = ap (λ x. number x new) (same_Some k task t) in
+    let task_is : number k s ≡ number task s = ap (λ x. number x s) (same_Some k task t) in
+    let early : number task s ≡ number task old = ap (number task) (same_Some s old e) in
+    omega (arith, late, task_is, early)
+sum_set number (k ∷ tasks) (s ∷ standings) (suc i) task old new t e =
+    let rest = sum_set number tasks standings i task old new t e in omega (arith, rest)
+
+sum_with : (tasks : List Task) (standings : List Standing) (job : ℕ) (task : Task) (old new : Standing) →
+    of_job job tasks ≡ Some task → of_job job standings ≡ Some old →
+    sum_over executed_at tasks (with_standing job new standings) + executed_at task old
+    ≡ sum_over executed_at tasks standings + executed_at task new
+sum_with tasks standings zero task old new t e = absurd (none-some task t)
+sum_with tasks standings (suc i) task old new t e = sum_set executed_at tasks standings i task old new t e
+
+get_set : (standings : List Standing) (i : ℕ) (old new : Standing) → slice_get standings i ≡ Some old →
+    slice_get (set standings i new) i ≡ Some new
+get_set [] i old new e = absurd (none-some old e)
+get_set (s ∷ standings) zero old new e = refl
+get_set (s ∷ standings) (suc i) old new e = get_set standings i old new e
+
+of_with : (job : ℕ) (standings : List Standing) (old new : Standing) → of_job job standings ≡ Some old →
+    of_job job (with_standing job new standings) ≡ Some new
+of_with zero standings old new e = absurd (none-some old e)
+of_with (suc i) standings old new e = get_set standings i old new e
+
+-- a list of the same length has a task for each standing
+task_at : (tasks : List Task) (standings : List Standing) → length standings ≡ length tasks → (i : ℕ) (s : Standing) →
+    slice_get standings i ≡ Some s → (task : Task) × (slice_get tasks i ≡ Some task)
+task_at tasks [] same i s e = absurd (none-some s e)
+task_at [] (x ∷ standings) same i s e = absurd (omega (arith, same))
+task_at (t ∷ tasks) (x ∷ standings) same zero s e = (t, refl)
+task_at (t ∷ tasks) (x ∷ standings) same (suc i) s e = task_at tasks standings (omega (arith, same)) i s e
+
+task_of : (tasks : List Task) (standings : List Standing) → length standings ≡ length tasks → (job : ℕ) (s : Standing) →
+    of_job job standings ≡ Some s → (task : Task) × (of_job job tasks ≡ Some task)
+task_of tasks standings same zero s e = absurd (none-some s e)
+task_of tasks standings same (suc i) s e = task_at tasks standings same i s e
+
+verified_of : (tasks : List Task) → All IsVerified tasks → (job : ℕ) (task : Task) → of_job job tasks ≡ Some task →
+    IsVerified task
+verified_of tasks all zero task t = absurd (none-some task t)
+verified_of tasks all (suc i) task t =
+    subst IsVerified (get_or_from_slice_get tasks i task task t) (all i task (slice_get_within tasks i task t))
+
+-- ---- one event
+
+-- what an event makes of the standings, by its job's
+after_by : (region : ℕ) (tasks : List Task) (event : Event) (standings : List Standing) (job : ℕ) →
+    job_of region tasks event standings ≡ Some job →
+    after_event region tasks event standings
+    ≡ with_next (Some job) (next_standing_in event (of_job job tasks) (of_job job standings)) standings
+unfolding after_event
+after_by region tasks event standings job is =
+    λ i. with_next (is i) (next_standing_of tasks event standings (is i)) standings
+
+none_admitted : (region : ℕ) (tasks : List Task) (standings : List Standing) →
+    admission region tasks standings ≡ None → after_event region tasks Admit standings ≡ standings
+unfolding after_event
+none_admitted region tasks standings is =
+    λ i. with_next (is i) (next_standing_of tasks Admit standings (is i)) standings
+
+-- an event that leaves its job's count alone leaves the sum alone
+abbrev KeepsCount : Event → List Task → List Standing → ℕ → Type 0
+KeepsCount event tasks standings job =
+    (task : Task) (old new : Standing) → of_job job tasks ≡ Some task → of_job job standings ≡ Some old →
+    next_standing event task old ≡ Some new → executed_at task new ≡ executed_at task old
+
+same_sum_next : (event : Event) (tasks : List Task) (standings : List Standing) (job : ℕ) →
+    KeepsCount event tasks standings job → (task : Task) (old : Standing) → of_job job tasks ≡ Some task →
+    of_job job standings ≡ Some old → (next : Option Standing) → next_standing event task old ≡ next →
+    sum_over executed_at tasks (with_next (Some job) next standings) ≡ sum_over executed_at tasks standings
+same_sum_next event tasks standings job keeps task old t s None is = refl
+same_sum_next event tasks standings job keeps task old t s (Some new) is =
+    omega (arith, sum_with tasks standings job task old new t s, keeps task old new t s is)
+
+same_sum_in : (event : Event) (tasks : List Task) (standings : List Standing) (job : ℕ) →
+    KeepsCount event tasks standings job → (t : Option Task) → of_job job tasks ≡ t → (s : Option Standing) →
+    of_job job standings ≡ s →
+    sum_over executed_at tasks (with_next (Some job) (next_standing_in event t s) standings)
+    ≡ sum_over executed_at tasks standings
+same_sum_in event tasks standings job keeps None t s s_is = refl
+same_sum_in event tasks standings job keeps (Some task) t None s_is = refl
+same_sum_in event tasks standings job keeps (Some task) t (Some old) s_is =
+    same_sum_next event tasks standings job keeps task old t s_is (next_standing event task old) refl
+
+same_sum : (event : Event) (m : MachineState) (job : ℕ) → job_of m.region m.tasks event m.standings ≡ Some job →
+    KeepsCount event m.tasks m.standings job → executed_sum (machine_after event m) ≡ executed_sum m
+same_sum event m job is keeps =
+    ap (sum_over executed_at m.tasks) (after_by m.region m.tasks event m.standings job is)
+    ∙ same_sum_in event m.tasks m.standings job keeps (of_job job m.tasks) refl (of_job job m.standings) refl
+
+-- ---- events other than a finish
+
+early_keeps : EarlyEndsEnd → (task : Task) → IsVerified task → (n : ℕ) (run : IsRunning task n) → (o : Option Ending) →
+    early_end task run.state ≡ o → executed_at task (cond (is_some o) Ended (InFlight n)) ≡ n
+early_keeps early task v n run None is = refl
+early_keeps early task v n run (Some ending) is =
+    (early v.0 task v.1 n run.state ending run.running is).executed_is
+
+begin_keeps : EarlyEndsEnd → (m : MachineState) → IsKept m → (job : ℕ) → KeepsCount (Begin job) m.tasks m.standings job
+begin_keeps early m kept job task Waiting new t s is = absurd (none-some new is)
+begin_keeps early m kept job task (Live n) new t s is =
+    let v : IsVerified task = verified_of m.tasks kept.verified job task t in
+    let run : IsRunning task n = kept.kept.on_run job task (Live n) t s in
+    let there : standing_after_begin task n (state_after task n) ≡ standing_after_begin task n (Running run.state) =
+    ap (standing_after_begin task n) run.running in
+    ap (executed_at task) (sym (same_Some (standing_after_begin task n (state_after task n)) new is) ∙ there)
+    ∙ early_keeps early task v n run (early_end task run.state) refl
+begin_keeps early m kept job task (InFlight n) new t s is = absurd (none-some new is)
+begin_keeps early m kept job task Ended new t s is = absurd (none-some new is)
+begin_keeps early m kept job task Collected new t s is = absurd (none-some new is)
+
+recall_keeps : (tasks : List Task) (standings : List Standing) (job : ℕ) → KeepsCount (Recall job) tasks standings job
+recall_keeps tasks standings job task Waiting new t s is = absurd (none-some new is)
+recall_keeps tasks standings job task (Live n) new t s is = absurd (none-some new is)
+recall_keeps tasks standings job task (InFlight n) new t s is =
+    ap (executed_at task) (sym (same_Some (Live n) new is))
+recall_keeps tasks standings job task Ended new t s is = absurd (none-some new is)
+recall_keeps tasks standings job task Collected new t s is = absurd (none-some new is)
+
+collect_keeps : (tasks : List Task) (standings : List Standing) (job : ℕ) → KeepsCount (Collect job) tasks standings job
+collect_keeps tasks standings job task Waiting new t s is = absurd (none-some new is)
+collect_keeps tasks standings job task (Live n) new t s is = absurd (none-some new is)
+collect_keeps tasks standings job task (InFlight n) new t s is = absurd (none-some new is)
+collect_keeps tasks standings job task Ended new t s is = ap (executed_at task) (sym (same_Some Collected new is))
+collect_keeps tasks standings job task Collected new t s is = absurd (none-some new is)
+
+admit_keeps : (tasks : List Task) (standings : List Standing) (job : ℕ) → KeepsCount Admit tasks standings job
+admit_keeps tasks standings job task Waiting new t s is = ap (executed_at task) (sym (same_Some (Live 0) new is))
+admit_keeps tasks standings job task (Live n) new t s is = absurd (none-some new is)
+admit_keeps tasks standings job task (InFlight n) new t s is = absurd (none-some new is)
+admit_keeps tasks standings job task Ended new t s is = absurd (none-some new is)
+admit_keeps tasks standings job task Collected new t s is = absurd (none-some new is)
+
+admit_counts_nothing : (m : MachineState) (o : Option ℕ) → admission m.region m.tasks m.standings ≡ o →
+    executed_sum (machine_after Admit m) ≡ executed_sum m
+admit_counts_nothing m None is =
+    ap (sum_over executed_at m.tasks) (none_admitted m.region m.tasks m.standings is)
+admit_counts_nothing m (Some job) is = same_sum Admit m job is (admit_keeps m.tasks m.standings job)
+
+pub others_count_nothing : EarlyEndsEnd → OthersCountNothing
+others_count_nothing early m kept Admit other =
+    admit_counts_nothing m (admission m.region m.tasks m.standings) refl
+others_count_nothing early m kept (Begin job) other = same_sum (Begin job) m job refl (begin_keeps early m kept job)
+others_count_nothing early m kept (Finish job) other = absurd (false≢true (sym other))
+others_count_nothing early m kept (Recall job) other =
+    same_sum (Recall job) m job refl (recall_keeps m.tasks m.standings job)
+others_count_nothing early m kept (Collect job) other =
+    same_sum (Collect job) m job refl (collect_keeps m.tasks m.standings job)
+
+-- ---- recalls
+
+same_recalled : (task : Task) (s : Standing) → executed_at task (recalled_standing s) ≡ executed_at task s
+same_recalled task Waiting = refl
+same_recalled task (Live n) = refl
+same_recalled task (InFlight n) = refl
+same_recalled task Ended = refl
+same_recalled task Collected = refl
+
+sum_recalled : (tasks : List Task) (standings : List Standing) →
+    sum_over executed_at tasks (map recalled_standing standings) ≡ sum_over executed_at tasks standings
+sum_recalled [] standings = refl
+sum_recalled (t ∷ tasks) [] = refl
+sum_recalled (t ∷ tasks) (s ∷ standings) = omega (arith, same_recalled t s, sum_recalled tasks standings)
+
+pub recalls_count_nothing : RecallsCountNothing
+recalls_count_nothing m = sum_recalled m.tasks m.standings
+
+-- ---- a finish
+
+-- the count of a job after the finish of the step behind so many instructions is at least as great
+abbrev CountsFrom : Task → ℕ → Progress → Type 0
+CountsFrom task n p = n ≤ executed_at task (standing_after (n + 1) p)
+
+counts_by_values : EndIsOwn → (task : Task) (n : ℕ) (s : State) → s.executed ≡ n → (fault : Option DataFault)
+    (line : Numbered Item) (calls : List Active) → state_after task (n + 1) ≡ progress_by fault line s calls →
+    CountsFrom task n (progress_by fault line s calls)
+counts_by_values own task n s count (Some fault) line calls is =
+    let same = own task (n + 1) _ _ _ is in omega (arith, count, same.1)
+counts_by_values own task n s count None line [] is =
+    let same = own task (n + 1) _ _ _ is in omega (arith, count, same.1)
+counts_by_values own task n s count None line (call ∷ outer) is = omega arith
+
+counts_from : Reaches → OthersAreReady → EndIsOwn → (task : Task) → IsVerified task → (n : ℕ) → HasBegun task n →
+    CountsFrom task n (state_after task (n + 1))
+counts_from reaches others own task v n begun =
+    let s = begun.run.state in
+    let ready = others v.0 task v.1 n s begun.run.running begun.goes_on in
+    let there = reaches v.0 task v.1 n s begun.run.running in
+    subst (CountsFrom task n) (sym ready.next) (counts_by_values own task n s there.count _ _ _ ready.next)
+
+-- what a finish makes of a machine whose job is in flight
+raised : (m : MachineState) (job step : ℕ) (task : Task) → of_job job m.tasks ≡ Some task →
+    of_job job m.standings ≡ Some (InFlight step) → CountsFrom task step (state_after task (step + 1)) →
+    RaisesByItsJob m job step
+raised m job step task t s from =
+    let new = standing_after (step + 1) (state_after task (step + 1)) in
+    let after : after_event m.region m.tasks (Finish job) m.standings ≡ with_standing job new m.standings =
+    after_by m.region m.tasks (Finish job) m.standings job refl
+    ∙ (λ i. with_next (Some job) (next_standing_in (Finish job) (t i) (s i)) m.standings) in
+    record {
+      count = executed_at task new;
+      count_is =
+          (λ i. told_by executed_at (t i) (of_job job (after i)))
+          ∙ ap (told_by executed_at (Some task)) (of_with job m.standings (InFlight step) new s);
+      no_fewer = from;
+      sum_is =
+          omega (
+            arith,
+            ap (sum_over executed_at m.tasks) after,
+            sum_with m.tasks m.standings job task (InFlight step) new t s,
+          );
+    }
+
+pub finishes_raise : Reaches → OthersAreReady → EndIsOwn → FinishesRaise
+finishes_raise reaches others own m kept job step s =
+    let task = task_of m.tasks m.standings kept.kept.same_length job (InFlight step) s in
+    let v : IsVerified task.0 = verified_of m.tasks kept.verified job task.0 task.1 in
+    let begun : HasBegun task.0 step = kept.kept.on_run job task.0 (InFlight step) task.1 s in
+    raised m job step task.0 task.1 s (counts_from reaches others own task.0 v step begun)
+
+-- ---- events, one after another
+
+-- the sum isn't lowered by the finish of a job with this task and this standing, if there is one
+finish_keeps : Reaches → OthersAreReady → EndIsOwn → (m : MachineState) → IsKept m → (job : ℕ) → (t : Option Task) →
+    of_job job m.tasks ≡ t → (s : Option Standing) → of_job job m.standings ≡ s →
+    executed_sum m
+    ≤ sum_over executed_at m.tasks (with_next (Some job) (next_standing_in (Finish job) t s) m.standings)
+finish_keeps reaches others own m kept job None t s s_is = omega arith
+finish_keeps reaches others own m kept job (Some task) t None s_is = omega arith
+finish_keeps reaches others own m kept job (Some task) t (Some Waiting) s_is = omega arith
+finish_keeps reaches others own m kept job (Some task) t (Some (Live n)) s_is = omega arith
+finish_keeps reaches others own m kept job (Some task) t (Some (InFlight n)) s_is =
+    let v : IsVerified task = verified_of m.tasks kept.verified job task t in
+    let begun : HasBegun task n = kept.kept.on_run job task (InFlight n) t s_is in
+    let from = counts_from reaches others own task v n begun in
+    omega (
+      arith,
+      from,
+      sum_with m.tasks m.standings job task (InFlight n)
+          (standing_after (n + 1) (state_after task (n + 1))) t s_is,
+    )
+finish_keeps reaches others own m kept job (Some task) t (Some Ended) s_is = omega arith
+finish_keeps reaches others own m kept job (Some task) t (Some Collected) s_is = omega arith
+
+finish_never_lowers : Reaches → OthersAreReady → EndIsOwn → (m : MachineState) → IsKept m → (job : ℕ) →
+    executed_sum m ≤ executed_sum (machine_after (Finish job) m)
+finish_never_lowers reaches others own m kept job =
+    let after = after_by m.region m.tasks (Finish job) m.standings job refl in
+    omega (
+      arith,
+      ap (sum_over executed_at m.tasks) after,
+      finish_keeps reaches others own m kept job (of_job job m.tasks) refl (of_job job m.standings) refl,
+    )
+
+no_fewer_by : (m : MachineState) (event : Event) → executed_sum (machine_after event m) ≡ executed_sum m →
+    executed_sum m ≤ executed_sum (machine_after event m)
+no_fewer_by m event same = omega (arith, same)
+
+never_lowers : EarlyEndsEnd → Reaches → OthersAreReady → EndIsOwn → (m : MachineState) → IsKept m → (event : Event) →
+    executed_sum m ≤ executed_sum (machine_after event m)
+never_lowers early reaches others own m kept Admit =
+    no_fewer_by m Admit (others_count_nothing early m kept Admit refl)
+never_lowers early reaches others own m kept (Begin job) =
+    no_fewer_by m (Begin job) (others_count_nothing early m kept (Begin job) refl)
+never_lowers early reaches others own m kept (Finish job) = finish_never_lowers reaches others own m kept job
+never_lowers early reaches others own m kept (Recall job) =
+    no_fewer_by m (Recall job) (others_count_nothing early m kept (Recall job) refl)
+never_lowers early reaches others own m kept (Collect job) =
+    no_fewer_by m (Collect job) (others_count_nothing early m kept (Collect job) refl)
+
+kept_after : EventsKeep → (m : MachineState) → IsKept m → (event : Event) → IsKept (machine_after event m)
+kept_after keep m kept event = record {
+  verified = kept.verified;
+  kept = keep m.region m.tasks kept.verified (event ∷ []) m.standings kept.kept;
+}
+
+all_keep : EarlyEndsEnd → Reaches → OthersAreReady → EndIsOwn → EventsKeep → (events : List Event) (m : MachineState) →
+    IsKept m → executed_sum m ≤ sum_over executed_at m.tasks (after_events m.region m.tasks events m.standings)
+all_keep early reaches others own keep [] m kept = omega arith
+all_keep early reaches others own keep (event ∷ events) m kept =
+    let here = never_lowers early reaches others own m kept event in
+    let rest = all_keep early reaches others own keep events (machine_after event m) (kept_after keep m kept event) in
+    omega (arith, here, rest)
+
+pub events_keep_counts : EarlyEndsEnd → Reaches → OthersAreReady → EndIsOwn → EventsKeep → EventsKeepCounts
+events_keep_counts early reaches others own keep old new kept leads =
+    let there = all_keep early reaches others own keep leads.2.0 old kept in
+    let same : sum_over executed_at new.tasks new.standings
+    ≡ sum_over executed_at old.tasks (after_events old.region old.tasks leads.2.0 old.standings) =
+    λ i. sum_over executed_at (leads.1 i) (sym leads.2.1 i) in
+    omega (arith, there, same)
+
+-- ---- the sum, job by job
+
+-- one more job adds its count, if there is one
+next_at : (tasks : List Task) (standings : List Standing) (place : ℕ) →
+    sum_over executed_at (take (suc place) tasks) (take (suc place) standings)
+    ≡ sum_over executed_at (take place tasks) (take place standings)
+    + unwrap_or (told_by executed_at (slice_get tasks place) (slice_get standings place)) 0
+next_at [] standings zero = refl
+next_at [] standings (suc i) = refl
+next_at (t ∷ tasks) [] zero = refl
+next_at (t ∷ tasks) [] (suc i) = next_none t tasks i
+  where
+    next_none : (t : Task) (tasks : List Task) (i : ℕ) →
+        0 ≡ 0 + unwrap_or (told_by executed_at (slice_get tasks i) None) 0
+    next_none t [] i = refl
+    next_none t (x ∷ tasks) zero = refl
+    next_none t (x ∷ tasks) (suc i) = next_none t tasks i
+next_at (t ∷ tasks) (s ∷ standings) zero = omega arith
+next_at (t ∷ tasks) (s ∷ standings) (suc i) = let rest = next_at tasks standings i in omega (arith, rest)
+
+pub next_sum : (m : MachineState) (place : ℕ) →
+    sum_over executed_at (take (place + 1) m.tasks) (take (place + 1) m.standings)
+    ≡ sum_over executed_at (take place m.tasks) (take place m.standings)
+    + unwrap_or (told executed_at (place + 1) m) 0
+next_sum m place =
+    subst (λ n. sum_over executed_at (take n m.tasks) (take n m.standings)
+    ≡ sum_over executed_at (take place m.tasks) (take place m.standings) + unwrap_or (told executed_at n m) 0)
+    (sym (add-one place)) (next_at m.tasks m.standings place)
+
+-- some of the jobs have executed no more than all
+part_within : (tasks : List Task) (standings : List Standing) (place : ℕ) →
+    sum_over executed_at (take place tasks) (take place standings) ≤ sum_over executed_at tasks standings
+part_within [] standings zero = omega arith
+part_within [] standings (suc i) = omega arith
+part_within (t ∷ tasks) [] zero = omega arith
+part_within (t ∷ tasks) [] (suc i) = omega arith
+part_within (t ∷ tasks) (s ∷ standings) zero = omega arith
+part_within (t ∷ tasks) (s ∷ standings) (suc i) = let rest = part_within tasks standings i in omega (arith, rest)
+
+-- the sum with one job more, and what it is at most
+pub record Adds (m : MachineState) (place sum : ℕ) (executed : Option ℕ) : Type 0 where
+  pub sum_is :
+      sum + unwrap_or executed 0 ≡ sum_over executed_at (take (place + 1) m.tasks) (take (place + 1) m.standings)
+  pub within : sum + unwrap_or executed 0 ≤ MOST_JOBS * MOST_BUDGET
+
+pub adds : CountsAreWithin → (m : MachineState) → IsKept m → length m.tasks ≤ MOST_JOBS → (place sum : ℕ)
+    (executed : Option ℕ) → sum ≡ sum_over executed_at (take place m.tasks) (take place m.standings) →
+    executed ≡ told executed_at (place + 1) m → Adds m place sum executed
+adds law m kept few place sum executed sum_is executed_is =
+    let next = next_sum m place in
+    let same : unwrap_or executed 0 ≡ unwrap_or (told executed_at (place + 1) m) 0 =
+    ap (λ o. unwrap_or o 0) executed_is in
+    let part = part_within m.tasks m.standings (place + 1) in
+    let all = law m kept in
+    record { sum_is = omega (arith, sum_is, same, next); within = omega (arith, sum_is, same, next, part, all, few) }
+
+-- ---- how many there may be
+
+within_each : (tasks : List Task) (standings : List Standing) → ((i : ℕ) (task : Task) (s : Standing) →
+    slice_get tasks i ≡ Some task → slice_get standings i ≡ Some s → executed_at task s ≤ MOST_BUDGET) →
+    sum_over executed_at tasks standings ≤ length tasks * MOST_BUDGET
+within_each [] standings each = omega arith
+within_each (t ∷ tasks) [] each = omega arith
+within_each (t ∷ tasks) (s ∷ standings) each =
+    let here = each 0 t s refl refl in
+    let rest = within_each tasks standings (λ i. each (suc i)) in
+    omega (arith, here, rest)
+
+pub counts_are_within : UseIsWithin → CountsAreWithin
+counts_are_within uses m kept = within_each m.tasks m.standings one
+  where
+    one : (i : ℕ) (task : Task) (s : Standing) → slice_get m.tasks i ≡ Some task → slice_get m.standings i ≡ Some s →
+        executed_at task s ≤ MOST_BUDGET
+    one i task s t s_is =
+        let v : IsVerified task = verified_of m.tasks kept.verified (suc i) task t in
+        let within = uses task v s (kept.kept.on_run (suc i) task s t s_is) in
+        omega (arith, within.budget, task.limits.budget_in_range)
+
+-- ---- a finish that isn't stale
+
+in_flight_by : (filled : Asked) (t : Option Task) (s : Option Standing) (answer : Finished) →
+    FinishesIn filled t s answer → (answer ≡ finished.Stale → ⊥) → s ≡ Some (InFlight filled.step)
+in_flight_by filled None s finished.Done fits ne = absurd fits
+in_flight_by filled None s finished.Ended fits ne = absurd fits
+in_flight_by filled None s finished.Stale fits ne = absurd (ne refl)
+in_flight_by filled (Some task) None finished.Done fits ne = absurd fits
+in_flight_by filled (Some task) None finished.Ended fits ne = absurd fits
+in_flight_by filled (Some task) None finished.Stale fits ne = absurd (ne refl)
+in_flight_by filled (Some task) (Some s) finished.Done fits ne = ap (λ (k : Standing). Some k) fits.0.flying
+in_flight_by filled (Some task) (Some s) finished.Ended fits ne = ap (λ (k : Standing). Some k) fits.0.flying
+in_flight_by filled (Some task) (Some s) finished.Stale fits ne = absurd (ne refl)
+
+after_some : (m : MachineState) (job : ℕ) (answer : Finished) → (answer ≡ finished.Stale → ⊥) →
+    after_finished answer m (machine_after (Finish job) m) ≡ machine_after (Finish job) m
+after_some m job finished.Done ne = refl
+after_some m job finished.Ended ne = refl
+after_some m job finished.Stale ne = absurd (ne refl)
+
+-- what the machine shows after a finish that isn't stale
+pub raises : FinishesRaise → (old new : MachineState) → IsKept old → (filled : Asked) (answer : Finished) →
+    FinishesIn filled (of_job filled.job old.tasks) (of_job filled.job old.standings) answer →
+    new ≡ after_finished answer old (machine_after (Finish filled.job) old) → (answer ≡ finished.Stale → ⊥) →
+    RaisesByItsJob old filled.job filled.step × (new ≡ machine_after (Finish filled.job) old)
+raises law old new kept filled answer fits is ne = (
+  law old kept filled.job filled.step
+  (in_flight_by filled (of_job filled.job old.tasks) (of_job filled.job old.standings) answer fits ne),
+  is ∙ after_some old filled.job answer ne,
+)

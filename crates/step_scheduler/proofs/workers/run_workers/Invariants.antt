@@ -1,0 +1,8 @@
+use Rattle.step_scheduler.specs.Tallies.{executed_sum}
+use Rattle.step_scheduler.proofs.workers.run_workers.Given as goal
+
+abbrev pub ghosts-run_under-L-Ledger : goal.ghosts-run_under-L-Ledger
+ghosts-run_under-L-Ledger g a = record { name = a.blank.name; parts = a.blank.parts }
+
+abbrev pub ghosts-run_under-L-Opening : goal.ghosts-run_under-L-Opening
+ghosts-run_under-L-Opening g a = record { executed_before = executed_sum a.machine }

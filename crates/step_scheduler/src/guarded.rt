@@ -1,0 +1,159 @@
+//! The machine under its lock, and what each worker has finished on it.
+
+ghost use Rattle.std.specs.Prelude.{◌≡◌, ℕ, ◌+◌, OnOk, OnErr, IfOk};
+ghost use Rattle.job_steps.specs.declared.event.Event.TheVariants.{Admit, Begin, Collect, Finish};
+ghost use Rattle.job_steps.specs.Standings.{of_job};
+ghost use Rattle.job_machine.specs.Machines.{BeginsIn, FinishesIn, admission_in, after_begun, after_finished, is_over, machine_after};
+ghost use Rattle.step_scheduler.specs.Tallies.{executed_sum};
+
+use crate::counts::count_laws;
+use job_machine::{Admission, Begun, Desk, Filled, Finished, Machine, Status};
+use std::alloc::{AllocError, Allocator};
+use std::marker::Brand;
+use std::sync::ledger::{Book, Ledger, Share};
+
+/// A ledger of a run, over a machine that had executed so many instructions when it opened.
+pub(crate) trait Opening: Ledger {
+    ghost executed_before: { ℕ };
+}
+
+impl Opening for Brand {
+    ghost executed_before = { 0 };
+}
+
+/// What lies under the lock: a machine, with a book whose total is what it has executed since the book was opened.
+#[derive(Drop)]
+pub(crate) struct GuardedMachine<L: Opening, A: Allocator> {
+    machine: Machine<A>,
+    book: Book<L>,
+    ghost counted: { executed_sum machine ≡ L.executed_before + book.total },
+}
+
+/// One part of the ledger, with how many instructions it stands for.
+#[derive(Drop)]
+pub(crate) struct WorkerShare<L: Opening> {
+    share: Share<L>,
+    count: u64,
+    ghost one_part: { share.parts ≡ 1 },
+    ghost counted: { share.amount ≡ count },
+}
+
+impl<L: Opening> WorkerShare<L> {
+    /// A part of the ledger that stands for no instruction.
+    pub(crate) fn new(share: Share<L>) -> WorkerShare<L>
+        requires parts { share.parts ≡ 1 }
+        requires amount { share.amount ≡ 0 }
+    {
+        WorkerShare { share, count: 0 }
+    }
+
+    /// The part, and how many instructions it stands for.
+    pub(crate) fn into_parts(self) -> (Share<L>, u64)
+        ensures parts { result.0.parts ≡ 1 }
+        ensures amount { result.0.amount ≡ result.1 }
+    {
+        let WorkerShare { share, count } = self;
+        (share, count)
+    }
+}
+
+impl<L: Opening, A: Allocator> GuardedMachine<L, A> {
+    pub(crate) fn new(machine: Machine<A>, book: Book<L>) -> GuardedMachine<L, A>
+        requires { executed_sum machine ≡ L.executed_before + book.total }
+    {
+        GuardedMachine { machine, book }
+    }
+
+    pub(crate) fn into_parts(self) -> (Machine<A>, Book<L>)
+        ensures { executed_sum result.0 ≡ L.executed_before + result.1.total }
+    {
+        let GuardedMachine { machine, book } = self;
+        (machine, book)
+    }
+
+    /// The first job that stands so.
+    pub(crate) fn first(&self, status: Status) -> Option<usize> {
+        (1..=self.machine.jobs()).find(|job| self.machine.status(*job) == Some(status))
+    }
+
+    /// Admits the first job that waits, where it has room.
+    pub(crate) fn admit(&mut self) -> Admission
+        ensures answer { result ≡ admission_in self.old.machine }
+        ensures state { self.new.machine ≡ machine_after Admit self.old.machine }
+    {
+        count_laws();
+        let _jobs = self.machine.jobs();
+        self.machine.admit()
+    }
+
+    /// Begins the next step of a job.
+    pub(crate) fn begin(&mut self, job: usize, desk: Desk<A>) -> Begun<A>
+        ensures answer { BeginsIn job desk (of_job job self.old.machine.tasks) (of_job job self.old.machine.standings) result }
+        ensures state { self.new.machine ≡ after_begun result self.old.machine (machine_after (Begin job) self.old.machine) }
+    {
+        count_laws();
+        let _jobs = self.machine.jobs();
+        self.machine.begin(job, desk)
+    }
+
+    /// Commits a computed step, and adds the instruction to the share where it was executed.
+    pub(crate) fn finish(
+        &mut self,
+        filled: Filled<A>,
+        mine: &mut WorkerShare<L>,
+    ) -> (Finished, Desk<A>)
+        ensures answer { FinishesIn filled (of_job filled.job self.old.machine.tasks) (of_job filled.job self.old.machine.standings) result.0 }
+        ensures desk { result.1 ≡ filled.words }
+        ensures state { self.new.machine ≡ after_finished result.0 self.old.machine (machine_after (Finish filled.job) self.old.machine) }
+        ensures counted { mine.new.count + executed_sum self.old.machine ≡ mine.old.count + executed_sum self.new.machine }
+    {
+        let GuardedMachine { machine, book } = self;
+        let WorkerShare { share, count } = mine;
+        let (finished, desk, executed) = finish_counted(machine, filled);
+        count_laws();
+        let _jobs = machine.jobs();
+        book.audit(share);
+        book.add(share, executed);
+        *count += executed;
+        (finished, desk)
+    }
+}
+
+impl<L: Opening, A: Allocator + Clone> GuardedMachine<L, A> {
+    /// Stores the outcome of a job that has ended; true where it had.
+    ///
+    /// # Errors
+    ///
+    /// [`AllocError`] where memory for the results was refused. Nothing changed then.
+    pub(crate) fn collect(&mut self, job: usize) -> Result<bool, AllocError>
+        ensures answer { IfOk result (λ yes. yes ≡ is_over (of_job job self.old.machine.standings)) }
+        ensures state { OnOk result (self.new.machine ≡ machine_after (Collect job) self.old.machine) }
+        ensures unchanged { OnErr result (self.new.machine ≡ self.old.machine) }
+    {
+        count_laws();
+        let _jobs = self.machine.jobs();
+        self.machine.collect(job)
+    }
+}
+
+/// Commits a computed step, and tells how many instructions that has executed.
+fn finish_counted<A: Allocator>(
+    machine: &mut Machine<A>,
+    filled: Filled<A>,
+) -> (Finished, Desk<A>, u64)
+    ensures answer { FinishesIn filled (of_job filled.job machine.old.tasks) (of_job filled.job machine.old.standings) result.0 }
+    ensures desk { result.1 ≡ filled.words }
+    ensures state { machine.new ≡ after_finished result.0 machine.old (machine_after (Finish filled.job) machine.old) }
+    ensures counted { executed_sum machine.new ≡ executed_sum machine.old + result.2 }
+{
+    count_laws();
+    let _jobs = machine.jobs();
+    let (job, step) = (filled.job(), filled.step());
+    let (finished, desk) = machine.finish(filled);
+    match finished {
+        Finished::Stale => return (finished, desk, 0),
+        Finished::Done | Finished::Ended => {}
+    }
+    let executed = machine.executed(job).unwrap() - step;
+    (finished, desk, executed)
+}
