@@ -3,11 +3,10 @@ ghost use Rattle.vcode_base.specs.Kinds.{HasKind, HaveKinds, source_kinds};
 ghost use Rattle.vcode_base.specs.declared.limits.TheConstants.{MOST_TOTAL};
 ghost use Rattle.vcode_base.specs.declared.kind.Kind.TheVariants.{Bool, Segdes};
 ghost use Rattle.vcode_base.specs.Meaning.{shape, need};
-ghost use Rattle.segment_ops.specs.Served.{IsServed as IsSegmented};
 ghost use Rattle.vcode_base.specs.Operands.{contents};
-ghost use Rattle.vector_ops.specs.Served.{IsServed as IsElementwise};
 
 use crate::loads::{descriptor, flags, indices, numbers, shifts};
+use job_steps::{fill, need, shape};
 use std::io;
 use std::rt::Runtime;
 use std::time::Instant;
@@ -49,15 +48,14 @@ fn print_row(
     }
 }
 
-/// The least nanoseconds that filling an elementwise instruction took.
-fn elementwise_time(
+/// The least nanoseconds that filling an instruction took.
+fn least_time(
     rt: &impl Runtime,
     op: Op,
     ops: &[&[i64]],
     first: &mut [i64],
     second: &mut [i64],
 ) -> io::Result<u128>
-    requires served { IsElementwise op }
     requires kinds { HaveKinds (source_kinds op) (contents ops.now) }
     requires shape { shape op (contents ops.now) ≡ None }
     requires room { need op (contents ops.now) ≡ (length first.old, length second.old) }
@@ -65,178 +63,99 @@ fn elementwise_time(
     let mut best = u128::MAX;
     for _ in 0..ROUNDS {
         let start = Instant::now(rt)?;
-        let _ = vector_ops::fill(op, ops, first, second);
+        let _ = fill(op, ops, first, second);
         best = best.min(start.elapsed(rt)?.as_nanos());
     }
     Ok(best)
 }
 
-/// Fills an elementwise instruction over and over, and prints its line.
-fn elementwise_row(
-    rt: &impl Runtime,
-    load: Load,
-    name: &str,
-    op: Elementwise,
-    ops: &[&[i64]],
-) -> io::Result<()>
-    requires kinds { HaveKinds (source_kinds (Op.Elementwise op)) (contents ops.now) }
-{
-    let op = Op::Elementwise(op);
-    if vector_ops::shape(op, ops).is_err() {
-        return println!(rt; "{name}\tdoes not fit");
-    }
-    let (first_len, second_len) = vector_ops::need(op, ops);
-    let mut first = vec![in rt.alloc(); 0i64; first_len as usize]?;
-    let mut second = vec![in rt.alloc(); 0i64; second_len as usize]?;
-    let best = elementwise_time(rt, op, ops, &mut first, &mut second)?;
-    print_row(rt, load, name, &first, best)
-}
-
-/// The least nanoseconds that filling a segment instruction took.
-fn segment_time(
-    rt: &impl Runtime,
-    op: Op,
-    ops: &[&[i64]],
-    first: &mut [i64],
-    second: &mut [i64],
-) -> io::Result<u128>
-    requires served { IsSegmented op }
+/// Fills an instruction over and over, and prints its line.
+fn row(rt: &impl Runtime, load: Load, name: &str, op: Op, ops: &[&[i64]]) -> io::Result<()>
     requires kinds { HaveKinds (source_kinds op) (contents ops.now) }
-    requires shape { shape op (contents ops.now) ≡ None }
-    requires room { need op (contents ops.now) ≡ (length first.old, length second.old) }
 {
-    let mut best = u128::MAX;
-    for _ in 0..ROUNDS {
-        let start = Instant::now(rt)?;
-        let _ = segment_ops::fill(op, ops, first, second);
-        best = best.min(start.elapsed(rt)?.as_nanos());
-    }
-    Ok(best)
-}
-
-/// Fills a segment instruction over and over, and prints its line.
-fn segment_row(
-    rt: &impl Runtime,
-    load: Load,
-    name: &str,
-    op: Segmented,
-    ops: &[&[i64]],
-) -> io::Result<()>
-    requires kinds { HaveKinds (source_kinds (Op.Segmented op)) (contents ops.now) }
-{
-    let op = Op::Segmented(op);
-    if segment_ops::shape(op, ops).is_err() {
+    if shape(op, ops).is_err() {
         return println!(rt; "{name}\tdoes not fit");
     }
-    let (first_len, second_len) = segment_ops::need(op, ops);
+    let (first_len, second_len) = need(op, ops);
     let mut first = vec![in rt.alloc(); 0i64; first_len as usize]?;
     let mut second = vec![in rt.alloc(); 0i64; second_len as usize]?;
-    let best = segment_time(rt, op, ops, &mut first, &mut second)?;
+    let best = least_time(rt, op, ops, &mut first, &mut second)?;
     print_row(rt, load, name, &first, best)
 }
 
-/// The line of an elementwise instruction of one operand.
-fn elementwise_of_one<'a>(
+/// The line of an instruction of one operand.
+fn row_of_one<'a>(
     rt: &impl Runtime,
     load: Load,
     name: &str,
-    op: Elementwise,
+    op: Op,
     first: &'a [i64],
 ) -> io::Result<()>
-    requires kinds { HaveKinds (source_kinds (Op.Elementwise op)) (first.now ∷ []) }
+    requires kinds { HaveKinds (source_kinds op) (first.now ∷ []) }
 {
-    elementwise_row(rt, load, name, op, &[first])
+    row(rt, load, name, op, &[first])
 }
 
-/// The line of an elementwise instruction of two operands.
-fn elementwise_of_two<'a>(
+/// The line of an instruction of two operands.
+fn row_of_two<'a>(
     rt: &impl Runtime,
     load: Load,
     name: &str,
-    op: Elementwise,
-    first: &'a [i64],
-    second: &'a [i64],
-) -> io::Result<()>
-    requires kinds { HaveKinds (source_kinds (Op.Elementwise op)) (first.now ∷ second.now ∷ []) }
-{
-    elementwise_row(rt, load, name, op, &[first, second])
-}
-
-/// The line of an elementwise instruction of three operands.
-fn elementwise_of_three<'a>(
-    rt: &impl Runtime,
-    load: Load,
-    name: &str,
-    op: Elementwise,
-    first: &'a [i64],
-    second: &'a [i64],
-    third: &'a [i64],
-) -> io::Result<()>
-    requires kinds { HaveKinds (source_kinds (Op.Elementwise op)) (first.now ∷ second.now ∷ third.now ∷ []) }
-{
-    elementwise_row(rt, load, name, op, &[first, second, third])
-}
-
-/// The line of a segment instruction of two operands.
-fn segment_of_two<'a>(
-    rt: &impl Runtime,
-    load: Load,
-    name: &str,
-    op: Segmented,
+    op: Op,
     first: &'a [i64],
     second: &'a [i64],
 ) -> io::Result<()>
-    requires kinds { HaveKinds (source_kinds (Op.Segmented op)) (first.now ∷ second.now ∷ []) }
+    requires kinds { HaveKinds (source_kinds op) (first.now ∷ second.now ∷ []) }
 {
-    segment_row(rt, load, name, op, &[first, second])
+    row(rt, load, name, op, &[first, second])
 }
 
-/// The line of a segment instruction of three operands.
-fn segment_of_three<'a>(
+/// The line of an instruction of three operands.
+fn row_of_three<'a>(
     rt: &impl Runtime,
     load: Load,
     name: &str,
-    op: Segmented,
+    op: Op,
     first: &'a [i64],
     second: &'a [i64],
     third: &'a [i64],
 ) -> io::Result<()>
-    requires kinds { HaveKinds (source_kinds (Op.Segmented op)) (first.now ∷ second.now ∷ third.now ∷ []) }
+    requires kinds { HaveKinds (source_kinds op) (first.now ∷ second.now ∷ third.now ∷ []) }
 {
-    segment_row(rt, load, name, op, &[first, second, third])
+    row(rt, load, name, op, &[first, second, third])
 }
 
-/// The line of a segment instruction of four operands.
-fn segment_of_four<'a>(
+/// The line of an instruction of four operands.
+fn row_of_four<'a>(
     rt: &impl Runtime,
     load: Load,
     name: &str,
-    op: Segmented,
+    op: Op,
     first: &'a [i64],
     second: &'a [i64],
     third: &'a [i64],
     fourth: &'a [i64],
 ) -> io::Result<()>
-    requires kinds { HaveKinds (source_kinds (Op.Segmented op)) (first.now ∷ second.now ∷ third.now ∷ fourth.now ∷ []) }
+    requires kinds { HaveKinds (source_kinds op) (first.now ∷ second.now ∷ third.now ∷ fourth.now ∷ []) }
 {
-    segment_row(rt, load, name, op, &[first, second, third, fourth])
+    row(rt, load, name, op, &[first, second, third, fourth])
 }
 
-/// The line of a segment instruction of five operands.
-fn segment_of_five<'a>(
+/// The line of an instruction of five operands.
+fn row_of_five<'a>(
     rt: &impl Runtime,
     load: Load,
     name: &str,
-    op: Segmented,
+    op: Op,
     first: &'a [i64],
     second: &'a [i64],
     third: &'a [i64],
     fourth: &'a [i64],
     fifth: &'a [i64],
 ) -> io::Result<()>
-    requires kinds { HaveKinds (source_kinds (Op.Segmented op)) (first.now ∷ second.now ∷ third.now ∷ fourth.now ∷ fifth.now ∷ []) }
+    requires kinds { HaveKinds (source_kinds op) (first.now ∷ second.now ∷ third.now ∷ fourth.now ∷ fifth.now ∷ []) }
 {
-    segment_row(rt, load, name, op, &[first, second, third, fourth, fifth])
+    row(rt, load, name, op, &[first, second, third, fourth, fifth])
 }
 
 /// The lines of arithmetic: sums, products, quotients and shifts.
@@ -246,14 +165,14 @@ fn arithmetic_rows<'a>(
     left: &'a [i64],
     bits: &'a [i64],
 ) -> io::Result<()> {
-    let add = Elementwise::Arith(Arith::Add);
-    let multiply = Elementwise::Arith(Arith::Multiply);
-    let divide = Elementwise::Arith(Arith::Divide);
-    let shift = Elementwise::Arith(Arith::ShiftLeft);
-    elementwise_of_two(rt, load, "+ INT", add, left, left)?;
-    elementwise_of_two(rt, load, "* INT", multiply, left, left)?;
-    elementwise_of_two(rt, load, "/ INT", divide, left, left)?;
-    elementwise_of_two(rt, load, "LSHIFT INT", shift, left, bits)
+    let add = Op::Elementwise(Elementwise::Arith(Arith::Add));
+    let multiply = Op::Elementwise(Elementwise::Arith(Arith::Multiply));
+    let divide = Op::Elementwise(Elementwise::Arith(Arith::Divide));
+    let shift = Op::Elementwise(Elementwise::Arith(Arith::ShiftLeft));
+    row_of_two(rt, load, "+ INT", add, left, left)?;
+    row_of_two(rt, load, "* INT", multiply, left, left)?;
+    row_of_two(rt, load, "/ INT", divide, left, left)?;
+    row_of_two(rt, load, "LSHIFT INT", shift, left, bits)
 }
 
 /// The lines of the instructions that compare, connect, choose and turn.
@@ -266,15 +185,16 @@ fn choice_rows<'a>(
 ) -> io::Result<()>
     requires { HasKind Bool truth.now }
 {
-    let less = Elementwise::Compare(Comparison::Less);
-    let xor = Elementwise::Logic(Logic::Xor, Scalar::Int);
-    let invert = Elementwise::Not(Scalar::Bool);
-    let select = Elementwise::Select(Scalar::Int);
-    elementwise_of_two(rt, load, "< INT", less, left, bits)?;
-    elementwise_of_two(rt, load, "XOR INT", xor, left, bits)?;
-    elementwise_of_one(rt, load, "NOT BOOL", invert, truth)?;
-    elementwise_of_three(rt, load, "SELECT INT", select, truth, left, bits)?;
-    elementwise_of_one(rt, load, "I_TO_B", Elementwise::IntToBool, left)
+    let less = Op::Elementwise(Elementwise::Compare(Comparison::Less));
+    let xor = Op::Elementwise(Elementwise::Logic(Logic::Xor, Scalar::Int));
+    let invert = Op::Elementwise(Elementwise::Not(Scalar::Bool));
+    let select = Op::Elementwise(Elementwise::Select(Scalar::Int));
+    let to_bool = Op::Elementwise(Elementwise::IntToBool);
+    row_of_two(rt, load, "< INT", less, left, bits)?;
+    row_of_two(rt, load, "XOR INT", xor, left, bits)?;
+    row_of_one(rt, load, "NOT BOOL", invert, truth)?;
+    row_of_three(rt, load, "SELECT INT", select, truth, left, bits)?;
+    row_of_one(rt, load, "I_TO_B", to_bool, left)
 }
 
 /// A line for each family of the elementwise instructions.
@@ -295,14 +215,14 @@ fn fold_rows<'a>(
 ) -> io::Result<()>
     requires { HasKind Segdes lengths.now }
 {
-    let scan_sum = Segmented::Scan(Fold::Sum);
-    let scan_max = Segmented::Scan(Fold::Max);
-    let reduce_sum = Segmented::Reduce(Fold::Sum);
-    let reduce_max = Segmented::Reduce(Fold::Max);
-    segment_of_two(rt, load, "+_SCAN INT", scan_sum, values, lengths)?;
-    segment_of_two(rt, load, "MAX_SCAN INT", scan_max, values, lengths)?;
-    segment_of_two(rt, load, "+_REDUCE INT", reduce_sum, values, lengths)?;
-    segment_of_two(rt, load, "MAX_REDUCE INT", reduce_max, values, lengths)
+    let scan_sum = Op::Segmented(Segmented::Scan(Fold::Sum));
+    let scan_max = Op::Segmented(Segmented::Scan(Fold::Max));
+    let reduce_sum = Op::Segmented(Segmented::Reduce(Fold::Sum));
+    let reduce_max = Op::Segmented(Segmented::Reduce(Fold::Max));
+    row_of_two(rt, load, "+_SCAN INT", scan_sum, values, lengths)?;
+    row_of_two(rt, load, "MAX_SCAN INT", scan_max, values, lengths)?;
+    row_of_two(rt, load, "+_REDUCE INT", reduce_sum, values, lengths)?;
+    row_of_two(rt, load, "MAX_REDUCE INT", reduce_max, values, lengths)
 }
 
 /// The lines of the instructions that make elements of the segments' own.
@@ -310,9 +230,10 @@ fn spread_rows<'a, R: Runtime>(rt: &R, load: Load, lengths: &'a [i64]) -> io::Re
     requires { HasKind Segdes lengths.now }
 {
     let each = &shifts(rt.alloc(), lengths.len())?;
-    let distribute = Segmented::Distribute(Scalar::Int);
-    segment_of_two(rt, load, "DIST INT", distribute, each, lengths)?;
-    segment_of_three(rt, load, "INDEX", Segmented::Index, each, each, lengths)
+    let distribute = Op::Segmented(Segmented::Distribute(Scalar::Int));
+    let index = Op::Segmented(Segmented::Index);
+    row_of_two(rt, load, "DIST INT", distribute, each, lengths)?;
+    row_of_three(rt, load, "INDEX", index, each, each, lengths)
 }
 
 /// The lines of the instructions that move elements by their indices.
@@ -326,11 +247,11 @@ fn move_rows<'a, R: Runtime>(
     requires { HasKind Segdes lengths.now }
 {
     let places = &indices(rt.alloc(), lengths.len(), size)?;
-    let permute = Segmented::Permute(Scalar::Int);
-    let back = Segmented::BackPermute(Scalar::Int);
-    let default = Segmented::DefaultPermute(Scalar::Int);
-    segment_of_three(rt, load, "PERMUTE INT", permute, values, places, lengths)?;
-    segment_of_four(
+    let permute = Op::Segmented(Segmented::Permute(Scalar::Int));
+    let back = Op::Segmented(Segmented::BackPermute(Scalar::Int));
+    let default = Op::Segmented(Segmented::DefaultPermute(Scalar::Int));
+    row_of_three(rt, load, "PERMUTE INT", permute, values, places, lengths)?;
+    row_of_four(
         rt,
         load,
         "BPERMUTE INT",
@@ -340,7 +261,7 @@ fn move_rows<'a, R: Runtime>(
         lengths,
         lengths,
     )?;
-    segment_of_five(
+    row_of_five(
         rt,
         load,
         "DPERMUTE INT",
@@ -364,10 +285,10 @@ fn part_rows<'a, R: Runtime>(
 {
     let each = &shifts(rt.alloc(), lengths.len())?;
     let truth = &flags(rt.alloc(), load.words)?;
-    let extract = Segmented::Extract(Scalar::Int);
-    let pack = Segmented::Pack(Scalar::Int);
-    segment_of_three(rt, load, "EXTRACT INT", extract, values, each, lengths)?;
-    segment_of_three(rt, load, "PACK INT", pack, values, truth, lengths)
+    let extract = Op::Segmented(Segmented::Extract(Scalar::Int));
+    let pack = Op::Segmented(Segmented::Pack(Scalar::Int));
+    row_of_three(rt, load, "EXTRACT INT", extract, values, each, lengths)?;
+    row_of_three(rt, load, "PACK INT", pack, values, truth, lengths)
 }
 
 /// A line for each family of the segment instructions, over `segments` segments of `size` words each.

@@ -8,6 +8,7 @@ use Rattle.std.proofs.Math.Seq.{map-set_same}
 use Rattle.block_memory.specs.Content.{Block, words_of as content_words_of, used_words}
 use Rattle.block_memory.specs.Table.{value_at}
 use Rattle.block_memory.specs.Layout.{PlacedBlock, Layout, Covers, Begins, IsClear, block_of, content_of, with_slot}
+use Rattle.block_memory.specs.Layout.{words_of, words_at, block_at_place, layout_after_move}
 use Rattle.block_memory.specs.Region.{AreApart, AreWithin, IsCovered, ArePacked}
 use Rattle.block_memory.proofs.Lists.{IsSome-in_range, same_some}
 use Rattle.block_memory.proofs.LayoutLemmas.{value_at-set_same, value_at-set_other, Covers-set_here, Covers-set_other}
@@ -279,6 +280,22 @@ module _ (before now : Layout) (packed place used n : ℕ) (p : PlacedBlock)
         order = let o = i.order in omega arith;
         all = let all = i.all in let r = slid_rest in omega (arith, all, r);
       }
+
+-- the block that begins at the place has moved down to the packed ones
+pub IsPacking-moved : (before old new : Layout) (packed place used n len : ℕ) → IsPacking before old packed place used
+    → Begins old.slots n place → new ≡ layout_after_move old n packed → len ≡ length (words_at old.slots n)
+    → IsPacking before new (packed + len) (place + len) used
+IsPacking-moved before old new packed place used n len i b moved long =
+    let slid = moved ∙ ap (λ o. with_slot old n (block_at_place packed o)) b.there in
+    let words = long ∙ ap (λ o. length (words_of o)) b.there in
+    rw (slid, words) (IsPacking-slide before old packed place used n b.block i b.there b.here b.some)
+
+-- its words and those that moved before are within the size
+pub moved_within : (before now : Layout) (packed place used n moved words : ℕ) → IsPacking before now packed place used
+    → Begins now.slots n place → moved ≤ packed → words ≤ length (words_at now.slots n) → moved + words ≤ now.size
+moved_within before now packed place used n moved words i b few less =
+    let long = ap (λ o. length (words_of o)) b.there in
+    omega (arith, i.order, i.within n b.block b.there, b.here, long)
 
 -- at the end all blocks are packed
 pub ArePacked-end : (before now : Layout) (packed place used : ℕ) → IsPacking before now packed place used

@@ -56,24 +56,22 @@ pub(crate) fn pack_region<A: Allocator>(
     moved
 }
 
-/// Moves the blocks of a region to its front, and takes the words for a block of so many words behind them.
-pub(crate) fn pack_and_take<A: Allocator>(
-    blocks: &mut Blocks<A>,
-    holes: &mut Holes<A>,
-    used: usize,
-    len: usize,
-) -> Room
-    requires region { IsRegion blocks.old holes.old used }
-    requires some { 1 ≤ len }
-    requires fits { used + len ≤ blocks.old.size }
-    ensures size { blocks.new.size ≡ blocks.old.size }
-    ensures content { content_of blocks.new.slots ≡ content_of blocks.old.slots }
-    ensures room { HasRoom blocks.new holes.new used result.place len }
-{
-    let moved = pack_region(blocks, holes, used);
-    match holes.take(len) {
-        Some(place) => Room { place, moved },
-        None => unreachable!(),
+/// All blocks are moved to the front of the region at once, and the words are taken behind them.
+#[derive(Clone, Copy, Debug)]
+pub struct WholePacking;
+
+impl Packing for WholePacking {
+    fn make_room<A: Allocator>(
+        blocks: &mut Blocks<A>,
+        holes: &mut Holes<A>,
+        used: usize,
+        len: usize,
+    ) -> Room {
+        let moved = pack_region(blocks, holes, used);
+        match holes.take(len) {
+            Some(place) => Room { place, moved },
+            None => unreachable!(),
+        }
     }
 }
 

@@ -4,8 +4,6 @@ ghost use Rattle.block_memory.specs.Layout.{content_of};
 ghost use Rattle.block_memory.specs.Region.{IsRegion, HasRoom};
 
 use crate::blocks::Blocks;
-use crate::pack::pack_and_take;
-use crate::slide::slide_and_take;
 use holes::Holes;
 use std::alloc::Allocator;
 
@@ -31,34 +29,4 @@ pub trait Packing {
         ensures size { blocks.new.size ≡ blocks.old.size }
         ensures content { content_of blocks.new.slots ≡ content_of blocks.old.slots }
         ensures room { HasRoom blocks.new holes.new used result.place len };
-}
-
-/// All blocks are moved to the front of the region at once.
-#[derive(Clone, Copy, Debug)]
-pub struct WholePacking;
-
-impl Packing for WholePacking {
-    fn make_room<A: Allocator>(
-        blocks: &mut Blocks<A>,
-        holes: &mut Holes<A>,
-        used: usize,
-        len: usize,
-    ) -> Room {
-        pack_and_take(blocks, holes, used, len)
-    }
-}
-
-/// The blocks behind the lowest hole slide down one after another, and no further than until a hole is wide enough.
-#[derive(Clone, Copy, Debug)]
-pub struct SlidingPacking;
-
-impl Packing for SlidingPacking {
-    fn make_room<A: Allocator>(
-        blocks: &mut Blocks<A>,
-        holes: &mut Holes<A>,
-        used: usize,
-        len: usize,
-    ) -> Room {
-        slide_and_take(blocks, holes, used, len)
-    }
 }

@@ -5,8 +5,9 @@ ghost use Rattle.block_memory.specs.Content.{no_blocks};
 
 use crate::blocks::Blocks;
 use crate::memory::{BlockId, NoRoom, VectorMemory};
-use crate::pack::{give_room, pack_region, take_room};
-use crate::packing::{Packing, Room, SlidingPacking, WholePacking};
+use crate::pack::{WholePacking, give_room, pack_region, take_room};
+use crate::packing::{Packing, Room};
+use crate::slide::SlidingPacking;
 use holes::Holes;
 use holes::laws::one_hole_more_than_ranges;
 use std::alloc::{AllocError, Allocator};

@@ -1,12 +1,12 @@
 //! Sliding blocks down until a hole is wide enough.
-ghost use Rattle.std.specs.Prelude.{◌≡◌, ◌+◌, ◌-◌, ◌≤◌, length, IsSome};
+ghost use Rattle.std.specs.Prelude.{◌≡◌, ◌-◌, ◌≤◌, length, IsSome};
 ghost use Rattle.holes.specs.FreeWords.{AllFree, NoneFree};
 ghost use Rattle.block_memory.specs.Table.{value_at};
-ghost use Rattle.block_memory.specs.Layout.{content_of, place_at, words_at, layout_after_move};
-ghost use Rattle.block_memory.specs.Region.{IsRegion, HasRoom};
+ghost use Rattle.block_memory.specs.Layout.{place_at, words_at, layout_after_move};
+ghost use Rattle.block_memory.specs.Region.{IsRegion};
 
 use crate::blocks::Blocks;
-use crate::packing::Room;
+use crate::packing::{Packing, Room};
 use holes::Holes;
 use holes::laws::one_hole_more_than_ranges;
 use std::alloc::Allocator;
@@ -42,38 +42,36 @@ fn slide_down<A: Allocator>(
     }
 }
 
-/// Slides the blocks behind the lowest hole down in order of place until the hole before the next one has so many words,
-/// and takes these. As many words are free.
-pub(crate) fn slide_and_take<A: Allocator>(
-    blocks: &mut Blocks<A>,
-    holes: &mut Holes<A>,
-    used: usize,
-    len: usize,
-) -> Room
-    requires region { IsRegion blocks.old holes.old used }
-    requires some { 1 ≤ len }
-    requires fits { used + len ≤ blocks.old.size }
-    ensures size { blocks.new.size ≡ blocks.old.size }
-    ensures content { content_of blocks.new.slots ≡ content_of blocks.old.slots }
-    ensures room { HasRoom blocks.new holes.new used result.place len }
-{
-    let mut moved = 0;
-    // The blocks before `place` lie together up to `packed`, and the words from there on to `place` are free.
-    let mut packed = 0;
-    let mut place = 0;
-    while place - packed < len {
-        match blocks.beginning_at(place) {
-            Some(number) => {
-                let words = blocks.words(number).len();
-                moved += slide_down(blocks, holes, used, number, packed);
-                packed += words;
-                place += words;
+/// The blocks behind the lowest hole slide down in order of place until the hole before the next one has so many words,
+/// which are taken.
+#[derive(Clone, Copy, Debug)]
+pub struct SlidingPacking;
+
+impl Packing for SlidingPacking {
+    fn make_room<A: Allocator>(
+        blocks: &mut Blocks<A>,
+        holes: &mut Holes<A>,
+        used: usize,
+        len: usize,
+    ) -> Room {
+        let mut moved = 0;
+        // The blocks before `place` lie together up to `packed`, and the words from there on to `place` are free.
+        let mut packed = 0;
+        let mut place = 0;
+        while place - packed < len {
+            match blocks.beginning_at(place) {
+                Some(number) => {
+                    let words = blocks.words(number).len();
+                    moved += slide_down(blocks, holes, used, number, packed);
+                    packed += words;
+                    place += words;
+                }
+                None => place += 1,
             }
-            None => place += 1,
         }
-    }
-    match holes.take(len) {
-        Some(place) => Room { place, moved },
-        None => unreachable!(),
+        match holes.take(len) {
+            Some(place) => Room { place, moved },
+            None => unreachable!(),
+        }
     }
 }

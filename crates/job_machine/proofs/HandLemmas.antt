@@ -2,6 +2,7 @@
 use Rattle.std.proofs.Common.{◌≡◌, ◌⊎◌, ℕ, zero, suc, ◌+◌, false, List, [], ◌∷◌, length, set}
 use Rattle.std.proofs.Common.{slice_get, Option, Some, None, refl, sym, ◌∙◌, ap, subst, arith, inl, inr, length-set}
 use Rattle.std.proofs.lemmas.Bool.{false≢true, cases_eq}
+use Rattle.std.proofs.lemmas.List.{set-set}
 use Rattle.std.proofs.lemmas.Option.{none-some, same_Some}
 use Rattle.job_steps.specs.declared.event.Event.{Event}
 use Rattle.job_steps.specs.declared.event.Event.TheVariants.{Admit, Begin, Finish, Recall, Collect}
@@ -20,15 +21,11 @@ use Rattle.job_machine.specs.declared.hands.Hand.{Hand}
 use Rattle.job_machine.specs.declared.hands.Hand.TheVariants as hand
 use Rattle.job_machine.specs.Machines.{MachineState, machine_after, BeginsIn, FinishesIn, after_begun, after_finished}
 use Rattle.job_machine.specs.Hands.{with_hand, Takes, hand_after, HandFits, FitsIn, HandsFit}
-use Rattle.job_machine.proofs.RunningOut.{Happens, Passed, Opened, happens, of_with, get-set_same, get-set_other, set_twice}
+use Rattle.job_machine.proofs.RunningOut.{Happens, Passed, Opened, happens, of_with}
+use Rattle.job_machine.proofs.Places.{get-set_same, get-set_other, set_back}
 use Rattle.job_machine.proofs.Stepping.{changed, finished_by}
 
 -- ---- lists of hands
-
-set_back : {A : Type 0} (xs : List (Hand A)) (i : ℕ) (x : Hand A) → slice_get xs i ≡ Some x → set xs i x ≡ xs
-set_back [] i x e = refl
-set_back (z ∷ xs) zero x e = ap (λ y. y ∷ xs) (sym (same_Some z x e))
-set_back (z ∷ xs) (suc i) x e = ap (λ zs. z ∷ zs) (set_back xs i x e)
 
 count_with : {A : Type 0} (job : ℕ) (h : Hand A) (hands : List (Hand A)) → length (with_hand job h hands) ≡ length hands
 count_with zero h hands = refl
@@ -48,7 +45,7 @@ other_with_hand (suc i) (suc j) hands h ne = get-set_other hands i j h (λ e. ne
 hand_twice : {A : Type 0} (job : ℕ) (one other : Hand A) (hands : List (Hand A)) →
     with_hand job other (with_hand job one hands) ≡ with_hand job other hands
 hand_twice zero one other hands = refl
-hand_twice (suc i) one other hands = set_twice hands i one other
+hand_twice (suc i) one other hands = set-set hands i one other
 
 hand_back : {A : Type 0} (job : ℕ) (own : Hand A) (hands : List (Hand A)) → of_job job hands ≡ Some own →
     with_hand job own hands ≡ hands
@@ -155,7 +152,8 @@ closed_hand event m job h f job_is closed =
     (sym (passed event m job job_is
     ((λ i. next_standing_in event (f.task_is i) (f.standing_is i)) ∙ closed))) f
 
-opened_hand : {A : Type 0} (event : Event) (m : MachineState) (job : ℕ) (task : Task) (old new : Standing) (h : Hand A) →
+opened_hand : {A : Type 0} (event : Event) (m : MachineState) (job : ℕ) (task : Task) (old new : Standing)
+    (h : Hand A) →
     job_of m.region m.tasks event m.standings ≡ Some job → of_job job m.tasks ≡ Some task →
     of_job job m.standings ≡ Some old → next_standing event task old ≡ Some new → HandFits job task new h →
     FitsIn (machine_after event m) job h
@@ -352,7 +350,8 @@ freed : {A : Type 0} (stay : OthersStay) (event : Event) (m new : MachineState) 
     ((task : Task) → next_standing event task (InFlight filled.step) ≡ Some (late task)) →
     ((task : Task) → is_in_flight (late task) ≡ false) → desk ≡ filled.words → new ≡ machine_after event m →
     after ≡ with_hand job (hand.Free desk) between → Played event m new after
-freed {A} stay event m new hands between after job desk filled late fit taken job_is next lands desk_is new_is after_is =
+freed {A} stay event m new hands between after job desk filled late fit taken job_is next lands desk_is new_is
+    after_is =
     let own : Hand A = hand.Holds filled in
     let free : Hand A = hand.Free desk in
     let f = fit.each job own taken.0 in

@@ -1,6 +1,7 @@
 mod FirstSlots
 mod FreshHands
 mod HandLemmas
+mod Places
 mod Replaying
 mod RunningOut
 mod SoundLemmas

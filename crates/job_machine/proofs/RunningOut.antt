@@ -3,41 +3,27 @@ use Rattle.std.proofs.Common.{◌≡◌, ◌⊎◌, ℕ, zero, suc, ◌≤◌, t
 use Rattle.std.proofs.Common.{slice_get, position, All, Option, Some, None, is_some, refl, sym, ◌∙◌, ap, subst, arith}
 use Rattle.std.proofs.Common.{inl, inr}
 use Rattle.std.proofs.lemmas.Bool.{false≢true}
+use Rattle.std.proofs.lemmas.List.{set-set}
 use Rattle.std.proofs.lemmas.Option.{none-some, same_Some, get_or_from_slice_get, slice_get_within}
 use Rattle.job_steps.specs.declared.event.Event.{Event}
 use Rattle.job_steps.specs.declared.event.Event.TheVariants.{Admit, Begin, Finish, Recall, Collect}
-use Rattle.job_steps.specs.EventLaws.{EventsGoOn, EventsKeep, EventsUseUp, LeadsJoin, RecallsAreEvents, IsVerified, AreKept}
+use Rattle.job_steps.specs.EventLaws.{EventsGoOn, EventsKeep, EventsUseUp, LeadsJoin, RecallsAreEvents, IsVerified}
+use Rattle.job_steps.specs.EventLaws.{AreKept}
 use Rattle.job_steps.specs.Events.{next_standing, job_of, next_standing_in, next_standing_of, is_open, with_next}
-use Rattle.job_steps.specs.Events.{after_event, after_events, recalled_standing, recalled_standings, all_recalls, LeadTo}
+use Rattle.job_steps.specs.Events.{after_event, after_events, recalled_standing, recalled_standings, all_recalls}
+use Rattle.job_steps.specs.Events.{LeadTo}
 use Rattle.job_steps.specs.Events.{is_recall, all_events_left}
 use Rattle.job_steps.specs.Standings.{Standing, Waiting, Live, InFlight, Ended, Collected, of_job, with_standing}
 use Rattle.job_steps.specs.Standings.{is_waiting, admission, admission_at}
 use Rattle.job_steps.specs.States.{Task}
 use Rattle.job_machine.specs.declared.machine.Admission.{Admission}
 use Rattle.job_machine.specs.declared.machine.Admission.TheVariants.{Admitted}
-use Rattle.job_machine.specs.Machines.{MachineState, with_standings, machine_after, Leads, OthersStand, HasNoStep, GoesOn}
+use Rattle.job_machine.specs.Machines.{MachineState, with_standings, machine_after, Leads, OthersStand, HasNoStep}
+use Rattle.job_machine.specs.Machines.{GoesOn}
 use Rattle.job_machine.specs.Machines.{IsWaitingOrCollected, IsDone, admission_by, admission_in, is_running}
+use Rattle.job_machine.proofs.Places.{get-set_same, get-set_other}
 
--- ---- lists
-
-pub get-set_same : {E : Type 0} (xs : List E) (i : ℕ) (x y : E) → slice_get xs i ≡ Some x →
-    slice_get (set xs i y) i ≡ Some y
-get-set_same [] i x y e = absurd (none-some x e)
-get-set_same (z ∷ xs) zero x y e = refl
-get-set_same (z ∷ xs) (suc i) x y e = get-set_same xs i x y e
-
-pub get-set_other : {E : Type 0} (xs : List E) (i j : ℕ) (y : E) → (j ≡ i → ⊥) →
-    slice_get (set xs i y) j ≡ slice_get xs j
-get-set_other [] i j y ne = refl
-get-set_other (z ∷ xs) zero zero y ne = absurd (ne refl)
-get-set_other (z ∷ xs) zero (suc j) y ne = refl
-get-set_other (z ∷ xs) (suc i) zero y ne = refl
-get-set_other (z ∷ xs) (suc i) (suc j) y ne = get-set_other xs i j y (λ e. ne (ap suc e))
-
-pub set_twice : {E : Type 0} (xs : List E) (i : ℕ) (x y : E) → set (set xs i x) i y ≡ set xs i y
-set_twice [] i x y = refl
-set_twice (z ∷ xs) zero x y = refl
-set_twice (z ∷ xs) (suc i) x y = ap (λ zs. z ∷ zs) (set_twice xs i x y)
+-- ---- one job's standing
 
 pub of_with : (job : ℕ) (standings : List Standing) (old new : Standing) → of_job job standings ≡ Some old →
     of_job job (with_standing job new standings) ≡ Some new
@@ -53,7 +39,7 @@ of_with_other (suc i) (suc j) standings new ne = get-set_other standings i j new
 pub with_twice : (job : ℕ) (standings : List Standing) (old new : Standing) →
     with_standing job new (with_standing job old standings) ≡ with_standing job new standings
 with_twice zero standings old new = refl
-with_twice (suc i) standings old new = set_twice standings i old new
+with_twice (suc i) standings old new = set-set standings i old new
 
 -- ---- no step
 

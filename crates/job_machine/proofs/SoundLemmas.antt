@@ -1,21 +1,20 @@
 -- A machine with one slot changed is sound, and stands as an event leaves it.
-use Rattle.std.proofs.Common.{◌≡◌, ◌≢◌, ◌⊎◌, ℕ, zero, suc, ◌+◌, ◌-◌, ◌<◌, ◌≤◌, leb, ltb, Bool, true, false, cond, List, [], ◌∷◌}
-use Rattle.std.proofs.Common.{length, map, set, get_or, slice_get, All, Option, Some, None, refl, sym, ◌∙◌, ap, subst}
+use Rattle.std.proofs.Common.{◌≡◌, ℕ, zero, suc, ◌+◌, ◌-◌, ◌<◌, ◌≤◌, Bool, true, false, cond, List}
+use Rattle.std.proofs.Common.{[], ◌∷◌}
+use Rattle.std.proofs.Common.{length, set, get_or, slice_get, All, Option, Some, None, refl, sym, ◌∙◌, ap, subst}
 use Rattle.std.proofs.Common.{arith, inl, inr, length-set}
-use Rattle.std.specs.Prelude.{sum_by, count_by, nat_lt, nat_eq, option_map}
+use Rattle.std.specs.Prelude.{sum_by, nat_lt, option_map}
 use Rattle.std.proofs.lemmas.Bool.{cases_eq, ltb-true, ltb-false}
-use Rattle.std.proofs.lemmas.List.{map-set, length-map, length-replicate}
+use Rattle.std.proofs.lemmas.List.{map-set}
 use Rattle.std.proofs.lemmas.List.Sums.{sum_by-cons}
-use Rattle.std.proofs.lemmas.Option.{none-some, same_Some, cond_some, slice_get_within, slice_get_past, slice_get-map, slice_get-get_or}
+use Rattle.std.proofs.lemmas.Option.{none-some, same_Some, cond_some, slice_get_within, slice_get_past, slice_get-map}
 use Rattle.refcounts.specs.SharedState.{Slot, blocks_in, words_in, block_count}
-use Rattle.refcounts.specs.SharedState as shared
-use Rattle.refcounts.specs.Owners.{slots_seen_by}
 use Rattle.job_memory.specs.JobBlocks.{JobBlocks, ChangesOnlyOf, own_slots, held_words, words_of, grant_of}
 use Rattle.job_memory.specs.JobBlocks as jobs
 use Rattle.job_steps.specs.declared.event.Event.{Event}
 use Rattle.job_steps.specs.EventLaws.{ChangesItsJob, EventsChangeTheirJob, ClosedChangeNothing, MissingAreClosed}
 use Rattle.job_steps.specs.Events.{job_of, named_job, after_event, next_standing}
-use Rattle.job_steps.specs.Standings.{Standing, Waiting, Live, InFlight, Ended, Collected, of_job, sum_over}
+use Rattle.job_steps.specs.Standings.{Standing, of_job, sum_over}
 use Rattle.job_steps.specs.Standings.{reserved_words, granted_words}
 use Rattle.job_steps.specs.States.{Task}
 use Rattle.job_slots.specs.declared.status.Status.{Status}
@@ -25,27 +24,9 @@ use Rattle.job_slots.specs.Laws.{OthersAreShown}
 use Rattle.job_machine.specs.Machines.{place_of}
 use Rattle.job_slots.specs.Slots.{SlotState, Shows, standing_of, standing_by, grant_by}
 use Rattle.job_machine.specs.Sound.{IsSound, sum_to, standings_of}
+use Rattle.job_machine.proofs.Places.{get-set_same, get-set_other, set_back}
 
 -- ---- places
-
-pub get-set_same : {X : Type 0} (xs : List X) (i : ℕ) (x y : X) → slice_get xs i ≡ Some x →
-    slice_get (set xs i y) i ≡ Some y
-get-set_same [] i x y e = absurd (none-some x e)
-get-set_same (z ∷ xs) zero x y e = refl
-get-set_same (z ∷ xs) (suc i) x y e = get-set_same xs i x y e
-
-pub get-set_other : {X : Type 0} (xs : List X) (i j : ℕ) (y : X) → (i ≡ j → ⊥) →
-    slice_get (set xs i y) j ≡ slice_get xs j
-get-set_other [] i j y ne = refl
-get-set_other (z ∷ xs) zero zero y ne = absurd (ne refl)
-get-set_other (z ∷ xs) zero (suc j) y ne = refl
-get-set_other (z ∷ xs) (suc i) zero y ne = refl
-get-set_other (z ∷ xs) (suc i) (suc j) y ne = get-set_other xs i j y (λ e. ne (ap suc e))
-
-pub set_back : {X : Type 0} (xs : List X) (i : ℕ) (x : X) → slice_get xs i ≡ Some x → set xs i x ≡ xs
-set_back [] i x e = refl
-set_back (z ∷ xs) zero x e = ap (λ k. k ∷ xs) (sym (same_Some z x e))
-set_back (z ∷ xs) (suc i) x e = ap (λ zs. z ∷ zs) (set_back xs i x e)
 
 -- lists of one length have something at the same places
 pub beside_at : {X Y : Type 0} (xs : List X) (ys : List Y) → length ys ≡ length xs → (i : ℕ) (x : X) →
@@ -137,7 +118,8 @@ sum_within (t ∷ ts) [] f same each = absurd (omega (arith, same))
 sum_within (t ∷ ts) (s ∷ ss) f same each =
     let shift = sum_to_shift (length ts) f in
     let here = each 0 t s refl refl in
-    let rest = sum_within ts ss (λ k. f (suc k)) (omega (arith, same)) (λ place task slot. each (suc place) task slot) in
+    let rest =
+    sum_within ts ss (λ k. f (suc k)) (omega (arith, same)) (λ place task slot. each (suc place) task slot) in
     omega (arith, shift, here, rest, sum_by-cons (λ (task : Task). task.limits.cells) t ts)
 
 granted_by : (task : Task) (s : Status) (n : ℕ) → words_of (grant_by task s) ≡ reserved_words task (standing_by s n)
@@ -158,7 +140,8 @@ granted_each (g ∷ gs) [] slots jobs same each = absurd (omega (arith, jobs))
 granted_each (g ∷ gs) (t ∷ ts) [] jobs same each = absurd (omega (arith, same))
 granted_each (g ∷ gs) (t ∷ ts) (s ∷ ss) jobs same each =
     let grant : g ≡ grant_by t s.status = each 0 t s refl refl in
-    let here : words_of g ≡ reserved_words t (standing_of s) = ap words_of grant ∙ granted_by t s.status s.trace.executed in
+    let here : words_of g ≡ reserved_words t (standing_of s) = ap words_of grant
+    ∙ granted_by t s.status s.trace.executed in
     let rest =
     granted_each gs ts ss (omega (arith, jobs)) (omega (arith, same)) (λ place task slot. each (suc place) task slot) in
     omega (arith, here, rest, sum_by-cons words_of g gs)
@@ -169,7 +152,8 @@ granted_is blocks tasks slots sound =
     granted_each blocks.grants tasks slots sound.jobs sound.slots_are
     (λ place task slot t s.
     let at : suc place - 1 ≡ place = omega arith in
-    subst (λ (k : ℕ). get_or blocks.grants k None ≡ grant_by task slot.status) at (sound.each place task slot t s).grant)
+    subst (λ (k : ℕ). get_or blocks.grants k None ≡ grant_by task slot.status) at
+    (sound.each place task slot t s).grant)
 
 -- ---- one slot changes
 
@@ -197,12 +181,15 @@ pub sound_with : OthersAreShown → (old new : JobBlocks) (tasks : List Task) (s
     ChangesOnlyOf (suc place) old new → Shows (suc place) new task slot → IsSound new tasks (set slots place slot)
 sound_with others old new tasks slots place task slot sound at changes shows =
     let within : suc place ≤ length tasks = omega (arith, slice_get_within tasks place task at) in
-    let apart : (k : ℕ) → (k ≡ suc place → ⊥) → own_slots k new ≡ own_slots k old = (λ k ne. changes.memory.others k ne) in
+    let apart : (k : ℕ) → (k ≡ suc place → ⊥) → own_slots k new ≡ own_slots k old =
+    (λ k ne. changes.memory.others k ne) in
     let blocks =
-    sum_to_changed (length tasks) (suc place) (λ job. blocks_in (own_slots job old)) (λ job. blocks_in (own_slots job new))
+    sum_to_changed (length tasks) (suc place) (λ job. blocks_in (own_slots job old))
+    (λ job. blocks_in (own_slots job new))
     (omega arith) within (λ k ne. ap blocks_in (apart k ne)) in
     let words =
-    sum_to_changed (length tasks) (suc place) (λ job. held_words job old) (λ job. held_words job new) (omega arith) within
+    sum_to_changed (length tasks) (suc place) (λ job. held_words job old) (λ job. held_words job new) (omega arith)
+    within
     (λ k ne. ap words_in (apart k ne)) in
     record {
       jobs = changes.jobs ∙ sound.jobs;
@@ -227,7 +214,7 @@ sound_with others old new tasks slots place task slot sound at changes shows =
                 (subst (λ (s : SlotState). Shows (suc place) new task s) same_slot shows))
             | inr ne ↦
                 others (suc k) (suc place) old new other slot_k changes (λ e. ne (omega (arith, e)))
-                (sound.each k other slot_k at_k (sym (get-set_other slots place k slot ne) ∙ slot_at))
+                (sound.each k other slot_k at_k (sym (get-set_other slots place k slot (λ e. ne (sym e))) ∙ slot_at))
           ]);
       numbers = changes.memory.ids ∙ sound.numbers;
       counted = omega (arith, counted_with (suc place) old new changes, sound.counted, blocks);
@@ -240,7 +227,8 @@ after_at : (region : ℕ) (tasks : List Task) (event : Event) (standings : List 
     (old : Standing) → ChangesItsJob region tasks event standings (suc place) task old →
     slice_get standings place ≡ Some old → (o : Option Standing) → next_standing event task old ≡ o →
     set standings place (or_same old o) ≡ after_event region tasks event standings
-after_at region tasks event standings place task old changes at None e = set_back standings place old at ∙ sym (changes.passed e)
+after_at region tasks event standings place task old changes at None e = set_back standings place old at
+    ∙ sym (changes.passed e)
 after_at region tasks event standings place task old changes at (Some new) e = sym (changes.changed new e)
 
 pub standing_at : (slots : List SlotState) (place : ℕ) (slot : SlotState) → slice_get slots place ≡ Some slot →

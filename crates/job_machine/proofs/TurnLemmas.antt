@@ -1,6 +1,7 @@
 -- What a turn of one job makes of what a machine shows.
-use Rattle.std.proofs.Common.{◌≡◌, ◌≢◌, ℕ, zero, suc, ◌+◌, ◌-◌, ◌<◌, ◌≤◌, Bool, true, false, cond, List, [], ◌∷◌}
-use Rattle.std.proofs.Common.{length, map, set, get_or, slice_get, position, All, Option, Some, None, refl, sym, ◌∙◌, ap}
+use Rattle.std.proofs.Common.{◌≡◌, ℕ, zero, suc, ◌+◌, ◌<◌, ◌≤◌, Bool, true, false, cond, List, [], ◌∷◌}
+use Rattle.std.proofs.Common.{length, set, get_or, slice_get, position, All, Option, Some, None, refl, sym, ◌∙◌}
+use Rattle.std.proofs.Common.{ap}
 use Rattle.std.proofs.Common.{subst, arith, inl, inr}
 use Rattle.std.specs.Prelude.{nat_le, nat_lt, not, option_map}
 use Rattle.std.specs.List.{prefix_len}
@@ -8,18 +9,19 @@ use Rattle.std.specs.Prelude.{Result, Ok, Err, IsErr, IfSome, OnOk, OnErr, ◌�
 use Rattle.std.proofs.lemmas.Bool.{false≢true, cases_Bool, cases_lt, leb-true, le-leb}
 use Rattle.std.proofs.lemmas.List.{length-map}
 use Rattle.std.proofs.lemmas.List.Quantifiers.{position-Some}
-use Rattle.std.proofs.lemmas.Option.{none-some, same_Some, slice_get_within, slice_get-map, slice_get-get_or, slice_get_read}
+use Rattle.std.proofs.lemmas.Option.{none-some, same_Some, slice_get-get_or}
+use Rattle.std.proofs.lemmas.Option.{slice_get_read}
 use Rattle.refcounts.specs.SharedState.{block_count, blocks_in, IsTidy}
 use Rattle.refcounts.specs.SharedState as shared
 use Rattle.job_memory.specs.JobBlocks.{JobBlocks, ChangesOnlyOf, own_slots, held_words}
 use Rattle.job_memory.specs.JobBlocks as jobs
-use Rattle.job_memory.specs.Laws.{ChangesJoin}
 use Rattle.job_steps.specs.declared.event.Event.{Event}
-use Rattle.job_steps.specs.declared.event.Event.TheVariants.{Admit, Begin, Finish, Recall, Collect}
+use Rattle.job_steps.specs.declared.event.Event.TheVariants.{Admit, Begin, Finish, Recall}
 use Rattle.job_steps.specs.EventLaws.{EventsChangeTheirJob, ClosedChangeNothing, MissingAreClosed, StandsOnRun}
 use Rattle.job_steps.specs.EventLaws.{IsVerified, AreKept}
 use Rattle.job_steps.specs.Events.{job_of, named_job, with_next, next_standing_of, after_event, next_standing}
-use Rattle.job_steps.specs.Standings.{Standing, Waiting, Live, of_job, is_waiting, held_by, used_words, granted_words, has_room}
+use Rattle.job_steps.specs.Standings.{Standing, Waiting, Live, of_job, is_waiting, held_by, used_words, granted_words}
+use Rattle.job_steps.specs.Standings.{has_room}
 use Rattle.job_steps.specs.Standings.{admission_at, admission}
 use Rattle.job_steps.specs.States.{Task}
 use Rattle.job_steps.specs.Tickets.{Asked}
@@ -30,16 +32,17 @@ use Rattle.job_slots.specs.declared.answer.Begun.TheVariants as begun
 use Rattle.job_slots.specs.declared.answer.Finished.{Finished}
 use Rattle.job_slots.specs.declared.answer.Finished.TheVariants as finished
 use Rattle.job_slots.specs.Answers.{Begins, Finishes, or_same, standing_after_begun, standing_after_finished}
-use Rattle.job_slots.specs.Laws.{OthersAreShown, ShownIsAlone, RecalledIsShown}
-use Rattle.job_machine.specs.Machines.{MachineState, place_of, machine_after, told, told_by, BeginsIn, FinishesIn, after_begun}
+use Rattle.job_slots.specs.Laws.{OthersAreShown, ShownIsAlone}
+use Rattle.job_machine.specs.Machines.{MachineState, place_of, machine_after, told, told_by, BeginsIn, FinishesIn}
+use Rattle.job_machine.specs.Machines.{after_begun}
 use Rattle.job_machine.specs.Machines.{after_finished}
 use Rattle.job_machine.specs.SlotOf.{IsMissing, IsSlotOf}
 use Rattle.job_slots.specs.Slots.{told_outcome, status_of}
 use Rattle.job_machine.specs.Machines.{outcome_in, outcome_by, admission_in, admission_by}
 use Rattle.job_machine.specs.declared.machine.Admission.TheVariants.{Admitted, NotNow, NoneWaiting}
-use Rattle.job_slots.specs.Slots.{SlotState, Shows, standing_of, standing_by, recalled_status, recalled_slot}
+use Rattle.job_slots.specs.Slots.{SlotState, Shows, standing_of, standing_by, recalled_status}
 use Rattle.job_machine.specs.Sound.{IsSound, standings_of}
-use Rattle.job_machine.proofs.SoundLemmas.{place_is, no_place, beside_at, set_back, standing_at, stands_after, stands_still}
+use Rattle.job_machine.proofs.SoundLemmas.{place_is, no_place, beside_at, standing_at, stands_after, stands_still}
 use Rattle.job_machine.proofs.SoundLemmas.{missing_after, sound_with, sum_is, sum_within, granted_is}
 
 abbrev pub shown_machine : JobBlocks → List Task → List SlotState → MachineState
@@ -86,7 +89,8 @@ pub some_turn : (blocks : JobBlocks) (tasks : List Task) (slots : List SlotState
     (task : Task) × HasTurn tasks slots m job place task slot
 some_turn blocks tasks slots m job place o slot sound view o_is some slot_is =
     subst
-    (λ (m : MachineState). o ≡ place_of (length m.tasks) job → (task : Task) × HasTurn tasks slots m job place task slot)
+    (λ (m : MachineState). o ≡ place_of (length m.tasks) job → (task : Task) × HasTurn tasks slots m job place task
+    slot)
     view
     (λ e.
     let is = place_is (length tasks) job place (sym e ∙ some) in
@@ -106,28 +110,30 @@ within_jobs blocks tasks slots m job place o sound view o_is some =
 
 -- ---- one slot, and the blocks of its job
 
-pub turn_shows : (blocks : JobBlocks) (tasks : List Task) (slots : List SlotState) (m : MachineState) (job place : ℕ)
-    (task : Task) (slot : SlotState) → IsSound blocks tasks slots → HasTurn tasks slots m job place task slot →
+pub turn_shows : {blocks : JobBlocks} {tasks : List Task} {slots : List SlotState} {m : MachineState} {job place : ℕ}
+    {task : Task} {slot : SlotState} → IsSound blocks tasks slots → HasTurn tasks slots m job place task slot →
     Shows job blocks task slot
-turn_shows blocks tasks slots m job place task slot sound h =
+turn_shows {blocks} {tasks} {slots} {m} {job} {place} {task} {slot} sound h =
     subst (λ (j : ℕ). Shows j blocks task slot) (sym h.job_is) (sound.each place task slot h.task_at h.slot_at)
 
-pub turn_sound : OthersAreShown → (old new : JobBlocks) (tasks : List Task) (slots : List SlotState) (m : MachineState)
-    (job place : ℕ) (task : Task) (before after : SlotState) → IsSound old tasks slots →
+pub turn_sound : OthersAreShown → {old new : JobBlocks} {tasks : List Task} {slots : List SlotState} {m : MachineState}
+    {job place : ℕ} {task : Task} {before after : SlotState} → IsSound old tasks slots →
     HasTurn tasks slots m job place task before → ChangesOnlyOf job old new → Shows job new task after →
     IsSound new tasks (set slots place after)
-turn_sound others old new tasks slots m job place task before after sound h changes shows =
+turn_sound others {old} {new} {tasks} {slots} {m} {job} {place} {task} {before} {after} sound h changes shows =
     sound_with others old new tasks slots place task after sound h.task_at
-    (subst (λ (j : ℕ). ChangesOnlyOf j old new) h.job_is changes) (subst (λ (j : ℕ). Shows j new task after) h.job_is shows)
+    (subst (λ (j : ℕ). ChangesOnlyOf j old new) h.job_is changes)
+    (subst (λ (j : ℕ). Shows j new task after) h.job_is shows)
 
 -- the machine shows what the event makes of it
-pub turn_state : EventsChangeTheirJob → (old new : JobBlocks) (tasks : List Task) (slots : List SlotState)
-    (m : MachineState) (event : Event) (job place : ℕ) (task : Task) (before after : SlotState) →
-    shown_machine old tasks slots ≡ m → HasTurn tasks slots m job place task before → new.memory.room ≡ old.memory.room →
+pub turn_state : EventsChangeTheirJob → (old new : JobBlocks) {tasks : List Task} {slots : List SlotState}
+    {m : MachineState} (event : Event) {job place : ℕ} {task : Task} {before : SlotState} (after : SlotState) →
+    shown_machine old tasks slots ≡ m → HasTurn tasks slots m job place task before →
+    new.memory.room ≡ old.memory.room →
     job_of old.memory.room tasks event (standings_of slots) ≡ Some job →
     standing_of after ≡ or_same (standing_of before) (next_standing event task (standing_of before)) →
     shown_machine new tasks (set slots place after) ≡ machine_after event m
-turn_state laws old new tasks slots m event job place task before after view h room named stands =
+turn_state laws old new {tasks} {slots} {m} event {job} {place} {task} {before} after view h room named stands =
     let standings =
     stands_after laws old.memory.room tasks event slots place task before after
     (named ∙ ap (λ (j : ℕ). Some j) h.job_is) h.task_at h.slot_at stands in
@@ -136,11 +142,11 @@ turn_state laws old new tasks slots m event job place task before after view h r
     here ∙ ap (machine_after event) view
 
 -- the machine shows what it showed
-pub turn_still : (old new : JobBlocks) (tasks : List Task) (slots : List SlotState) (m : MachineState) (job place : ℕ)
-    (task : Task) (before after : SlotState) → shown_machine old tasks slots ≡ m →
+pub turn_still : (old new : JobBlocks) {tasks : List Task} {slots : List SlotState} {m : MachineState} {job place : ℕ}
+    {task : Task} {before : SlotState} (after : SlotState) → shown_machine old tasks slots ≡ m →
     HasTurn tasks slots m job place task before → new.memory.room ≡ old.memory.room →
     standing_of after ≡ standing_of before → shown_machine new tasks (set slots place after) ≡ m
-turn_still old new tasks slots m job place task before after view h room stands =
+turn_still old new {tasks} {slots} {m} {job} {place} {task} {before} after view h room stands =
     let standings = stands_still slots place before after h.slot_at stands in
     let here : shown_machine new tasks (set slots place after) ≡ shown_machine old tasks slots =
     λ i. record { region = room i; tasks = tasks; standings = standings i } in
@@ -173,19 +179,19 @@ told_in of tasks slots m job place task slot h =
     ap (λ o. told_by of o (of_job job m.standings)) h.shown_task
     ∙ ap (λ o. told_by of (Some task) o) h.shown_standing
 
-pub begins_in : {A : Type 0} (words : ℕ) (tasks : List Task) (slots : List SlotState) (m : MachineState)
-    (job place : ℕ) (task : Task) (slot : SlotState) (answer : Begun A) → HasTurn tasks slots m job place task slot →
+pub begins_in : {A : Type 0} (words : ℕ) {tasks : List Task} {slots : List SlotState} {m : MachineState}
+    {job place : ℕ} {task : Task} {slot : SlotState} (answer : Begun A) → HasTurn tasks slots m job place task slot →
     Begins job words task (standing_of slot) answer →
     BeginsIn job words (of_job job m.tasks) (of_job job m.standings) answer
-begins_in words tasks slots m job place task slot answer h begins =
+begins_in words {tasks} {slots} {m} {job} {place} {task} {slot} answer h begins =
     subst (λ (o : Option Task). BeginsIn job words o (of_job job m.standings) answer) (sym h.shown_task)
     (subst (λ (o : Option Standing). BeginsIn job words (Some task) o answer) (sym h.shown_standing) begins)
 
-pub finishes_in : (filled : Asked) (job : ℕ) → job ≡ filled.job → (tasks : List Task) (slots : List SlotState)
-    (m : MachineState) (place : ℕ) (task : Task) (slot : SlotState) (answer : Finished) →
+pub finishes_in : (filled : Asked) {job : ℕ} → job ≡ filled.job → {tasks : List Task} {slots : List SlotState}
+    {m : MachineState} {place : ℕ} {task : Task} {slot : SlotState} (answer : Finished) →
     HasTurn tasks slots m job place task slot → Finishes job task (standing_of slot) filled answer →
     FinishesIn filled (of_job filled.job m.tasks) (of_job filled.job m.standings) answer
-finishes_in filled job same tasks slots m place task slot answer h finishes =
+finishes_in filled {job} same {tasks} {slots} {m} {place} {task} {slot} answer h finishes =
     let own : Finishes filled.job task (standing_of slot) filled answer =
     subst (λ (j : ℕ). Finishes j task (standing_of slot) filled answer) same finishes in
     subst (λ (j : ℕ). FinishesIn filled (of_job j m.tasks) (of_job j m.standings) answer) same
@@ -210,34 +216,36 @@ recalled_stands job task status.Collected n = refl
 
 -- ---- a begin and a finish
 
-pub begun_state : {A : Type 0} → EventsChangeTheirJob → (old new : JobBlocks) (tasks : List Task)
-    (slots : List SlotState) (m : MachineState) (job place : ℕ) (task : Task) (before after : SlotState) →
-    shown_machine old tasks slots ≡ m → HasTurn tasks slots m job place task before → new.memory.room ≡ old.memory.room →
+pub begun_state : {A : Type 0} → EventsChangeTheirJob → (old new : JobBlocks) {tasks : List Task}
+    {slots : List SlotState} {m : MachineState} {job place : ℕ} {task : Task} {before : SlotState} (after : SlotState) →
+    shown_machine old tasks slots ≡ m → HasTurn tasks slots m job place task before →
+    new.memory.room ≡ old.memory.room →
     (answer : Begun A) →
     standing_of after ≡ standing_after_begun answer (standing_of before)
     (or_same (standing_of before) (next_standing (Begin job) task (standing_of before))) →
     shown_machine new tasks (set slots place after) ≡ after_begun answer m (machine_after (Begin job) m)
-begun_state laws old new tasks slots m job place task before after view h room (begun.Began ticket) stands =
-    turn_state laws old new tasks slots m (Begin job) job place task before after view h room refl stands
-begun_state laws old new tasks slots m job place task before after view h room (begun.Ended desk) stands =
-    turn_state laws old new tasks slots m (Begin job) job place task before after view h room refl stands
-begun_state laws old new tasks slots m job place task before after view h room (begun.NotReady desk) stands =
-    turn_still old new tasks slots m job place task before after view h room stands
-begun_state laws old new tasks slots m job place task before after view h room (begun.SmallDesk desk) stands =
-    turn_still old new tasks slots m job place task before after view h room stands
+begun_state laws old new {tasks} {slots} {m} {job} after view h room (begun.Began ticket) stands =
+    turn_state laws old new (Begin job) after view h room refl stands
+begun_state laws old new {tasks} {slots} {m} {job} after view h room (begun.Ended desk) stands =
+    turn_state laws old new (Begin job) after view h room refl stands
+begun_state laws old new after view h room (begun.NotReady desk) stands =
+    turn_still old new after view h room stands
+begun_state laws old new after view h room (begun.SmallDesk desk) stands =
+    turn_still old new after view h room stands
 
-pub finished_state : EventsChangeTheirJob → (old new : JobBlocks) (tasks : List Task) (slots : List SlotState)
-    (m : MachineState) (job place : ℕ) (task : Task) (before after : SlotState) → shown_machine old tasks slots ≡ m →
-    HasTurn tasks slots m job place task before → new.memory.room ≡ old.memory.room → (answer : Finished) →
+pub finished_state : EventsChangeTheirJob → (old new : JobBlocks) {tasks : List Task} {slots : List SlotState}
+    {m : MachineState} {job place : ℕ} {task : Task} {before : SlotState} (after : SlotState) →
+    shown_machine old tasks slots ≡ m → HasTurn tasks slots m job place task before →
+    new.memory.room ≡ old.memory.room → (answer : Finished) →
     standing_of after ≡ standing_after_finished answer (standing_of before)
     (or_same (standing_of before) (next_standing (Finish job) task (standing_of before))) →
     shown_machine new tasks (set slots place after) ≡ after_finished answer m (machine_after (Finish job) m)
-finished_state laws old new tasks slots m job place task before after view h room finished.Done stands =
-    turn_state laws old new tasks slots m (Finish job) job place task before after view h room refl stands
-finished_state laws old new tasks slots m job place task before after view h room finished.Ended stands =
-    turn_state laws old new tasks slots m (Finish job) job place task before after view h room refl stands
-finished_state laws old new tasks slots m job place task before after view h room finished.Stale stands =
-    turn_still old new tasks slots m job place task before after view h room stands
+finished_state laws old new {tasks} {slots} {m} {job} after view h room finished.Done stands =
+    turn_state laws old new (Finish job) after view h room refl stands
+finished_state laws old new {tasks} {slots} {m} {job} after view h room finished.Ended stands =
+    turn_state laws old new (Finish job) after view h room refl stands
+finished_state laws old new after view h room finished.Stale stands =
+    turn_still old new after view h room stands
 
 -- there are numbers for two blocks more
 pub numbers_left : ShownIsAlone → (blocks : JobBlocks) (tasks : List Task) (slots : List SlotState) →
@@ -331,7 +339,7 @@ pub slot_in : ShownIsAlone → (blocks : JobBlocks) (tasks : List Task) (slots :
 slot_in alone blocks tasks slots m job place o slot sound tidy view o_is some slot_is =
     let turn = some_turn blocks tasks slots m job place o slot sound view o_is some slot_is in
     let shown =
-    alone job blocks turn.0 slot tidy (turn_shows blocks tasks slots m job place turn.0 slot sound turn.1) in
+    alone job blocks turn.0 slot tidy (turn_shows sound turn.1) in
     record {
       task = turn.0;
       task_is = turn.1.shown_task;
@@ -357,7 +365,8 @@ pub told_of : {T : Type 0} (of : Task → Standing → T) (m : MachineState) (jo
     (h : IsSlotOf job m slot) → value ≡ of h.task (standing_of slot) → Some value ≡ told of job m
 told_of of m job slot value h is =
     ap (λ v. Some v) is
-    ∙ sym (ap (λ o. told_by of o (of_job job m.standings)) h.task_is ∙ ap (λ o. told_by of (Some h.task) o) h.standing_is)
+    ∙ sym (ap (λ o. told_by of o (of_job job m.standings)) h.task_is
+    ∙ ap (λ o. told_by of (Some h.task) o) h.standing_is)
 
 pub told_none : {T : Type 0} (of : Task → Standing → T) (m : MachineState) (job : ℕ) → IsMissing job m →
     told of job m ≡ None
@@ -367,7 +376,8 @@ pub outcome_of : (m : MachineState) (job : ℕ) (slot : SlotState) → (h : IsSl
     told_outcome slot ≡ outcome_in job m
 outcome_of m job slot h =
     h.outcome_is
-    ∙ sym (ap (λ o. outcome_by o (of_job job m.standings)) h.task_is ∙ ap (λ o. outcome_by (Some h.task) o) h.standing_is)
+    ∙ sym (ap (λ o. outcome_by o (of_job job m.standings)) h.task_is
+    ∙ ap (λ o. outcome_by (Some h.task) o) h.standing_is)
 
 pub outcome_none : (m : MachineState) (job : ℕ) → IsMissing job m → outcome_in job m ≡ None
 outcome_none m job h = ap (λ o. outcome_by o (of_job job m.standings)) h.no_task
@@ -382,7 +392,8 @@ status_by status.Collected n = refl
 pub status_in : (m : MachineState) (job : ℕ) (slot : SlotState) (value : Status) → IsSlotOf job m slot →
     value ≡ slot.status → Some value ≡ option_map status_of (of_job job m.standings)
 status_in m job slot value h is =
-    ap (λ v. Some v) (is ∙ sym (status_by slot.status slot.trace.executed)) ∙ sym (ap (option_map status_of) h.standing_is)
+    ap (λ v. Some v) (is ∙ sym (status_by slot.status slot.trace.executed))
+    ∙ sym (ap (option_map status_of) h.standing_is)
 
 pub status_none : (m : MachineState) (job : ℕ) → IsMissing job m → option_map status_of (of_job job m.standings) ≡ None
 status_none m job h = ap (option_map status_of) h.no_standing
@@ -454,7 +465,8 @@ admission_of blocks tasks slots m job place task slot sound h room =
     let granted = granted_is blocks tasks slots sound in
     admission_is blocks.memory.room tasks (standings_of slots) place task h.first h.turn.task_at
     ∙ ap (λ b. cond b (Some (suc place)) None)
-    (le-leb (granted_words tasks (standings_of slots) + task.limits.words) blocks.memory.room (omega (arith, granted, room)))
+    (le-leb (granted_words tasks (standings_of slots) + task.limits.words) blocks.memory.room
+    (omega (arith, granted, room)))
     ∙ ap (λ j. Some j) (sym h.turn.job_is)
 
 pub refusal_of : (blocks : JobBlocks) (tasks : List Task) (slots : List SlotState) (m : MachineState) (job place : ℕ)
@@ -465,7 +477,8 @@ refusal_of blocks tasks slots m job place task slot sound h past =
     let granted = granted_is blocks tasks slots sound in
     admission_is blocks.memory.room tasks (standings_of slots) place task h.first h.turn.task_at
     ∙ ap (λ b. cond b (Some (suc place)) None)
-    (too_many (granted_words tasks (standings_of slots) + task.limits.words) blocks.memory.room (omega (arith, granted, past)))
+    (too_many (granted_words tasks (standings_of slots) + task.limits.words) blocks.memory.room
+    (omega (arith, granted, past)))
 
 admission_by_both : (m : MachineState) (first next : Option ℕ) → position is_waiting m.standings ≡ first →
     admission m.region m.tasks m.standings ≡ next → admission_by first next ≡ admission_in m
@@ -473,7 +486,8 @@ admission_by_both m first next is next_is =
     sym (ap (λ o. admission_by o (admission m.region m.tasks m.standings)) is ∙ ap (admission_by first) next_is)
 
 pub admitted_answer : (blocks : JobBlocks) (tasks : List Task) (slots : List SlotState) (m : MachineState)
-    (job place : ℕ) (task : Task) (slot : SlotState) → IsSound blocks tasks slots → shown_machine blocks tasks slots ≡ m →
+    (job place : ℕ) (task : Task) (slot : SlotState) → IsSound blocks tasks slots →
+    shown_machine blocks tasks slots ≡ m →
     HasFirst blocks tasks slots m job place task slot →
     (jobs.granted_words blocks + task.limits.words ≤ blocks.memory.room) → Admitted job ≡ admission_in m
 admitted_answer blocks tasks slots m job place task slot sound view h room =
@@ -482,7 +496,8 @@ admitted_answer blocks tasks slots m job place task slot sound view h room =
     ∙ ap admission_in view
 
 pub refused_answer : (blocks : JobBlocks) (tasks : List Task) (slots : List SlotState) (m : MachineState)
-    (job place : ℕ) (task : Task) (slot : SlotState) → IsSound blocks tasks slots → shown_machine blocks tasks slots ≡ m →
+    (job place : ℕ) (task : Task) (slot : SlotState) → IsSound blocks tasks slots →
+    shown_machine blocks tasks slots ≡ m →
     HasFirst blocks tasks slots m job place task slot →
     blocks.memory.room < jobs.granted_words blocks + task.limits.words → NotNow ≡ admission_in m
 refused_answer blocks tasks slots m job place task slot sound view h past =
@@ -494,28 +509,37 @@ pub none_answer : (blocks : JobBlocks) (tasks : List Task) (slots : List SlotSta
     shown_machine blocks tasks slots ≡ m → o ≡ position waits slots → o ≡ None → NoneWaiting ≡ admission_in m
 none_answer blocks tasks slots m o view o_is none =
     let first = first_is slots ∙ (sym o_is ∙ none) in
-    sym (ap (λ o. admission_by o (admission blocks.memory.room tasks (standings_of slots))) first) ∙ ap admission_in view
+    sym (ap (λ o. admission_by o (admission blocks.memory.room tasks (standings_of slots))) first)
+    ∙ ap admission_in view
 
 -- without an admission the machine stands as it stood
 admit_still : (m : MachineState) → admission m.region m.tasks m.standings ≡ None → machine_after Admit m ≡ m
 admit_still m none =
-    λ i. record { region = m.region; tasks = m.tasks; standings = after_no_admission m.region m.tasks m.standings none i }
+    λ i. record {
+      region = m.region;
+      tasks = m.tasks;
+      standings = after_no_admission m.region m.tasks m.standings none i;
+    }
 
 pub none_state : (blocks : JobBlocks) (tasks : List Task) (slots : List SlotState) (m : MachineState) (o : Option ℕ) →
     shown_machine blocks tasks slots ≡ m → o ≡ position waits slots → o ≡ None → m ≡ machine_after Admit m
 none_state blocks tasks slots m o view o_is none =
     let first = first_is slots ∙ (sym o_is ∙ none) in
     let closed = admission_none blocks.memory.room tasks (standings_of slots) first in
-    subst (λ (m : MachineState). m ≡ machine_after Admit m) view (sym (admit_still (shown_machine blocks tasks slots) closed))
+    subst (λ (m : MachineState). m ≡ machine_after Admit m) view
+    (sym (admit_still (shown_machine blocks tasks slots) closed))
 
 pub refused_state : (old new : JobBlocks) (tasks : List Task) (slots : List SlotState) (m : MachineState)
-    (job place : ℕ) (task : Task) (before after : SlotState) → IsSound old tasks slots → shown_machine old tasks slots ≡ m →
+    (job place : ℕ) (task : Task) (before after : SlotState) → IsSound old tasks slots →
+    shown_machine old tasks slots ≡ m →
     HasFirst old tasks slots m job place task before → old.memory.room < jobs.granted_words old + task.limits.words →
-    new.memory.room ≡ old.memory.room → after ≡ before → shown_machine new tasks (set slots place after) ≡ machine_after Admit m
+    new.memory.room ≡ old.memory.room → after ≡ before →
+    shown_machine new tasks (set slots place after) ≡ machine_after Admit m
 refused_state old new tasks slots m job place task before after sound view h past room same =
     let closed = refusal_of old tasks slots m job place task before sound h past in
-    turn_still old new tasks slots m job place task before after view h.turn room (ap standing_of same)
-    ∙ subst (λ (m : MachineState). m ≡ machine_after Admit m) view (sym (admit_still (shown_machine old tasks slots) closed))
+    turn_still old new after view h.turn room (ap standing_of same)
+    ∙ subst (λ (m : MachineState). m ≡ machine_after Admit m) view
+    (sym (admit_still (shown_machine old tasks slots) closed))
 
 pub admitted_state : EventsChangeTheirJob → (old new : JobBlocks) (tasks : List Task) (slots : List SlotState)
     (m : MachineState) (job place : ℕ) (task : Task) (before after : SlotState) → IsSound old tasks slots →
@@ -525,7 +549,7 @@ pub admitted_state : EventsChangeTheirJob → (old new : JobBlocks) (tasks : Lis
 admitted_state laws old new tasks slots m job place task before after sound view h fits room live =
     let waiting : standing_of before ≡ Waiting =
     ap (λ (s : Status). standing_by s before.trace.executed) h.waiting in
-    turn_state laws old new tasks slots m Admit job place task before after view h.turn room
+    turn_state laws old new Admit after view h.turn room
     (admission_of old tasks slots m job place task before sound h fits)
     (live ∙ sym (ap (λ (s : Standing). or_same s (next_standing Admit task s)) waiting))
 

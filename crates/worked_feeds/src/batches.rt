@@ -49,15 +49,15 @@ fn read<A: Allocator + Copy>(alloc: A, text: &[u8]) -> Reading<A> {
 }
 
 impl<'h> Reader<'h> for Feed<&'h LocalHeap> {
-    type Reading = Result<Batch<JobEntries<&'h LocalHeap>>, AllocError>;
+    type Reading = Reading<&'h LocalHeap>;
 
     ghost room = { λ _. 2 ^ 64 };
 
-    fn at_once(heap: &'h LocalHeap, text: &[u8]) -> Reading<&'h LocalHeap> {
+    fn at_once(heap: &'h LocalHeap, text: &[u8]) -> Self::Reading {
         read(heap, text)
     }
 
-    fn begin(heap: &'h LocalHeap) -> Result<Feed<&'h LocalHeap>, AllocError> {
+    fn begin(heap: &'h LocalHeap) -> Result<Self, AllocError> {
         Feed::new(heap, REGION)
     }
 
@@ -65,7 +65,7 @@ impl<'h> Reader<'h> for Feed<&'h LocalHeap> {
         self.feed(piece)
     }
 
-    fn end_beside(self, whole: &Reading<&'h LocalHeap>) -> End {
+    fn end_beside(self, whole: &Self::Reading) -> End {
         let answer = self.end();
         End::of(answer == Err(AllocError), answer == *whole)
     }

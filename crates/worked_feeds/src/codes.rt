@@ -29,12 +29,12 @@ impl<'h> Reader<'h> for CodeReader<&'h LocalHeap> {
 
     ghost room = { λ r. cond r.failed (2 ^ 64) (2 ^ 64 - 1 - r.scan.line) };
 
-    fn at_once(heap: &'h LocalHeap, text: &[u8]) -> Result<Program<&'h LocalHeap>, ReadFault> {
+    fn at_once(heap: &'h LocalHeap, text: &[u8]) -> Self::Reading {
         line_feeds_are_few();
         read(heap, text, FIRST_LINE)
     }
 
-    fn begin(heap: &'h LocalHeap) -> Result<CodeReader<&'h LocalHeap>, AllocError> {
+    fn begin(heap: &'h LocalHeap) -> Result<Self, AllocError> {
         CodeReader::new(heap, FIRST_LINE)
     }
 
@@ -43,7 +43,7 @@ impl<'h> Reader<'h> for CodeReader<&'h LocalHeap> {
         self.feed(piece)
     }
 
-    fn end_beside(self, whole: &Result<Program<&'h LocalHeap>, ReadFault>) -> End {
+    fn end_beside(self, whole: &Self::Reading) -> End {
         let answer = self.finish();
         End::of(answer == Err(TextFault::Memory), answer == *whole)
     }

@@ -28,16 +28,16 @@ const BAD_LINE: &[u8] = b"MAIN () -> (INT)\r\nf () (INT)\r\nMAIN () -> (INT)";
 type Reading<'h> = Result<Signatures<&'h LocalHeap>, SigFault>;
 
 impl<'h> Reader<'h> for SigReader<&'h LocalHeap> {
-    type Reading = Result<Signatures<&'h LocalHeap>, SigFault>;
+    type Reading = Reading<'h>;
 
     ghost room = { λ r. cond r.failed (2 ^ 64) (2 ^ 64 - 1 - r.scan.number) };
 
-    fn at_once(heap: &'h LocalHeap, text: &[u8]) -> Reading<'h> {
+    fn at_once(heap: &'h LocalHeap, text: &[u8]) -> Self::Reading {
         line_feeds_are_few();
         read(heap, text, FIRST_LINE)
     }
 
-    fn begin(heap: &'h LocalHeap) -> Result<SigReader<&'h LocalHeap>, AllocError> {
+    fn begin(heap: &'h LocalHeap) -> Result<Self, AllocError> {
         Ok(SigReader::new(heap, FIRST_LINE))
     }
 
@@ -46,7 +46,7 @@ impl<'h> Reader<'h> for SigReader<&'h LocalHeap> {
         self.feed(piece)
     }
 
-    fn end_beside(self, whole: &Reading<'h>) -> End {
+    fn end_beside(self, whole: &Self::Reading) -> End {
         let answer = self.finish();
         let is_refusal = matches!(answer, Err(TextFault::Memory));
         End::of(is_refusal, are_read_alike(&answer, whole))

@@ -1,7 +1,7 @@
-use Rattle.std.proofs.Common.{length, ap, ◌∙◌, arith}
-use Rattle.block_memory.specs.Layout.{words_of, block_at_place, with_slot}
-use Rattle.block_memory.proofs.PackLemmas.{IsPacking-start, IsPacking-inside, IsPacking-skip, IsPacking-slide}
-use Rattle.block_memory.proofs.PackLemmas.{ArePacked-end, slide_clear}
+use Rattle.std.proofs.Common.{length, ap, arith}
+use Rattle.block_memory.specs.Layout.{words_of}
+use Rattle.block_memory.proofs.PackLemmas.{IsPacking-start, IsPacking-inside, IsPacking-skip, IsPacking-moved}
+use Rattle.block_memory.proofs.PackLemmas.{ArePacked-end, slide_clear, moved_within}
 use Rattle.block_memory.proofs.pack.pack_blocks.Goals as goal
 
 pub loop-packed-init : goal.loop-packed-init
@@ -27,33 +27,20 @@ slide-moved-requires-clause-clear g c =
 pub overflow_add-moved : goal.overflow_add-moved
 overflow_add-moved g c =
     let l = c.loop-packed in
-    let b = c.in-Some.ensures.found in
-    let i = l.invariant.packing in
-    let long = ap (λ o. length (words_of o)) b.there in
-    omega (
-      arith,
-      l.invariant.few,
-      i.order,
-      i.within c.in-Some.number b.block b.there,
-      b.here,
-      long,
-      c.slide-moved.ensures.few,
-      c.beginning_at.ensures.in_memory,
-    )
+    let within =
+    moved_within c.args.blocks.now l.blocks l.packed l.place c.args.used c.in-Some.number l.moved c.slide-moved.result
+    l.invariant.packing c.in-Some.ensures.found l.invariant.few c.slide-moved.ensures.few in
+    omega (arith, within, c.beginning_at.ensures.in_memory)
 
 pub loop-packed-preserved-in-Some : goal.loop-packed-preserved-in-Some
 loop-packed-preserved-in-Some g c =
     let l = c.loop-packed in
-    let b = c.in-Some.ensures.found in
-    let moved =
-    c.slide-moved.ensures.moved ∙ ap (λ o. with_slot l.blocks c.in-Some.number (block_at_place l.packed o)) b.there in
-    let long = ap length (c.words-len.ensures ∙ ap words_of b.there) in
-    let same = ap (λ o. length (words_of o)) b.there in
+    let long = ap length c.words-len.ensures in
     record {
-      packing = rw (moved, long)
-          (IsPacking-slide c.args.blocks.now l.blocks l.packed l.place c.args.used c.in-Some.number b.block
-          l.invariant.packing b.there b.here b.some);
-      few = omega (arith, l.invariant.few, c.slide-moved.ensures.few, long, same);
+      packing =
+          IsPacking-moved c.args.blocks.now l.blocks c.slide-moved.new.self l.packed l.place c.args.used
+          c.in-Some.number _ l.invariant.packing c.in-Some.ensures.found c.slide-moved.ensures.moved long;
+      few = omega (arith, l.invariant.few, c.slide-moved.ensures.few, long);
     }
 
 pub loop-packed-preserved : goal.loop-packed-preserved

@@ -1,4 +1,4 @@
-use Rattle.std.proofs.Common.{◌≡◌, length, get_or, Some, refl, sym, ap, subst, ◌∙◌, arith}
+use Rattle.std.proofs.Common.{◌≡◌, ◌<◌, length, get_or, Some, refl, sym, ap, ◌∙◌, arith}
 use Rattle.std.specs.Arc.{arc_value}
 use Rattle.std.proofs.lemmas.Result.{IfOk-weaker, on_ok_weaker, on_err_weaker}
 use Rattle.job_steps.specs.declared.event.Event.TheVariants.{Collect}
@@ -6,125 +6,95 @@ use Rattle.job_steps.specs.Standings.{of_job}
 use Rattle.job_slots.specs.Answers.{is_ended}
 use Rattle.job_machine.specs.Machines.{is_over}
 use Rattle.job_slots.specs.Slots.{standing_of}
-use Rattle.job_machine.proofs.TurnLemmas.{has_turn, within_jobs, turn_shows, turn_sound, turn_state, turn_still, no_turn}
+use Rattle.job_machine.proofs.TurnLemmas.{HasTurn, has_turn, within_jobs, turn_shows, turn_sound, turn_state}
+use Rattle.job_machine.proofs.TurnLemmas.{turn_still, no_turn}
+use Rattle.job_machine.proofs.machine.Machine.collect.Given.{Over}
 use Rattle.job_machine.proofs.machine.Machine.collect.Goals as goal
+use Rattle.job_machine.proofs.machine.Machine.collect.Goals.{In-Some, After-collect-arg-1}
+
+-- the place is that of a job
+within : (g : Over) (c : goal.In-Some g) → c.in-Some.place < length (arc_value c.self.inside.jobs).items
+within g c =
+    within_jobs c.self.inside.blocks (arc_value c.self.inside.jobs).items c.self.inside.slots.items c.args.self.now
+    c.args.job c.in-Some.place c.place.result c.self.invariant c.self.view_is c.place.ensures c.in-Some.is
 
 pub index_mut-slot-requires : goal.index_mut-slot-requires
 index_mut-slot-requires g c =
-    let within =
-    within_jobs c.self.inside.blocks (arc_value c.self.inside.jobs).items c.self.inside.slots.items c.args.self.now
-    c.args.job c.in-Some.place c.place.result c.self.invariant c.self.view_is c.place.ensures c.in-Some.is in
-    omega (arith, within, c.self.invariant.slots_are, c.self.inside.slots.ok)
+    omega (
+      arith,
+      within g (goal.at.index_mut-slot-requires g c).In-Some,
+      c.self.invariant.slots_are,
+      c.self.inside.slots.ok,
+    )
 
 pub offset_bounds-jobs-place : goal.offset_bounds-jobs-place
 offset_bounds-jobs-place g c =
-    let within =
-    within_jobs c.self.inside.blocks (arc_value c.self.inside.jobs).items c.self.inside.slots.items c.args.self.now
-    c.args.job c.in-Some.place c.place.result c.self.invariant c.self.view_is c.place.ensures c.in-Some.is in
-    omega (arith, within, ap length (c.as_slice-jobs.ensures.value ∙ ap (λ v. v.items) c.deref.ensures))
+    omega (
+      arith,
+      within g (goal.at.offset_bounds-jobs-place g c).In-Some,
+      ap length (c.as_slice-jobs.ensures.value ∙ ap (λ v. v.items) c.deref.ensures),
+    )
 
 pub bounds-jobs-place : goal.bounds-jobs-place
 bounds-jobs-place g c =
-    let within =
-    within_jobs c.self.inside.blocks (arc_value c.self.inside.jobs).items c.self.inside.slots.items c.args.self.now
-    c.args.job c.in-Some.place c.place.result c.self.invariant c.self.view_is c.place.ensures c.in-Some.is in
-    omega (arith, within, ap length (c.as_slice-jobs.ensures.value ∙ ap (λ v. v.items) c.deref.ensures))
+    omega (
+      arith,
+      within g (goal.at.bounds-jobs-place g c).In-Some,
+      ap length (c.as_slice-jobs.ensures.value ∙ ap (λ v. v.items) c.deref.ensures),
+    )
+
+-- the job has the turn
+turn : (g : Over) (c : goal.After-collect-arg-1 g) →
+    HasTurn (arc_value c.self.inside.jobs).items c.self.inside.slots.items c.args.self.now c.args.job c.in-Some.place
+    c.index-jobs-place.result c.index_mut-slot.result.now
+turn g c =
+    let jobs_are = c.as_slice-jobs.ensures.value ∙ ap (λ v. v.items) c.deref.ensures in
+    let task = c.index-jobs-place.result in
+    has_turn c.self.inside.blocks (arc_value c.self.inside.jobs).items c.self.inside.slots.items c.args.self.now
+    c.args.job c.in-Some.place c.place.result task c.index_mut-slot.result.now c.self.invariant c.self.view_is
+    c.place.ensures c.in-Some.is (c.index-jobs-place.is ∙ ap (λ ts. get_or ts c.in-Some.place task) jobs_are)
+    c.index_mut-slot.ensures.value
 
 pub collect-requires : goal.collect-requires
-collect-requires g c =
-    let jobs_are = c.as_slice-jobs.ensures.value ∙ ap (λ v. v.items) c.deref.ensures in
-    let blocks = c.self.inside.blocks in
-    let tasks = (arc_value c.self.inside.jobs).items in
-    let slots = c.self.inside.slots.items in
-    let task = c.index-jobs-place.result in
-    let before = c.index_mut-slot.result.now in
-    let turn =
-    has_turn blocks tasks slots c.args.self.now c.args.job c.in-Some.place c.place.result task before c.self.invariant
-    c.self.view_is c.place.ensures c.in-Some.is (c.index-jobs-place.is ∙ ap (λ ts. get_or ts c.in-Some.place task) jobs_are)
-    c.index_mut-slot.ensures.value in
-    turn_shows blocks tasks slots c.args.self.now c.args.job c.in-Some.place task before c.self.invariant turn
+collect-requires g c = turn_shows c.self.invariant (turn g (goal.at.collect-requires g c).After-collect-arg-1)
 
 pub invariant_of-self : goal.invariant_of-self
 invariant_of-self g c =
-    let jobs_are = c.as_slice-jobs.ensures.value ∙ ap (λ v. v.items) c.deref.ensures in
-    let blocks = c.self.inside.blocks in
-    let tasks = (arc_value c.self.inside.jobs).items in
-    let slots = c.self.inside.slots.items in
-    let task = c.index-jobs-place.result in
-    let before = c.index_mut-slot.result.now in
-    let turn =
-    has_turn blocks tasks slots c.args.self.now c.args.job c.in-Some.place c.place.result task before c.self.invariant
-    c.self.view_is c.place.ensures c.in-Some.is (c.index-jobs-place.is ∙ ap (λ ts. get_or ts c.in-Some.place task) jobs_are)
-    c.index_mut-slot.ensures.value in
-    turn_sound c.turn_laws.ensures.others blocks c.collect.new.blocks tasks slots c.args.self.now c.args.job c.in-Some.place
-    task before c.collect.new.self c.self.invariant turn c.collect.ensures.others c.collect.ensures.shows
+    turn_sound c.turn_laws.ensures.others c.self.invariant (turn g (goal.at.invariant_of-self g c).After-collect-arg-1)
+    c.collect.ensures.others c.collect.ensures.shows
 
 pub returns-clause-answer : goal.returns-clause-answer
 returns-clause-answer g c =
-    let jobs_are = c.as_slice-jobs.ensures.value ∙ ap (λ v. v.items) c.deref.ensures in
-    let blocks = c.self.inside.blocks in
-    let tasks = (arc_value c.self.inside.jobs).items in
-    let slots = c.self.inside.slots.items in
-    let task = c.index-jobs-place.result in
+    let turn = turn g (goal.at.returns-clause-answer g c).After-collect-arg-1 in
     let before = c.index_mut-slot.result.now in
-    let turn =
-    has_turn blocks tasks slots c.args.self.now c.args.job c.in-Some.place c.place.result task before c.self.invariant
-    c.self.view_is c.place.ensures c.in-Some.is (c.index-jobs-place.is ∙ ap (λ ts. get_or ts c.in-Some.place task) jobs_are)
-    c.index_mut-slot.ensures.value in
-    IfOk-weaker c.collect.result (λ yes. yes ≡ is_ended (standing_of before)) (λ yes. yes ≡ is_over (of_job c.args.job c.args.self.now.standings))
+    IfOk-weaker c.collect.result (λ yes. yes ≡ is_ended (standing_of before))
+    (λ yes. yes ≡ is_over (of_job c.args.job c.args.self.now.standings))
     (λ yes e. e ∙ sym (ap is_over turn.shown_standing)) c.collect.ensures.answer
 
 pub returns-clause-state : goal.returns-clause-state
 returns-clause-state g c =
-    let jobs_are = c.as_slice-jobs.ensures.value ∙ ap (λ v. v.items) c.deref.ensures in
-    let blocks = c.self.inside.blocks in
-    let tasks = (arc_value c.self.inside.jobs).items in
-    let slots = c.self.inside.slots.items in
-    let task = c.index-jobs-place.result in
-    let before = c.index_mut-slot.result.now in
-    let turn =
-    has_turn blocks tasks slots c.args.self.now c.args.job c.in-Some.place c.place.result task before c.self.invariant
-    c.self.view_is c.place.ensures c.in-Some.is (c.index-jobs-place.is ∙ ap (λ ts. get_or ts c.in-Some.place task) jobs_are)
-    c.index_mut-slot.ensures.value in
     on_ok_weaker c.collect.result
     (λ stands.
-    turn_state c.turn_laws.ensures.changed blocks c.collect.new.blocks tasks slots c.args.self.now (Collect c.args.job) c.args.job
-    c.in-Some.place task before c.collect.new.self c.self.view_is turn c.collect.ensures.others.memory.room refl stands)
+    turn_state c.turn_laws.ensures.changed c.self.inside.blocks c.collect.new.blocks (Collect c.args.job)
+    c.collect.new.self c.self.view_is (turn g (goal.at.returns-clause-state g c).After-collect-arg-1)
+    c.collect.ensures.others.memory.room refl stands)
     c.collect.ensures.standing
 
 pub returns-clause-unchanged : goal.returns-clause-unchanged
 returns-clause-unchanged g c =
-    let jobs_are = c.as_slice-jobs.ensures.value ∙ ap (λ v. v.items) c.deref.ensures in
-    let blocks = c.self.inside.blocks in
-    let tasks = (arc_value c.self.inside.jobs).items in
-    let slots = c.self.inside.slots.items in
-    let task = c.index-jobs-place.result in
-    let before = c.index_mut-slot.result.now in
-    let turn =
-    has_turn blocks tasks slots c.args.self.now c.args.job c.in-Some.place c.place.result task before c.self.invariant
-    c.self.view_is c.place.ensures c.in-Some.is (c.index-jobs-place.is ∙ ap (λ ts. get_or ts c.in-Some.place task) jobs_are)
-    c.index_mut-slot.ensures.value in
     on_err_weaker c.collect.result
     (λ same.
-    turn_still blocks c.collect.new.blocks tasks slots c.args.self.now c.args.job c.in-Some.place task before c.collect.new.self
-    c.self.view_is turn c.collect.ensures.others.memory.room (ap standing_of same.0))
+    turn_still c.self.inside.blocks c.collect.new.blocks c.collect.new.self c.self.view_is
+    (turn g (goal.at.returns-clause-unchanged g c).After-collect-arg-1) c.collect.ensures.others.memory.room
+    (ap standing_of same.0))
     c.collect.ensures.unchanged
 
 pub returns-clause-returned : goal.returns-clause-returned
 returns-clause-returned g c =
-    let jobs_are = c.as_slice-jobs.ensures.value ∙ ap (λ v. v.items) c.deref.ensures in
-    let blocks = c.self.inside.blocks in
-    let tasks = (arc_value c.self.inside.jobs).items in
-    let slots = c.self.inside.slots.items in
-    let task = c.index-jobs-place.result in
-    let before = c.index_mut-slot.result.now in
-    let turn =
-    has_turn blocks tasks slots c.args.self.now c.args.job c.in-Some.place c.place.result task before c.self.invariant
-    c.self.view_is c.place.ensures c.in-Some.is (c.index-jobs-place.is ∙ ap (λ ts. get_or ts c.in-Some.place task) jobs_are)
-    c.index_mut-slot.ensures.value in
+    let turn = turn g (goal.at.returns-clause-returned g c).After-collect-arg-1 in
     on_err_weaker c.collect.result
     (λ is. record {
-      task = task;
+      task = c.index-jobs-place.result;
       task_is = turn.shown_task;
       ended = turn.shown_standing ∙ ap (λ s. Some s) is.0;
       returned = is.1;

@@ -1,6 +1,6 @@
 use Rattle.std.proofs.Common.{◌+◌, ◌≤◌, is_some, ap, arith}
 use Rattle.block_memory.proofs.RegionLemmas.{wide_enough}
-use Rattle.block_memory.proofs.pack.pack_and_take.Goals as goal
+use Rattle.block_memory.proofs.pack.WholePackingPacking.make_room.Goals as goal
 
 pub unreachable-requires : goal.unreachable-requires
 unreachable-requires g c =

@@ -1,7 +1,7 @@
 use Rattle.std.proofs.Common.{◌≤◌, ◌-◌}
 use Rattle.block_memory.specs.Region.{IsRegion}
 use Rattle.block_memory.proofs.PackLemmas.{IsPacking}
-use Rattle.block_memory.proofs.slide.slide_and_take.Given as goal
+use Rattle.block_memory.proofs.slide.SlidingPackingPacking.make_room.Given as goal
 
 abbrev pub invariant-loop-place : goal.invariant-loop-place
 invariant-loop-place g l = record {

@@ -1,8 +1,8 @@
 use Rattle.std.proofs.Common.{◌-◌, length, is_some, ap, ◌∙◌, arith}
-use Rattle.block_memory.specs.Layout.{Layout, place_of, words_of, block_at_place, with_slot}
-use Rattle.block_memory.proofs.PackLemmas.{IsPacking-start, IsPacking-skip, IsPacking-slide}
+use Rattle.block_memory.specs.Layout.{Layout, place_of, words_of}
+use Rattle.block_memory.proofs.PackLemmas.{IsPacking-start, IsPacking-skip, IsPacking-moved, moved_within}
 use Rattle.block_memory.proofs.SlideLemmas.{is_gap, place_inside, widest-ge}
-use Rattle.block_memory.proofs.slide.slide_and_take.Goals as goal
+use Rattle.block_memory.proofs.slide.SlidingPackingPacking.make_room.Goals as goal
 
 pub loop-place-init : goal.loop-place-init
 loop-place-init g c =
@@ -43,38 +43,27 @@ slide_down-moved-requires-clause-hole g c =
 pub overflow_add-moved : goal.overflow_add-moved
 overflow_add-moved g c =
     let l = c.loop-place in
-    let b = c.in-Some.ensures.found in
-    let i = l.invariant.packing in
-    let long = ap (λ o. length (words_of o)) b.there in
-    omega (
-      arith,
-      l.invariant.few,
-      i.order,
-      i.within c.in-Some.number b.block b.there,
-      b.here,
-      long,
-      c.slide_down-moved.ensures.few,
-      c.beginning_at.ensures.in_memory,
-    )
+    let within =
+    moved_within c.args.blocks.now l.blocks l.packed l.place c.args.used c.in-Some.number l.moved
+    c.slide_down-moved.result l.invariant.packing c.in-Some.ensures.found l.invariant.few
+    c.slide_down-moved.ensures.few in
+    omega (arith, within, c.beginning_at.ensures.in_memory)
 
 pub loop-place-preserved-in-Some : goal.loop-place-preserved-in-Some
 loop-place-preserved-in-Some g c =
     let l = c.loop-place in
     let b = c.in-Some.ensures.found in
     let i = l.invariant.packing in
-    let moved =
-    c.slide_down-moved.ensures.moved ∙ ap (λ o. with_slot l.blocks c.in-Some.number (block_at_place l.packed o))
-    b.there in
-    let long = ap length (c.words-words.ensures ∙ ap words_of b.there) in
+    let long = ap length c.words-words.ensures in
     let same = ap (λ o. length (words_of o)) b.there in
-    let size = ap (λ (now : Layout). now.size) moved in
+    let size = ap (λ (now : Layout). now.size) c.slide_down-moved.ensures.moved in
     record {
       packing =
-          rw (moved, long) (IsPacking-slide c.args.blocks.now l.blocks l.packed l.place c.args.used c.in-Some.number
-          b.block i b.there b.here b.some);
+          IsPacking-moved c.args.blocks.now l.blocks c.slide_down-moved.new.blocks l.packed l.place c.args.used
+          c.in-Some.number _ i b c.slide_down-moved.ensures.moved long;
       region = c.slide_down-moved.ensures.region;
-      within = omega (arith, i.within c.in-Some.number b.block b.there, b.here, long, size);
-      few = omega (arith, l.invariant.few, c.slide_down-moved.ensures.few, long, same);
+      within = omega (arith, i.within c.in-Some.number b.block b.there, b.here, long, same, size);
+      few = omega (arith, l.invariant.few, c.slide_down-moved.ensures.few, long);
     }
 
 pub loop-place-preserved : goal.loop-place-preserved
