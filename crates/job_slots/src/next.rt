@@ -50,6 +50,7 @@ pub(crate) struct Next<'a> {
 }
 
 /// The next instruction of a job that runs.
+#[inline(always)]
 pub(crate) fn read_next<'a, A: Allocator>(
     job: &'a Job<A>,
     track: &Track<BlockId, A>,
@@ -87,6 +88,7 @@ pub(crate) fn line_of_next<A: Allocator>(
 }
 
 /// The instruction of a line of code without its list or name.
+#[inline(always)]
 fn op_of<A: Allocator>(line: &CodeLine<A>) -> Op
     ensures { result ≡ op_of (instruction_in line.now.item) }
 {
@@ -97,6 +99,7 @@ fn op_of<A: Allocator>(line: &CodeLine<A>) -> Op
 }
 
 /// The operands of a line of code.
+#[inline(always)]
 fn operands_of<'a, A: Allocator>(
     line: &'a CodeLine<A>,
     track: &Track<BlockId, A>,
@@ -114,6 +117,7 @@ fn operands_of<'a, A: Allocator>(
 }
 
 /// The list of a `CONST`, or the words of the cells at the top that another instruction takes.
+#[inline(always)]
 fn sources<'a, A: Allocator>(
     instruction: &'a Instruction<A>,
     track: &Track<BlockId, A>,
@@ -131,6 +135,7 @@ fn sources<'a, A: Allocator>(
 }
 
 /// The list of a `CONST`, and behind it nothing.
+#[inline(always)]
 fn constant(list: &[i64]) -> Operands<'_>
     ensures { contents (take result.count result.lists) ≡ list.now ∷ [] }
 {
@@ -141,6 +146,7 @@ fn constant(list: &[i64]) -> Operands<'_>
 }
 
 /// The words of the cells at the top that an instruction takes.
+#[inline(always)]
 fn top_operands<'a, A: Allocator>(
     op: Op,
     track: &Track<BlockId, A>,
@@ -156,6 +162,7 @@ fn top_operands<'a, A: Allocator>(
 }
 
 /// The words of blocks, of which there are at most as many as an instruction has operands.
+#[inline(always)]
 fn words_of_blocks<'a, A: Allocator>(ids: &[BlockId], blocks: &'a JobMemory<A>) -> Operands<'a>
     requires few { length ids.now ≤ MOST_OPERANDS }
     requires live { AreLive blocks.now.memory ids.now }
@@ -174,6 +181,7 @@ fn words_of_blocks<'a, A: Allocator>(ids: &[BlockId], blocks: &'a JobMemory<A>) 
 }
 
 /// The words of the block at this place, or none behind the last.
+#[inline(always)]
 fn words_at<'a, A: Allocator>(ids: &[BlockId], place: usize, blocks: &'a JobMemory<A>) -> &'a [i64]
     requires { AreLive blocks.now.memory ids.now }
     ensures { result.now ≡ operand (map (λ id. (slot_at blocks.now.memory id).words) ids.now) place }

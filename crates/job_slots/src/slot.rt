@@ -222,7 +222,8 @@ impl<A: Allocator> Slot<A> {
         }
     }
 
-    /// Stores the outcome of a job that has ended, and gives its blocks and its reservation back; true where it had.
+    /// Stores the outcome of a job that has ended, and gives its blocks and its reservation back; true where it had. Else
+    /// nothing changes.
     ///
     /// # Errors
     ///
@@ -241,7 +242,8 @@ impl<A: Allocator> Slot<A> {
         ensures standing { OnOk result (standing_of self.new ≡ or_same (standing_of self.old) (next_standing (event.Collect number) job.now (standing_of self.old))) }
         ensures shows { Shows number blocks.new job.now self.new }
         ensures others { ChangesOnlyOf number blocks.old blocks.new }
-        ensures nothing_to_collect { IfOk result (λ yes. yes ≡ false → (self.new ≡ self.old) × (blocks.new ≡ blocks.old)) }
+        ensures nothing_to_collect { IfOk result (λ yes. yes ≡ false
+            → (self.new ≡ self.old) × (blocks.new ≡ blocks.old)) }
         ensures unchanged { OnErr result ((self.new ≡ self.old) × (blocks.new ≡ blocks.old)) }
         ensures returned { OnErr result ((standing_of self.old ≡ Ended) × IsReturned (outcome job.now)) }
     {

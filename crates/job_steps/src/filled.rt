@@ -145,10 +145,7 @@ pub fn compute<A: Allocator>(ticket: Ticket<A>) -> Filled<A>
 }
 
 /// Writes what the instruction makes of the operands in front of the results' room, and answers the results' lengths.
-fn fill_results<A: Allocator>(
-    op: Op,
-    buffers: &mut Buffers<A>,
-) -> Result<(usize, usize), DataFault>
+fn fill_results<A: Allocator>(op: Op, buffers: &mut Buffers<A>) -> Result<(usize, usize), DataFault>
     requires { CanAnswer buffers.old.words (question_by op buffers.old.operands.lists) }
     ensures answer { IsAnswer (question_by op buffers.old.operands.lists) result buffers.new.results.items }
     ensures words { buffers.new.words ≡ buffers.old.words }

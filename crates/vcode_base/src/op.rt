@@ -123,6 +123,7 @@ impl Op {
 
     /// The kinds of the operands from the bottom of the stack up, where they are the same wherever
     /// the instruction stands: none for `CONST`, a motion of the stack, `CALL` and `RET`.
+    #[inline(always)]
     pub fn operand_kinds(self) -> &'static [Kind]
         ensures { result.now ≡ operand_kinds self }
     {
@@ -147,6 +148,7 @@ impl Op {
 
     /// The kinds of the results that it makes, the top of the stack last: none for `IF`, a motion
     /// of the stack, `CALL` and `RET`.
+    #[inline(always)]
     pub fn result_kinds(self) -> &'static [Kind]
         ensures { result.now ≡ result_kinds self }
     {
@@ -164,6 +166,7 @@ impl Elementwise {
     ghost use Rattle.vcode_base.specs.Kinds.{elementwise_operands, elementwise_results};
 
     /// The kinds of its operands from the bottom of the stack up.
+    #[inline(always)]
     pub fn operand_kinds(self) -> &'static [Kind]
         ensures { result.now ≡ elementwise_operands self }
     {
@@ -180,6 +183,7 @@ impl Elementwise {
     }
 
     /// The kind of its result.
+    #[inline(always)]
     pub fn result_kinds(self) -> &'static [Kind]
         ensures { result.now ≡ elementwise_results self }
     {
@@ -198,6 +202,7 @@ impl Segmented {
     ghost use Rattle.vcode_base.specs.Kinds.{segmented_operands, segmented_results};
 
     /// The kinds of its operands from the bottom of the stack up.
+    #[inline(always)]
     pub fn operand_kinds(self) -> &'static [Kind]
         ensures { result.now ≡ segmented_operands self }
     {
@@ -240,6 +245,7 @@ impl Segmented {
     }
 
     /// The kinds of its results, the top of the stack last.
+    #[inline(always)]
     pub fn result_kinds(self) -> &'static [Kind]
         ensures { result.now ≡ segmented_results self }
     {
@@ -265,6 +271,7 @@ impl Fold {
     ghost use Rattle.vcode_base.specs.declared.kind.Kind.TheVariants.{Segdes};
 
     /// The kinds of a vector that is folded and of its descriptor.
+    #[inline(always)]
     fn operand_kinds(self) -> &'static [Kind]
         ensures { result.now ≡ fold_kind self ∷ Segdes ∷ [] }
     {
@@ -277,6 +284,7 @@ impl Fold {
     }
 
     /// The kind of a fold.
+    #[inline(always)]
     fn result_kinds(self) -> &'static [Kind]
         ensures { result.now ≡ fold_kind self ∷ [] }
     {

@@ -9,7 +9,8 @@ fill_front-requires g c =
     let buffers = c.args.buffers.now in
     can_answer_too c.args.op buffers.words _ buffers.operands.lists _
     (ap length c.as_mut_slice.ensures.value ∙ buffers.result_room)
-    (contents_in_front c.count-count.result c.lists-lists.result buffers.operands.lists c.count-count.ensures c.lists-lists.ensures)
+    (contents_in_front c.count-count.result c.lists-lists.result buffers.operands.lists c.count-count.ensures
+    c.lists-lists.ensures)
     c.requires
 
 pub returns-clause-answer : goal.returns-clause-answer
@@ -17,6 +18,7 @@ returns-clause-answer g c =
     let buffers = c.args.buffers.now in
     let filled = c.fill_front in
     let are =
-    contents_in_front c.count-count.result c.lists-lists.result buffers.operands.lists c.count-count.ensures c.lists-lists.ensures in
+    contents_in_front c.count-count.result c.lists-lists.result buffers.operands.lists c.count-count.ensures
+    c.lists-lists.ensures in
     rw (items_after_write buffers.results _ filled.new.results c.as_mut_slice.ensures.value filled.auto.results)
     (subst (λ lists. IsAnswer (question_by c.args.op lists) filled.result filled.new.results) are filled.ensures)

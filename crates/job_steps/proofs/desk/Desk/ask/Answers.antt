@@ -12,4 +12,5 @@ load-requires-clause-room g c =
     let lists = contents c.args.operands.now in
     let buffers = c.deref_mut.result.now in
     room_for_all c.args.op buffers.words buffers.operands.room lists c.requires.can.kinds
-    (subst (λ words. HaveAtMost words lists) (rw (c.deref_mut.ensures.value) (sym c.self.view_is)) c.requires.room) buffers.operand_room
+    (subst (λ words. HaveAtMost words lists) (rw (c.deref_mut.ensures.value) (sym c.self.view_is)) c.requires.room)
+    buffers.operand_room
