@@ -2,10 +2,11 @@
 # make run     runs the example sum_of_two
 # make test    the gate: every proof from nothing, the wrong bodies to be refused, all tests, tables and examples
 # make check CRATE=name   proves one crate and runs its tests
-# make bench   times reading, the steps of jobs, the instructions beside plain C, the memory, and the verifier; no test
+# make bench   times reading, the steps of jobs, workers, the instructions beside plain C, the memory, and the verifier; no test
+# make soak    runs batches on 1 to 16 workers for an hour, and stops at the first report that differs; not in the gate
 # make models  compares the programs with a second writing of the rules, in Python, on random cases; not in the gate
 
-.PHONY: all run test check bench models clean
+.PHONY: all run test check bench soak models clean
 
 all:
 	cd crates/vjobs && rt run -- --help > /dev/null
@@ -24,9 +25,13 @@ check:
 bench: all
 	python3 bench/reading.py
 	python3 bench/steps.py
+	python3 bench/workers.py
 	python3 bench/ops.py
 	python3 bench/memory.py
 	python3 bench/kinds.py
+
+soak: all
+	python3 bench/soak.py 60
 
 models: all
 	cd crates/worked_texts && rt run < stdin > /dev/null
