@@ -17,7 +17,6 @@ use Rattle.job_steps.specs.Standings.{first_standings, is_waiting, reserved_word
 use Rattle.job_steps.specs.Standings.{admission, admission_at}
 use Rattle.job_steps.specs.States.{Task}
 use Rattle.job_steps.specs.Steps.{Progress, Running, Over, Stuck}
-use Rattle.job_slots.specs.Answers.{is_ended}
 use Rattle.job_machine.specs.Machines.{MachineState, is_over, machine_after, with_standings}
 use Rattle.batch_front.specs.Turns.{after_admissions, after_collections, settled, NoneEnded, IsSettled, IsSettledBut}
 
@@ -283,6 +282,14 @@ collected change (suc i) m same e =
     ((change m.region m.tasks (Collect job) m.standings job task.0 Ended refl task.1 e).changed Collected refl)
     ∙ get-set_same m.standings i Ended Collected e
 
+pub ended_is : (s : Option Standing) → is_over s ≡ true → s ≡ Some Ended
+ended_is None e = absurd (false≢true e)
+ended_is (Some Waiting) e = absurd (false≢true e)
+ended_is (Some (Live n)) e = absurd (false≢true e)
+ended_is (Some (InFlight n)) e = absurd (false≢true e)
+ended_is (Some Ended) e = refl
+ended_is (Some Collected) e = absurd (false≢true e)
+
 -- a machine of which a job has ended that is collected now
 pub record HasCollected (m new : MachineState) : Type 0 where
   pub none_ended : NoneEnded new
@@ -411,7 +418,7 @@ none_fits closed have change n m few new (inr left) = by (admission new.region n
     by None is = is
     by (Some job) is = let one = fewer_waiting have change job new is in absurd (omega (arith, one, few, left))
 
-ended_set : (ss : List Standing) (i j : ℕ) (new : Standing) → is_ended new ≡ false → is_over (slice_get ss j) ≡ false →
+ended_set : (ss : List Standing) (i j : ℕ) (new : Standing) → is_over (Some new) ≡ false → is_over (slice_get ss j) ≡ false →
     is_over (slice_get (set ss i new) j) ≡ false
 ended_set [] i j new e h = h
 ended_set (s ∷ ss) zero zero new e h = e

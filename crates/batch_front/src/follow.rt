@@ -1,8 +1,9 @@
 //! The turns that jobs take by a schedule.
 
 ghost use Rattle.std.specs.Prelude.{◌≡◌, OnOk};
-ghost use Rattle.job_steps.specs.Standings.{first_standings};
+ghost use Rattle.job_steps.specs.Standings.{first_standings, of_job};
 ghost use Rattle.job_machine.specs.Hands.{HandsFit};
+ghost use Rattle.job_machine.specs.Machines.{is_over};
 ghost use Rattle.batch_front.specs.Turns.{NoneEnded, IsSettled, IsSettledBut};
 ghost use Rattle.batch_front.specs.Turns.{after_item, after_schedule, after_turn, number_of, settled};
 
@@ -36,6 +37,16 @@ fn admit_all<A: Allocator + Clone>(
     Ok(())
 }
 
+/// Whether the job of this number has ended and isn't collected.
+fn has_ended<A: Allocator>(machine: &Machine<A>, job: usize) -> bool
+    ensures { result ≡ is_over (of_job job machine.now.standings) }
+{
+    match machine.status(job) {
+        Some(Status::Ended) => true,
+        _ => false,
+    }
+}
+
 /// Collects the job of this number, if it has ended, and admits as many as have room then.
 fn settle<A: Allocator + Clone>(
     machine: &mut Machine<A>,
@@ -50,13 +61,15 @@ fn settle<A: Allocator + Clone>(
     ensures fit { OnOk result (HandsFit machine.new hands.new) }
 {
     closed_change_nothing();
+    events_change_their_job();
     others_stay();
     let _jobs = machine.jobs();
-    let Some(Status::Ended) = machine.status(job) else {
+    if !has_ended(machine, job) {
         return Ok(());
-    };
+    }
     machine.play(Event::Collect(job), hands)?;
-    admit_all(machine, hands)
+    admit_all(machine, hands)?;
+    Ok(())
 }
 
 /// Lets the job of this number take its turn.

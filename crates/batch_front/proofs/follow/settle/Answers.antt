@@ -1,10 +1,27 @@
-use Rattle.std.proofs.Common.{◌∙◌, ap, length}
-use Rattle.batch_front.specs.Turns.{after_admissions, settled}
+use Rattle.std.proofs.Common.{◌∙◌, sym, ap, subst}
+use Rattle.job_steps.specs.Standings.{of_job}
+use Rattle.batch_front.specs.Turns.{NoneEnded, settled}
+use Rattle.batch_front.proofs.Settling.{ended_is, has_collected, settled_by, settled_same}
 use Rattle.batch_front.proofs.follow.settle.Goals as goal
 
+pub returns-then-not-has_ended-clause-state : goal.returns-then-not-has_ended-clause-state
+returns-then-not-has_ended-clause-state g c =
+    let m = c.args.machine.now in
+    let rests = sym c.has_ended.ensures ∙ c.if-not-has_ended.true in
+    sym (settled_same c.closed_change_nothing.ensures m (settled_by c.args.job m c.requires.others_settled rests))
+
+pub admit_all-requires-clause-none_ended : goal.admit_all-requires-clause-none_ended
+admit_all-requires-clause-none_ended g c =
+    let m = c.args.machine.now in
+    let over = ended_is (of_job c.args.job m.standings) (sym c.has_ended.ensures ∙ c.if-not-has_ended.false) in
+    subst NoneEnded (sym c.in_ok-play.ensures.ok)
+    (has_collected c.closed_change_nothing.ensures c.others_stay.ensures c.events_change_their_job.ensures c.args.job m
+    c.jobs-jobs.ensures.kept.same_length c.requires.others_settled over).none_ended
+
 pub returns-clause-state : goal.returns-clause-state
-unfolding settled
 returns-clause-state g c =
-    let count = ap length c.in_ok-collect_all.ensures.tasks in
-    c.in_ok-admit_all.ensures.state ∙ ap (λ n. after_admissions n c.collect_all.new.machine) count
-    ∙ ap (after_admissions (length c.args.machine.now.tasks)) c.in_ok-collect_all.ensures.state
+    let m = c.args.machine.now in
+    let over = ended_is (of_job c.args.job m.standings) (sym c.has_ended.ensures ∙ c.if-not-has_ended.false) in
+    c.in_ok-admit_all.ensures.state ∙ ap settled c.in_ok-play.ensures.ok
+    ∙ (has_collected c.closed_change_nothing.ensures c.others_stay.ensures c.events_change_their_job.ensures c.args.job m
+    c.jobs-jobs.ensures.kept.same_length c.requires.others_settled over).same
