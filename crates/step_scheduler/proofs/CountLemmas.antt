@@ -21,11 +21,10 @@ use Rattle.job_steps.specs.States.{Task, Active, State}
 use Rattle.job_steps.specs.Steps.{Ending, Progress, Running, Over, Stuck, progress_by}
 use Rattle.vcode_reader.specs.declared.line.Numbered.{Numbered}
 use Rattle.vcode_reader.specs.Trees.{Item}
-use Rattle.job_steps.specs.Tickets.{Asked}
 use Rattle.job_slots.specs.declared.answer.Finished.{Finished}
 use Rattle.job_slots.specs.declared.answer.Finished.TheVariants as finished
 use Rattle.job_machine.specs.Machines.{MachineState, with_standings, machine_after, Leads, told, told_by}
-use Rattle.job_machine.specs.Machines.{FinishesIn, after_finished}
+use Rattle.job_machine.specs.Machines.{after_finished}
 use Rattle.step_scheduler.specs.Tallies.{executed_sum, IsKept, is_finish, OthersCountNothing, RaisesByItsJob}
 use Rattle.step_scheduler.specs.Tallies.{FinishesRaise, RecallsCountNothing, EventsKeepCounts, CountsAreWithin}
 
@@ -408,33 +407,61 @@ counts_are_within uses m kept = within_each m.tasks m.standings one
         let within = uses task v s (kept.kept.on_run (suc i) task s t s_is) in
         omega (arith, within.budget, task.limits.budget_in_range)
 
--- ---- a finish that isn't stale
+-- ---- a finish, whatever it answers
 
-in_flight_by : (filled : Asked) (t : Option Task) (s : Option Standing) (answer : Finished) →
-    FinishesIn filled t s answer → (answer ≡ finished.Stale → ⊥) → s ≡ Some (InFlight filled.step)
-in_flight_by filled None s finished.Done fits ne = absurd fits
-in_flight_by filled None s finished.Ended fits ne = absurd fits
-in_flight_by filled None s finished.Stale fits ne = absurd (ne refl)
-in_flight_by filled (Some task) None finished.Done fits ne = absurd fits
-in_flight_by filled (Some task) None finished.Ended fits ne = absurd fits
-in_flight_by filled (Some task) None finished.Stale fits ne = absurd (ne refl)
-in_flight_by filled (Some task) (Some s) finished.Done fits ne = ap (λ (k : Standing). Some k) fits.0.flying
-in_flight_by filled (Some task) (Some s) finished.Ended fits ne = ap (λ (k : Standing). Some k) fits.0.flying
-in_flight_by filled (Some task) (Some s) finished.Stale fits ne = absurd (ne refl)
+-- how many instructions a job has executed, and 0 if there is no such job
+abbrev count_in : ℕ → MachineState → ℕ
+count_in job m = unwrap_or (told executed_at job m) 0
 
-after_some : (m : MachineState) (job : ℕ) (answer : Finished) → (answer ≡ finished.Stale → ⊥) →
-    after_finished answer m (machine_after (Finish job) m) ≡ machine_after (Finish job) m
-after_some m job finished.Done ne = refl
-after_some m job finished.Ended ne = refl
-after_some m job finished.Stale ne = absurd (ne refl)
+-- the sum rises by what the count of one job rises by
+pub record RaisedBy (job : ℕ) (old new : MachineState) : Type 0 where
+  pub no_fewer : count_in job old ≤ count_in job new
+  pub sum_is : executed_sum new + count_in job old ≡ executed_sum old + count_in job new
 
--- what the machine shows after a finish that isn't stale
-pub raises : FinishesRaise → (old new : MachineState) → IsKept old → (filled : Asked) (answer : Finished) →
-    FinishesIn filled (of_job filled.job old.tasks) (of_job filled.job old.standings) answer →
-    new ≡ after_finished answer old (machine_after (Finish filled.job) old) → (answer ≡ finished.Stale → ⊥) →
-    RaisesByItsJob old filled.job filled.step × (new ≡ machine_after (Finish filled.job) old)
-raises law old new kept filled answer fits is ne = (
-  law old kept filled.job filled.step
-  (in_flight_by filled (of_job filled.job old.tasks) (of_job filled.job old.standings) answer fits ne),
-  is ∙ after_some old filled.job answer ne,
-)
+not_raised : (job : ℕ) (m : MachineState) → after_event m.region m.tasks (Finish job) m.standings ≡ m.standings →
+    RaisedBy job m (machine_after (Finish job) m)
+not_raised job m same =
+    let count : count_in job (machine_after (Finish job) m) ≡ count_in job m =
+    ap (λ s. unwrap_or (told_by executed_at (of_job job m.tasks) (of_job job s)) 0) same in
+    record {
+      no_fewer = omega (arith, count);
+      sum_is = omega (arith, count, ap (sum_over executed_at m.tasks) same);
+    }
+
+raised_in : FinishesRaise → (job : ℕ) (m : MachineState) → IsKept m → (t : Option Task) → of_job job m.tasks ≡ t →
+    (s : Option Standing) → of_job job m.standings ≡ s →
+    after_event m.region m.tasks (Finish job) m.standings
+    ≡ with_next (Some job) (next_standing_in (Finish job) t s) m.standings →
+    RaisedBy job m (machine_after (Finish job) m)
+raised_in law job m kept None t s s_is after = not_raised job m after
+raised_in law job m kept (Some task) t None s_is after = not_raised job m after
+raised_in law job m kept (Some task) t (Some Waiting) s_is after = not_raised job m after
+raised_in law job m kept (Some task) t (Some (Live n)) s_is after = not_raised job m after
+raised_in law job m kept (Some task) t (Some (InFlight n)) s_is after =
+    let r = law m kept job n s_is in
+    let before : count_in job m ≡ n = λ i. unwrap_or (told_by executed_at (t i) (s_is i)) 0 in
+    let count : count_in job (machine_after (Finish job) m) ≡ r.count = ap (λ o. unwrap_or o 0) r.count_is in
+    record {
+      no_fewer = omega (arith, before, count, r.no_fewer);
+      sum_is = omega (arith, before, count, r.sum_is);
+    }
+raised_in law job m kept (Some task) t (Some Ended) s_is after = not_raised job m after
+raised_in law job m kept (Some task) t (Some Collected) s_is after = not_raised job m after
+
+raised_after : FinishesRaise → (job : ℕ) (m : MachineState) → IsKept m → RaisedBy job m (machine_after (Finish job) m)
+raised_after law job m kept =
+    let after : after_event m.region m.tasks (Finish job) m.standings
+        ≡ with_next (Some job) (next_standing_in (Finish job) (of_job job m.tasks) (of_job job m.standings))
+        m.standings =
+    after_by m.region m.tasks (Finish job) m.standings job refl in
+    raised_in law job m kept (of_job job m.tasks) refl (of_job job m.standings) refl after
+
+raised_by : FinishesRaise → (job : ℕ) (m : MachineState) → IsKept m → (answer : Finished) →
+    RaisedBy job m (after_finished answer m (machine_after (Finish job) m))
+raised_by law job m kept finished.Done = raised_after law job m kept
+raised_by law job m kept finished.Ended = raised_after law job m kept
+raised_by law job m kept finished.Stale = record { no_fewer = omega arith; sum_is = refl }
+
+pub raises : FinishesRaise → (job : ℕ) (old new : MachineState) → IsKept old → (answer : Finished) →
+    new ≡ after_finished answer old (machine_after (Finish job) old) → RaisedBy job old new
+raises law job old new kept answer is = subst (RaisedBy job old) (sym is) (raised_by law job old kept answer)

@@ -148,12 +148,9 @@ fn finish_counted<A: Allocator>(
 {
     count_laws();
     let _jobs = machine.jobs();
-    let (job, step) = (filled.job(), filled.step());
+    let job = filled.job();
+    let before = machine.executed(job).unwrap_or(0);
     let (finished, desk) = machine.finish(filled);
-    match finished {
-        Finished::Stale => return (finished, desk, 0),
-        Finished::Done | Finished::Ended => {}
-    }
-    let executed = machine.executed(job).unwrap() - step;
-    (finished, desk, executed)
+    let after = machine.executed(job).unwrap_or(0);
+    (finished, desk, after - before)
 }

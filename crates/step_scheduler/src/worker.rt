@@ -15,6 +15,9 @@ pub(crate) struct SharedMachine<L: Opening, A: Allocator> {
     guarded: Mutex<GuardedMachine<L, A>>,
     /// Rung when an event was done.
     moved: Condvar,
+    /// The words of each worker's desk.
+    words: usize,
+    ghost within: { words ≤ MOST_WORDS },
 }
 
 /// What a worker has done in a hold of the lock.
@@ -41,15 +44,19 @@ impl<A: Allocator> Turn<A> {
 }
 
 impl<L: Opening, A: Allocator> SharedMachine<L, A> {
-    pub(crate) fn new(guarded: GuardedMachine<L, A>) -> SharedMachine<L, A> {
+    /// A machine for workers whose desks have so many words.
+    pub(crate) fn new(guarded: GuardedMachine<L, A>, words: usize) -> SharedMachine<L, A>
+        requires { words ≤ MOST_WORDS }
+    {
         SharedMachine {
             guarded: Mutex::new(guarded),
             moved: Condvar::new(),
+            words,
         }
     }
 
     pub(crate) fn into_inner(self) -> GuardedMachine<L, A> {
-        let SharedMachine { guarded, moved: _ } = self;
+        let SharedMachine { guarded, .. } = self;
         guarded.into_inner()
     }
 }
@@ -122,11 +129,8 @@ pub(crate) fn work<L: Opening, A: Allocator + Clone, R: Wait, G: Gate>(
     shared: &SharedMachine<L, A>,
     gate: &G,
     mine: &mut WorkerShare<L>,
-    words: usize,
-)
-    requires { words ≤ MOST_WORDS }
-{
-    let Ok(mut desk) = Desk::new(alloc, words) else {
+) {
+    let Ok(mut desk) = Desk::new(alloc, shared.words) else {
         return;
     };
     for _ in rt.forever() {

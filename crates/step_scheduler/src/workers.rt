@@ -1,7 +1,7 @@
 //! A run of a machine's jobs by workers.
 
 ghost use Rattle.std.specs.Prelude.{◌≡◌, ◌+◌, ◌≤◌, sum, vec_len, All, IfOk, OnOk};
-ghost use Rattle.vcode_base.specs.declared.limits.TheConstants.{MOST_WORKERS, MOST_WORDS};
+ghost use Rattle.vcode_base.specs.declared.limits.TheConstants.{MOST_WORKERS};
 ghost use Rattle.job_steps.specs.Standings.{Collected};
 ghost use Rattle.step_scheduler.specs.Tallies.{executed_sum};
 
@@ -84,8 +84,8 @@ where
     machine.recall_all();
     let (book, mut all) = blank.open::<L>();
     let mut shares = split_shares(alloc, &mut all, workers)?;
-    let shared = SharedMachine::new(GuardedMachine::new(machine, book));
-    start_workers(rt, alloc, &shared, gate, shares.as_mut_slice(), words);
+    let shared = SharedMachine::new(GuardedMachine::new(machine, book), words);
+    start_workers(rt, alloc, &shared, gate, shares.as_mut_slice());
     let (mut machine, mut book) = shared.into_inner().into_parts();
     let workers = merge_shares(alloc, &mut all, shares)?;
     book.audit(&mut all);
@@ -103,18 +103,16 @@ fn start_workers<L, A, R, G>(
     shared: &SharedMachine<L, A>,
     gate: &G,
     shares: &mut [WorkerShare<L>],
-    words: usize,
 )
 where
     L: Opening + Send + Sync,
     A: Allocator + Copy + Send + Sync,
     R: Threads + Wait + Sync,
     G: Gate + Sync,
-    requires { words ≤ MOST_WORDS }
 {
     thread::scope(thread::scope_env(), rt, |scope| {
         for mine in shares.iter_mut() {
-            let _ = scope.spawn(move || work(rt, alloc, shared, gate, mine, words));
+            let _ = scope.spawn(move || work(rt, alloc, shared, gate, mine));
         }
     });
 }
