@@ -85,7 +85,7 @@ where
     let (book, mut all) = blank.open::<L>();
     let mut shares = split_shares(alloc, &mut all, workers)?;
     let shared = SharedMachine::new(GuardedMachine::new(machine, book), words);
-    start_workers(rt, alloc, &shared, gate, shares.as_mut_slice());
+    start_workers(rt, alloc, &shared, gate, &mut shares);
     let (mut machine, mut book) = shared.into_inner().into_parts();
     let workers = merge_shares(alloc, &mut all, shares)?;
     book.audit(&mut all);
@@ -102,14 +102,16 @@ fn start_workers<L, A, R, G>(
     alloc: A,
     shared: &SharedMachine<L, A>,
     gate: &G,
-    shares: &mut [WorkerShare<L>],
+    shares: &mut Vec<WorkerShare<L>, A>,
 )
 where
     L: Opening + Send + Sync,
     A: Allocator + Copy + Send + Sync,
     R: Threads + Wait + Sync,
     G: Gate + Sync,
+    ensures { vec_len shares.new ≡ vec_len shares.old }
 {
+    let shares = shares.as_mut_slice();
     thread::scope(thread::scope_env(), rt, |scope| {
         for mine in shares.iter_mut() {
             let _ = scope.spawn(move || work(rt, alloc, shared, gate, mine));

@@ -6,9 +6,9 @@ use Rattle.step_scheduler.proofs.guarded.finish_counted.Goals as goal
 use Rattle.step_scheduler.proofs.guarded.finish_counted.Goals.{After-unwrap_or-after}
 
 raised : (g : Over) (c : After-unwrap_or-after g) →
-    RaisedBy c.args.filled.job c.args.machine.now c.finish-finished.new.machine
+    RaisedBy c.args.filled.job c.args.machine.now c.finish-finished.new.self
 raised g c =
-    raises c.count_laws.ensures.finishes c.args.filled.job c.args.machine.now c.finish-finished.new.machine
+    raises c.count_laws.ensures.finishes c.args.filled.job c.args.machine.now c.finish-finished.new.self
     (record { verified = c.jobs-jobs.ensures.verified; kept = c.jobs-jobs.ensures.kept }) c.finish-finished.result.0
     c.finish-finished.ensures.state
 

@@ -1,4 +1,4 @@
-use Rattle.std.proofs.Common.{◌≡◌, ◌≤◌, ◌∙◌, ap, sym, subst, arith, rules, vec_len}
+use Rattle.std.proofs.Common.{◌≡◌, ◌≤◌, ◌∙◌, refl, ap, sym, subst, arith}
 use Rattle.std.specs.Prelude.{All}
 use Rattle.job_steps.specs.States.{Task}
 use Rattle.step_scheduler.specs.Tallies.{executed_sum}
@@ -13,24 +13,23 @@ new-requires-2 g c =
 pub run_out-requires : goal.run_out-requires
 run_out-requires g c =
     let same : c.into_parts-machine.result.0.tasks ≡ c.args.machine.tasks =
-    c.if-not-holds.ensures ∙ c.as_slice.ensures.value ∙ ap (λ v. v.items) c.deref.ensures ∙ c.in_ok-list.ensures in
+    c.if-not-holds.ensures.0 refl ∙ c.as_slice.ensures.value ∙ ap (λ v. v.items) c.deref.ensures ∙ c.in_ok-list.ensures in
     subst (All (λ (task : Task). task.limits.words ≤ c.in_ok-desk.desk)) (sym same)
     (subst (λ n. All (λ (task : Task). task.limits.words ≤ n) c.args.machine.tasks) (sym c.in_ok-desk.ensures)
     c.most_words-words.ensures.each)
 
 pub returns-clause-jobs : goal.returns-clause-jobs
 returns-clause-jobs g c =
-    c.in_ok-caller.ensures.jobs ∙ c.if-not-holds.ensures ∙ c.as_slice.ensures.value
+    c.in_ok-caller.ensures.jobs ∙ c.if-not-holds.ensures.0 refl ∙ c.as_slice.ensures.value
     ∙ ap (λ v. v.items) c.deref.ensures
     ∙ c.in_ok-list.ensures
 
 pub returns-clause-counted : goal.returns-clause-counted
 returns-clause-counted g c =
     let merged = c.in_ok-workers.ensures in
-    let count : vec_len c.in_ok-workers.workers ≡ c.args.workers = search rules in
     let parts : c.merge_shares.new.all.parts ≡ g.L.Ledger.parts =
-    omega (arith, merged.parts, merged.counts, count, c.in_ok-shares.ensures.left.0, c.requires.parts.0,
-    c.requires.parts.1) in
+    omega (arith, merged.parts, c.start_workers.ensures, c.in_ok-shares.ensures.shares,
+    c.in_ok-shares.ensures.left.0, c.requires.parts.0, c.requires.parts.1) in
     let whole = c.audit.ensures.whole parts in
     omega (arith, c.in_ok-caller.ensures.counted, c.into_parts-machine.ensures, whole, merged.amount,
     c.requires.before)
