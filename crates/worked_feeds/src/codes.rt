@@ -27,7 +27,7 @@ const BAD_WORD: &[u8] = b"FUNC MAIN\r\nCONSTANT INT 1\r\nRET\r\n{ open";
 impl<'h> Reader<'h> for CodeReader<&'h LocalHeap> {
     type Reading = Result<Program<&'h LocalHeap>, ReadFault>;
 
-    ghost room = { λ r. cond r.failed (2 ^ 64) (2 ^ 64 - 1 - r.scan.line) };
+    ghost room = { λ r. cond r.failed (2 ^ 64) (2 ^ 64 - r.scan.line) };
 
     fn at_once(heap: &'h LocalHeap, text: &[u8]) -> Self::Reading {
         line_feeds_are_few();

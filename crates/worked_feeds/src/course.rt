@@ -1,5 +1,5 @@
 //! How a text is read in pieces.
-ghost use Rattle.std.specs.Prelude.{◌≡◌, ◌≤◌, ◌+◌, ℕ, IfOk, length};
+ghost use Rattle.std.specs.Prelude.{◌<◌, ◌≤◌, ◌+◌, ℕ, IfOk, length};
 ghost use Rattle.worked_feeds.specs.declared.course.TheConstants.{MOST_BYTES};
 
 use crate::shortage::Shortage;
@@ -76,7 +76,7 @@ pub trait Reader<'h>: Drop {
     /// What a text comes to, or a refusal of memory.
     type Reading: Drop;
 
-    /// How many bytes may still come.
+    /// The bytes that may still come are fewer.
     ghost room: { Self → ℕ };
 
     /// Reads a text in one piece.
@@ -85,11 +85,11 @@ pub trait Reader<'h>: Drop {
 
     /// A reader of which nothing has come.
     fn begin(heap: &'h LocalHeap) -> Result<Self, AllocError>
-        ensures { IfOk result (λ reader. MOST_BYTES ≤ room reader) };
+        ensures { IfOk result (λ reader. MOST_BYTES < room reader) };
 
     /// Takes the next piece.
     fn take(&mut self, piece: &[u8]) -> Result<(), AllocError>
-        requires { length piece.now ≤ room self.old }
+        requires { length piece.now < room self.old }
         ensures { room self.old ≤ length piece.now + room self.new };
 
     /// How the text ends, beside what it comes to in one piece.
@@ -123,7 +123,7 @@ fn feed_pieces<'h, R: Reader<'h>>(
     cuts: Cuts,
     shortage: &mut Shortage<'h>,
 ) -> Result<Course, AllocError>
-    requires { length text.now ≤ R.room reader.old }
+    requires { length text.now < R.room reader.old }
 {
     let mut course = Course::Right;
     let mut size = cuts.first;

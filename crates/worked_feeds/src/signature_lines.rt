@@ -30,7 +30,7 @@ type Reading<'h> = Result<Signatures<&'h LocalHeap>, SigFault>;
 impl<'h> Reader<'h> for SigReader<&'h LocalHeap> {
     type Reading = Reading<'h>;
 
-    ghost room = { λ r. cond r.failed (2 ^ 64) (2 ^ 64 - 1 - r.scan.number) };
+    ghost room = { λ r. cond r.failed (2 ^ 64) (2 ^ 64 - r.scan.number) };
 
     fn at_once(heap: &'h LocalHeap, text: &[u8]) -> Self::Reading {
         line_feeds_are_few();

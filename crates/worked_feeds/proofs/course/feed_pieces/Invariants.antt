@@ -1,5 +1,5 @@
-use Rattle.std.proofs.Common.{◌≤◌, length}
+use Rattle.std.proofs.Common.{◌<◌, length}
 use Rattle.worked_feeds.proofs.course.feed_pieces.Given as goal
 
 abbrev pub invariant-pieces : goal.invariant-pieces
-invariant-pieces g l = length l.rest ≤ g.R.Reader.room l.reader
+invariant-pieces g l = length l.rest < g.R.Reader.room l.reader
