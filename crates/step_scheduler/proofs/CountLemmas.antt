@@ -451,8 +451,8 @@ raised_in law job m kept (Some task) t (Some Collected) s_is after = not_raised 
 raised_after : FinishesRaise → (job : ℕ) (m : MachineState) → IsKept m → RaisedBy job m (machine_after (Finish job) m)
 raised_after law job m kept =
     let after : after_event m.region m.tasks (Finish job) m.standings
-        ≡ with_next (Some job) (next_standing_in (Finish job) (of_job job m.tasks) (of_job job m.standings))
-        m.standings =
+    ≡ with_next (Some job) (next_standing_in (Finish job) (of_job job m.tasks) (of_job job m.standings))
+    m.standings =
     after_by m.region m.tasks (Finish job) m.standings job refl in
     raised_in law job m kept (of_job job m.tasks) refl (of_job job m.standings) refl after
 

@@ -71,9 +71,9 @@ impl<L: Opening, A: Allocator> GuardedMachine<L, A> {
         (machine, book)
     }
 
-    /// The first job that stands so.
-    pub(crate) fn first(&self, status: Status) -> Option<usize> {
-        (1..=self.machine.jobs()).find(|job| self.machine.status(*job) == Some(status))
+    /// Whether a job has ended and isn't collected.
+    pub(crate) fn has_ended(&self, job: usize) -> bool {
+        matches!(self.machine.status(job), Some(Status::Ended))
     }
 
     /// Admits the first job that waits, where it has room.

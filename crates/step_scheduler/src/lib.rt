@@ -11,8 +11,11 @@
 #![tactic(auto)]
 
 mod counts;
+mod crew;
+mod estimate;
 mod gate;
 mod guarded;
+mod shared;
 mod shares;
 mod tally;
 mod worker;

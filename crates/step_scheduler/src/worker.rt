@@ -1,125 +1,81 @@
 //! A worker: a thread that does one event of the machine in each hold of the lock.
 
-ghost use Rattle.std.specs.Prelude.{◌≤◌};
-ghost use Rattle.vcode_base.specs.declared.limits.TheConstants.{MOST_WORDS};
-
 use crate::gate::Gate;
-use crate::guarded::{GuardedMachine, Opening, WorkerShare};
-use job_machine::{Admission, Begun, Desk, Status, Ticket, compute};
+use crate::guarded::{Opening, WorkerShare};
+use crate::shared::{SharedMachine, Turn};
+use job_machine::{Desk, Filled, Finished, compute};
 use std::alloc::Allocator;
-use std::sync::{Condvar, Mutex, Wait};
+use std::sync::Wait;
 
-/// What the workers of a run share.
-#[derive(Drop)]
-pub(crate) struct SharedMachine<L: Opening, A: Allocator> {
-    guarded: Mutex<GuardedMachine<L, A>>,
-    /// Rung when an event was done.
-    moved: Condvar,
-    /// The words of each worker's desk.
-    words: usize,
-    ghost within: { words ≤ MOST_WORDS },
-}
-
-/// What a worker has done in a hold of the lock.
-enum Turn<A: Allocator> {
-    /// It has begun a step, which it is to compute.
-    Began(Ticket<A>),
-    /// It has done another event.
-    Moved(Desk<A>),
-    /// Nothing was open, while steps are in flight.
-    Idle(Desk<A>),
-    /// Nothing is left to do, or memory for results was refused.
-    Over,
-}
-
-impl<A: Allocator> Turn<A> {
-    /// The turn that was a begin of a live job.
-    fn after(begun: Begun<A>) -> Turn<A> {
-        match begun {
-            Begun::Began(ticket) => Turn::Began(ticket),
-            Begun::Ended(desk) => Turn::Moved(desk),
-            Begun::NotReady(_) | Begun::SmallDesk(_) => Turn::Over,
-        }
-    }
-}
-
-impl<L: Opening, A: Allocator> SharedMachine<L, A> {
-    /// A machine for workers whose desks have so many words.
-    pub(crate) fn new(guarded: GuardedMachine<L, A>, words: usize) -> SharedMachine<L, A>
-        requires { words ≤ MOST_WORDS }
-    {
-        SharedMachine {
-            guarded: Mutex::new(guarded),
-            moved: Condvar::new(),
-            words,
-        }
-    }
-
-    pub(crate) fn into_inner(self) -> GuardedMachine<L, A> {
-        let SharedMachine { guarded, .. } = self;
-        guarded.into_inner()
-    }
-}
-
-/// Does one event, if one is open.
-fn take_turn<L: Opening, A: Allocator + Clone>(
-    guarded: &mut GuardedMachine<L, A>,
-    desk: Desk<A>,
-) -> Turn<A> {
-    if let Some(job) = guarded.first(Status::Ended) {
-        return match guarded.collect(job) {
-            Ok(_) => Turn::Moved(desk),
-            Err(_) => Turn::Over,
-        };
-    }
-    if let Admission::Admitted(_) = guarded.admit() {
-        return Turn::Moved(desk);
-    }
-    if let Some(job) = guarded.first(Status::Live) {
-        return Turn::after(guarded.begin(job, desk));
-    }
-    match guarded.first(Status::InFlight) {
-        Some(_) => Turn::Idle(desk),
-        None => Turn::Over,
-    }
-}
-
-/// One hold of the lock. Where nothing is open, it waits until another worker has done an event.
+/// One hold of the lock. Where there is nothing to go on with, it sleeps until that may have changed.
 fn hold<L: Opening, A: Allocator + Clone, R: Wait>(
     rt: &R,
     shared: &SharedMachine<L, A>,
+    job: Option<usize>,
     desk: Desk<A>,
 ) -> Turn<A> {
-    let mut guarded = shared.guarded.lock(rt);
-    let turn = take_turn(&mut *guarded, desk);
-    if let Turn::Idle(desk) = turn {
-        let _guarded = shared.moved.wait(rt, guarded);
-        return Turn::Idle(desk);
+    let mut state = shared.lock(rt);
+    match state.take_turn(job, desk) {
+        Turn::Idle(desk) => {
+            shared.sleep(rt, state);
+            Turn::Moved(None, desk)
+        }
+        Turn::Over => {
+            state.crew.leave();
+            Turn::Over
+        }
+        turn => turn,
     }
-    turn
 }
 
-/// A hold, and where a step has begun its computation and the hold that finishes it. None where nothing is left to do.
+/// The hold that finishes a computed step. The worker goes on with its job, unless there are too many workers for the work
+/// outside the lock: then it leaves the job to the others and sleeps.
+fn finish<L: Opening, A: Allocator, R: Wait>(
+    rt: &R,
+    shared: &SharedMachine<L, A>,
+    mine: &mut WorkerShare<L>,
+    filled: Filled<A>,
+) -> (Option<usize>, Desk<A>) {
+    let job = filled.job();
+    let mut state = shared.lock(rt);
+    let (finished, desk) = state.machine.finish(filled, mine);
+    match finished {
+        Finished::Done if state.crew.has_too_many() => {
+            state.crew.leave_open(job);
+            shared.sleep(rt, state);
+            (None, desk)
+        }
+        Finished::Done | Finished::Ended => (Some(job), desk),
+        Finished::Stale => (None, desk),
+    }
+}
+
+/// A hold of the lock, and where it has begun a step its computation and the hold that finishes it. The job with which the
+/// worker goes on, if there is one, or None where nothing is left to do.
 fn go_on<L: Opening, A: Allocator + Clone, R: Wait, G: Gate>(
     rt: &R,
     shared: &SharedMachine<L, A>,
     gate: &G,
     mine: &mut WorkerShare<L>,
+    job: Option<usize>,
     desk: Desk<A>,
-) -> Option<Desk<A>> {
-    let desk = match hold(rt, shared, desk) {
-        Turn::Began(ticket) => {
+) -> Option<(Option<usize>, Desk<A>)> {
+    match hold(rt, shared, job, desk) {
+        Turn::Began { ticket, rings } => {
+            if rings {
+                shared.bell.notify_one();
+            }
             gate.between(ticket.job(), ticket.step());
             let filled = compute(ticket);
-            let (_, desk) = shared.guarded.lock(rt).finish(filled, mine);
-            Some(desk)
+            Some(finish(rt, shared, mine, filled))
         }
-        Turn::Moved(desk) => Some(desk),
-        Turn::Idle(desk) => return Some(desk),
-        Turn::Over => None,
-    };
-    shared.moved.notify_all();
-    desk
+        Turn::Moved(job, desk) => Some((job, desk)),
+        Turn::Idle(desk) => Some((None, desk)),
+        Turn::Over => {
+            shared.bell.notify_all();
+            None
+        }
+    }
 }
 
 /// Runs jobs until nothing is left to do, or until memory is refused.
@@ -133,9 +89,14 @@ pub(crate) fn work<L: Opening, A: Allocator + Clone, R: Wait, G: Gate>(
     let Ok(mut desk) = Desk::new(alloc, shared.words) else {
         return;
     };
+    shared.lock(rt).crew.join();
+    let mut job = None;
     for _ in rt.forever() {
-        match go_on(rt, shared, gate, mine, desk) {
-            Some(same) => desk = same,
+        match go_on(rt, shared, gate, mine, job, desk) {
+            Some((next, same)) => {
+                job = next;
+                desk = same;
+            }
             None => return,
         }
     }

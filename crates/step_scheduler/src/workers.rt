@@ -6,11 +6,13 @@ ghost use Rattle.job_steps.specs.Standings.{Collected};
 ghost use Rattle.step_scheduler.specs.Tallies.{executed_sum};
 
 use crate::counts::{count_laws, executed_in_all};
+use crate::crew::Crew;
 use crate::gate::Gate;
 use crate::guarded::{GuardedMachine, Opening, WorkerShare};
+use crate::shared::SharedMachine;
 use crate::shares::{merge_shares, split_shares};
 use crate::tally::{RunFault, Tally};
-use crate::worker::{SharedMachine, work};
+use crate::worker::work;
 use job_machine::{Desk, Machine};
 use std::alloc::{AllocError, Allocator};
 use std::marker::Brand;
@@ -84,7 +86,8 @@ where
     machine.recall_all();
     let (book, mut all) = blank.open::<L>();
     let mut shares = split_shares(alloc, &mut all, workers)?;
-    let shared = SharedMachine::new(GuardedMachine::new(machine, book), words);
+    let crew = Crew::new(alloc, &machine)?;
+    let shared = SharedMachine::new(GuardedMachine::new(machine, book), crew, words);
     start_workers(rt, alloc, &shared, gate, &mut shares);
     let (mut machine, mut book) = shared.into_inner().into_parts();
     let workers = merge_shares(alloc, &mut all, shares)?;

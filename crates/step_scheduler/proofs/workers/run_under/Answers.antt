@@ -4,8 +4,8 @@ use Rattle.job_steps.specs.States.{Task}
 use Rattle.step_scheduler.specs.Tallies.{executed_sum}
 use Rattle.step_scheduler.proofs.workers.run_under.Goals as goal
 
-pub new-requires-2 : goal.new-requires-2
-new-requires-2 g c =
+pub new-requires-3 : goal.new-requires-3
+new-requires-3 g c =
     let recalled = ap executed_sum c.recall_all.ensures.recalled in
     let same = c.count_laws.ensures.recalls c.args.machine in
     omega (arith, recalled, same, c.requires.before, c.open-book.ensures.total)
@@ -24,12 +24,29 @@ returns-clause-jobs g c =
     ∙ ap (λ v. v.items) c.deref.ensures
     ∙ c.in_ok-list.ensures
 
+pub returns-clause-workers : goal.returns-clause-workers
+returns-clause-workers g c =
+    omega (arith, c.in_ok-workers.ensures.counts, c.start_workers.ensures, c.in_ok-shares.ensures.shares)
+
 pub returns-clause-counted : goal.returns-clause-counted
 returns-clause-counted g c =
     let merged = c.in_ok-workers.ensures in
     let parts : c.merge_shares.new.all.parts ≡ g.L.Ledger.parts =
-    omega (arith, merged.parts, c.start_workers.ensures, c.in_ok-shares.ensures.shares,
-    c.in_ok-shares.ensures.left.0, c.requires.parts.0, c.requires.parts.1) in
+    omega (
+      arith,
+      merged.parts,
+      c.start_workers.ensures,
+      c.in_ok-shares.ensures.shares,
+      c.in_ok-shares.ensures.left.0,
+      c.requires.parts.0,
+      c.requires.parts.1,
+    ) in
     let whole = c.audit.ensures.whole parts in
-    omega (arith, c.in_ok-caller.ensures.counted, c.into_parts-machine.ensures, whole, merged.amount,
-    c.requires.before)
+    omega (
+      arith,
+      c.in_ok-caller.ensures.counted,
+      c.into_parts-machine.ensures,
+      whole,
+      merged.amount,
+      c.requires.before,
+    )

@@ -1,0 +1,148 @@
+//! Which worker goes on with which job: hints, on which no contract rests.
+
+use crate::estimate::Estimate;
+use job_machine::{Machine, Status, Ticket};
+use std::alloc::{AllocError, Allocator};
+
+/// The words of operands from which on a step is long enough to wake a worker beside it.
+const LARGE: usize = 4_096;
+
+/// A worker is woken where this many hundredths of the time under the lock leave it some.
+const TO_WAKE: u64 = 55;
+
+/// A worker stays awake where this many hundredths of the time under the lock leave it some.
+const TO_STAY: u64 = 45;
+
+/// Where the workers of a run are, and which jobs nobody goes on with.
+///
+/// While a job can go on, some worker is awake. A worker falls asleep only while another one is awake. The last one awake
+/// ends only where it found, in the same hold of the lock, no job to go on with and none that could be admitted. One that
+/// ends earlier, since it was refused memory, wakes those that sleep.
+#[derive(Drop)]
+pub(crate) struct Crew<A: Allocator> {
+    /// The jobs that run or have ended and that no worker has, the next one last.
+    open: Vec<usize, A>,
+    /// No job could be admitted since the last one was collected.
+    full: bool,
+    /// The last worker awake found nothing to do.
+    over: bool,
+    awake: usize,
+    asleep: usize,
+    /// How many sleepers were rung and aren't awake yet.
+    rung: usize,
+    estimate: Estimate,
+}
+
+impl<A: Allocator> Crew<A> {
+    /// Without a worker, over the jobs of a machine in which no step has begun.
+    ///
+    /// # Errors
+    ///
+    /// [`AllocError`] where memory for the list of open jobs was refused.
+    pub(crate) fn new(alloc: A, machine: &Machine<A>) -> Result<Crew<A>, AllocError> {
+        let jobs = machine.jobs();
+        let mut open = Vec::with_capacity(alloc, jobs)?;
+        for place in 0..jobs {
+            let job = jobs - place;
+            if let Some(Status::Live | Status::Ended) = machine.status(job) {
+                open.push(job)?;
+            }
+        }
+        Ok(Crew {
+            open,
+            full: false,
+            over: false,
+            awake: 0,
+            asleep: 0,
+            rung: 0,
+            estimate: Estimate::new(),
+        })
+    }
+
+    /// A worker is there.
+    pub(crate) fn join(&mut self) {
+        self.awake = self.awake.saturating_add(1);
+    }
+
+    /// A worker ends.
+    pub(crate) fn leave(&mut self) {
+        self.awake = self.awake.saturating_sub(1);
+    }
+
+    /// A worker falls asleep.
+    pub(crate) fn fall_asleep(&mut self) {
+        self.awake = self.awake.saturating_sub(1);
+        self.asleep = self.asleep.saturating_add(1);
+    }
+
+    /// A sleeper is awake again.
+    pub(crate) fn wake_up(&mut self) {
+        self.asleep = self.asleep.saturating_sub(1);
+        self.rung = self.rung.saturating_sub(1);
+        self.awake = self.awake.saturating_add(1);
+    }
+
+    /// Takes the job that was left to the others last.
+    pub(crate) fn take_open(&mut self) -> Option<usize> {
+        self.open.pop()
+    }
+
+    /// Leaves a job to the others. The list has room for each job of the machine.
+    pub(crate) fn leave_open(&mut self, job: usize) {
+        let _ = self.open.push(job);
+    }
+
+    /// Whether a job that waits may have room.
+    pub(crate) fn may_admit(&self) -> bool {
+        !self.full
+    }
+
+    /// No job could be admitted.
+    pub(crate) fn could_not_admit(&mut self) {
+        self.full = true;
+    }
+
+    /// A job was collected, so that another one may have room.
+    pub(crate) fn has_collected(&mut self) {
+        self.full = false;
+    }
+
+    /// Whether a worker that found nothing to do is to end: nobody else is awake, or that was so before.
+    pub(crate) fn is_over(&mut self) -> bool {
+        self.over = self.over || self.awake <= 1;
+        self.over
+    }
+
+    /// Takes account of a step that has begun, and tells whether a sleeper is to be rung: the step is long, somebody
+    /// sleeps, there may be a job to go on with, and one more worker would find work.
+    pub(crate) fn rings(&mut self, ticket: &Ticket<A>) -> bool {
+        let (words, longest) = operand_words(ticket);
+        self.estimate.add(ticket.op(), words, longest);
+        if words < LARGE || self.asleep <= self.rung || (self.full && self.open.is_empty()) {
+            return false;
+        }
+        let coming = self.awake.saturating_add(self.rung);
+        if !self.estimate.feeds_more_than(coming, TO_WAKE) {
+            return false;
+        }
+        self.rung = self.rung.saturating_add(1);
+        true
+    }
+
+    /// Whether one worker less would do as well.
+    pub(crate) fn has_too_many(&self) -> bool {
+        self.awake > 1 && !self.estimate.feeds_more_than(self.awake, TO_STAY)
+    }
+}
+
+/// The words of all operands of a step, and of the longest.
+fn operand_words<A: Allocator>(ticket: &Ticket<A>) -> (usize, usize) {
+    let mut words = 0usize;
+    let mut longest = 0;
+    for place in 0..ticket.operand_count() {
+        let len = ticket.operand(place).len();
+        words = words.saturating_add(len);
+        longest = longest.max(len);
+    }
+    (words, longest)
+}

@@ -1,0 +1,92 @@
+//! How many workers find work beside the lock.
+
+use job_machine::Ticket;
+use std::alloc::Allocator;
+use vcode_base::{Arith, Elementwise, Fold, Op, Segmented};
+
+/// What a step takes under the lock beside the words that it copies, in units of a copied word.
+const FIXED: u64 = 2_048;
+
+/// The words of a step past which they no longer lie near the processor, and a copied word takes twice as long.
+const NEAR: u64 = 131_072;
+
+/// The sum under the lock from which on the older half of what was seen is forgotten.
+const MOST: u64 = 4_194_304;
+
+/// What the latest steps took under the lock and outside it, in units of about the time in which a word is copied.
+///
+/// Only one worker at a time is under the lock, so that as many find work as what is outside is greater than what is
+/// under it.
+#[derive(Drop, Clone, Copy)]
+pub(crate) struct Estimate {
+    inside: u64,
+    outside: u64,
+}
+
+impl Estimate {
+    /// Of no step.
+    pub(crate) fn new() -> Estimate {
+        Estimate {
+            inside: 0,
+            outside: 0,
+        }
+    }
+
+    /// Adds a step of so many words of operands, of which the longest has so many; its results are taken to be as long as
+    /// that one.
+    pub(crate) fn add(&mut self, op: Op, words: usize, longest: usize) {
+        let copied = (words as u64)
+            .saturating_mul(2)
+            .saturating_add(longest as u64);
+        let near = if copied > NEAR { 2 } else { 1 };
+        let inside = copied.saturating_mul(near).saturating_add(FIXED);
+        let outside = weight(op).saturating_mul(longest as u64);
+        self.inside = self.inside.saturating_add(inside);
+        self.outside = self.outside.saturating_add(outside);
+        if self.inside > MOST {
+            self.inside /= 2;
+            self.outside /= 2;
+        }
+    }
+
+    /// Whether one more than so many workers would find work, where so many hundredths of the time under the lock are
+    /// counted.
+    pub(crate) fn feeds_more_than(&self, workers: usize, percent: u64) -> bool {
+        let taken = self
+            .inside
+            .saturating_mul(percent)
+            .saturating_mul((workers as u64).saturating_sub(1));
+        taken < self.outside.saturating_mul(100)
+    }
+}
+
+/// What an instruction computes for a word of its result, in units of about the time in which a word is copied.
+fn weight(op: Op) -> u64 {
+    match op {
+        Op::Elementwise(op) => elementwise_weight(op),
+        Op::Segmented(op) => segmented_weight(op),
+        Op::Const(_) | Op::If | Op::Move(..) | Op::Call | Op::Return => 1,
+    }
+}
+
+fn elementwise_weight(op: Elementwise) -> u64 {
+    match op {
+        Elementwise::Arith(Arith::Divide | Arith::Remainder) => 20,
+        Elementwise::Arith(Arith::ShiftLeft | Arith::ShiftRight) => 5,
+        Elementwise::Arith(Arith::Multiply) | Elementwise::Compare(_) | Elementwise::Select(_) => 3,
+        Elementwise::Logic(..) => 2,
+        _ => 1,
+    }
+}
+
+fn segmented_weight(op: Segmented) -> u64 {
+    match op {
+        Segmented::Permute(_) | Segmented::DefaultPermute(_) => 20,
+        Segmented::Pack(_)
+        | Segmented::Scan(Fold::Product)
+        | Segmented::Reduce(Fold::Product | Fold::Max | Fold::Min) => 5,
+        Segmented::BackPermute(_) | Segmented::MakeSegdes => 3,
+        Segmented::Scan(_) | Segmented::Reduce(_) => 2,
+        _ => 1,
+    }
+}
