@@ -83,81 +83,6 @@ fn row(rt: &impl Runtime, load: Load, name: &str, op: Op, ops: &[&[i64]]) -> io:
     print_row(rt, load, name, &first, best)
 }
 
-/// The line of an instruction of one operand.
-fn row_of_one<'a>(
-    rt: &impl Runtime,
-    load: Load,
-    name: &str,
-    op: Op,
-    first: &'a [i64],
-) -> io::Result<()>
-    requires kinds { HaveKinds (source_kinds op) (first.now ∷ []) }
-{
-    row(rt, load, name, op, &[first])
-}
-
-/// The line of an instruction of two operands.
-fn row_of_two<'a>(
-    rt: &impl Runtime,
-    load: Load,
-    name: &str,
-    op: Op,
-    first: &'a [i64],
-    second: &'a [i64],
-) -> io::Result<()>
-    requires kinds { HaveKinds (source_kinds op) (first.now ∷ second.now ∷ []) }
-{
-    row(rt, load, name, op, &[first, second])
-}
-
-/// The line of an instruction of three operands.
-fn row_of_three<'a>(
-    rt: &impl Runtime,
-    load: Load,
-    name: &str,
-    op: Op,
-    first: &'a [i64],
-    second: &'a [i64],
-    third: &'a [i64],
-) -> io::Result<()>
-    requires kinds { HaveKinds (source_kinds op) (first.now ∷ second.now ∷ third.now ∷ []) }
-{
-    row(rt, load, name, op, &[first, second, third])
-}
-
-/// The line of an instruction of four operands.
-fn row_of_four<'a>(
-    rt: &impl Runtime,
-    load: Load,
-    name: &str,
-    op: Op,
-    first: &'a [i64],
-    second: &'a [i64],
-    third: &'a [i64],
-    fourth: &'a [i64],
-) -> io::Result<()>
-    requires kinds { HaveKinds (source_kinds op) (first.now ∷ second.now ∷ third.now ∷ fourth.now ∷ []) }
-{
-    row(rt, load, name, op, &[first, second, third, fourth])
-}
-
-/// The line of an instruction of five operands.
-fn row_of_five<'a>(
-    rt: &impl Runtime,
-    load: Load,
-    name: &str,
-    op: Op,
-    first: &'a [i64],
-    second: &'a [i64],
-    third: &'a [i64],
-    fourth: &'a [i64],
-    fifth: &'a [i64],
-) -> io::Result<()>
-    requires kinds { HaveKinds (source_kinds op) (first.now ∷ second.now ∷ third.now ∷ fourth.now ∷ fifth.now ∷ []) }
-{
-    row(rt, load, name, op, &[first, second, third, fourth, fifth])
-}
-
 /// The lines of arithmetic: sums, products, quotients and shifts.
 fn arithmetic_rows<'a>(
     rt: &impl Runtime,
@@ -169,10 +94,10 @@ fn arithmetic_rows<'a>(
     let multiply = Op::Elementwise(Elementwise::Arith(Arith::Multiply));
     let divide = Op::Elementwise(Elementwise::Arith(Arith::Divide));
     let shift = Op::Elementwise(Elementwise::Arith(Arith::ShiftLeft));
-    row_of_two(rt, load, "+ INT", add, left, left)?;
-    row_of_two(rt, load, "* INT", multiply, left, left)?;
-    row_of_two(rt, load, "/ INT", divide, left, left)?;
-    row_of_two(rt, load, "LSHIFT INT", shift, left, bits)
+    row(rt, load, "+ INT", add, &[left, left])?;
+    row(rt, load, "* INT", multiply, &[left, left])?;
+    row(rt, load, "/ INT", divide, &[left, left])?;
+    row(rt, load, "LSHIFT INT", shift, &[left, bits])
 }
 
 /// The lines of the instructions that compare, connect, choose and turn.
@@ -190,11 +115,11 @@ fn choice_rows<'a>(
     let invert = Op::Elementwise(Elementwise::Not(Scalar::Bool));
     let select = Op::Elementwise(Elementwise::Select(Scalar::Int));
     let to_bool = Op::Elementwise(Elementwise::IntToBool);
-    row_of_two(rt, load, "< INT", less, left, bits)?;
-    row_of_two(rt, load, "XOR INT", xor, left, bits)?;
-    row_of_one(rt, load, "NOT BOOL", invert, truth)?;
-    row_of_three(rt, load, "SELECT INT", select, truth, left, bits)?;
-    row_of_one(rt, load, "I_TO_B", to_bool, left)
+    row(rt, load, "< INT", less, &[left, bits])?;
+    row(rt, load, "XOR INT", xor, &[left, bits])?;
+    row(rt, load, "NOT BOOL", invert, &[truth])?;
+    row(rt, load, "SELECT INT", select, &[truth, left, bits])?;
+    row(rt, load, "I_TO_B", to_bool, &[left])
 }
 
 /// A line for each family of the elementwise instructions.
@@ -219,76 +144,63 @@ fn fold_rows<'a>(
     let scan_max = Op::Segmented(Segmented::Scan(Fold::Max));
     let reduce_sum = Op::Segmented(Segmented::Reduce(Fold::Sum));
     let reduce_max = Op::Segmented(Segmented::Reduce(Fold::Max));
-    row_of_two(rt, load, "+_SCAN INT", scan_sum, values, lengths)?;
-    row_of_two(rt, load, "MAX_SCAN INT", scan_max, values, lengths)?;
-    row_of_two(rt, load, "+_REDUCE INT", reduce_sum, values, lengths)?;
-    row_of_two(rt, load, "MAX_REDUCE INT", reduce_max, values, lengths)
+    row(rt, load, "+_SCAN INT", scan_sum, &[values, lengths])?;
+    row(rt, load, "MAX_SCAN INT", scan_max, &[values, lengths])?;
+    row(rt, load, "+_REDUCE INT", reduce_sum, &[values, lengths])?;
+    row(rt, load, "MAX_REDUCE INT", reduce_max, &[values, lengths])
 }
 
 /// The lines of the instructions that make elements of the segments' own.
-fn spread_rows<'a, R: Runtime>(rt: &R, load: Load, lengths: &'a [i64]) -> io::Result<()>
+fn spread_rows<'a>(
+    rt: &impl Runtime,
+    load: Load,
+    each: &'a [i64],
+    lengths: &'a [i64],
+) -> io::Result<()>
     requires { HasKind Segdes lengths.now }
 {
-    let each = &shifts(rt.alloc(), lengths.len())?;
     let distribute = Op::Segmented(Segmented::Distribute(Scalar::Int));
     let index = Op::Segmented(Segmented::Index);
-    row_of_two(rt, load, "DIST INT", distribute, each, lengths)?;
-    row_of_three(rt, load, "INDEX", index, each, each, lengths)
+    row(rt, load, "DIST INT", distribute, &[each, lengths])?;
+    row(rt, load, "INDEX", index, &[each, each, lengths])
 }
 
 /// The lines of the instructions that move elements by their indices.
-fn move_rows<'a, R: Runtime>(
-    rt: &R,
+fn move_rows<'a>(
+    rt: &impl Runtime,
     load: Load,
     values: &'a [i64],
+    places: &'a [i64],
     lengths: &'a [i64],
-    size: u32,
 ) -> io::Result<()>
     requires { HasKind Segdes lengths.now }
 {
-    let places = &indices(rt.alloc(), lengths.len(), size)?;
     let permute = Op::Segmented(Segmented::Permute(Scalar::Int));
     let back = Op::Segmented(Segmented::BackPermute(Scalar::Int));
     let default = Op::Segmented(Segmented::DefaultPermute(Scalar::Int));
-    row_of_three(rt, load, "PERMUTE INT", permute, values, places, lengths)?;
-    row_of_four(
-        rt,
-        load,
-        "BPERMUTE INT",
-        back,
-        values,
-        places,
-        lengths,
-        lengths,
-    )?;
-    row_of_five(
-        rt,
-        load,
-        "DPERMUTE INT",
-        default,
-        values,
-        places,
-        values,
-        lengths,
-        lengths,
-    )
+    let back_operands = [values, places, lengths, lengths];
+    let default_operands = [values, places, values, lengths, lengths];
+    row(rt, load, "PERMUTE INT", permute, &[values, places, lengths])?;
+    row(rt, load, "BPERMUTE INT", back, &back_operands)?;
+    row(rt, load, "DPERMUTE INT", default, &default_operands)
 }
 
 /// The lines of the instructions that take some of the elements.
-fn part_rows<'a, R: Runtime>(
-    rt: &R,
+fn part_rows<'a>(
+    rt: &impl Runtime,
     load: Load,
     values: &'a [i64],
+    each: &'a [i64],
+    truth: &'a [i64],
     lengths: &'a [i64],
 ) -> io::Result<()>
-    requires { HasKind Segdes lengths.now }
+    requires truth { HasKind Bool truth.now }
+    requires lengths { HasKind Segdes lengths.now }
 {
-    let each = &shifts(rt.alloc(), lengths.len())?;
-    let truth = &flags(rt.alloc(), load.words)?;
     let extract = Op::Segmented(Segmented::Extract(Scalar::Int));
     let pack = Op::Segmented(Segmented::Pack(Scalar::Int));
-    row_of_three(rt, load, "EXTRACT INT", extract, values, each, lengths)?;
-    row_of_three(rt, load, "PACK INT", pack, values, truth, lengths)
+    row(rt, load, "EXTRACT INT", extract, &[values, each, lengths])?;
+    row(rt, load, "PACK INT", pack, &[values, truth, lengths])
 }
 
 /// A line for each family of the segment instructions, over `segments` segments of `size` words each.
@@ -301,8 +213,11 @@ pub fn segment_rows<R: Runtime>(rt: &R, shown: Shown, segments: usize, size: u32
     };
     let values = &numbers(rt.alloc(), load.words)?;
     let lengths = &descriptor(rt.alloc(), segments, size)?;
+    let each = &shifts(rt.alloc(), segments)?;
+    let places = &indices(rt.alloc(), segments, size)?;
+    let truth = &flags(rt.alloc(), load.words)?;
     fold_rows(rt, load, values, lengths)?;
-    spread_rows(rt, load, lengths)?;
-    move_rows(rt, load, values, lengths, size)?;
-    part_rows(rt, load, values, lengths)
+    spread_rows(rt, load, each, lengths)?;
+    move_rows(rt, load, values, places, lengths)?;
+    part_rows(rt, load, values, each, truth, lengths)
 }
