@@ -3,7 +3,7 @@
 ghost use Rattle.std.specs.Prelude.{◌≤◌, length, All, IfOk, OnOk};
 ghost use Rattle.vcode_base.specs.declared.limits.TheConstants.{MOST_JOBS, MOST_WORDS};
 
-use batch_reader::{Batch, Fate, Feed, JobEntry};
+use batch_reader::{Batch, Entry, Fate, Feed, JobEntry};
 use job_machine::{Job, Machine};
 use std::alloc::{AllocError, Global};
 use std::test::Fail;
@@ -16,7 +16,8 @@ fn put_job(entry: JobEntry<Global>, jobs: &mut Vec<Job<Global>>, most: usize) ->
     ensures few { OnOk result (length jobs.new.items ≤ MOST_JOBS) }
     ensures words { OnOk result (All (λ job. job.limits.words ≤ most) jobs.new.items) }
 {
-    let Fate::Ready(job) = entry.fate else {
+    let Entry { name: _, fate } = entry;
+    let Fate::Ready(job) = fate else {
         return Err(Fail::from("a job is refused"));
     };
     if jobs.len() == MOST_JOBS || job.limits().words > most {

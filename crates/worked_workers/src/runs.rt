@@ -1,11 +1,17 @@
 //! Runs by workers.
 
+ghost use Rattle.std.specs.Prelude.{◌≤◌};
+ghost use Rattle.vcode_base.specs.declared.limits.TheConstants.{MOST_WORKERS};
+
 use crate::batches::{EXECUTED_BY_TWELVE, EXECUTED_BY_TWO, TWELVE_JOBS, TWO_JOBS};
 use crate::machines::machine;
 use crate::meeting::Meeting;
-use job_machine::{Admission, Begun, Desk, Finished, Status, compute};
+use job_machine::{Admission, Begun, Desk, Finished, Machine, Status, compute};
+use std::alloc::Global;
+use std::sync::Wait;
 use std::test::Fail;
-use step_scheduler::{NoGate, run_workers};
+use std::thread::Threads;
+use step_scheduler::{NoGate, Tally, run_workers};
 
 #[test]
 fn two_workers_compute_at_once(rt: HostRuntime) -> Result<(), Fail> {
@@ -27,25 +33,63 @@ fn two_workers_compute_at_once(rt: HostRuntime) -> Result<(), Fail> {
     Ok(())
 }
 
+/// The run of the twelve jobs by so many workers.
+fn run_of_twelve<R: Threads + Wait + Sync>(
+    rt: &R,
+    alloc: Global,
+    workers: usize,
+) -> Result<(Machine<Global>, Tally<Global>), Fail>
+    requires { (1 ≤ workers) × (workers ≤ MOST_WORKERS) }
+{
+    let machine = machine(alloc, TWELVE_JOBS)?;
+    match run_workers(rt, alloc, machine, workers, &NoGate) {
+        Ok(ran) => Ok(ran),
+        Err(_) => Err(Fail::from("the run gave up")),
+    }
+}
+
+/// Whether each of the twelve jobs is collected and has executed what it executes.
+fn are_the_twelve(machine: &Machine<Global>) -> bool {
+    for place in 0..12usize {
+        if machine.status(place + 1) != Some(Status::Collected) {
+            return false;
+        }
+        if machine.executed(place + 1) != Some(EXECUTED_BY_TWELVE[place]) {
+            return false;
+        }
+    }
+    true
+}
+
+/// What the workers have executed together.
+fn by_workers(tally: &Tally<Global>) -> u64 {
+    let mut sum = 0u64;
+    for count in &tally.workers {
+        sum = sum.wrapping_add(*count);
+    }
+    sum
+}
+
 #[test]
 fn each_number_of_workers_executes_the_same(rt: HostRuntime) -> Result<(), Fail> {
-    for workers in [1usize, 2, 16] {
-        let machine = machine(rt.alloc(), TWELVE_JOBS)?;
-        let Ok((machine, tally)) = run_workers(&rt, rt.alloc(), machine, workers, &NoGate) else {
-            return Err(Fail::from("the run gave up"));
-        };
-        for job in 0..12usize {
-            assert_eq!(rt; machine.executed(job + 1), Some(EXECUTED_BY_TWELVE[job]));
-            assert_eq!(rt; machine.status(job + 1), Some(Status::Collected));
-        }
-        assert_eq!(rt; tally.workers.len(), workers);
-        assert_eq!(rt; tally.caller, 0);
-        let mut sum = 0u64;
-        for count in &tally.workers {
-            sum = sum.wrapping_add(*count);
-        }
-        assert_eq!(rt; sum, 35);
-    }
+    let (machine, tally) = run_of_twelve(&rt, rt.alloc(), 1)?;
+    assert!(rt; are_the_twelve(&machine));
+    assert_eq!(rt;
+        (tally.workers.len(), by_workers(&tally), tally.caller),
+        (1, 35, 0)
+    );
+    let (machine, tally) = run_of_twelve(&rt, rt.alloc(), 2)?;
+    assert!(rt; are_the_twelve(&machine));
+    assert_eq!(rt;
+        (tally.workers.len(), by_workers(&tally), tally.caller),
+        (2, 35, 0)
+    );
+    let (machine, tally) = run_of_twelve(&rt, rt.alloc(), 16)?;
+    assert!(rt; are_the_twelve(&machine));
+    assert_eq!(rt;
+        (tally.workers.len(), by_workers(&tally), tally.caller),
+        (16, 35, 0)
+    );
     Ok(())
 }
 
