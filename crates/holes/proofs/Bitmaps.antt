@@ -1,15 +1,15 @@
 -- The words of a bitmap after its lowest words were shifted out.
-use Rattle.std.proofs.Common.{◌≡◌, ◌≢◌, ℕ, ◌+◌, ◌-◌, ◌*◌, ◌/◌, ◌%◌, ◌^◌, ◌<◌, ◌≤◌, max, Bool, true, false, cond, eqb, List, [], ◌∷◌, ◌++◌, length, refl, sym, ◌∙◌, ap, subst, inl, inr, arith, zero, suc}
+use Rattle.std.proofs.Common.{◌≡◌, ℕ, ◌+◌, ◌-◌, ◌*◌, ◌/◌, ◌%◌, ◌^◌, ◌<◌, ◌≤◌, max, Bool, true, false, eqb, List, [], ◌∷◌, ◌++◌, length, refl, sym, ◌∙◌, ap, subst, inl, inr, arith, zero, suc}
 use Rattle.std.specs.Prelude.{replicate}
 use Rattle.std.specs.Int.{bit_at, bit_not, w64, trailing_zeros, trailing_ones, leading_ones}
 use Rattle.std.specs.Int.Count.{count_leading_zeros}
 use Rattle.std.proofs.lemmas.Bool.{cases_lt, cases_eq, cases_Bool, cond-true, cond-false, eq-eqb, ne_eqb}
-use Rattle.std.proofs.lemmas.List.{length-append, length-replicate}
-use Rattle.std.proofs.lemmas.Nat.{shr-shr, shr_le, shr_below, pow_pos, leading_top, div-mul-add}
+use Rattle.std.proofs.lemmas.List.{length-replicate}
+use Rattle.std.proofs.lemmas.Nat.{shr-shr, shr_le, shr_below, leading_top, div-mul-add}
 use Rattle.std.proofs.lemmas.Nat.Bits.{bit_at-trailing_zeros, bit_at-trailing_ones, bit_at_above, bit_at-zero, bit_at_ones, bit_at_not, bit_at-lt}
 use Rattle.holes.specs.FreeWords.{front_run, widest}
 use Rattle.holes.specs.Tree.{is_set, words_from, words_of_bits, all_free, back_run, lowest_fit, summary, nothing_free}
-use Rattle.holes.proofs.Runs.{front_all, front-le-length, front-le-widest, widest-le-length, front-append, back-append, all_free-append, widest-append, back_all, back-le-length, lowest-append_left, lowest-append_right, lowest_later, lowest_front}
+use Rattle.holes.proofs.Runs.{front_all, front-le-widest, widest-le-length, front-append, back-append, all_free-append, widest-append, back_all, lowest-append_left, lowest-append_right, lowest_later, lowest_front}
 use Rattle.holes.proofs.Bits.{same_words_from, words_from-add, all_words, length-words}
 
 -- Words of one kind.
@@ -51,10 +51,10 @@ back-le-widest [] = omega arith
 back-le-widest (false ∷ free) = omega (arith, back-le-widest free)
 back-le-widest (true ∷ free) = elim (cases_Bool (all_free free)) [
   | inl all ↦ omega (
-      arith,
-      cond-true (all_free free) (1 + length free) (back_run free) all,
-      front_all free all,
-    )
+    arith,
+    cond-true (all_free free) (1 + length free) (back_run free) all,
+    front_all free all,
+  )
   | inr some ↦ omega (arith, cond-false (all_free free) (1 + length free) (back_run free) some, back-le-widest free)
 ]
 
@@ -156,9 +156,10 @@ pub record Run (bits : ℕ) : Type 0 where
 taken_front : (each : ℕ → Bool) (len : ℕ) → 1 ≤ len → each 0 ≡ false →
     (front_run (words_from each 0 len) ≡ 0) × (all_free (words_from each 0 len) ≡ false)
 taken_front each zero some taken = absurd (omega arith)
-taken_front each (suc len) some taken =
-    (ap (λ b. front_run (b ∷ words_from each (0 + 1) len)) taken,
-    ap (λ b. all_free (b ∷ words_from each (0 + 1) len)) taken)
+taken_front each (suc len) some taken = (
+  ap (λ b. front_run (b ∷ words_from each (0 + 1) len)) taken,
+  ap (λ b. all_free (b ∷ words_from each (0 + 1) len)) taken,
+)
 
 shift_less : (bits n : ℕ) → 0 < bits → 1 ≤ n → bits / 2 ^ n < bits
 shift_less bits zero some one = absurd (omega arith)
@@ -209,7 +210,12 @@ run bits small =
       less = λ odd. shift_less bits n
           (elim (cases_lt 0 bits) [
             | inl some ↦ some
-            | inr none ↦ absurd (omega (arith, bit_at-zero 0, ap (λ b. bit_at b 0) (let e : bits ≡ 0 = omega arith in e)))
+            | inr none ↦ absurd (omega (
+              arith,
+              bit_at-zero 0,
+              ap (λ b. bit_at b 0)
+                  (let e : bits ≡ 0 = omega arith in e),
+            ))
           ])
           (elim (cases_lt 0 n) [
             | inl some ↦ omega arith
@@ -311,7 +317,7 @@ unfolding words_of_bits
 length-bits bits = length-words (is_set bits) 0 64
 
 below_max : (bits : ℕ) → bits < 2 ^ 64 → (bits ≡ 2 ^ 64 - 1 → ⊥) → bits + 1 < 2 ^ 64
-below_max bits small ne = elim (cases_lt (bits + 1) (2 ^ 64)) [ | inl lt ↦ lt | inr ge ↦ absurd (ne (omega arith)) ]
+below_max bits small ne = elim (cases_lt (bits + 1) (2 ^ 64)) [ inl lt ↦ lt | inr ge ↦ absurd (ne (omega arith)) ]
 
 pub front_of : (bits : ℕ) → bits < 2 ^ 64 → trailing_ones w64 bits ≡ front_run (words_of_bits bits)
 unfolding lib.Count.count_trailing_zeros

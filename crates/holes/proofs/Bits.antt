@@ -1,9 +1,8 @@
 -- The words that bits tell, and the bits of a bitmap after its operations.
-use Rattle.std.proofs.Common.{◌≡◌, ◌≢◌, ℕ, ◌+◌, ◌-◌, ◌*◌, ◌/◌, ◌%◌, ◌^◌, ◌<◌, ◌≤◌, min, max, Bool, true, false, cond, eqb, List, [], ◌∷◌, ◌++◌, length, get_or, refl, sym, ◌⊎◌, ◌∙◌, ap, inl, inr, arith, zero, suc}
+use Rattle.std.proofs.Common.{◌≡◌, ℕ, ◌+◌, ◌-◌, ◌*◌, ◌/◌, ◌%◌, ◌^◌, ◌<◌, ◌≤◌, Bool, true, false, eqb, List, ◌∷◌, ◌++◌, length, refl, sym, ◌⊎◌, ◌∙◌, ap, inl, inr, arith, zero, suc}
 use Rattle.std.specs.Prelude.{replicate, bit_and, bit_or}
 use Rattle.std.specs.Int.{bit_at, bit_not, w64}
-use Rattle.std.proofs.lemmas.Bool.{cases_lt}
-use Rattle.std.proofs.lemmas.List.{length-append, length-replicate, get_or-replicate, get_or_append_left, get_or-append_right, ext_get_or}
+use Rattle.std.proofs.lemmas.List.{length-replicate, get_or-replicate, ext_get_or}
 use Rattle.std.proofs.lemmas.Nat.Bits.{bit_at_and, bit_at_or, bit_at_ones, bit_at_ones_above, bit_at_mask_inside, bit_at_mask_below, ones_shl, ones_shr, bit_at_not, bit_at-lt}
 use Rattle.std.proofs.lemmas.Nat.{and_le_r, shr_le}
 use Rattle.holes.specs.FreeWords.{is_free}
@@ -75,18 +74,18 @@ mask_outside from to word some within out =
     let both = bit_at_and ((2 ^ 64 - 1) * 2 ^ from % 2 ^ 64) ((2 ^ 64 - 1) / 2 ^ (64 - to)) word in
     elim out [
       | inl below ↦ omega (
-          arith,
-          both,
-          ap (λ n. bit_at n word) (ones_shl 64 from (omega arith)),
-          bit_at_mask_below from 64 word below,
-        )
+        arith,
+        both,
+        ap (λ n. bit_at n word) (ones_shl 64 from (omega arith)),
+        bit_at_mask_below from 64 word below,
+      )
       | inr above ↦ omega (
-          arith,
-          both,
-          ap (λ n. bit_at n word) (ones_shr 64 (64 - to) (omega arith)),
-          ap (λ n. bit_at (2 ^ n - 1) word) back,
-          bit_at_ones_above to word above,
-        )
+        arith,
+        both,
+        ap (λ n. bit_at n word) (ones_shr 64 (64 - to) (omega arith)),
+        ap (λ n. bit_at (2 ^ n - 1) word) back,
+        bit_at_ones_above to word above,
+      )
     ]
 
 mask-lt : (from to : ℕ) → mask from to < 2 ^ 64

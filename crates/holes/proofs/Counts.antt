@@ -3,8 +3,8 @@ use Rattle.std.proofs.Common.{◌≡◌, ℕ, ◌+◌, ◌-◌, ◌<◌, ◌≤�
 use Rattle.std.specs.Prelude.{replicate}
 use Rattle.std.proofs.lemmas.Bool.{ne_eqb}
 use Rattle.std.proofs.lemmas.List.{get_or-drop}
-use Rattle.holes.specs.FreeWords.{is_free, AllFree, NoneFree, set_range, free_from, hole_count_after, hole_count}
-use Rattle.holes.proofs.Ranges.{last_of, hole_count_after-append, hole_count_after-false, hole_count_after_true-true, set_range_same}
+use Rattle.holes.specs.FreeWords.{is_free, set_range, free_from, hole_count_after, hole_count}
+use Rattle.holes.proofs.Ranges.{last_of, hole_count_after-append, hole_count_after-false, hole_count_after_true-true}
 
 count_behind : (free : List Bool) →
     hole_count_after false free ≡ hole_count_after true free + cond (is_free free 0) 1 0

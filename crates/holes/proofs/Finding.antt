@@ -1,13 +1,12 @@
 -- Going down a tree to the lowest fit.
-use Rattle.std.proofs.Common.{◌≡◌, ℕ, ◌+◌, ◌-◌, ◌*◌, ◌/◌, ◌^◌, ◌<◌, ◌≤◌, max, List, ◌++◌, length, get_or, sym, ◌∙◌, ap, subst, arith, zero, suc, Bool}
+use Rattle.std.proofs.Common.{◌≡◌, ℕ, ◌+◌, ◌-◌, ◌*◌, ◌/◌, ◌^◌, ◌<◌, ◌≤◌, max, List, ◌++◌, length, get_or, ◌∙◌, ap, arith, Bool}
 use Rattle.std.proofs.lemmas.List.{get_or_default}
 use Rattle.std.proofs.lemmas.Nat.{pow_pos}
 use Rattle.holes.specs.declared.summary.Summary.{Summary}
 use Rattle.holes.specs.FreeWords.{front_run, widest}
-use Rattle.holes.specs.Tree.{words_of_bits, words_of, node_at, nothing_free, back_run, lowest_fit, summary, IsTree}
-use Rattle.holes.proofs.Runs.{front-le-length, back-le-length, widest-append, lowest-append_left, lowest-append_between, lowest-append_right, lowest_within}
-use Rattle.holes.proofs.Nodes.{width, first_leaf, node_words, IsNode, length-node_words, node_is, root_is, root_words, first_leaf-root, width-pow, inner_index, Parts, parts, Leaf, leaf_of}
-use Rattle.holes.proofs.Bitmaps.{length-bits}
+use Rattle.holes.specs.Tree.{words_of_bits, words_of, node_at, nothing_free, back_run, lowest_fit, IsTree}
+use Rattle.holes.proofs.Runs.{front-le-length, back-le-length, widest-append, lowest-append_left, lowest-append_between, lowest-append_right}
+use Rattle.holes.proofs.Nodes.{width, first_leaf, node_words, IsNode, length-node_words, node_is, root_is, root_words, first_leaf-root, width-pow, inner_index, parts, leaf_of}
 
 -- the lowest fit is that of the node at an index, whose words begin at a place
 pub record At (bits : List ℕ) (len height index place wide : ℕ) : Type 0 where

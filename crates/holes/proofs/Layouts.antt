@@ -1,13 +1,13 @@
--- Holes in order of place, and the words that they make free: what they count, and that they are the holes of the words.
+-- Holes in order of place, and the words that they make free: what they count, and that they are the holes of these
+-- words.
 use Rattle.std.proofs.Math.Seq.{split_at}
 use Rattle.std.proofs.Common.{◌≡◌, ℕ, ◌+◌, ◌-◌, ◌<◌, ◌≤◌, max, Bool, true, false, List, [], ◌∷◌, ◌++◌, length, take, drop, get_or, refl, sym, ◌∙◌, ap, subst, inl, inr, arith, zero, suc}
-use Rattle.std.specs.Prelude.{replicate, sum_by}
+use Rattle.std.specs.Prelude.{replicate}
 use Rattle.std.proofs.lemmas.Bool.{cases_lt, false≢true}
 use Rattle.std.proofs.lemmas.List.{append_assoc, length-append, length-replicate, get_or-replicate, get_or_append_left, get_or-append_right, get_or_past, take_at, drop_at, replicate-append-replicate}
-use Rattle.std.proofs.lemmas.List.Sums.{sum_by-cons}
 use Rattle.holes.specs.FreeWords.{is_free, AllFree, set_range, IsHole, hole_count_after, hole_count, front_run, widest, Range}
 use Rattle.holes.specs.Laws.{range_at}
-use Rattle.holes.proofs.Ranges.{set_range_inside, free_count-append, free_count-true, free_count-false}
+use Rattle.holes.proofs.Ranges.{set_range_inside}
 
 -- the words from a place to the end of the region, those of the holes free
 abbrev pub words_from : ℕ → ℕ → List Range → List Bool

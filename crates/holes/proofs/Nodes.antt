@@ -1,10 +1,9 @@
 -- Each node of a tree tells of its words, the nodes of its parts and the bitmaps of its leaves.
-use Rattle.std.proofs.Common.{◌≡◌, ◌≢◌, ℕ, ◌+◌, ◌-◌, ◌*◌, ◌/◌, ◌%◌, ◌^◌, ◌<◌, ◌≤◌, min, max, Bool, true, false, List, [], ◌∷◌, ◌++◌, length, get_or, set, ◌⊎◌, refl, sym, ◌∙◌, ap, subst, inl, inr, arith, zero, suc}
+use Rattle.std.proofs.Common.{◌≡◌, ◌≢◌, ℕ, ◌+◌, ◌-◌, ◌*◌, ◌/◌, ◌%◌, ◌^◌, ◌<◌, ◌≤◌, min, max, Bool, List, ◌++◌, length, get_or, set, ◌⊎◌, refl, sym, ◌∙◌, ap, subst, inl, inr, arith, zero, suc}
 use Rattle.std.proofs.lemmas.Bool.{cases_lt, cases_eq}
 use Rattle.std.proofs.lemmas.Nat.{pow_pos}
 use Rattle.std.proofs.lemmas.List.{length-set, get_or-set_same, get_or-set_other, get_or_default}
 use Rattle.holes.specs.declared.summary.Summary.{Summary}
-use Rattle.holes.specs.FreeWords.{is_free}
 use Rattle.holes.specs.Tree.{is_set, words_from, words_of_bits, word_at, words_of, node_at, nothing_free, AreLeaves, IsJoined, AreSameFrom, AreSameBeside, AreJoined, AreJoinedBeside, IsFilled, IsTreeBeside, IsTree, summary, join}
 use Rattle.holes.proofs.Runs.{summary-append}
 use Rattle.holes.proofs.Bits.{same_words_from, words_from-add, length-words}
@@ -80,7 +79,7 @@ unfolding node_words first_leaf width
 node_words-split bits height index is =
     let both : 64 * (width height + width height) ≡ 64 * width height + 64 * width height = omega arith in
     let next : 64 * (first_leaf height (2 * index) - length bits) + 64 * width height
-        ≡ 64 * (first_leaf height (2 * index + 1) - length bits) =
+    ≡ 64 * (first_leaf height (2 * index + 1) - length bits) =
     omega (arith, is.from, first_leaf-next height (2 * index)) in
     ap (words_from (word_at bits) (64 * (first_leaf height (2 * index) - length bits))) both
     ∙ (words_from-add (word_at bits) (64 * (first_leaf height (2 * index) - length bits)) (64 * width height)
@@ -101,24 +100,26 @@ right_part leaves height index is = record {
 
 pub inner_node : (leaves height index : ℕ) → IsNode leaves (suc height) index → (1 ≤ index) × (index < leaves)
 unfolding first_leaf width
-inner_node leaves height index is =
-    (elim (cases_lt 0 index) [
-      | inl some ↦ omega arith
-      | inr none ↦ absurd (omega (
-          arith,
-          is.from,
-          is.to,
-          ap (first_leaf height) (let e : 2 * index ≡ 0 = omega arith in e),
-          first_leaf-zero height,
-          width-pos height,
-        ))
-    ], omega (
+inner_node leaves height index is = (
+  elim (cases_lt 0 index) [
+    | inl some ↦ omega arith
+    | inr none ↦ absurd (omega (
       arith,
+      is.from,
       is.to,
-      first_leaf-above height (2 * index + 1),
-      first_leaf-next height (2 * index),
+      ap (first_leaf height) (let e : 2 * index ≡ 0 = omega arith in e),
+      first_leaf-zero height,
       width-pos height,
     ))
+  ],
+  omega (
+    arith,
+    is.to,
+    first_leaf-above height (2 * index + 1),
+    first_leaf-next height (2 * index),
+    width-pos height,
+  ),
+)
 
 pub inner_index : (leaves height index : ℕ) → IsNode leaves height index → index < leaves → 1 ≤ index
 unfolding first_leaf width
@@ -147,7 +148,8 @@ node_is bits nodes (suc height) index tree is =
     let left_words = node_words bits height (2 * index) in
     let right_words = node_words bits height (2 * index + 1) in
     tree.joined index within.0 (omega (arith, tree.node_count, within.1))
-    ∙ (ap (λ (node : Summary). join node (node_at nodes (2 * index + 1))) (node_is bits nodes height (2 * index) tree left)
+    ∙ (ap (λ (node : Summary). join node (node_at nodes (2 * index + 1))) (node_is bits nodes height (2 * index)
+    tree left)
     ∙ (ap (join (summary left_words)) (node_is bits nodes height (2 * index + 1) tree right)
     ∙ (sym (summary-append left_words right_words (omega (
       arith,
@@ -169,7 +171,12 @@ root_is bits height power = record {
 pub root_words : (bits : List ℕ) (height : ℕ) → length bits ≡ 2 ^ height → node_words bits height 1 ≡ words_of bits
 unfolding node_words
 root_words bits height power =
-    let front : 64 * (first_leaf height 1 - length bits) ≡ 0 = omega (arith, first_leaf-root height, width-pow height) in
+    let front : 64 * (first_leaf height 1 - length bits) ≡ 0 = omega (
+      arith,
+      first_leaf-root height,
+      width-pow
+          height,
+    ) in
     let all : 64 * width height ≡ 64 * length bits = omega (arith, width-pow height) in
     ap (λ p. words_from (word_at bits) p (64 * width height)) front ∙ ap (words_from (word_at bits) 0) all
 
@@ -212,8 +219,10 @@ joined_more nodes first last from node within above below is joined index some p
           let right : 2 * index + 1 ≢ at = (λ e. absurd (omega arith)) in
           ap (node_at (set nodes at node)) here ∙ (read_same nodes at node (omega arith) ∙ (is
           ∙ (ap (λ k. join (node_at nodes (2 * k)) (node_at nodes (2 * k + 1))) (sym here)
-          ∙ (ap (λ (n : Summary). join n (node_at nodes (2 * index + 1))) (sym (read_other nodes at (2 * index) node left))
-          ∙ ap (join (node_at (set nodes at node) (2 * index))) (sym (read_other nodes at (2 * index + 1) node right))))))
+          ∙ (ap (λ (n : Summary). join n (node_at nodes (2 * index + 1))) (sym (read_other nodes at (2 * index) node
+          left))
+          ∙ ap (join (node_at (set nodes at node) (2 * index))) (sym (read_other nodes at (2 * index + 1) node
+          right))))))
       | inr other ↦
           let apart = child_outside index first last at (omega arith) (omega arith) beside in
           let before : (index < first) ⊎ (from ≤ index) = elim outside [
@@ -227,7 +236,8 @@ joined_more nodes first last from node within above below is joined index some p
           ∙ (joined index some (omega arith) before beside
           ∙ (ap (λ (n : Summary). join n (node_at nodes (2 * index + 1)))
           (sym (read_other nodes at (2 * index) node apart.0))
-          ∙ ap (join (node_at (set nodes at node) (2 * index))) (sym (read_other nodes at (2 * index + 1) node apart.1))))
+          ∙ ap (join (node_at (set nodes at node) (2 * index))) (sym (read_other nodes at (2 * index + 1) node
+          apart.1))))
     ]
 
 pub same_from_set : (old nodes : List Summary) (from at : ℕ) (node : Summary) → at < from →
@@ -235,7 +245,8 @@ pub same_from_set : (old nodes : List Summary) (from at : ℕ) (node : Summary) 
 same_from_set old nodes from at node below same index ge =
     read_other nodes at index node (λ e. absurd (omega arith)) ∙ same index ge
 
-pub same_from_less : (old new : List Summary) (from to : ℕ) → from ≤ to → AreSameFrom old new from → AreSameFrom old new to
+pub same_from_less : (old new : List Summary) (from to : ℕ) → from ≤ to → AreSameFrom old new from → AreSameFrom old
+    new to
 same_from_less old new from to le same index ge = same index (omega arith)
 
 pub same_from_twice : (old middle new : List Summary) (from : ℕ) → AreSameFrom old middle from →
@@ -258,7 +269,8 @@ pub word_at-is : (bits : List ℕ) (leaf word : ℕ) → word / 64 ≡ leaf →
     word_at bits word ≡ is_set (get_or bits leaf 0) (word % 64)
 word_at-is bits leaf word here = ap (λ n. is_set (get_or bits n 0) (word % 64)) here
 
-earlier : (place end leaf word : ℕ) → word / 64 ≢ leaf → place ≤ word → word < place + (min end (64 * (leaf + 1)) - place) →
+earlier : (place end leaf word : ℕ) → word / 64 ≢ leaf → place ≤ word → word < place +
+    (min end (64 * (leaf + 1)) - place) →
     word < place + (min end (64 * leaf) - place)
 earlier place end leaf word other from below = elim (cases_lt (word / 64) leaf) [
   | inl lt ↦ omega arith
@@ -409,7 +421,7 @@ beside_all nodes first last joined index some parts out = joined index some part
 pub beside_wider : (nodes : List Summary) (first last new_first new_last : ℕ) → new_first ≤ first → last ≤ new_last →
     AreJoinedBeside nodes (first / 2) (last / 2) → AreJoinedBeside nodes (new_first / 2) (new_last / 2)
 beside_wider nodes first last new_first new_last low high joined index some parts out =
-    joined index some parts (elim out [ | inl below ↦ inl (omega arith) | inr above ↦ inr (omega arith) ])
+    joined index some parts (elim out [ inl below ↦ inl (omega arith) | inr above ↦ inr (omega arith) ])
 
 pub joined_beside : (old new : List Summary) (leaves first last low high : ℕ) → length old ≡ 2 * leaves →
     length new ≡ length old → leaves ≤ first → low ≤ first → last ≤ high → AreJoinedBeside old (low / 2) (high / 2) →
@@ -427,7 +439,8 @@ joined_beside old new leaves first last low high count len inner ge le joined sa
     ∙ ap (join (node_at new (2 * index))) (sym (same (2 * index + 1) kids.1))))
 
 -- the nodes above those that changed are joined
-pub tree_joined : (bits : List ℕ) (nodes new : List Summary) (first last from : ℕ) → IsTreeBeside bits nodes first last →
+pub tree_joined : (bits : List ℕ) (nodes new : List Summary) (first last from : ℕ) → IsTreeBeside bits nodes first
+    last →
     length new ≡ length nodes → from ≤ length bits → AreSameFrom nodes new from → AreJoined new → IsTree bits new
 tree_joined bits nodes new first last from tree len low same joined = record {
   height = tree.height;
@@ -470,7 +483,8 @@ pub filled_beside : (bits new_bits : List ℕ) (nodes joined_nodes new_nodes : L
     last < length nodes → IsFilled bits new_bits place len value → AreLeaves new_bits new_nodes →
     AreJoinedBeside joined_nodes (first / 2) (last / 2) →
     AreSameBeside joined_nodes new_nodes more_first more_last → IsTreeBeside new_bits new_nodes first last
-filled_beside bits new_bits nodes joined_nodes new_nodes old_first old_last first last more_first more_last place len from
+filled_beside bits new_bits nodes joined_nodes new_nodes old_first old_last first last more_first more_last place
+    len from
     value tree joined_len new_len inner low high within filled leaves joined same =
     record {
       height = tree.height;

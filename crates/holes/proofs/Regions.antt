@@ -1,5 +1,5 @@
 -- The words of a region, which are the first of its bitmaps' words.
-use Rattle.std.proofs.Common.{◌≡◌, ◌≢◌, ℕ, ◌+◌, ◌-◌, ◌*◌, ◌/◌, ◌%◌, ◌<◌, ◌≤◌, Bool, true, false, not, cond, eqb, ltb, List, [], ◌∷◌, ◌++◌, ◌^◌, length, take, get_or, Option, Some, None, IsNone, IfSome, refl, sym, ◌∙◌, ap, subst, inl, inr, arith, zero, suc}
+use Rattle.std.proofs.Common.{◌≡◌, ℕ, ◌+◌, ◌-◌, ◌*◌, ◌/◌, ◌%◌, ◌<◌, ◌≤◌, Bool, true, false, not, cond, eqb, ltb, List, ◌++◌, ◌^◌, length, take, get_or, Option, Some, None, IsNone, IfSome, refl, sym, ◌∙◌, ap, subst, inl, inr, arith, zero, suc}
 use Rattle.std.specs.Prelude.{replicate}
 use Rattle.std.specs.Int.{bit_at, from_bool}
 use Rattle.holes.specs.declared.summary.Summary.{Summary}
@@ -9,7 +9,7 @@ use Rattle.std.proofs.lemmas.List.{get_or_past, get_or-replicate, length-replica
 use Rattle.std.proofs.lemmas.Nat.Bits.{bit_at-zero}
 use Rattle.holes.specs.FreeWords.{Region, is_free, AllFree, NoneFree, IsLowestFit, set_range, free_from, free_count, hole_count, widest}
 use Rattle.holes.specs.Tree.{is_set, words_from, words_of_bits, word_at, word_before, words_of, lowest_fit, nothing_free, summary, join, node_at, NoneBelow, IsFilled, IsTree, IsTreeBeside, IsHoles, IsPowerOfTwo}
-use Rattle.holes.proofs.Ranges.{last_of, free_count_given, free_count_taken, free_count-le-length, free_count-false, free_count-free_from, hole_count_after-false, set_range_same, length-set_range, set_range_inside, set_range_before, set_range_behind, same_words, length-free_from, free_from_below, free_from_above}
+use Rattle.holes.proofs.Ranges.{last_of, free_count_given, free_count-le-length, free_count-false, free_count-free_from, hole_count_after-false, set_range_same, length-set_range, set_range_inside, set_range_before, set_range_behind, same_words, length-free_from, free_from_below, free_from_above}
 use Rattle.holes.proofs.Runs.{lowest-append_left, lowest_is_lowest, lowest_within}
 use Rattle.holes.proofs.Bits.{length-words, word_in, words_from-add, all_words}
 use Rattle.holes.proofs.Bitmaps.{widest_behind, summary_of_zero}
@@ -85,7 +85,11 @@ pub word_is : (bits : List ℕ) (size word : ℕ) → NoneFrom bits size → wor
     is_free (words_from (word_at bits) 0 size) word ≡ word_at bits word
 word_is bits size word none within = elim (cases_lt word size) [
   | inl lt ↦ word_in (word_at bits) 0 size word lt ∙ ap (word_at bits) (let e : 0 + word ≡ word = omega arith in e)
-  | inr ge ↦ get_or_past (words_from (word_at bits) 0 size) word false (omega (arith, length-words (word_at bits) 0 size))
+  | inr ge ↦ get_or_past (words_from (word_at bits) 0 size) word false (omega (
+    arith,
+    length-words (word_at bits) 0
+        size,
+  ))
       ∙ sym (elim (cases_lt word (64 * length bits)) [
         | inl lt ↦ none word ge lt
         | inr past ↦ word_past bits word past
@@ -152,7 +156,8 @@ pub holes_after : (bits new_bits : List ℕ) (nodes new_nodes : List Summary) (c
     new_free ≡ free_count (set_range (words_from (word_at bits) 0 size) place len value) →
     new_count ≡ hole_count (set_range (words_from (word_at bits) 0 size) place len value) → new_count ≤ most →
     IsHoles new_bits new_nodes new_changed new_low size new_free new_count most
-holes_after bits new_bits nodes new_nodes changed new_changed low new_low size free count most place len new_free new_count
+holes_after bits new_bits nodes new_nodes changed new_changed low new_low size free count most place len new_free
+    new_count
     value is tree filled range none_below free_is count_is few =
     let words = filled_words bits new_bits size place len value is.within range filled in
     record {
@@ -214,7 +219,8 @@ takes bits size len place within none some fits is =
     let words = words_from (word_at bits) 0 size in
     let wide : len ≤ widest words = omega (arith, region_widest bits size within none) in
     let at : lowest_fit len words ≡ place = sym (is ∙ region_lowest bits size len within none some wide) in
-    let lowest : IsLowestFit words len place = subst (IsLowestFit words len) at (lowest_is_lowest len words some wide) in
+    let lowest : IsLowestFit words len place = subst (IsLowestFit words len) at (lowest_is_lowest len words some
+    wide) in
     let range : place + len ≤ size =
     omega (arith, lowest_within len words some wide, length-words (word_at bits) 0 size) in
     record {
@@ -236,7 +242,8 @@ takes_count bits size len place less none some t is =
     let changed = hole_count_changed words place len some in
     let behind : ◌≡◌ {A = ℕ} (cond (is_free words (place + len)) 1 0) (cond (word_at bits (place + len)) 1 0) =
     ap {B = ℕ} (λ (b : Bool). cond b 1 0) (word_is bits size (place + len) none t.within) in
-    let one : ◌≡◌ {A = ℕ} (cond (last_of false (take place words)) 0 1) 1 = ap {B = ℕ} (λ (b : Bool). cond b 0 1) t.before in
+    let one : ◌≡◌ {A = ℕ} (cond (last_of false (take place words)) 0 1) 1 = ap {B = ℕ} (λ (b : Bool). cond b 0 1)
+    t.before in
     omega (
       arith,
       ap hole_count same,
@@ -287,7 +294,8 @@ tree_of_none leaves power small =
     }
 
 pub holes_of_none : (leaves first size most : ℕ) → IsPowerOfTwo leaves → 64 * leaves < 2 ^ 64 → size ≤ 64 * leaves →
-    1 ≤ most → IsHoles (replicate leaves 0) (replicate (2 * leaves) nothing_free) (record { first = first; last = 0 }) 0 size
+    1 ≤ most → IsHoles (replicate leaves 0) (replicate (2 * leaves) nothing_free)
+    (record { first = first; last = 0 }) 0 size
     0 0 most
 holes_of_none leaves first size most power small within some =
     let words : words_from (word_at (replicate leaves 0)) 0 size ≡ replicate size false =
@@ -321,7 +329,8 @@ holes_joined bits nodes new changed first low size free count most is tree = rec
 
 -- what callers see of the words
 pub view_length : (bits : List ℕ) (size most : ℕ) (region : Region) →
-    ◌≡◌ {A = Region} (record { free = words_from (word_at bits) 0 size; most = most }) region → length region.free ≡ size
+    ◌≡◌ {A = Region} (record { free = words_from (word_at bits) 0 size; most = most }) region → length region.free ≡
+    size
 view_length bits size most region is =
     sym (ap (λ (r : Region). length r.free) is) ∙ length-words (word_at bits) 0 size
 

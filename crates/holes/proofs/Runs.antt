@@ -1,11 +1,10 @@
 -- The free words at the front and at the end of some words, the widest hole and the lowest fit, also of words that
 -- stand before others.
-use Rattle.std.proofs.Common.{◌≡◌, ℕ, ◌+◌, ◌-◌, ◌<◌, ◌≤◌, ◌^◌, min, max, Bool, true, false, cond, leb, List, [], ◌∷◌, ◌++◌, length, drop, refl, sym, ◌∙◌, ap, inl, inr, arith, zero, suc}
-use Rattle.std.specs.Prelude.{replicate}
-use Rattle.std.proofs.lemmas.Bool.{cases_lt, cases_Bool, false≢true, true≢false, le-leb, lt-leb, cond-true, cond-false}
-use Rattle.std.proofs.lemmas.List.{length-append, length-replicate, length-drop, get_or-drop}
+use Rattle.std.proofs.Common.{◌≡◌, ℕ, ◌+◌, ◌-◌, ◌<◌, ◌≤◌, ◌^◌, min, max, Bool, true, false, cond, List, [], ◌∷◌, ◌++◌, length, drop, refl, sym, ◌∙◌, ap, inl, inr, arith, zero, suc}
+use Rattle.std.proofs.lemmas.Bool.{cases_lt, cases_Bool, false≢true, le-leb, lt-leb, cond-true, cond-false}
+use Rattle.std.proofs.lemmas.List.{length-append, length-drop, get_or-drop}
 use Rattle.holes.specs.declared.summary.Summary.{Summary}
-use Rattle.holes.specs.FreeWords.{is_free, AllFree, IsHole, IsLowestFit, front_run, widest}
+use Rattle.holes.specs.FreeWords.{is_free, AllFree, IsLowestFit, front_run, widest}
 use Rattle.holes.specs.Tree.{all_free, back_run, lowest_fit, summary, join}
 
 pub front-le-length : (free : List Bool) → front_run free ≤ length free
@@ -174,19 +173,19 @@ pub lowest-append_between : (len : ℕ) (xs ys : List Bool) → widest xs < len 
 lowest-append_between len [] ys short fits = omega (arith, lowest_front len ys (omega arith))
 lowest-append_between len (word ∷ xs) ys short fits = elim (cases_Bool (all_free (word ∷ xs))) [
   | inl all ↦ omega (
-      arith,
-      lowest_here len word (xs ++ ys)
-          (omega (arith, front_long (word ∷ xs) ys all, back_all (word ∷ xs) all)),
-      back_all (word ∷ xs) all,
-    )
+    arith,
+    lowest_here len word (xs ++ ys)
+        (omega (arith, front_long (word ∷ xs) ys all, back_all (word ∷ xs) all)),
+    back_all (word ∷ xs) all,
+  )
   | inr rest ↦ omega (
-      arith,
-      lowest_later len word (xs ++ ys)
-          (omega (arith, front_same (word ∷ xs) ys rest, front-le-widest (word ∷ xs))),
-      back_rest word xs rest,
-      back-le-length xs,
-      lowest-append_between len xs ys (omega arith) (omega (arith, back_rest word xs rest)),
-    )
+    arith,
+    lowest_later len word (xs ++ ys)
+        (omega (arith, front_same (word ∷ xs) ys rest, front-le-widest (word ∷ xs))),
+    back_rest word xs rest,
+    back-le-length xs,
+    lowest-append_between len xs ys (omega arith) (omega (arith, back_rest word xs rest)),
+  )
 ]
 
 -- it stands in the last words otherwise
@@ -195,18 +194,18 @@ pub lowest-append_right : (len : ℕ) (xs ys : List Bool) → widest xs < len �
 lowest-append_right len [] ys short meet = omega arith
 lowest-append_right len (word ∷ xs) ys short meet = elim (cases_Bool (all_free (word ∷ xs))) [
   | inl all ↦ omega (
-      arith,
-      lowest_later len word (xs ++ ys)
-          (omega (arith, front_long (word ∷ xs) ys all, back_all (word ∷ xs) all)),
-      lowest-append_right len xs ys (omega arith)
-          (omega (arith, back_all (word ∷ xs) all, back-le-length xs)),
-    )
+    arith,
+    lowest_later len word (xs ++ ys)
+        (omega (arith, front_long (word ∷ xs) ys all, back_all (word ∷ xs) all)),
+    lowest-append_right len xs ys (omega arith)
+        (omega (arith, back_all (word ∷ xs) all, back-le-length xs)),
+  )
   | inr rest ↦ omega (
-      arith,
-      lowest_later len word (xs ++ ys)
-          (omega (arith, front_same (word ∷ xs) ys rest, front-le-widest (word ∷ xs))),
-      lowest-append_right len xs ys (omega arith) (omega (arith, back_rest word xs rest)),
-    )
+    arith,
+    lowest_later len word (xs ++ ys)
+        (omega (arith, front_same (word ∷ xs) ys rest, front-le-widest (word ∷ xs))),
+    lowest-append_right len xs ys (omega arith) (omega (arith, back_rest word xs rest)),
+  )
 ]
 
 -- The lowest fit is the front of the lowest hole that is wide enough.
@@ -294,10 +293,10 @@ lowest_is_lowest len free some fits =
         inside = run_free free place run (omega arith);
         before = λ word next. elim (cases_Bool (is_free free word)) [
           | inl is ↦ absurd (omega (
-              arith,
-              fit_before len word free (omega arith),
-              free_run free word len (more_free free word place len is next (run_free free place len wide)),
-            ))
+            arith,
+            fit_before len word free (omega arith),
+            free_run free word len (more_free free word place len is next (run_free free place len wide)),
+          ))
           | inr none ↦ none
         ];
         behind = sym (get_or-drop place free run false) ∙ front_end (drop place free);

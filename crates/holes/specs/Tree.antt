@@ -1,9 +1,9 @@
 -- What the nodes of a tree over bitmaps tell of the free words.
-use Rattle.std.specs.Prelude.{◌≡◌, ℕ, zero, suc, ◌+◌, ◌-◌, ◌*◌, ◌/◌, ◌%◌, ◌^◌, ◌<◌, ◌≤◌, min, max, nat_eq, nat_le, nat_lt, if◌then◌else◌, Bool, true, false, List, [], ◌∷◌, length, slice_index_or, ◌⊎◌}
+use Rattle.std.specs.Prelude.{◌≡◌, ℕ, zero, suc, ◌+◌, ◌-◌, ◌*◌, ◌/◌, ◌%◌, ◌^◌, ◌<◌, ◌≤◌, min, max, nat_eq, nat_le, if◌then◌else◌, Bool, true, false, List, [], ◌∷◌, length, slice_index_or, ◌⊎◌}
 use Rattle.std.specs.Int.{bit_at}
 use Rattle.holes.specs.declared.summary.Summary.{Summary}
 use Rattle.holes.specs.declared.tree.Changed.{Changed}
-use Rattle.holes.specs.FreeWords.{is_free, free_count, hole_count, front_run, widest}
+use Rattle.holes.specs.FreeWords.{free_count, hole_count, front_run, widest}
 
 -- whether each of some words is free
 abbrev pub all_free : List Bool → Bool
@@ -104,6 +104,11 @@ AreSameFrom old new from = (index : ℕ) → from ≤ index → node_at new inde
 abbrev pub AreSameBeside : List Summary → List Summary → ℕ → ℕ → Type 0
 AreSameBeside old new first last =
     (index : ℕ) → (index < first) ⊎ (last < index) → node_at new index ≡ node_at old index
+
+-- the nodes are the same, but for those of the bitmaps with the words of place..place + len
+abbrev pub AreSameBesideWords : List Summary → List Summary → ℕ → ℕ → ℕ → Type 0
+AreSameBesideWords old new leaves place len =
+    AreSameBeside old new (leaves + place / 64) (leaves + (place + len - 1) / 64)
 
 -- the nodes of the tree over some bitmaps
 pub record IsTree (bits : List ℕ) (nodes : List Summary) : Type 0 where

@@ -134,7 +134,14 @@ impl<A: Allocator> Holes<A> {
     {
         let place = self.find(len)?;
         self.count -= usize::from(!tree::is_free(&self.bits, place + len));
-        self.changed = tree::fill(&mut self.bits, &mut self.nodes, self.changed, place, len, false);
+        self.changed = tree::fill(
+            &mut self.bits,
+            &mut self.nodes,
+            self.changed,
+            place,
+            len,
+            false,
+        );
         self.low = low_after(self.low, place, len);
         self.free -= len;
         Some(place)
@@ -154,7 +161,14 @@ impl<A: Allocator> Holes<A> {
     {
         self.count += usize::from(!tree::is_free_before(&self.bits, place));
         self.count -= usize::from(tree::is_free(&self.bits, place + len));
-        self.changed = tree::fill(&mut self.bits, &mut self.nodes, self.changed, place, len, true);
+        self.changed = tree::fill(
+            &mut self.bits,
+            &mut self.nodes,
+            self.changed,
+            place,
+            len,
+            true,
+        );
         self.low = self.low.min(place);
         self.free += len;
     }
@@ -167,8 +181,22 @@ impl<A: Allocator> Holes<A> {
         self.free = self.size - from;
         self.count = usize::from(self.free > 0);
         self.low = from;
-        self.changed = tree::fill(&mut self.bits, &mut self.nodes, self.changed, 0, from, false);
-        self.changed = tree::fill(&mut self.bits, &mut self.nodes, self.changed, from, self.free, true);
+        self.changed = tree::fill(
+            &mut self.bits,
+            &mut self.nodes,
+            self.changed,
+            0,
+            from,
+            false,
+        );
+        self.changed = tree::fill(
+            &mut self.bits,
+            &mut self.nodes,
+            self.changed,
+            from,
+            self.free,
+            true,
+        );
     }
 
     /// The number of free words.

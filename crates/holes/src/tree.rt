@@ -5,7 +5,7 @@
 
 ghost use Rattle.std.specs.Prelude.{◌≡◌, ℕ, ◌+◌, ◌-◌, ◌*◌, ◌/◌, ◌^◌, ◌<◌, ◌≤◌, ◌↔◌, ◌⊎◌, nat_eq, length, IfSome, IsNone};
 ghost use Rattle.holes.specs.FreeWords.{widest};
-ghost use Rattle.holes.specs.Tree.{IsTree, AreJoined, AreJoinedBeside, AreSameFrom, AreSameBeside, IsTreeBeside, NoneBelow, IsFilled, AreLeaves, lowest_fit, words_of, node_at, word_at, word_before};
+ghost use Rattle.holes.specs.Tree.{IsTree, AreJoined, AreJoinedBeside, AreSameFrom, AreSameBesideWords, IsTreeBeside, NoneBelow, IsFilled, AreLeaves, lowest_fit, words_of, node_at, word_at, word_before};
 
 use crate::bitmap::{self, WORDS};
 use crate::summary::Summary;
@@ -14,13 +14,7 @@ use crate::summary::Summary;
 const NEAR: usize = 4;
 
 /// Makes the words `place..place + len` free or not free in the bitmaps, and the leaves' nodes follow them.
-fn fill_leaves(
-    bits: &mut [u64],
-    nodes: &mut [Summary],
-    place: usize,
-    len: usize,
-    value: bool,
-)
+fn fill_leaves(bits: &mut [u64], nodes: &mut [Summary], place: usize, len: usize, value: bool)
     requires some { 1 ≤ len }
     requires within { place + len ≤ 64 * length bits.old }
     requires small { 64 * length bits.old < 2 ^ 64 }
@@ -28,7 +22,7 @@ fn fill_leaves(
     requires leaves { AreLeaves bits.old nodes.old }
     ensures filled { IsFilled bits.old bits.new place len value }
     ensures leaves { AreLeaves bits.new nodes.new }
-    ensures beside { AreSameBeside nodes.old nodes.new (length bits.old + place / 64) (length bits.old + (place + len - 1) / 64) }
+    ensures beside { AreSameBesideWords nodes.old nodes.new (length bits.old) place len }
 {
     let leaves = bits.len();
     let end = place + len;

@@ -1,4 +1,4 @@
-use Rattle.std.proofs.Common.{◌≡◌, ◌*◌, ◌^◌, arith, suc}
+use Rattle.std.proofs.Common.{arith, suc}
 use Rattle.holes.proofs.leaves_for.Goals as goal
 
 pub loop-leaves-preserved : goal.loop-leaves-preserved

@@ -1,4 +1,4 @@
-use Rattle.std.proofs.Common.{rules, min, ◌≡◌, ◌+◌, ◌-◌, ◌*◌, ◌≤◌, ◌<◌, ◌^◌, Bool, true, not, List, ℕ, length, arith, sym, ap, ◌∙◌, subst}
+use Rattle.std.proofs.Common.{rules, min, ◌≡◌, ◌+◌, ◌-◌, ◌≤◌, ◌<◌, ◌^◌, true, not, List, ℕ, length, arith, sym, ap, ◌∙◌, subst}
 use Rattle.std.specs.Int.{from_bool}
 use Rattle.std.specs.Vec.{with_items}
 use Rattle.std.proofs.lemmas.List.{with_items_is}
@@ -12,8 +12,10 @@ use Rattle.holes.proofs.Holes.give.Goals.{After-self, After-from-2, After-self-7
 
 pub overflow_add-place : goal.overflow_add-place
 overflow_add-place g c =
-    let k = gives c.self.inside.bits.items c.self.inside.nodes.items c.self.inside.changed c.self.inside.low c.self.inside.size
-    c.self.inside.free c.self.inside.count c.self.inside.most c.args.place c.args.len c.args.self.now c.self.invariant c.self.view_is
+    let k = gives c.self.inside.bits.items c.self.inside.nodes.items c.self.inside.changed c.self.inside.low
+    c.self.inside.size
+    c.self.inside.free c.self.inside.count c.self.inside.most c.args.place c.args.len c.args.self.now
+    c.self.invariant c.self.view_is
     c.requires.within c.requires.none_free c.requires.room in
     let size_small : c.self.inside.size < 2 ^ 64 = search rules in
     let small : c.args.place + c.args.len < 2 ^ 64 = omega (arith, k.within) in
@@ -30,7 +32,8 @@ record Known (g : given.Over) (c : After-from-2 g) : Type 0 where
 known : (g : given.Over) (c : After-from-2 g) → Known g c
 known g c =
     let bits = c.self.inside.bits.items in
-    let range = gives bits c.self.inside.nodes.items c.self.inside.changed c.self.inside.low c.self.inside.size c.self.inside.free
+    let range = gives bits c.self.inside.nodes.items c.self.inside.changed c.self.inside.low c.self.inside.size
+    c.self.inside.free
     c.self.inside.count c.self.inside.most c.args.place c.args.len c.args.self.now c.self.invariant c.self.view_is
     c.requires.within c.requires.none_free c.requires.room in
     let more = c.from.ensures ∙ (ap (λ b. from_bool (not b)) (c.is_free_before.ensures
@@ -71,7 +74,8 @@ record Written (g : given.Over) (c : After-self-7-1 g) : Type 0 where
 written : (g : given.Over) (c : After-self-7-1 g) → Written g c
 written g c =
     let filled : IsFilled c.self.inside.bits.items c.fill-self-inside.new.bits c.args.place c.args.len true =
-    subst (λ (list : List ℕ). IsFilled list c.fill-self-inside.new.bits c.args.place c.args.len true) c.deref_mut.ensures.value
+    subst (λ (list : List ℕ). IsFilled list c.fill-self-inside.new.bits c.args.place c.args.len true)
+    c.deref_mut.ensures.value
     c.fill-self-inside.ensures.filled in
     record {
       bits = with_items_is c.self.inside.bits c.fill-self-inside.new.bits
@@ -93,15 +97,20 @@ invariant_of-self g c =
     let free = c.self.inside.free + c.args.len in
     let count = c.self.inside.count + c.from.result - c.from-2.result in
     let least : c.min-self-inside.result ≡ min c.self.inside.low c.args.place = search rules in
-    let low = given_low c.self.inside.bits.items c.fill-self-inside.new.bits c.self.inside.low c.min-self-inside.result c.args.place c.args.len
+    let low = given_low c.self.inside.bits.items c.fill-self-inside.new.bits c.self.inside.low
+    c.min-self-inside.result c.args.place c.args.len
     w.filled c.self.invariant.none_below (omega arith) (omega arith) in
-    subst (λ (bits : List ℕ). IsHoles bits (with_items c.self.inside.nodes c.fill-self-inside.new.nodes).items c.fill-self-inside.result
+    subst (λ (bits : List ℕ). IsHoles bits (with_items c.self.inside.nodes c.fill-self-inside.new.nodes).items
+    c.fill-self-inside.result
     c.min-self-inside.result c.self.inside.size free count c.self.inside.most) (sym w.bits)
-    (subst (λ (nodes : List Summary). IsHoles c.fill-self-inside.new.bits nodes c.fill-self-inside.result c.min-self-inside.result c.self.inside.size free
+    (subst (λ (nodes : List Summary). IsHoles c.fill-self-inside.new.bits nodes c.fill-self-inside.result
+    c.min-self-inside.result c.self.inside.size free
     count c.self.inside.most)
     (sym w.nodes)
-    (holes_after c.self.inside.bits.items c.fill-self-inside.new.bits c.self.inside.nodes.items c.fill-self-inside.new.nodes c.self.inside.changed
-    c.fill-self-inside.result c.self.inside.low c.min-self-inside.result c.self.inside.size c.self.inside.free c.self.inside.count
+    (holes_after c.self.inside.bits.items c.fill-self-inside.new.bits c.self.inside.nodes.items
+    c.fill-self-inside.new.nodes c.self.inside.changed
+    c.fill-self-inside.result c.self.inside.low c.min-self-inside.result c.self.inside.size c.self.inside.free
+    c.self.inside.count
     c.self.inside.most c.args.place c.args.len free count true c.self.invariant c.fill-self-inside.ensures.tree w.filled
     k.range.within low k.range.free_is (omega (arith, k.count))
     (omega (arith, k.range.room, k.most_one))))
@@ -114,6 +123,7 @@ returns g c =
     let size = c.self.inside.size in
     same_region _ _ _ _
     (ap (λ (list : List ℕ). words_from (word_at list) 0 size) w.bits
-    ∙ (filled_words bits c.fill-self-inside.new.bits size c.args.place c.args.len true c.self.invariant.within k.range.within w.filled
+    ∙ (filled_words bits c.fill-self-inside.new.bits size c.args.place c.args.len true c.self.invariant.within
+    k.range.within w.filled
     ∙ ap (λ (r : Region). set_range r.free c.args.place c.args.len true) c.self.view_is))
     (ap (λ (r : Region). r.most) c.self.view_is)

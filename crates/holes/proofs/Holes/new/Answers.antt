@@ -22,11 +22,14 @@ invariant_of-holes g c =
       length-replicate (2 * c.leaves_for-leaves.result) nothing_free,
     ) in
     let nodes = made ∙ ap (λ n. replicate (2 * n) nothing_free) same in
-    subst (λ (list : List ℕ). IsHoles list c.in_ok-nodes.nodes.items (record { first = 2 ^ 64 - 1; last = 0 }) 0 c.args.size 0 0
+    subst (λ (list : List ℕ). IsHoles list c.in_ok-nodes.nodes.items (record { first = 2 ^ 64 - 1; last = 0 }) 0
+    c.args.size 0 0
     c.args.most) (sym bits)
-    (subst (λ (list : List Summary). IsHoles (replicate leaves 0) list (record { first = 2 ^ 64 - 1; last = 0 }) 0 c.args.size
+    (subst (λ (list : List Summary). IsHoles (replicate leaves 0) list (record { first = 2 ^ 64 - 1; last = 0 }) 0
+    c.args.size
     0 0 c.args.most) (sym nodes)
-    (holes_of_none leaves (2 ^ 64 - 1) c.args.size c.args.most (subst IsPowerOfTwo same c.leaves_for-leaves.ensures.power)
+    (holes_of_none leaves (2 ^ 64 - 1) c.args.size c.args.most (subst IsPowerOfTwo same
+    c.leaves_for-leaves.ensures.power)
     c.leaf_count.ensures.small (omega (arith, c.leaves_for-leaves.ensures.enough)) c.requires))
 
 pub returns : goal.returns

@@ -1,10 +1,9 @@
-use Rattle.std.proofs.Common.{rules, ◌≡◌, ◌+◌, ◌-◌, ◌*◌, ◌≤◌, ◌<◌, ◌^◌, Bool, true, false, List, ℕ, length, ltb, arith, sym, ap, ◌∙◌, subst}
-use Rattle.std.specs.Int.{from_bool}
+use Rattle.std.proofs.Common.{◌≡◌, ◌-◌, ◌≤◌, true, false, List, ℕ, length, arith, sym, ap, ◌∙◌, subst}
 use Rattle.std.specs.Vec.{with_items}
 use Rattle.std.proofs.lemmas.List.{with_items_is}
 use Rattle.holes.specs.declared.summary.Summary.{Summary}
 use Rattle.holes.specs.FreeWords.{Region, free_from}
-use Rattle.holes.specs.Tree.{words_from, word_at, IsHoles, IsFilled, IsTree}
+use Rattle.holes.specs.Tree.{words_from, word_at, IsHoles, IsFilled}
 use Rattle.holes.proofs.Regions.{view_length, holes_reset, reset_words, same_region, flag_of_some}
 use Rattle.holes.proofs.Holes.reset.Given as given
 use Rattle.holes.proofs.Holes.reset.Goals as goal
@@ -47,10 +46,13 @@ fill-self-inside-requires-2-clause-within g c =
 -- The bitmaps and the nodes that are written back at last.
 record Second (g : given.Over) (c : After-self-9-1 g) : Type 0 where
   from_within : c.args.from ≤ c.self.inside.size
-  bits : (with_items (with_items c.self.inside.bits c.fill-self-inside.new.bits) c.fill-self-inside-2.new.bits).items ≡ c.fill-self-inside-2.new.bits
-  nodes : (with_items (with_items c.self.inside.nodes c.fill-self-inside.new.nodes) c.fill-self-inside-2.new.nodes).items ≡ c.fill-self-inside-2.new.nodes
+  bits : (with_items (with_items c.self.inside.bits c.fill-self-inside.new.bits)
+      c.fill-self-inside-2.new.bits).items ≡ c.fill-self-inside-2.new.bits
+  nodes : (with_items (with_items c.self.inside.nodes c.fill-self-inside.new.nodes)
+      c.fill-self-inside-2.new.nodes).items ≡ c.fill-self-inside-2.new.nodes
   first_filled : IsFilled c.self.inside.bits.items c.fill-self-inside.new.bits 0 c.args.from false
-  filled : IsFilled c.fill-self-inside.new.bits c.fill-self-inside-2.new.bits c.args.from (c.self.inside.size - c.args.from) true
+  filled : IsFilled c.fill-self-inside.new.bits c.fill-self-inside-2.new.bits c.args.from
+      (c.self.inside.size - c.args.from) true
 
 second : (g : given.Over) (c : After-self-9-1 g) → Second g c
 second g c =
@@ -59,8 +61,10 @@ second g c =
     c.fill-self-inside.ensures.filled in
     let bits = with_items_is c.self.inside.bits c.fill-self-inside.new.bits
     (omega (arith, filled_first.same_length, c.self.inside.bits.ok.0)) in
-    let filled : IsFilled c.fill-self-inside.new.bits c.fill-self-inside-2.new.bits c.args.from (c.self.inside.size - c.args.from) true =
-    subst (λ (list : List ℕ). IsFilled list c.fill-self-inside-2.new.bits c.args.from (c.self.inside.size - c.args.from) true)
+    let filled : IsFilled c.fill-self-inside.new.bits c.fill-self-inside-2.new.bits c.args.from
+    (c.self.inside.size - c.args.from) true =
+    subst (λ (list : List ℕ). IsFilled list c.fill-self-inside-2.new.bits c.args.from
+    (c.self.inside.size - c.args.from) true)
     (c.deref_mut-3.ensures.value ∙ bits) c.fill-self-inside-2.ensures.filled in
     record {
       from_within = omega (
@@ -70,14 +74,15 @@ second g c =
       );
       bits = with_items_is (with_items c.self.inside.bits c.fill-self-inside.new.bits) c.fill-self-inside-2.new.bits
           (omega (arith, filled.same_length, filled_first.same_length, c.self.inside.bits.ok.0));
-      nodes = with_items_is (with_items c.self.inside.nodes c.fill-self-inside.new.nodes) c.fill-self-inside-2.new.nodes (omega (
-        arith,
-        filled.same_length,
-        filled_first.same_length,
-        c.fill-self-inside-2.ensures.tree.node_count,
-        c.self.invariant.tree.node_count,
-        c.self.inside.nodes.ok.0,
-      ));
+      nodes = with_items_is (with_items c.self.inside.nodes c.fill-self-inside.new.nodes)
+          c.fill-self-inside-2.new.nodes (omega (
+            arith,
+            filled.same_length,
+            filled_first.same_length,
+            c.fill-self-inside-2.ensures.tree.node_count,
+            c.self.invariant.tree.node_count,
+            c.self.inside.nodes.ok.0,
+          ));
       first_filled = filled_first;
       filled = filled;
     }
@@ -90,7 +95,8 @@ invariant_of-self g c =
     subst (λ (bits : List ℕ). IsHoles bits
     (with_items (with_items c.self.inside.nodes c.fill-self-inside.new.nodes) c.fill-self-inside-2.new.nodes).items
     c.fill-self-inside-2.result c.args.from c.self.inside.size free count c.self.inside.most) (sym s.bits)
-    (subst (λ (nodes : List Summary). IsHoles c.fill-self-inside-2.new.bits nodes c.fill-self-inside-2.result c.args.from
+    (subst (λ (nodes : List Summary). IsHoles c.fill-self-inside-2.new.bits nodes c.fill-self-inside-2.result
+    c.args.from
     c.self.inside.size free count c.self.inside.most)
     (sym s.nodes)
     (holes_reset c.self.inside.bits.items c.fill-self-inside.new.bits c.fill-self-inside-2.new.bits
@@ -104,7 +110,8 @@ returns g c =
     let s = second g (goal.at.returns g c).After-self-9-1 in
     same_region _ _ _ _
     (ap (λ (list : List ℕ). words_from (word_at list) 0 c.self.inside.size) s.bits
-    ∙ (reset_words c.self.inside.bits.items c.fill-self-inside.new.bits c.fill-self-inside-2.new.bits c.self.inside.size c.args.from
+    ∙ (reset_words c.self.inside.bits.items c.fill-self-inside.new.bits c.fill-self-inside-2.new.bits
+    c.self.inside.size c.args.from
     c.self.invariant.within s.from_within s.first_filled s.filled
     ∙ ap (free_from c.args.from) (sym
     (view_length c.self.inside.bits.items c.self.inside.size c.self.inside.most c.args.self.now c.self.view_is))))

@@ -1,11 +1,10 @@
-use Rattle.std.proofs.Common.{rules, ◌≡◌, ◌+◌, ◌-◌, ◌*◌, ◌≤◌, ◌<◌, ◌^◌, Bool, true, false, not, List, ℕ, length, refl, arith, sym, ap, ◌∙◌, subst, inl, inr}
+use Rattle.std.proofs.Common.{rules, ◌≡◌, ◌+◌, ◌-◌, ◌<◌, ◌^◌, false, not, List, ℕ, length, arith, sym, ap, ◌∙◌, subst}
 use Rattle.std.specs.Int.{from_bool}
 use Rattle.std.specs.Vec.{with_items}
-use Rattle.std.proofs.lemmas.Bool.{cases_lt, true≢false}
 use Rattle.std.proofs.lemmas.List.{with_items_is}
 use Rattle.holes.specs.declared.summary.Summary.{Summary}
-use Rattle.holes.specs.FreeWords.{Region, IsLowestFit, set_range, free_count, hole_count, widest}
-use Rattle.holes.specs.Tree.{words_from, words_of, word_at, lowest_fit, IsHoles, IsFilled}
+use Rattle.holes.specs.FreeWords.{Region, IsLowestFit, set_range, free_count, hole_count}
+use Rattle.holes.specs.Tree.{words_from, word_at, IsHoles, IsFilled}
 use Rattle.holes.proofs.Ranges.{free_count_taken}
 use Rattle.holes.proofs.Bits.{length-words}
 use Rattle.holes.proofs.Regions.{Takes, takes_seen, takes_count, taken_low, view_length, holes_after, filled_words, same_region, flag_of_not}
@@ -27,7 +26,8 @@ record Known (g : given.Over) (c : After-from g) : Type 0 where
   takes : Takes c.self.inside.bits.items c.self.inside.size c.args.len c.in_ok-place.place
   free : c.self.inside.free ≡ free_count (set_range (words_from (word_at c.self.inside.bits.items) 0 c.self.inside.size)
       c.in_ok-place.place c.args.len false) + c.args.len
-  count : c.self.inside.count ≡ hole_count (set_range (words_from (word_at c.self.inside.bits.items) 0 c.self.inside.size)
+  count : c.self.inside.count ≡ hole_count (set_range (words_from (word_at c.self.inside.bits.items) 0
+      c.self.inside.size)
       c.in_ok-place.place c.args.len false) + c.from.result
 
 known : (g : given.Over) (c : After-from g) → Known g c
@@ -74,7 +74,8 @@ record Written (g : given.Over) (c : After-self-6-1 g) : Type 0 where
 written : (g : given.Over) (c : After-self-6-1 g) → Written g c
 written g c =
     let filled : IsFilled c.self.inside.bits.items c.fill-self-inside.new.bits c.in_ok-place.place c.args.len false =
-    subst (λ (list : List ℕ). IsFilled list c.fill-self-inside.new.bits c.in_ok-place.place c.args.len false) c.deref_mut.ensures.value
+    subst (λ (list : List ℕ). IsFilled list c.fill-self-inside.new.bits c.in_ok-place.place c.args.len false)
+    c.deref_mut.ensures.value
     c.fill-self-inside.ensures.filled in
     record {
       bits = with_items_is c.self.inside.bits c.fill-self-inside.new.bits
@@ -113,7 +114,8 @@ invariant_of-self g c =
 pub returns-clause-lowest : goal.returns-clause-lowest
 returns-clause-lowest g c =
     let k = known g (goal.at.returns-clause-lowest g c).After-from in
-    subst (λ (r : Region). IsLowestFit r.free c.args.len c.in_ok-place.place) (c.self.view_is ∙ c.in_ok-place.ensures.unchanged) k.takes.lowest
+    subst (λ (r : Region). IsLowestFit r.free c.args.len c.in_ok-place.place) (c.self.view_is ∙
+    c.in_ok-place.ensures.unchanged) k.takes.lowest
 
 pub returns-clause-within : goal.returns-clause-within
 returns-clause-within g c =
@@ -135,6 +137,7 @@ returns-clause-taken g c =
     let seen = c.self.view_is ∙ c.in_ok-place.ensures.unchanged in
     same_region _ _ _ _
     (ap (λ (list : List ℕ). words_from (word_at list) 0 size) w.bits
-    ∙ (filled_words bits c.fill-self-inside.new.bits size place c.args.len false c.self.invariant.within k.takes.within w.filled
+    ∙ (filled_words bits c.fill-self-inside.new.bits size place c.args.len false c.self.invariant.within
+    k.takes.within w.filled
     ∙ ap (λ (r : Region). set_range r.free place c.args.len false) seen))
     (ap (λ (r : Region). r.most) seen)

@@ -1,4 +1,4 @@
-use Rattle.std.proofs.Common.{rules, min, max, ◌/◌, ◌≡◌, ◌+◌, ◌-◌, ◌*◌, ◌<◌, ◌≤◌, length, arith, sym, ◌∙◌, ap, subst}
+use Rattle.std.proofs.Common.{rules, min, max, ◌/◌, ◌≡◌, ◌+◌, ◌-◌, ◌*◌, ◌<◌, length, arith, sym, ◌∙◌}
 use Rattle.std.proofs.lemmas.List.{length-set}
 use Rattle.holes.proofs.Nodes.{filled_more, leaves_more, beside_more}
 use Rattle.holes.proofs.tree.fill_leaves.Goals as goal
@@ -19,7 +19,8 @@ loop-index-preserved c =
       node_count = omega (arith, set_nodes, set_bits, i.node_count);
       leaves = leaves_more c.loop-index.bits c.loop-index.nodes leaves index c.with_range-bitmap.result c.summary.result
           lt (sym i.same_length) i.node_count c.summary.ensures i.leaves;
-      beside = beside_more c.args.nodes.now c.loop-index.nodes leaves (leaves + c.args.place / 64) index c.summary.result
+      beside = beside_more c.args.nodes.now c.loop-index.nodes leaves (leaves + c.args.place / 64) index
+          c.summary.result
           (omega arith) i.beside;
       filled = filled_more c.args.bits.now c.loop-index.bits c.args.place (c.args.place + c.args.len) index
           c.with_range-bitmap.result (c.max.result - index * 64) c.min-to.result c.args.value (omega arith)

@@ -1,8 +1,8 @@
-use Rattle.std.proofs.Common.{rules, ◌≡◌, ℕ, ◌+◌, ◌-◌, ◌*◌, ◌/◌, ◌^◌, ◌<◌, ◌≤◌, length, true, false, refl, sym, ◌∙◌, ap, arith, get_or}
+use Rattle.std.proofs.Common.{rules, ◌+◌, ◌-◌, ◌*◌, ◌/◌, ◌^◌, ◌<◌, ◌≤◌, length, refl, arith}
 use Rattle.std.proofs.lemmas.Bool.{true≢false}
 use Rattle.holes.specs.FreeWords.{widest}
-use Rattle.holes.specs.Tree.{words_of, node_at, lowest_fit}
-use Rattle.holes.proofs.Finding.{At, root_longest, at_root, Below, below, AtBitmap, at_bitmap}
+use Rattle.holes.specs.Tree.{words_of, node_at}
+use Rattle.holes.proofs.Finding.{root_longest, at_root, Below, below, AtBitmap, at_bitmap}
 use Rattle.holes.proofs.tree.find.Goals as goal
 use Rattle.holes.proofs.tree.find.Goals.{In-loop-index, After-loop-index}
 

@@ -1,11 +1,11 @@
-use Rattle.std.proofs.Common.{rules, ◌≡◌, ◌+◌, ◌-◌, ◌*◌, ◌/◌, ◌^◌, ◌<◌, ◌≤◌, min, cond, length, get_or, arith, sym, ap, ◌∙◌}
+use Rattle.std.proofs.Common.{rules, ◌≡◌, ◌+◌, ◌-◌, ◌*◌, ◌/◌, ◌^◌, ◌<◌, ◌≤◌, min, length, get_or, arith, sym, ap, ◌∙◌}
 use Rattle.std.proofs.lemmas.Bool.{cond-true, cond-false}
 use Rattle.holes.specs.declared.summary.Summary.{Summary}
-use Rattle.holes.specs.FreeWords.{front_run, widest}
+use Rattle.holes.specs.FreeWords.{front_run}
 use Rattle.holes.specs.Tree.{words_of_bits, node_at, all_free, back_run, summary}
 use Rattle.holes.proofs.Runs.{front-le-length, back-le-length}
 use Rattle.holes.proofs.Bitmaps.{length-bits}
-use Rattle.holes.proofs.Near.{Passed, passed_none, passed_more, run_within, Found, found_between, found_inside}
+use Rattle.holes.proofs.Near.{passed_none, passed_more, run_within, Found, found_between, found_inside}
 use Rattle.holes.proofs.tree.find_near.Goals as goal
 use Rattle.holes.proofs.tree.find_near.Goals.{In-loop-index, then-node, else-node}
 
@@ -71,7 +71,8 @@ returns-then-len-run-clause-lowest c =
 pub returns-then-len-node-clause-fits : goal.returns-then-len-node-clause-fits
 returns-then-len-node-clause-fits c =
     let h = here (goal.at.returns-then-len-node-clause-fits c).In-loop-index in
-    (found_inside c.args.bits.now c.args.len c.loop-index.index c.loop-index.run c.lowest_fit.result c.requires.some h.lt
+    (found_inside c.args.bits.now c.args.len c.loop-index.index c.loop-index.run c.lowest_fit.result c.requires.some
+    h.lt
     c.loop-index.invariant (omega (arith, ap (λ (n : Summary). n.front) h.node))
     (omega (arith, ap (λ (n : Summary). n.longest) h.node)) c.lowest_fit.ensures.value).fits
 
@@ -102,15 +103,15 @@ loop-index-preserved c =
     (omega (arith, ap (λ (n : Summary). n.front) h.node)) (omega (arith, ap (λ (n : Summary). n.longest) h.node))
     (elim c.if-node.branch [
       | then-node w ↦ omega (
-          arith,
-          w.run-is,
-          back,
-          cond-true (all_free words) whole_run (back_run words) (sym whole ∙ w.if-node.true),
-        )
+        arith,
+        w.run-is,
+        back,
+        cond-true (all_free words) whole_run (back_run words) (sym whole ∙ w.if-node.true),
+      )
       | else-node w ↦ omega (
-          arith,
-          w.run-is,
-          back,
-          cond-false (all_free words) whole_run (back_run words) (sym whole ∙ w.if-node.false),
-        )
+        arith,
+        w.run-is,
+        back,
+        cond-false (all_free words) whole_run (back_run words) (sym whole ∙ w.if-node.false),
+      )
     ])

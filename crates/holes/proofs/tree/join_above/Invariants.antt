@@ -1,4 +1,4 @@
-use Rattle.std.proofs.Common.{◌≡◌, ◌+◌, ◌*◌, ◌/◌, ◌<◌, ◌≤◌, length}
+use Rattle.std.proofs.Common.{◌≡◌, ◌+◌, ◌/◌, ◌≤◌, length}
 use Rattle.holes.specs.Tree.{AreJoinedBeside, AreSameFrom}
 use Rattle.holes.proofs.tree.join_above.Given as goal
 
