@@ -18,7 +18,7 @@ use Rattle.batch_reader.specs.declared.entry.Batch.TheVariants.{Refused as Batch
 use Rattle.batch_front.specs.declared.status.Status.TheVariants.{AllReturned, SomeNot}
 use Rattle.batch_front.specs.Reports.{end_text, entries_text, entry_text, fate_text, has_returned, is_refused}
 use Rattle.batch_front.specs.Reports.{job_text, jobs_status, jobs_text, refused_count}
-use Rattle.batch_front.specs.Seats.{AreAmong, AreSeatsOf, BatchFits, EntriesFit, FateFits, IsAmong, IsFateOn, IsSeatOf, Seat}
+use Rattle.batch_front.specs.Seats.{AreAmong, AreSeated, AreSeatsOf, BatchFits, EntriesFit, FateFits, IsAmong, IsFateOn, IsSeatOf, Seat}
 use Rattle.batch_front.specs.Seats.{fate_tasks, fate_text_on, has_returned_on, have_returned_on, report_text, seat_text, seats_status}
 use Rattle.batch_front.specs.Seats.{seats_text, tasks_of, told_return, told_text}
 
@@ -240,7 +240,7 @@ pub record IsTold (tasks : List Task) (seats : List Seat) (entries : List JobEnt
   pub report : report_text tasks seats ≡ jobs_text entries
   pub status : seats_status tasks seats ≡ jobs_status entries
 
-pub told : (tasks : List Task) (seats : List Seat) (entries : List JobEntry) → AreSeatsOf tasks seats entries
+told : (tasks : List Task) (seats : List Seat) (entries : List JobEntry) → AreSeatsOf tasks seats entries
     → tasks ≡ tasks_of entries → IsTold tasks seats entries
 told tasks seats entries h e =
     let count = same_count tasks seats entries h in
@@ -256,8 +256,19 @@ told tasks seats entries h e =
       status = ap (λ b. if b then AllReturned else SomeNot) (have_returned tasks seats entries h);
     }
 
--- the same of jobs that a machine took over
-pub told_after : (tasks jobs : List Task) (shown seats : List Seat) (all entries : List JobEntry) → tasks ≡ jobs
-    → shown ≡ seats → all ≡ entries → AreSeatsOf jobs seats all → jobs ≡ tasks_of all → IsTold tasks shown entries
-told_after tasks jobs shown seats all entries e same f h k =
-    subst (λ es. IsTold tasks shown es) f (told tasks shown all (rw (e, same) h) (e ∙ k))
+pub told_of : (tasks : List Task) (seats : List Seat) (entries : List JobEntry) → AreSeated tasks seats entries
+    → IsTold tasks seats entries
+told_of tasks seats entries h = told tasks seats entries h.seats_are h.tasks_are
+
+-- the seats of jobs that a machine took over
+pub seated_by : (tasks jobs : List Task) (seats : List Seat) (all entries : List JobEntry) → tasks ≡ jobs
+    → all ≡ entries → AreSeatsOf jobs seats all → jobs ≡ tasks_of all → AreSeated tasks seats entries
+seated_by tasks jobs seats all entries e f h k =
+    subst (AreSeated tasks seats) f (record { tasks_are = e ∙ k; seats_are = rw e h })
+
+-- the same of a machine with the same jobs
+pub seated_after : (tasks jobs : List Task) (shown seats : List Seat) (entries : List JobEntry) → tasks ≡ jobs
+    → shown ≡ seats → AreSeated jobs seats entries → AreSeated tasks shown entries
+seated_after tasks jobs shown seats entries e f h =
+    subst (λ (ts : List Task). AreSeated ts shown entries) (sym e)
+    (subst (λ (ss : List Seat). AreSeated jobs ss entries) (sym f) h)

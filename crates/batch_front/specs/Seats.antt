@@ -63,6 +63,11 @@ AreSeatsOf tasks [] (entry ∷ entries) = ⊥
 AreSeatsOf tasks (seat ∷ seats) [] = ⊥
 AreSeatsOf tasks (seat ∷ seats) (entry ∷ entries) = IsSeatOf tasks seat entry × AreSeatsOf tasks seats entries
 
+-- these are the tasks that may run, and those the seats of all jobs
+pub record AreSeated (tasks : List Task) (seats : List Seat) (entries : List JobEntry) : Type 0 where
+  pub tasks_are : tasks ≡ tasks_of entries
+  pub seats_are : AreSeatsOf tasks seats entries
+
 -- ---- what is told of them
 
 -- all jobs have run to their ends and are collected

@@ -1,23 +1,29 @@
 //! From what a batch comes to, to the report's bytes.
 
-ghost use Rattle.std.specs.Prelude.{◌≡◌, ◌++◌, ◌≤◌, ℕ, length, All, IfOk, OnOk};
-ghost use Rattle.vcode_base.specs.declared.limits.TheConstants.{MOST_JOBS, MOST_WORDS};
-ghost use Rattle.batch_reader.specs.declared.entry.Batch.TheVariants.{Jobs};
+ghost use Rattle.std.specs.Prelude.{◌≡◌, ◌++◌, ◌≤◌, List, codes, length, IfOk, OnOk};
+ghost use Rattle.vcode_base.specs.declared.limits.TheConstants.{MOST_JOBS};
+ghost use Rattle.job_steps.specs.Standings.{first_standings};
+ghost use Rattle.batch_reader.specs.BatchTexts.{batch_fault_text};
+ghost use Rattle.batch_reader.specs.Fates.{JobEntry};
 ghost use Rattle.batch_reader.specs.Feeds.{HasFewJobs};
-ghost use Rattle.batch_front.specs.Reports.{jobs_status, jobs_text, report_of, status_of};
-ghost use Rattle.batch_front.specs.Seats.{AreAmong, BatchFits, EntriesFit, HasRunOut, report_text, seats_status};
+ghost use Rattle.batch_front.specs.Reports.{fault_text, jobs_status, jobs_text, report_of, status_of};
+ghost use Rattle.batch_front.specs.Seats.{AreAmong, AreSeated, BatchFits, EntriesFit, HasRunOut, report_text, seats_status};
 
-use crate::follow::follow;
+use crate::machine_run::{run_on_caller, run_on_workers};
 use crate::options::Options;
 use crate::report::{put_end, put_fault};
 use crate::seats::{Seat, all_returned, put_seats, seats};
 use crate::status::Status;
-use batch_reader::{Batch, JobEntries};
-use job_machine::{Desk, Job, Machine};
+use batch_reader::{Batch, BatchFault, JobEntries};
+use job_machine::Machine;
 use std::alloc::{AllocError, Allocator};
+use std::sync::Wait;
+use std::thread::Threads;
+use step_scheduler::{Gate, RunFault};
 
-/// The whole report of a batch, and what the batch came to.
-pub(crate) fn answer<A: Allocator + Copy>(
+/// The whole report of a batch whose jobs the calling thread runs, and what the batch came to.
+#[tactic(auto, unfolding(crate::specs::Reports::report_of, crate::specs::Reports::status_of))]
+pub(crate) fn answer_of_caller<A: Allocator + Copy>(
     alloc: A,
     batch: Batch<JobEntries<A>>,
     options: &Options,
@@ -27,50 +33,91 @@ pub(crate) fn answer<A: Allocator + Copy>(
     ensures report { IfOk result (λ r. r.0.items ≡ report_of batch) }
     ensures status { IfOk result (λ r. r.1 ≡ status_of batch) }
 {
-    let mut report = Vec::new(alloc);
-    let status = put_batch(alloc, &mut report, batch, options)?;
-    Ok((report, status))
-}
-
-/// Appends the report of a batch.
-#[tactic(auto, unfolding(crate::specs::Reports::report_of, crate::specs::Reports::status_of))]
-fn put_batch<A: Allocator + Copy>(
-    alloc: A,
-    report: &mut Vec<u8, A>,
-    batch: Batch<JobEntries<A>>,
-    options: &Options,
-) -> Result<Status, AllocError>
-    requires few { HasFewJobs batch }
-    requires fits { BatchFits options.now.region batch }
-    ensures report { OnOk result (report.new.items ≡ report.old.items ++ report_of batch) }
-    ensures status { IfOk result (λ status. status ≡ status_of batch) }
-{
     match batch {
-        Batch::Refused(line, fault) => {
-            put_fault(report, b"BATCH ", line, fault.text())?;
-            Ok(Status::BatchRefused)
+        Batch::Refused(line, fault) => refusal(alloc, line, fault),
+        Batch::Jobs(entries) => {
+            let (machine, seats) = seat_jobs(alloc, entries, options)?;
+            let machine = run_on_caller(alloc, machine, &seats, options)?;
+            let answer = told(alloc, &machine, &seats)?;
+            Ok(answer)
         }
-        Batch::Jobs(entries) => put_jobs(alloc, report, entries, options),
     }
 }
 
-/// Runs the jobs of a batch that may run, and appends the report on all.
-fn put_jobs<A: Allocator + Copy>(
+/// The same of a batch whose jobs worker threads run, which pass the gate in the middle of each step.
+#[tactic(auto, unfolding(crate::specs::Reports::report_of, crate::specs::Reports::status_of))]
+pub(crate) fn answer_of_workers<A, H, G>(
+    rt: &H,
     alloc: A,
-    report: &mut Vec<u8, A>,
+    batch: Batch<JobEntries<A>>,
+    options: &Options,
+    gate: &G,
+) -> Result<(Vec<u8, A>, Status), RunFault>
+where
+    A: Allocator + Copy + Send + Sync,
+    H: Threads + Wait + Sync,
+    G: Gate + Sync,
+    requires few { HasFewJobs batch }
+    requires fits { BatchFits options.now.region batch }
+    ensures report { IfOk result (λ r. r.0.items ≡ report_of batch) }
+    ensures status { IfOk result (λ r. r.1 ≡ status_of batch) }
+{
+    match batch {
+        Batch::Refused(line, fault) => Ok(refusal(alloc, line, fault)?),
+        Batch::Jobs(entries) => {
+            let (machine, seats) = seat_jobs(alloc, entries, options)?;
+            let machine = run_on_workers(rt, alloc, machine, options, gate)?;
+            let answer = told(alloc, &machine, &seats)?;
+            Ok(answer)
+        }
+    }
+}
+
+/// The report of a batch that is refused as a whole, and what it came to.
+fn refusal<A: Allocator>(
+    alloc: A,
+    line: u64,
+    fault: BatchFault,
+) -> Result<(Vec<u8, A>, Status), AllocError>
+    ensures report { IfOk result (λ r. r.0.items ≡ fault_text (codes "BATCH ") line (batch_fault_text fault)) }
+    ensures status { IfOk result (λ r. r.1 ≡ Status.BatchRefused) }
+{
+    let mut report = Vec::new(alloc);
+    put_fault(&mut report, b"BATCH ", line, fault.text())?;
+    Ok((report, Status::BatchRefused))
+}
+
+/// The jobs of a batch that may run on a machine, where they all wait, and the seats of all jobs.
+fn seat_jobs<A: Allocator + Copy>(
+    alloc: A,
     entries: JobEntries<A>,
     options: &Options,
-) -> Result<Status, AllocError>
+) -> Result<(Machine<A>, Vec<Seat<A>, A>), AllocError>
     requires few { length entries ≤ MOST_JOBS }
     requires fits { EntriesFit options.now.region entries }
-    ensures report { OnOk result (report.new.items ≡ report.old.items ++ jobs_text entries) }
-    ensures status { IfOk result (λ status. status ≡ jobs_status entries) }
+    ensures seated { IfOk result (λ seated. AreSeated seated.0.tasks seated.1.items entries) }
+    ensures all_wait { IfOk result (λ seated. seated.0.standings ≡ first_standings seated.0.tasks) }
 {
     let mut jobs = Vec::new(alloc);
     let seats = seats(alloc, entries.into_vec(), &mut jobs)?;
-    let machine = run(alloc, jobs, &seats, options)?;
-    put_report(report, &machine, &seats)?;
-    Ok(status(&machine, &seats))
+    let machine = Machine::new(alloc, options.region as usize, jobs)?;
+    Ok((machine, seats))
+}
+
+/// The report on the jobs of a batch that have run out, and what the batch came to.
+fn told<A: Allocator>(
+    alloc: A,
+    machine: &Machine<A>,
+    seats: &[Seat<A>],
+) -> Result<(Vec<u8, A>, Status), AllocError>
+    requires out { HasRunOut machine.now }
+    requires seated { (entries : List JobEntry) × AreSeated machine.now.tasks seats.now entries }
+    ensures report { IfOk result (λ r. (entries : List JobEntry) → AreSeated machine.now.tasks seats.now entries → r.0.items ≡ jobs_text entries) }
+    ensures status { IfOk result (λ r. (entries : List JobEntry) → AreSeated machine.now.tasks seats.now entries → r.1 ≡ jobs_status entries) }
+{
+    let mut report = Vec::new(alloc);
+    put_report(&mut report, machine, seats)?;
+    Ok((report, status(machine, seats)))
 }
 
 /// Appends the report on jobs that have run out.
@@ -102,71 +149,4 @@ fn status<A: Allocator>(machine: &Machine<A>, seats: &[Seat<A>]) -> Status
     } else {
         Status::SomeNot
     }
-}
-
-/// Runs jobs over a region to their ends, first by the schedule, if there is one.
-fn run<A: Allocator + Copy>(
-    alloc: A,
-    jobs: Vec<Job<A>, A>,
-    seats: &[Seat<A>],
-    options: &Options,
-) -> Result<Machine<A>, AllocError>
-    requires few { length jobs.items ≤ MOST_JOBS }
-    requires fit { All (λ task. task.limits.words ≤ options.now.region) jobs.items }
-    ensures tasks { IfOk result (λ m. m.tasks ≡ jobs.items) }
-    ensures out { IfOk result HasRunOut }
-{
-    let words = greatest_words(&jobs);
-    let machine = machine_after_schedule(alloc, jobs, seats, options)?;
-    let desk = Desk::new(alloc, words)?;
-    run_out(machine, desk)
-}
-
-/// A machine of jobs over a region, when they have taken their turns by the schedule, if there is one.
-fn machine_after_schedule<A: Allocator + Copy>(
-    alloc: A,
-    jobs: Vec<Job<A>, A>,
-    seats: &[Seat<A>],
-    options: &Options,
-) -> Result<Machine<A>, AllocError>
-    requires few { length jobs.items ≤ MOST_JOBS }
-    requires fit { All (λ task. task.limits.words ≤ options.now.region) jobs.items }
-    ensures tasks { IfOk result (λ m. m.tasks ≡ jobs.items) }
-{
-    let mut machine = Machine::new(alloc, options.region as usize, jobs)?;
-    match &options.schedule {
-        Some(schedule) => {
-            follow(alloc, &mut machine, seats, schedule)?;
-            Ok(machine)
-        }
-        None => Ok(machine),
-    }
-}
-
-/// The words of the job that has the most, and 0 where there is none.
-fn greatest_words<A: Allocator>(jobs: &[Job<A>]) -> usize
-    ensures each { All (λ task. task.limits.words ≤ result) jobs.now }
-    ensures within { result ≤ MOST_WORDS }
-{
-    let mut most = 0;
-    for job in jobs {
-        most = most.max(job.limits().words);
-    }
-    most
-}
-
-/// The machine when all its jobs have run to their ends.
-fn run_out<A: Allocator + Clone>(
-    machine: Machine<A>,
-    desk: Desk<A>,
-) -> Result<Machine<A>, AllocError>
-    requires { All (λ task. task.limits.words ≤ desk) machine.tasks }
-    ensures tasks { IfOk result (λ m. m.tasks ≡ machine.tasks) }
-    ensures out { IfOk result HasRunOut }
-{
-    let mut machine = machine;
-    let (done, _) = machine.run_out(desk);
-    done?;
-    let _jobs = machine.jobs();
-    Ok(machine)
 }

@@ -12,7 +12,7 @@ use clap::error::ErrorKind;
 use clap::{Arg, ArgMatches, Command, value_parser};
 use std::alloc::Global;
 use std::io::ErrorKind as IoErrorKind;
-use vcode_base::limits::MOST_WORDS;
+use vcode_base::limits::{MOST_WORDS, MOST_WORKERS};
 
 /// What a command line asks for.
 #[derive(Drop)]
@@ -29,6 +29,15 @@ const MOST_REGION: u32 = MOST_WORDS as u32;
 /// The same as the text of an argument.
 const MOST_REGION_TEXT: &str = "1048576";
 
+/// The most workers.
+const MOST_THREADS: u32 = MOST_WORKERS as u32;
+
+/// The workers where no number is given.
+const DEFAULT_WORKERS: u32 = 4;
+
+/// The same as the text of an argument.
+const DEFAULT_WORKERS_TEXT: &str = "4";
+
 /// The command.
 fn command<'a>(alloc: Global) -> Result<Command<'a>, clap::Error> {
     let region = Arg::new(alloc, "region")
@@ -37,6 +46,12 @@ fn command<'a>(alloc: Global) -> Result<Command<'a>, clap::Error> {
         .value_parser(value_parser!(u32).range(1..=i64::from(MOST_REGION)))
         .default_value(MOST_REGION_TEXT)
         .help("Words of the region that the jobs share");
+    let workers = Arg::new(alloc, "workers")
+        .long("workers")
+        .value_name("W")
+        .value_parser(value_parser!(u32).range(1..=i64::from(MOST_THREADS)))
+        .default_value(DEFAULT_WORKERS_TEXT)
+        .help("Threads that run the jobs where no schedule is given");
     let schedule = Arg::new(alloc, "schedule")
         .long("schedule")
         .value_name("LIST")
@@ -50,6 +65,7 @@ fn command<'a>(alloc: Global) -> Result<Command<'a>, clap::Error> {
             .about("Runs a batch of VCODE jobs and prints a report")
             .version("0.1.0")
             .arg(region)?
+            .arg(workers)?
             .arg(schedule)?
             .arg(file)?,
     )
@@ -60,12 +76,14 @@ fn run_of(alloc: Global, matches: &ArgMatches<'_>) -> Result<Line, LineFault>
     ensures { IfOk result LineFits }
 {
     let region = matches.get_one::<u32>("region").unwrap_or(MOST_REGION);
+    let workers = matches.get_one::<u32>("workers").unwrap_or(DEFAULT_WORKERS);
     let schedule = match matches.get_str("schedule") {
         Some(list) => Some(parse_schedule(alloc, list)?),
         None => None,
     };
     let options = Options {
         region: region.clamp(1, MOST_REGION),
+        workers: workers.clamp(1, MOST_THREADS),
         schedule,
     };
     let file = matches.get_str("file").unwrap_or("-");
@@ -88,10 +106,11 @@ fn line_of(alloc: Global, error: &clap::Error) -> Result<Line, LineFault>
     }
 }
 
-/// Reads a command line, the program's name first: `vjobs [--region N] [--schedule LIST] FILE`.
+/// Reads a command line, the program's name first: `vjobs [--region N] [--workers W] [--schedule LIST] FILE`.
 ///
-/// The region is at least 1 word and at most [`MOST_WORDS`], and that where none is given. The schedule is what
-/// [`parse_schedule`] reads of the list. A line that asks for help or for the version is [`Line::Help`].
+/// The region is at least 1 word and at most [`MOST_WORDS`], and that where none is given. The workers are at least 1 and
+/// at most [`MOST_WORKERS`], and 4 where no number is given. The schedule is what [`parse_schedule`] reads of the list.
+/// A line that asks for help or for the version is [`Line::Help`].
 ///
 /// # Errors
 ///

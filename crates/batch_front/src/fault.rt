@@ -3,6 +3,7 @@ ghost use Rattle.std.specs.Prelude.{◌≡◌};
 ghost use Rattle.batch_front.specs.Exits.{line_exit_of};
 
 use std::alloc::{AllocError, AllocFailed};
+use step_scheduler::RunFault;
 use thiserror::Error;
 
 /// Why a run gave no status.
@@ -17,6 +18,9 @@ pub enum FrontFault {
     /// A growth of memory was refused.
     #[error("vjobs: out of memory")]
     Memory,
+    /// The workers handed back other jobs than they were given.
+    #[error("vjobs: workers failed")]
+    Mixed,
 }
 
 impl From<AllocError> for FrontFault {
@@ -27,6 +31,20 @@ impl From<AllocError> for FrontFault {
 
     fn from(_: AllocError) -> FrontFault {
         FrontFault::Memory
+    }
+}
+
+impl From<RunFault> for FrontFault {
+    ghost use Rattle.std.specs.Prelude.{◌≡◌};
+    ghost use Rattle.batch_front.specs.Exits.{front_fault_of};
+
+    ghost from_gives = { λ fault front_fault. front_fault ≡ front_fault_of fault };
+
+    fn from(fault: RunFault) -> FrontFault {
+        match fault {
+            RunFault::Memory => FrontFault::Memory,
+            RunFault::Mixed => FrontFault::Mixed,
+        }
     }
 }
 

@@ -1,26 +1,29 @@
 //! A batch of jobs from a reader to a writer: its bytes in, its report out.
 //!
-//! [`run_alone`] reads a batch, runs its jobs on the calling thread and writes the report. [`read_line`] reads the
-//! command line of the program, and [`arguments_fault`] says why there is none. [`parse_schedule`] reads in which order
-//! the jobs are to take their turns; what they come to doesn't depend on it. What a batch comes to is defined below,
+//! [`run_alone`] reads a batch, runs its jobs on the calling thread and writes the report; [`run`] has worker threads run
+//! the jobs. [`read_line`] reads the command line of the program, and [`arguments_fault`] says why there is none.
+//! [`parse_schedule`] reads in which order the jobs are to take their turns on the calling thread; what they come to
+//! depends neither on it nor on the workers. What a batch comes to is defined below,
 //! by `batch_reader`, one answer for each text and region; `Reports` in `specs/` says what is printed of it, and the
 //! status. `Seats` has the jobs of a batch as they stand on a machine, `Schedules` the items that a text has.
 #![tactic(auto)]
 
-mod alone;
 mod answer;
+mod batch_run;
 mod command_line;
 mod device;
 mod exit;
 mod fault;
 mod follow;
+mod machine_run;
 mod options;
 mod report;
 mod schedule;
 mod seats;
 mod status;
+mod transfer;
 
-pub use alone::run_alone;
+pub use batch_run::{run, run_alone};
 pub use command_line::{Line, arguments_fault, read_line};
 pub use device::{Device, MOST_INTERRUPTIONS};
 pub use exit::exit_status;
@@ -28,3 +31,4 @@ pub use fault::{FrontFault, LineFault, ScheduleFault};
 pub use options::Options;
 pub use schedule::{Item, parse_schedule};
 pub use status::Status;
+pub use step_scheduler::{Gate, NoGate};

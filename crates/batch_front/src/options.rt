@@ -1,5 +1,5 @@
 ghost use Rattle.std.specs.Prelude.{◌≤◌};
-ghost use Rattle.vcode_base.specs.declared.limits.TheConstants.{MOST_WORDS};
+ghost use Rattle.vcode_base.specs.declared.limits.TheConstants.{MOST_WORDS, MOST_WORKERS};
 
 use crate::schedule::Item;
 
@@ -9,7 +9,11 @@ pub struct Options {
     /// The words of the region that the jobs share, at least 1 and at most
     /// [`MOST_WORDS`](vcode_base::limits::MOST_WORDS).
     pub region: u32,
+    /// The worker threads that run the jobs where no schedule is given, at least 1 and at most
+    /// [`MOST_WORKERS`](vcode_base::limits::MOST_WORKERS).
+    pub workers: u32,
     /// The turns that the jobs take before they are run out, if any are asked for.
     pub schedule: Option<Vec<Item>>,
     pub ghost region_fits: { (1 ≤ region) × (region ≤ MOST_WORDS) },
+    pub ghost workers_fit: { (1 ≤ workers) × (workers ≤ MOST_WORKERS) },
 }

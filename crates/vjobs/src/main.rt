@@ -2,13 +2,17 @@
 #![tactic(auto)]
 
 use batch_front::{
-    Device, FrontFault, Line, LineFault, Options, Status, arguments_fault, exit_status, read_line,
-    run_alone,
+    Device, FrontFault, Line, LineFault, NoGate, Options, Status, arguments_fault, exit_status,
+    read_line, run,
 };
+use std::alloc::Global;
 use std::env;
 use std::fs::File;
 use std::io::Read;
 use std::process::ExitCode;
+use std::rt::Files;
+use std::sync::Wait;
+use std::thread::Threads;
 
 /// Reads the command line.
 fn line_of(rt: &HostRuntime) -> Result<Line, LineFault> {
@@ -25,29 +29,32 @@ fn line_of(rt: &HostRuntime) -> Result<Line, LineFault> {
 }
 
 /// Runs the batch that a reader gives, with the report on standard output.
-fn run_over<R: Read + Drop>(
-    rt: &HostRuntime,
-    reader: R,
-    options: &Options,
-) -> Result<Status, FrontFault> {
+fn run_over<H, R>(rt: &H, alloc: Global, reader: R, options: &Options) -> Result<Status, FrontFault>
+where
+    H: Print + Threads + Wait + Sync,
+    R: Read + Drop,
+{
     let mut reader = Device::new(reader);
     let mut writer = Device::new(rt.stdout());
-    run_alone(rt.alloc(), &mut reader, &mut writer, options)
+    run(rt, alloc, &mut reader, &mut writer, options, &NoGate)
 }
 
 /// Runs the batch in the file of this name; `-` is standard input.
-fn run(rt: &HostRuntime, options: &Options, file: &str) -> Result<Status, FrontFault> {
+fn run_file<H>(rt: &H, alloc: Global, options: &Options, file: &str) -> Result<Status, FrontFault>
+where
+    H: Files + Input + Print + Threads + Wait + Sync,
+{
     if file == "-" {
-        return run_over(rt, rt.stdin(), options);
+        return run_over(rt, alloc, rt.stdin(), options);
     }
     let file = File::open(rt, file).map_err(|_| FrontFault::Read)?;
-    run_over(rt, file, options)
+    run_over(rt, alloc, file, options)
 }
 
 fn main(rt: HostRuntime) -> ExitCode {
     let status = match line_of(&rt) {
         Ok(Line::Run(options, file)) => {
-            let outcome = run(&rt, &options, file.as_str());
+            let outcome = run_file(&rt, rt.alloc(), &options, file.as_str());
             if let Err(fault) = &outcome {
                 let _ = eprintln!(rt; "{fault}");
             }

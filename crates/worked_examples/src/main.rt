@@ -22,6 +22,7 @@ fn show(rt: &HostRuntime, name: &str) -> io::Result<()> {
     let wanted = fs::read(rt, wanted.as_str())?;
     let options = Options {
         region: REGION,
+        workers: 1,
         schedule: None,
     };
     let Some(ending) = ending_however_cut(rt.alloc(), &batch, &options) else {

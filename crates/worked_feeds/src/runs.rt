@@ -28,6 +28,7 @@ fn a_run_ends_whole_or_with_nothing(rt: HostRuntime) -> Result<(), Fail> {
         let mut writer = Device::new(Vec::new(rt.alloc()));
         let options = Options {
             region: REGION,
+            workers: 1,
             schedule: None,
         };
         let outcome = run_alone(&heap, &mut reader, &mut writer, &options);

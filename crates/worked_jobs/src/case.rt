@@ -31,6 +31,7 @@ impl Case<'_> {
         };
         Some(Options {
             region: self.region,
+            workers: 1,
             schedule,
         })
     }

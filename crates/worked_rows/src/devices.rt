@@ -92,6 +92,7 @@ fn run(alloc: Global, reader: Reader, writer: Writer) -> (Result<Status, FrontFa
     let mut writer = Device::new(writer);
     let options = Options {
         region: 64,
+        workers: 1,
         schedule: None,
     };
     let outcome = run_alone(alloc, &mut reader, &mut writer, &options);
@@ -170,6 +171,7 @@ fn a_reader_has_no_end(rt: HostRuntime) {
     let mut writer = Device::new(Vec::new(rt.alloc()));
     let options = Options {
         region: 64,
+        workers: 1,
         schedule: None,
     };
     let outcome = run_alone(rt.alloc(), &mut reader, &mut writer, &options);
@@ -186,6 +188,7 @@ fn a_batch_is_as_long_as_it_may_be(rt: HostRuntime) {
     let mut writer = Device::new(Vec::new(rt.alloc()));
     let options = Options {
         region: 64,
+        workers: 1,
         schedule: None,
     };
     let outcome = run_alone(rt.alloc(), &mut reader, &mut writer, &options);

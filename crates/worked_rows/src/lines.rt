@@ -1,5 +1,5 @@
 //! Command lines.
-use batch_front::{Line, LineFault, arguments_fault, read_line};
+use batch_front::{Line, LineFault, Options, arguments_fault, read_line};
 use std::io::ErrorKind;
 use std::test::Fail;
 use vcode_base::limits::MOST_WORDS;
@@ -7,8 +7,13 @@ use vcode_base::limits::MOST_WORDS;
 #[test]
 fn reads_a_region_and_standard_input(rt: HostRuntime) {
     let line = read_line(rt.alloc(), &["vjobs", "--region", "64", "-"]);
+    let options = Options {
+        region: 64,
+        workers: 4,
+        schedule: None,
+    };
     assert!(rt;
-        matches!(&line, Ok(Line::Run(options, file)) if options.region == 64 && file.as_str() == "-")
+        matches!(&line, Ok(Line::Run(asked, file)) if *asked == options && file.as_str() == "-")
     );
 }
 
@@ -17,14 +22,27 @@ fn reads_a_file_alone(rt: HostRuntime) {
     let line = read_line(rt.alloc(), &["vjobs", "batch.vcode"]);
     assert!(rt;
         matches!(&line, Ok(Line::Run(options, file))
-        if options.region as usize == MOST_WORDS && file.as_str() == "batch.vcode")
+        if options.region as usize == MOST_WORDS && options.workers == 4 && file.as_str() == "batch.vcode")
     );
+}
+
+#[test]
+fn reads_workers(rt: HostRuntime) {
+    for (text, workers) in [("1", 1), ("2", 2), ("16", 16)] {
+        let line = read_line(rt.alloc(), &["vjobs", "--workers", text, "FILE"]);
+        assert!(rt;
+            matches!(&line, Ok(Line::Run(options, _)) if options.workers == workers),
+            "{text}"
+        );
+    }
 }
 
 #[test]
 fn refuses_lines_that_it_does_not_know(rt: HostRuntime) {
     for words in [
         ["vjobs", "--workers", "17", "FILE"],
+        ["vjobs", "--workers", "0", "FILE"],
+        ["vjobs", "--workers", "two", "FILE"],
         ["vjobs", "--region", "0", "FILE"],
         ["vjobs", "--region", "1048577", "FILE"],
         ["vjobs", "--region", "64", "--region"],
@@ -40,7 +58,9 @@ fn refuses_lines_that_it_does_not_know(rt: HostRuntime) {
 #[test]
 fn helps(rt: HostRuntime) {
     let line = read_line(rt.alloc(), &["vjobs", "--help"]);
-    assert!(rt; matches!(&line, Ok(Line::Help(text)) if text.contains("--region <N>")));
+    assert!(rt;
+        matches!(&line, Ok(Line::Help(text)) if text.contains("--region <N>") && text.contains("--workers <W>"))
+    );
 }
 
 #[test]

@@ -1,6 +1,6 @@
-use Rattle.std.proofs.Common.{◌≡◌, refl, ap, sym, ◌∙◌, length, arith}
+use Rattle.std.proofs.Common.{◌≡◌, refl, ap, ◌∙◌, length, arith}
 use Rattle.batch_front.specs.Turns.{after_admissions}
-use Rattle.batch_front.proofs.Settling.{HasSettled, has_settled}
+use Rattle.batch_front.proofs.Settling.{has_settled}
 use Rattle.batch_front.proofs.TurnLemmas.{admissions_with}
 use Rattle.batch_front.proofs.follow.admit_all.Goals as goal
 

@@ -1,10 +1,6 @@
 use Rattle.std.proofs.Common.{rules}
 use Rattle.batch_front.proofs.FeedLemmas.{front_of_input, report_of_input}
-use Rattle.batch_front.proofs.SeatLemmas.{batch_fits}
-use Rattle.batch_front.proofs.alone.run_alone.Goals as goal
-
-pub answer-requires-clause-fits : goal.answer-requires-clause-fits
-answer-requires-clause-fits g c = batch_fits _ _ _ c.in_ok-batch.ensures.batch.comes
+use Rattle.batch_front.proofs.batch_run.run.Goals as goal
 
 pub returns-clause-report : goal.returns-clause-report
 returns-clause-report g c =

@@ -2,7 +2,8 @@ use Rattle.std.proofs.Common.{◌∙◌, ap, subst}
 use Rattle.std.specs.Prelude.{Err}
 use Rattle.batch_reader.specs.Fates.{IsBatch}
 use Rattle.batch_front.proofs.FeedLemmas.{batch_in, fault_in}
-use Rattle.batch_front.proofs.alone.read_batch.Goals as goal
+use Rattle.batch_front.proofs.SeatLemmas.{batch_fits}
+use Rattle.batch_front.proofs.transfer.read_batch.Goals as goal
 
 pub returns-in_ok-end-in-Ok-clause-batch : goal.returns-in_ok-end-in-Ok-clause-batch
 returns-in_ok-end-in-Ok-clause-batch g c =
@@ -10,6 +11,13 @@ returns-in_ok-end-in-Ok-clause-batch g c =
     (λ bytes h. subst (λ r. IsBatch r bytes c.in_ok-end-in-Ok.field-0)
     (c.in-Ok.ensures.region ∙ c.in_ok-feed.ensures.region)
     (c.in_ok-end-in-Ok.ensures.batch bytes h))
+
+pub returns-in_ok-end-in-Ok-clause-fits : goal.returns-in_ok-end-in-Ok-clause-fits
+returns-in_ok-end-in-Ok-clause-fits g c =
+    let bytes = c.in-Ok.ensures.bytes in
+    batch_fits _ _ _
+    (subst (λ r. IsBatch r bytes.0 c.in_ok-end-in-Ok.field-0) (c.in-Ok.ensures.region ∙ c.in_ok-feed.ensures.region)
+    (c.in_ok-end-in-Ok.ensures.batch bytes.0 bytes.1))
 
 pub returns-in_ok-end-in-Ok-clause-few : goal.returns-in_ok-end-in-Ok-clause-few
 returns-in_ok-end-in-Ok-clause-few g c = c.in_ok-end-in-Ok.ensures.few c.in-Ok.ensures.bytes.0 c.in-Ok.ensures.bytes.1

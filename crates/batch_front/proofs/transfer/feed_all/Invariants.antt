@@ -1,7 +1,7 @@
 use Rattle.std.proofs.Common.{◌≡◌, false, ◌+◌, ◌-◌, ◌≤◌}
 use Rattle.batch_front.specs.declared.device.TheConstants.{MOST_INTERRUPTIONS}
 use Rattle.batch_front.proofs.FeedLemmas.{HasFed}
-use Rattle.batch_front.proofs.alone.feed_all.Given as goal
+use Rattle.batch_front.proofs.transfer.feed_all.Given as goal
 
 abbrev pub invariant-reads : goal.invariant-reads
 invariant-reads g l = record {

@@ -1,7 +1,7 @@
 use Rattle.std.proofs.Common.{◌≡◌, false, ◌+◌, ◌-◌, ◌≤◌}
 use Rattle.std.specs.Io.KnownBytes.{Keeps}
 use Rattle.batch_front.specs.declared.device.TheConstants.{MOST_INTERRUPTIONS}
-use Rattle.batch_front.proofs.alone.flush.Given as goal
+use Rattle.batch_front.proofs.transfer.flush.Given as goal
 
 abbrev pub invariant-flushes : goal.invariant-flushes
 invariant-flushes g l = record {

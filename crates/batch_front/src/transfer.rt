@@ -1,4 +1,4 @@
-//! The run on the calling thread.
+//! The bytes of a batch in, and those of its report out.
 
 ghost use Rattle.std.specs.Prelude.{◌≡◌, ◌⊎◌, ℕ, ◌+◌, ◌≤◌, false, true, List, [], take, IfOk, IfSome, OnOk, OnErr, IsErrOf};
 ghost use Rattle.std.specs.Io.KnownBytes.{Appends, Keeps};
@@ -7,14 +7,11 @@ ghost use Rattle.batch_front.specs.Devices.{inner_of, has_failed, interrupts_of,
 ghost use Rattle.batch_reader.specs.declared.entry.Batch.{Batch};
 ghost use Rattle.batch_reader.specs.Fates.{IsBatch, JobEntry};
 ghost use Rattle.batch_reader.specs.Feeds.{HasCome, HasFewJobs};
+ghost use Rattle.batch_front.specs.Seats.{BatchFits};
 ghost use Rattle.batch_front.specs.Inputs.{first_bytes, AreFirstBytes, IsBatchIn, ReadsFirstBytes, ReadsNoFurther};
-ghost use Rattle.batch_front.specs.Reports.{report_of, status_of};
 
-use crate::answer::answer;
 use crate::device::{Device, MOST_INTERRUPTIONS, Trouble};
 use crate::fault::FrontFault;
-use crate::options::Options;
-use crate::status::Status;
 use batch_reader::{Batch, Feed, JobEntries};
 use std::alloc::Allocator;
 use std::io::{Read, Write};
@@ -65,7 +62,7 @@ fn feed_all<A: Allocator + Copy, R: Read>(
 }
 
 /// What the first bytes of a reader that was not used come to: to its end, or one more than a batch may have.
-fn read_batch<A: Allocator + Copy, R: Read>(
+pub(crate) fn read_batch<A: Allocator + Copy, R: Read>(
     alloc: A,
     reader: &mut Device<R>,
     region: u32,
@@ -73,6 +70,7 @@ fn read_batch<A: Allocator + Copy, R: Read>(
     requires { IsFresh reader.old }
     ensures batch { IfOk result (IsBatchIn region (R.remaining (inner_of reader.old))) }
     ensures few { IfOk result HasFewJobs }
+    ensures fits { IfOk result (BatchFits region) }
     ensures read_to_the_end { OnOk result (ReadsFirstBytes (R.remaining (inner_of reader.old)) (R.remaining (inner_of reader.new))) }
     ensures read_no_further { ReadsNoFurther (R.remaining (inner_of reader.old)) (R.remaining (inner_of reader.new)) }
     ensures few_interruptions { OnOk result ((has_failed reader.new ≡ false) × (interrupts_of reader.new ≤ MOST_INTERRUPTIONS)) }
@@ -135,7 +133,11 @@ fn flush<W: Write>(writer: &mut Device<W>, spent: u64) -> Result<(), FrontFault>
 }
 
 /// Writes all the bytes and flushes. `spent` interruptions are spent already.
-fn write_all<W: Write>(writer: &mut Device<W>, bytes: &[u8], spent: u64) -> Result<(), FrontFault>
+pub(crate) fn write_all<W: Write>(
+    writer: &mut Device<W>,
+    bytes: &[u8],
+    spent: u64,
+) -> Result<(), FrontFault>
     requires fresh { IsFresh writer.old }
     requires spent { spent ≤ MOST_INTERRUPTIONS }
     ensures all_written { OnOk result (Appends (W.contents (inner_of writer.old)) (W.contents (inner_of writer.new)) bytes.now) }
@@ -146,56 +148,4 @@ fn write_all<W: Write>(writer: &mut Device<W>, bytes: &[u8], spent: u64) -> Resu
 {
     write_bytes(writer, bytes, spent)?;
     flush(writer, spent)
-}
-
-/// Reads a batch, runs its jobs over one region on the calling thread, and then writes the report and nothing else.
-///
-/// Of the reader no more is read than one byte more than a batch may have, [`MOST_BATCH_BYTES`]. Neither device was used
-/// before. The jobs take the turns of the schedule first, if there is one, and are run out then; the report is the same
-/// with any schedule or none. An interruption is no fault by itself: the call is made again, but for the interruption that passes
-/// [`MOST_INTERRUPTIONS`] in this run. [`FrontFault::Read`] and [`FrontFault::Memory`] come before the first write,
-/// and how much was read until then is not said. At [`FrontFault::Write`] the writer has the first bytes of the report,
-/// perhaps none and perhaps all of them.
-pub fn run_alone<A: Allocator + Copy, R: Read, W: Write>(
-    alloc: A,
-    reader: &mut Device<R>,
-    writer: &mut Device<W>,
-    options: &Options,
-) -> Result<Status, FrontFault>
-    requires reader { IsFresh reader.old }
-    requires writer { IsFresh writer.old }
-
-    // The report is written and nothing else, and the status is the batch's.
-    ensures report { IfOk result (λ status. IfSome (R.remaining (inner_of reader.old)) (λ input. (batch : Batch (List JobEntry)) ×
-        IsBatch options.now.region (first_bytes input) batch
-        × Appends (W.contents (inner_of writer.old)) (W.contents (inner_of writer.new)) (report_of batch)
-        × (status ≡ status_of batch))) }
-    // No fault of a device is passed over, nor one interruption too many.
-    ensures few_interruptions { OnOk result ((has_failed reader.new ≡ false) × (has_failed writer.new ≡ false)
-        × (interrupts_of reader.new + interrupts_of writer.new ≤ MOST_INTERRUPTIONS)) }
-
-    // The input is read to its end, or exactly one byte further than a batch may have, before anything is written.
-    ensures read_to_the_end { OnOk result (ReadsFirstBytes (R.remaining (inner_of reader.old)) (R.remaining (inner_of reader.new))) }
-    ensures read_before_written { IsErrOf result FrontFault.Write →
-        ReadsFirstBytes (R.remaining (inner_of reader.old)) (R.remaining (inner_of reader.new)) }
-    // It is never read any further.
-    ensures read_no_further { ReadsNoFurther (R.remaining (inner_of reader.old)) (R.remaining (inner_of reader.new)) }
-
-    // A part of the report from its front was written.
-    ensures front_written { IsErrOf result FrontFault.Write → IfSome (R.remaining (inner_of reader.old)) (λ input.
-        (batch : Batch (List JobEntry)) × IsBatch options.now.region (first_bytes input) batch
-        × (n : ℕ) × Appends (W.contents (inner_of writer.old)) (W.contents (inner_of writer.new)) (take n (report_of batch))) }
-    ensures nothing_written { IsErrOf result FrontFault.Read ⊎ IsErrOf result FrontFault.Memory →
-        Keeps (W.contents (inner_of writer.old)) (W.contents (inner_of writer.new)) }
-
-    // The side that failed, or the first interruption of the run that is too many.
-    ensures read_fault { IsErrOf result FrontFault.Read →
-        (has_failed reader.new ≡ true) ⊎ (interrupts_of reader.new + interrupts_of writer.new ≡ MOST_INTERRUPTIONS + 1) }
-    ensures write_fault { IsErrOf result FrontFault.Write →
-        (has_failed writer.new ≡ true) ⊎ (interrupts_of reader.new + interrupts_of writer.new ≡ MOST_INTERRUPTIONS + 1) }
-{
-    let batch = read_batch(alloc, reader, options.region)?;
-    let (report, status) = answer(alloc, batch, options)?;
-    write_all(writer, report.as_slice(), reader.interrupts())?;
-    Ok(status)
 }

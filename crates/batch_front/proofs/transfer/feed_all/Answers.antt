@@ -1,7 +1,7 @@
 use Rattle.std.proofs.Common.{arith, rules}
 use Rattle.std.proofs.lemmas.Grind.{common_steps}
 use Rattle.batch_front.proofs.FeedLemmas.{fed_more, fed_none, fed_no_further, fed_to_end, fed_to_limit, read_no_further}
-use Rattle.batch_front.proofs.alone.feed_all.Goals as goal
+use Rattle.batch_front.proofs.transfer.feed_all.Goals as goal
 
 pub returns-in-Ok-eq0-clause-bytes : goal.returns-in-Ok-eq0-clause-bytes
 returns-in-Ok-eq0-clause-bytes g c =

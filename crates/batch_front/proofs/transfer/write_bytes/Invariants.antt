@@ -1,7 +1,7 @@
 use Rattle.std.proofs.Common.{◌≡◌, false, ◌+◌, ◌-◌, ◌≤◌, take, length}
 use Rattle.std.specs.Io.KnownBytes.{Appends}
 use Rattle.batch_front.specs.declared.device.TheConstants.{MOST_INTERRUPTIONS}
-use Rattle.batch_front.proofs.alone.write_bytes.Given as goal
+use Rattle.batch_front.proofs.transfer.write_bytes.Given as goal
 
 abbrev pub invariant-writes : goal.invariant-writes
 invariant-writes g l = record {

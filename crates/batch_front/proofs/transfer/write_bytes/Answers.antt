@@ -1,6 +1,6 @@
 use Rattle.std.proofs.Common.{rules}
 use Rattle.batch_front.proofs.Bytes.{appends_more}
-use Rattle.batch_front.proofs.alone.write_bytes.Goals as goal
+use Rattle.batch_front.proofs.transfer.write_bytes.Goals as goal
 
 pub writes-preserved-in-Ok : goal.writes-preserved-in-Ok
 writes-preserved-in-Ok g c =

@@ -1,0 +1,145 @@
+//! A whole run, from a batch's bytes to its report's.
+
+ghost use Rattle.std.specs.Prelude.{◌≡◌, ◌⊎◌, ℕ, ◌+◌, ◌≤◌, false, true, List, take, IfOk, IfSome, OnOk, IsErrOf};
+ghost use Rattle.std.specs.Io.KnownBytes.{Appends, Keeps};
+ghost use Rattle.batch_front.specs.declared.device.TheConstants.{MOST_INTERRUPTIONS};
+ghost use Rattle.batch_front.specs.Devices.{inner_of, has_failed, interrupts_of, IsFresh};
+ghost use Rattle.batch_reader.specs.declared.entry.Batch.{Batch};
+ghost use Rattle.batch_reader.specs.Fates.{IsBatch, JobEntry};
+ghost use Rattle.batch_front.specs.Inputs.{first_bytes, ReadsFirstBytes, ReadsNoFurther};
+ghost use Rattle.batch_front.specs.Reports.{report_of, status_of};
+
+use crate::answer::{answer_of_caller, answer_of_workers};
+use crate::device::{Device, MOST_INTERRUPTIONS};
+use crate::fault::FrontFault;
+use crate::options::Options;
+use crate::status::Status;
+use crate::transfer::{read_batch, write_all};
+use std::alloc::Allocator;
+use std::io::{Read, Write};
+use std::sync::Wait;
+use std::thread::Threads;
+use step_scheduler::Gate;
+use vcode_base::limits::MOST_BATCH_BYTES;
+
+/// Reads a batch, runs its jobs over one region on the calling thread, and then writes the report and nothing else.
+///
+/// Of the reader no more is read than one byte more than a batch may have, [`MOST_BATCH_BYTES`]. Neither device was used
+/// before. The jobs take the turns of the schedule first, if there is one, and are run out then; the report is the same
+/// with any schedule or none. An interruption is no fault by itself: the call is made again, but for the interruption
+/// that passes [`MOST_INTERRUPTIONS`] in this run.
+///
+/// # Errors
+///
+/// [`FrontFault::Read`] and [`FrontFault::Memory`] come before the first write, and how much was read until then is not
+/// said. At [`FrontFault::Write`] the writer has the first bytes of the report, perhaps none and perhaps all of them.
+pub fn run_alone<A: Allocator + Copy, R: Read, W: Write>(
+    alloc: A,
+    reader: &mut Device<R>,
+    writer: &mut Device<W>,
+    options: &Options,
+) -> Result<Status, FrontFault>
+    requires reader { IsFresh reader.old }
+    requires writer { IsFresh writer.old }
+
+    // The report is written and nothing else, and the status is the batch's.
+    ensures report { IfOk result (λ status. IfSome (R.remaining (inner_of reader.old)) (λ input. (batch : Batch (List JobEntry)) ×
+        IsBatch options.now.region (first_bytes input) batch
+        × Appends (W.contents (inner_of writer.old)) (W.contents (inner_of writer.new)) (report_of batch)
+        × (status ≡ status_of batch))) }
+    // No fault of a device is passed over, nor one interruption too many.
+    ensures few_interruptions { OnOk result ((has_failed reader.new ≡ false) × (has_failed writer.new ≡ false)
+        × (interrupts_of reader.new + interrupts_of writer.new ≤ MOST_INTERRUPTIONS)) }
+
+    // The input is read to its end, or exactly one byte further than a batch may have, before anything is written.
+    ensures read_to_the_end { OnOk result (ReadsFirstBytes (R.remaining (inner_of reader.old)) (R.remaining (inner_of reader.new))) }
+    ensures read_before_written { IsErrOf result FrontFault.Write →
+        ReadsFirstBytes (R.remaining (inner_of reader.old)) (R.remaining (inner_of reader.new)) }
+    // It is never read any further.
+    ensures read_no_further { ReadsNoFurther (R.remaining (inner_of reader.old)) (R.remaining (inner_of reader.new)) }
+
+    // A part of the report from its front was written.
+    ensures front_written { IsErrOf result FrontFault.Write → IfSome (R.remaining (inner_of reader.old)) (λ input.
+        (batch : Batch (List JobEntry)) × IsBatch options.now.region (first_bytes input) batch
+        × (n : ℕ) × Appends (W.contents (inner_of writer.old)) (W.contents (inner_of writer.new)) (take n (report_of batch))) }
+    ensures nothing_written { IsErrOf result FrontFault.Read ⊎ IsErrOf result FrontFault.Memory →
+        Keeps (W.contents (inner_of writer.old)) (W.contents (inner_of writer.new)) }
+    ensures never_mixed { IsErrOf result FrontFault.Mixed → ⊥ }
+
+    // The side that failed, or the first interruption of the run that is too many.
+    ensures read_fault { IsErrOf result FrontFault.Read →
+        (has_failed reader.new ≡ true) ⊎ (interrupts_of reader.new + interrupts_of writer.new ≡ MOST_INTERRUPTIONS + 1) }
+    ensures write_fault { IsErrOf result FrontFault.Write →
+        (has_failed writer.new ≡ true) ⊎ (interrupts_of reader.new + interrupts_of writer.new ≡ MOST_INTERRUPTIONS + 1) }
+{
+    let batch = read_batch(alloc, reader, options.region)?;
+    let (report, status) = answer_of_caller(alloc, batch, options)?;
+    write_all(writer, report.as_slice(), reader.interrupts())?;
+    Ok(status)
+}
+
+/// The same as [`run_alone`] where a schedule is given. Else the jobs are run by the worker threads that `options` asks
+/// for: each calls the gate between the begin and the finish of every step, and holds no lock then. The report is the
+/// same for any number of workers.
+///
+/// The devices are used as [`run_alone`] uses them.
+///
+/// # Errors
+///
+/// As of [`run_alone`]; [`FrontFault::Memory`] is also answered where memory was refused to the calling thread for what
+/// the workers left. [`FrontFault::Mixed`] where the machine that the workers hand back holds other jobs than the
+/// batch; it comes before the first write too.
+pub fn run<A, H, I, O, G>(
+    rt: &H,
+    alloc: A,
+    reader: &mut Device<I>,
+    writer: &mut Device<O>,
+    options: &Options,
+    gate: &G,
+) -> Result<Status, FrontFault>
+where
+    A: Allocator + Copy + Send + Sync,
+    H: Threads + Wait + Sync,
+    I: Read,
+    O: Write,
+    G: Gate + Sync,
+    requires reader { IsFresh reader.old }
+    requires writer { IsFresh writer.old }
+
+    // The report is written and nothing else, and the status is the batch's.
+    ensures report { IfOk result (λ status. IfSome (I.remaining (inner_of reader.old)) (λ input. (batch : Batch (List JobEntry)) ×
+        IsBatch options.now.region (first_bytes input) batch
+        × Appends (O.contents (inner_of writer.old)) (O.contents (inner_of writer.new)) (report_of batch)
+        × (status ≡ status_of batch))) }
+    // No fault of a device is passed over, nor one interruption too many.
+    ensures few_interruptions { OnOk result ((has_failed reader.new ≡ false) × (has_failed writer.new ≡ false)
+        × (interrupts_of reader.new + interrupts_of writer.new ≤ MOST_INTERRUPTIONS)) }
+
+    // The input is read to its end, or exactly one byte further than a batch may have, before anything is written.
+    ensures read_to_the_end { OnOk result (ReadsFirstBytes (I.remaining (inner_of reader.old)) (I.remaining (inner_of reader.new))) }
+    ensures read_before_written { IsErrOf result FrontFault.Write →
+        ReadsFirstBytes (I.remaining (inner_of reader.old)) (I.remaining (inner_of reader.new)) }
+    // It is never read any further.
+    ensures read_no_further { ReadsNoFurther (I.remaining (inner_of reader.old)) (I.remaining (inner_of reader.new)) }
+
+    // A part of the report from its front was written.
+    ensures front_written { IsErrOf result FrontFault.Write → IfSome (I.remaining (inner_of reader.old)) (λ input.
+        (batch : Batch (List JobEntry)) × IsBatch options.now.region (first_bytes input) batch
+        × (n : ℕ) × Appends (O.contents (inner_of writer.old)) (O.contents (inner_of writer.new)) (take n (report_of batch))) }
+    ensures nothing_written { IsErrOf result FrontFault.Read ⊎ IsErrOf result FrontFault.Memory ⊎ IsErrOf result FrontFault.Mixed →
+        Keeps (O.contents (inner_of writer.old)) (O.contents (inner_of writer.new)) }
+
+    // The side that failed, or the first interruption of the run that is too many.
+    ensures read_fault { IsErrOf result FrontFault.Read →
+        (has_failed reader.new ≡ true) ⊎ (interrupts_of reader.new + interrupts_of writer.new ≡ MOST_INTERRUPTIONS + 1) }
+    ensures write_fault { IsErrOf result FrontFault.Write →
+        (has_failed writer.new ≡ true) ⊎ (interrupts_of reader.new + interrupts_of writer.new ≡ MOST_INTERRUPTIONS + 1) }
+{
+    if options.schedule.is_some() {
+        return run_alone(alloc, reader, writer, options);
+    }
+    let batch = read_batch(alloc, reader, options.region)?;
+    let (report, status) = answer_of_workers(rt, alloc, batch, options, gate)?;
+    write_all(writer, report.as_slice(), reader.interrupts())?;
+    Ok(status)
+}
