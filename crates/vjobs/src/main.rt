@@ -8,7 +8,7 @@ use batch_front::{
 use std::alloc::Global;
 use std::env;
 use std::fs::File;
-use std::io::Read;
+use std::io::{Read, Write};
 use std::process::ExitCode;
 use std::rt::Files;
 use std::sync::Wait;
@@ -28,33 +28,50 @@ fn line_of(rt: &HostRuntime) -> Result<Line, LineFault> {
     read_line(rt.alloc(), texts.as_slice())
 }
 
-/// Runs the batch that a reader gives, with the report on standard output.
-fn run_over<H, R>(rt: &H, alloc: Global, reader: R, options: &Options) -> Result<Status, FrontFault>
+/// Runs the batch that a reader gives, with the report on a writer.
+fn run_over<H, I, O>(
+    rt: &H,
+    alloc: Global,
+    reader: I,
+    writer: O,
+    options: &Options,
+) -> Result<Status, FrontFault>
 where
-    H: Print + Threads + Wait + Sync,
-    R: Read + Drop,
+    H: Threads + Wait + Sync,
+    I: Read + Drop,
+    O: Write + Drop,
 {
     let mut reader = Device::new(reader);
-    let mut writer = Device::new(rt.stdout());
+    let mut writer = Device::new(writer);
     run(rt, alloc, &mut reader, &mut writer, options, &NoGate)
 }
 
-/// Runs the batch in the file of this name; `-` is standard input.
-fn run_file<H>(rt: &H, alloc: Global, options: &Options, file: &str) -> Result<Status, FrontFault>
+/// Runs the batch in the file of this name, or, where it is `-`, the one that a reader gives.
+fn run_file<H, I, O>(
+    rt: &H,
+    alloc: Global,
+    reader: I,
+    writer: O,
+    options: &Options,
+    file: &str,
+) -> Result<Status, FrontFault>
 where
-    H: Files + Input + Print + Threads + Wait + Sync,
+    H: Files + Threads + Wait + Sync,
+    I: Read + Drop,
+    O: Write + Drop,
 {
     if file == "-" {
-        return run_over(rt, alloc, rt.stdin(), options);
+        return run_over(rt, alloc, reader, writer, options);
     }
     let file = File::open(rt, file).map_err(|_| FrontFault::Read)?;
-    run_over(rt, alloc, file, options)
+    run_over(rt, alloc, file, writer, options)
 }
 
 fn main(rt: HostRuntime) -> ExitCode {
     let status = match line_of(&rt) {
         Ok(Line::Run(options, file)) => {
-            let outcome = run_file(&rt, rt.alloc(), &options, file.as_str());
+            let (reader, writer) = (rt.stdin(), rt.stdout());
+            let outcome = run_file(&rt, rt.alloc(), reader, writer, &options, file.as_str());
             if let Err(fault) = &outcome {
                 let _ = eprintln!(rt; "{fault}");
             }
