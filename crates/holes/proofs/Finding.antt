@@ -1,12 +1,14 @@
 -- Going down a tree to the lowest fit.
-use Rattle.std.proofs.Common.{◌≡◌, ℕ, ◌+◌, ◌-◌, ◌*◌, ◌/◌, ◌^◌, ◌<◌, ◌≤◌, max, List, ◌++◌, length, get_or, ◌∙◌, ap, arith, Bool}
+use Rattle.std.proofs.Common.{◌≡◌, ℕ, suc, zero, true, false, drop, sym, inl, inr, ◌+◌, ◌-◌, ◌*◌, ◌/◌, ◌^◌, ◌<◌, ◌≤◌, max, List, ◌++◌, length, get_or, ◌∙◌, ap, arith, Bool}
 use Rattle.std.proofs.lemmas.List.{get_or_default}
 use Rattle.std.proofs.lemmas.Nat.{pow_pos}
 use Rattle.holes.specs.declared.summary.Summary.{Summary}
-use Rattle.holes.specs.FreeWords.{front_run, widest}
-use Rattle.holes.specs.Tree.{words_of_bits, words_of, node_at, nothing_free, back_run, lowest_fit, IsTree}
-use Rattle.holes.proofs.Runs.{front-le-length, back-le-length, widest-append, lowest-append_left, lowest-append_between, lowest-append_right}
-use Rattle.holes.proofs.Nodes.{width, first_leaf, node_words, IsNode, length-node_words, node_is, root_is, root_words, first_leaf-root, width-pow, inner_index, parts, leaf_of}
+use Rattle.holes.specs.FreeWords.{is_free, front_run, widest}
+use Rattle.holes.specs.Tree.{words_of_bits, words_of, node_at, nothing_free, back_run, lowest_fit, word_at, NoneBelow, IsTree}
+use Rattle.holes.proofs.Runs.{run-le-widest, word_run, fit_before, fit_here, run_free, front-le-length, back-le-length, widest-append, lowest-append_left, lowest-append_between, lowest-append_right}
+use Rattle.std.proofs.lemmas.Bool.{cases_lt, cases_Bool}
+use Rattle.holes.proofs.Bits.{word_in}
+use Rattle.holes.proofs.Nodes.{word_past, width, first_leaf, node_words, IsNode, length-node_words, node_is, root_is, root_words, first_leaf-root, width-pow, inner_index, parts, leaf_of}
 
 -- the lowest fit is that of the node at an index, whose words begin at a place
 pub record At (bits : List ℕ) (len height index place wide : ℕ) : Type 0 where
@@ -144,3 +146,31 @@ at_bitmap bits len height index place wide at ge =
       lowest = at.lowest ∙ ap (λ (words : List Bool). place + lowest_fit len words) leaf.words;
       small = omega (arith, at.place_is, leaf.first, leaf.within);
     }
+
+-- The lowest free word.
+word_free : (bits : List ℕ) (word : ℕ) → word < 64 * length bits → is_free (words_of bits) word ≡ word_at bits word
+word_free bits word lt =
+    word_in (word_at bits) 0 (64 * length bits) word lt ∙ ap (word_at bits)
+    (let e : 0 + word ≡ word = omega arith in e)
+
+not_free : (bits : List ℕ) (word : ℕ) → front_run (drop word (words_of bits)) < 1 → word_at bits word ≡ false
+not_free bits word none = elim (cases_lt word (64 * length bits)) [
+  | inl lt ↦ elim (cases_Bool (word_at bits word)) [
+    | inl free ↦ absurd (omega (arith, word_run (words_of bits) word (word_free bits word lt ∙ free)))
+    | inr taken ↦ taken
+  ]
+  | inr past ↦ word_past bits word past
+]
+
+pub none_below_lowest : (bits : List ℕ) → NoneBelow bits (lowest_fit 1 (words_of bits))
+none_below_lowest bits word lt = not_free bits word (fit_before 1 word (words_of bits) lt)
+
+pub none_at_all : (bits : List ℕ) (low : ℕ) → widest (words_of bits) < 1 → NoneBelow bits low
+none_at_all bits low none word lt = not_free bits word (omega (arith, run-le-widest word (words_of bits)))
+
+pub lowest_is_free : (bits : List ℕ) → 1 ≤ widest (words_of bits) → lowest_fit 1 (words_of bits) < 64 * length bits →
+    word_at bits (lowest_fit 1 (words_of bits)) ≡ true
+lowest_is_free bits some lt =
+    sym (word_free bits (lowest_fit 1 (words_of bits)) lt)
+    ∙ run_free (words_of bits) (lowest_fit 1 (words_of bits)) 1 (fit_here 1 (words_of bits) (omega arith) some)
+    (lowest_fit 1 (words_of bits)) (omega arith) (omega arith)

@@ -1,8 +1,9 @@
 -- Each node of a tree tells of its words, the nodes of its parts and the bitmaps of its leaves.
-use Rattle.std.proofs.Common.{◌≡◌, ◌≢◌, ℕ, ◌+◌, ◌-◌, ◌*◌, ◌/◌, ◌%◌, ◌^◌, ◌<◌, ◌≤◌, min, max, Bool, List, ◌++◌, length, get_or, set, ◌⊎◌, refl, sym, ◌∙◌, ap, subst, inl, inr, arith, zero, suc}
+use Rattle.std.proofs.Common.{false, eqb, ◌≡◌, ◌≢◌, ℕ, ◌+◌, ◌-◌, ◌*◌, ◌/◌, ◌%◌, ◌^◌, ◌<◌, ◌≤◌, min, max, Bool, List, ◌++◌, length, get_or, set, ◌⊎◌, refl, sym, ◌∙◌, ap, subst, inl, inr, arith, zero, suc}
 use Rattle.std.proofs.lemmas.Bool.{cases_lt, cases_eq}
 use Rattle.std.proofs.lemmas.Nat.{pow_pos}
-use Rattle.std.proofs.lemmas.List.{length-set, get_or-set_same, get_or-set_other, get_or_default}
+use Rattle.std.proofs.lemmas.List.{get_or_past, length-set, get_or-set_same, get_or-set_other, get_or_default}
+use Rattle.std.proofs.lemmas.Nat.Bits.{bit_at-zero}
 use Rattle.holes.specs.declared.summary.Summary.{Summary}
 use Rattle.holes.specs.Tree.{is_set, words_from, words_of_bits, word_at, words_of, node_at, nothing_free, AreLeaves, IsJoined, AreSameFrom, AreSameBeside, AreJoined, AreJoinedBeside, IsFilled, IsTreeBeside, IsTree, summary, join}
 use Rattle.holes.proofs.Runs.{summary-append}
@@ -276,6 +277,12 @@ earlier place end leaf word other from below = elim (cases_lt (word / 64) leaf) 
   | inl lt ↦ omega arith
   | inr ge ↦ absurd (other (omega arith))
 ]
+
+-- behind the bitmaps no word is free
+pub word_past : (bits : List ℕ) (word : ℕ) → 64 * length bits ≤ word → word_at bits word ≡ false
+word_past bits word past =
+    ap (λ n. is_set n (word % 64)) (get_or_past bits (word / 64) 0 (omega arith))
+    ∙ ap (λ b. eqb b 1) (bit_at-zero (word % 64))
 
 -- Words that are filled from bitmap to bitmap.
 pub filled_none : (bits : List ℕ) (place : ℕ) (value : Bool) → IsFilled bits bits place 0 value

@@ -13,7 +13,7 @@ use Rattle.holes.proofs.Ranges.{last_of, free_count_given, free_count-le-length,
 use Rattle.holes.proofs.Runs.{lowest-append_left, lowest_is_lowest, lowest_within}
 use Rattle.holes.proofs.Bits.{length-words, word_in, words_from-add, all_words}
 use Rattle.holes.proofs.Bitmaps.{widest_behind, summary_of_zero}
-use Rattle.holes.proofs.Nodes.{beside_of_tree}
+use Rattle.holes.proofs.Nodes.{word_past, beside_of_tree}
 use Rattle.holes.proofs.Counts.{last_taken, hole_count_changed, hole_count_from}
 
 -- no word is free from a place on
@@ -73,12 +73,6 @@ pub filled_none_from : (old new : List ℕ) (size place len : ℕ) (value : Bool
 filled_none_from old new size place len value range filled none word ge lt =
     filled.behind word (omega arith) (omega (arith, filled.same_length)) ∙ none word ge
     (omega (arith, filled.same_length))
-
--- behind the bitmaps no word is free
-pub word_past : (bits : List ℕ) (word : ℕ) → 64 * length bits ≤ word → word_at bits word ≡ false
-word_past bits word past =
-    ap (λ n. is_set n (word % 64)) (get_or_past bits (word / 64) 0 (omega arith))
-    ∙ ap (λ b. eqb b 1) (bit_at-zero (word % 64))
 
 -- a word of the region, or the one right behind it
 pub word_is : (bits : List ℕ) (size word : ℕ) → NoneFrom bits size → word ≤ size →

@@ -213,7 +213,7 @@ drop_later : (word : Bool) (free : List Bool) (n len : ℕ) → len ≤ front_ru
     len ≤ front_run (drop (1 + n) (word ∷ free))
 drop_later word free n len e = let same : 1 + n ≡ suc n = omega arith in rw same e
 
-fit_here : (len : ℕ) (free : List Bool) → 1 ≤ len → len ≤ widest free →
+pub fit_here : (len : ℕ) (free : List Bool) → 1 ≤ len → len ≤ widest free →
     len ≤ front_run (drop (lowest_fit len free) free)
 fit_here len [] some fits = absurd (omega arith)
 fit_here len (word ∷ free) some fits = elim (cases_lt (front_run (word ∷ free)) len) [
@@ -222,7 +222,7 @@ fit_here len (word ∷ free) some fits = elim (cases_lt (front_run (word ∷ fre
   | inr here ↦ rw (lowest_here len word free here) here
 ]
 
-fit_before : (len place : ℕ) (free : List Bool) → place < lowest_fit len free → front_run (drop place free) < len
+pub fit_before : (len place : ℕ) (free : List Bool) → place < lowest_fit len free → front_run (drop place free) < len
 fit_before len place [] lt = absurd (omega arith)
 fit_before len zero (word ∷ free) lt = elim (cases_lt (front_run (word ∷ free)) len) [
   | inl short ↦ short
@@ -307,3 +307,13 @@ lowest_is_lowest len free some fits =
         | inr above ↦ above
       ];
     }
+
+pub run-le-widest : (place : ℕ) (free : List Bool) → front_run (drop place free) ≤ widest free
+run-le-widest zero free = front-le-widest free
+run-le-widest (suc place) [] = omega arith
+run-le-widest (suc place) (word ∷ free) = omega (arith, run-le-widest place free)
+
+-- a free word begins a run
+pub word_run : (free : List Bool) (word : ℕ) → is_free free word ≡ true → 1 ≤ front_run (drop word free)
+word_run free word is =
+    free_run free word 1 (λ at from to. ap (is_free free) (let e : at ≡ word = omega arith in e) ∙ is)

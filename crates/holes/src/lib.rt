@@ -116,6 +116,7 @@ impl<A: Allocator> Holes<A> {
         }
         tree::join_changed(&self.bits, &mut self.nodes, self.changed);
         self.changed = Changed::NONE;
+        self.low = tree::lowest_free(&self.bits, &self.nodes);
         tree::find(&self.bits, &self.nodes, len)
     }
 

@@ -3,7 +3,7 @@
 //! The leaves are bitmaps, a power of two of them. The nodes stand in one list: the root at 1, the parts of the
 //! node at `index` at `2 * index` and `2 * index + 1`, and the bitmap at `k` in the node at `leaves + k`.
 
-ghost use Rattle.std.specs.Prelude.{◌≡◌, ℕ, ◌+◌, ◌-◌, ◌*◌, ◌/◌, ◌^◌, ◌<◌, ◌≤◌, ◌↔◌, ◌⊎◌, nat_eq, length, IfSome, IsNone};
+ghost use Rattle.std.specs.Prelude.{◌≡◌, ℕ, ◌+◌, ◌-◌, ◌*◌, ◌/◌, ◌^◌, ◌<◌, ◌≤◌, ◌↔◌, ◌⊎◌, nat_eq, true, length, IfSome, IsNone};
 ghost use Rattle.holes.specs.FreeWords.{widest};
 ghost use Rattle.holes.specs.Tree.{IsTree, AreJoined, AreJoinedBeside, AreSameFrom, AreSameBesideWords, IsTreeBeside, NoneBelow, IsFilled, AreLeaves, lowest_fit, words_of, node_at, word_at, word_before};
 
@@ -218,6 +218,18 @@ pub fn find(bits: &[u64], nodes: &[Summary], len: usize) -> Option<usize>
         }
     }
     Some(place + bitmap::lowest_fit(bits[index - leaves], len))
+}
+
+/// The place of the lowest free word, or of the word behind the last bitmap where none is free.
+pub fn lowest_free(bits: &[u64], nodes: &[Summary]) -> usize
+    requires { IsTree bits.now nodes.now }
+    ensures none_below { NoneBelow bits.now result }
+    ensures free { result < 64 * length bits.now → word_at bits.now result ≡ true }
+{
+    match find(bits, nodes, 1) {
+        Some(place) => place,
+        None => bits.len() * WORDS,
+    }
 }
 
 /// Whether a word is free. None is behind the last bitmap.

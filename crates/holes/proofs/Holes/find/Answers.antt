@@ -23,7 +23,7 @@ returns-in-Some-clause-lowest g c =
 
 pub returns-clause-none : goal.returns-clause-none
 returns-clause-none g c =
-    let wide = ap (λ (list : List ℕ). widest (words_of list)) c.deref-4.ensures.value ∙ view_widest
+    let wide = ap (λ (list : List ℕ). widest (words_of list)) c.deref-6.ensures.value ∙ view_widest
     c.self.inside.bits.items c.self.inside.size c.self.inside.most c.args.self.now c.self.invariant.within
     c.self.invariant.behind c.self.view_is in
     subst (λ n. (IsNone c.find.result → n < c.args.len) × (n < c.args.len → IsNone c.find.result)) wide
@@ -34,6 +34,6 @@ returns-clause-lowest g c =
     view_lowest_if c.find.result c.self.inside.bits.items c.self.inside.size c.self.inside.most c.args.len
     c.args.self.now c.self.invariant.within c.self.invariant.behind c.requires c.self.view_is
     (subst (λ (list : List ℕ). (IsNone c.find.result → widest (words_of list) < c.args.len)
-    × (widest (words_of list) < c.args.len → IsNone c.find.result)) c.deref-4.ensures.value c.find.ensures.none)
+    × (widest (words_of list) < c.args.len → IsNone c.find.result)) c.deref-6.ensures.value c.find.ensures.none)
     (subst (λ (list : List ℕ). IfSome c.find.result (λ place. place ≡ lowest_fit c.args.len (words_of list)))
-    c.deref-4.ensures.value c.find.ensures.lowest)
+    c.deref-6.ensures.value c.find.ensures.lowest)
