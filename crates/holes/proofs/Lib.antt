@@ -1,11 +1,5 @@
 pub mod Ranges
-pub mod Runs
-pub mod Bits
-pub mod Nodes
-pub mod Bitmaps
-pub mod Finding
-pub mod Near
-pub mod Counts
-pub mod Regions
-pub mod Layouts
-pub mod Listed
+mod Layouts
+mod Changes
+mod Facts
+mod Listed
