@@ -7,8 +7,6 @@
 #[cfg(test)]
 mod batches;
 #[cfg(test)]
-mod fronts;
-#[cfg(test)]
 mod machines;
 #[cfg(test)]
 mod meeting;
