@@ -7,6 +7,8 @@
 #[cfg(test)]
 mod batches;
 #[cfg(test)]
+mod fronts;
+#[cfg(test)]
 mod machines;
 #[cfg(test)]
 mod meeting;

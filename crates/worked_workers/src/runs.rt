@@ -3,7 +3,7 @@
 ghost use Rattle.std.specs.Prelude.{◌≤◌};
 ghost use Rattle.vcode_base.specs.declared.limits.TheConstants.{MOST_WORKERS};
 
-use crate::batches::{EXECUTED_BY_TWELVE, EXECUTED_BY_TWO, TWELVE_JOBS, TWO_JOBS};
+use crate::batches::{EXECUTED_BY_TWELVE, EXECUTED_BY_TWO, TWO_JOBS, twelve_jobs};
 use crate::machines::machine;
 use crate::meeting::Meeting;
 use job_machine::{Admission, Begun, Desk, Finished, Machine, Status, compute};
@@ -41,7 +41,8 @@ fn run_of_twelve<R: Threads + Wait + Sync>(
 ) -> Result<(Machine<Global>, Tally<Global>), Fail>
     requires { (1 ≤ workers) × (workers ≤ MOST_WORKERS) }
 {
-    let machine = machine(alloc, TWELVE_JOBS)?;
+    let batch = twelve_jobs(alloc)?;
+    let machine = machine(alloc, batch.as_bytes())?;
     match run_workers(rt, alloc, machine, workers, &NoGate) {
         Ok(ran) => Ok(ran),
         Err(_) => Err(Fail::from("the run gave up")),

@@ -1,0 +1,94 @@
+//! Whole runs, from the bytes of a batch to those of its report, whose jobs workers run.
+
+use crate::batches::{TWO_JOBS, twelve_jobs};
+use crate::machines::REGION;
+use crate::meeting::Meeting;
+use batch_front::{Device, FrontFault, Gate, NoGate, Options, Status, parse_schedule, run};
+use std::alloc::Global;
+use std::sync::Wait;
+use std::test::Fail;
+use std::thread::Threads;
+use vcode_base::limits::MOST_WORKERS;
+
+const REPORT_ON_TWO: &[u8] = b"JOB 1 one RETURNED\nINT (7)\nUSED 2 instructions 1 words\n\
+    JOB 2 two RETURNED\nINT (3)\nUSED 4 instructions 3 words\nEND 2 jobs 0 refused\n";
+
+const REPORT_ON_TWELVE: &[u8] = b"JOB 1 t RETURNED\nINT (6)\nUSED 5 instructions 5 words\n\
+    JOB 2 t MEMORY line 19 M1 WORDS\nUSED 2 instructions 4 words\n\
+    JOB 3 t RETURNED\nUSED 1 instructions 0 words\nJOB 4 t BUDGET\nUSED 0 instructions 0 words\n\
+    JOB 5 t RETURNED\nINT (1 2 3)\nINT (1 2 3)\nINT (1 2 3)\nUSED 4 instructions 3 words\n\
+    JOB 6 t MEMORY line 54 M1 WORDS\nUSED 2 instructions 3 words\n\
+    JOB 7 t RETURNED\nINT (3)\nINT (1)\nINT (2)\nUSED 5 instructions 3 words\n\
+    JOB 8 t MEMORY line 73 M3 CALLS\nUSED 2 instructions 0 words\n\
+    JOB 9 t FAULT line 83 F4 ZERO_DIVISOR\nUSED 2 instructions 2 words\n\
+    JOB 10 t RETURNED\nINT (0 1 0 3 7)\nUSED 5 instructions 13 words\n\
+    JOB 11 t FAULT line 106 F7 INDEX_TWICE\nUSED 4 instructions 6 words\n\
+    JOB 12 t MEMORY line 117 M1 WORDS\nUSED 3 instructions 3 words\nEND 12 jobs 0 refused\n";
+
+/// What a run came to, and what was written.
+fn ending<H, G>(
+    rt: &H,
+    alloc: Global,
+    batch: &[u8],
+    options: &Options,
+    gate: &G,
+) -> (Result<Status, FrontFault>, Vec<u8>)
+where
+    H: Threads + Wait + Sync,
+    G: Gate + Sync,
+{
+    let mut reader = Device::new(batch);
+    let mut writer = Device::new(Vec::new(alloc));
+    let outcome = run(rt, alloc, &mut reader, &mut writer, options, gate);
+    (outcome, writer.into_inner())
+}
+
+#[test]
+fn two_workers_compute_at_once(rt: HostRuntime) {
+    let gate = Meeting::new(&rt);
+    let options = Options {
+        region: REGION as u32,
+        workers: 2,
+        schedule: None,
+    };
+    let (outcome, report) = ending(&rt, rt.alloc(), TWO_JOBS, &options, &gate);
+    assert!(rt; gate.have_met());
+    assert_eq!(rt; gate.calls(), 6);
+    assert_eq!(rt; outcome, Ok(Status::AllReturned));
+    assert_eq!(rt; report.as_slice(), REPORT_ON_TWO);
+}
+
+#[test]
+fn each_number_of_workers_gives_the_same_report(rt: HostRuntime) -> Result<(), Fail> {
+    let batch = twelve_jobs(rt.alloc())?;
+    for workers in 1..MOST_WORKERS as u32 + 1 {
+        let options = Options {
+            region: REGION as u32,
+            workers,
+            schedule: None,
+        };
+        let (outcome, report) = ending(&rt, rt.alloc(), batch.as_bytes(), &options, &NoGate);
+        assert_eq!(rt; outcome, Ok(Status::SomeNot), "{workers}");
+        assert_eq!(rt; report.as_slice(), REPORT_ON_TWELVE, "{workers}");
+    }
+    Ok(())
+}
+
+#[test]
+fn each_schedule_gives_the_same_report(rt: HostRuntime) -> Result<(), Fail> {
+    let batch = twelve_jobs(rt.alloc())?;
+    for list in ["1,2,3", "b5,1,f5", "12,11,10"] {
+        let Ok(schedule) = parse_schedule(rt.alloc(), list) else {
+            return Err(Fail::from("this is no schedule"));
+        };
+        let options = Options {
+            region: REGION as u32,
+            workers: MOST_WORKERS as u32,
+            schedule: Some(schedule),
+        };
+        let (outcome, report) = ending(&rt, rt.alloc(), batch.as_bytes(), &options, &NoGate);
+        assert_eq!(rt; outcome, Ok(Status::SomeNot), "{list}");
+        assert_eq!(rt; report.as_slice(), REPORT_ON_TWELVE, "{list}");
+    }
+    Ok(())
+}
