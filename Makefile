@@ -36,6 +36,7 @@ soak: all
 models: all
 	cd crates/worked_texts && rt run < stdin > /dev/null
 	cd crates/worked_vectors && rt run < stdin > /dev/null
+	cd crates/worked_regions && rt run < stdin > /dev/null
 	python3 models/compare.py
 
 clean:

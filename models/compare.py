@@ -5,8 +5,8 @@
 
 Run it at the top of the repository, once `make models` has built the programs. The modules of this folder say in plain Python what
 docs/LANGUAGE.md and docs/FORMATS.md say of reading, kinds, vectors, runs and batches, and share nothing with the crates. Each of COUNT texts of code and signatures goes to `worked_texts`, each of COUNT instructions to `worked_vectors`, each of
-a hundredth as many batches to `bin/vjobs`, once without a schedule and once with one; their answers, reports and exit statuses must be those of the
-modules, which know of no schedule.
+a hundredth as many batches to `bin/vjobs`, once without a schedule and once with one, and COUNT calls on free words and memories, one after another, to
+`worked_regions`; their answers, reports and exit statuses must be those of the modules, which know of no schedule.
 
 Where a PROGRAM of the same behaviour is named, only COUNT batches are compared, with it.
 """
@@ -23,6 +23,7 @@ from faults import Fault
 from instructions import BOOL, SCALARS, SEGDES, kinds_of
 from random_batches import RandomBatches
 from random_cases import Random
+from regions import RandomTable
 
 TOP = pathlib.Path(__file__).resolve().parent.parent
 # The lines that `worked_texts` counts from, and the longest text that it shows whole.
@@ -134,8 +135,10 @@ def main(count=10_000, seed=1, *program):
     texts = differing_lines("worked_texts", text_case, cases, count)
     instructions = differing_lines("worked_vectors", vector_case, cases, count)
     reports = differing_batches([TOP / "bin" / "vjobs"], jobs, count // 100)
-    print(f"differing: {texts} of {count} texts, {instructions} of {count} instructions, {reports} of {count // 100} batches (seed {seed})")
-    sys.exit(bool(texts or instructions or reports))
+    calls = differing_lines("worked_regions", RandomTable.case, RandomTable(source), count)
+    of_programs = f"{texts} of {count} texts, {instructions} of {count} instructions, {reports} of {count // 100} batches, {calls} of {count} calls"
+    print(f"differing: {of_programs} (seed {seed})")
+    sys.exit(bool(texts or instructions or reports or calls))
 
 
 if __name__ == "__main__":

@@ -1,0 +1,174 @@
+//! What lines of the table come to.
+
+use crate::blocks::{Blocks, Placing};
+use crate::free_words::FreeWords;
+use crate::lines::{Line, read_line};
+use block_memory::{NoRoom, RegionMemory, SlidingMemory, VectorMemory};
+use std::alloc::{AllocError, Global};
+
+/// What the last line made that makes something.
+#[derive(Drop)]
+pub enum Made {
+    Nothing,
+    Holes(FreeWords),
+    Packed(Blocks<RegionMemory<Global>>),
+    Sliding(Blocks<SlidingMemory<Global>>),
+}
+
+/// Does what a line says, and answers what it comes to.
+pub fn answer(alloc: Global, made: &mut Made, line: &str) -> Result<String, AllocError> {
+    let Some(line) = read_line(alloc, line)? else {
+        return String::from_str(alloc, "no case");
+    };
+    if let Some(new) = make(alloc, &line)? {
+        *made = new;
+        return told(alloc, "made", made);
+    }
+    let what = call(alloc, made, &line)?;
+    told(alloc, what.as_str(), made)
+}
+
+/// What a line makes, if it makes something that there can be.
+fn make(alloc: Global, line: &Line) -> Result<Option<Made>, AllocError> {
+    match line {
+        Line::Holes { size, most } if *most >= 1 => {
+            Ok(Some(Made::Holes(FreeWords::new(alloc, *size, *most)?)))
+        }
+        Line::Packed { size, most } => {
+            let memory = RegionMemory::new(alloc, *size, *most)?;
+            Ok(Some(Made::Packed(Blocks::new(alloc, memory))))
+        }
+        Line::Sliding { size, most } => {
+            let memory = SlidingMemory::new(alloc, *size, *most)?;
+            Ok(Some(Made::Sliding(Blocks::new(alloc, memory))))
+        }
+        _ => Ok(None),
+    }
+}
+
+/// An answer, and behind it what there is.
+fn told(alloc: Global, what: &str, made: &Made) -> Result<String, AllocError> {
+    match made {
+        Made::Nothing => String::from_str(alloc, what),
+        Made::Holes(words) => holes_told(alloc, what, words),
+        Made::Packed(blocks) => blocks_told(alloc, what, blocks, blocks.memory().moved()),
+        Made::Sliding(blocks) => blocks_told(alloc, what, blocks, blocks.memory().moved()),
+    }
+}
+
+fn holes_told(alloc: Global, what: &str, words: &FreeWords) -> Result<String, AllocError> {
+    let holes = words.holes();
+    let (count, widest, free) = (holes.count(), holes.widest(), holes.free());
+    format!(in alloc; "{what}, holes {count}, widest {widest}, free {free}")
+}
+
+fn blocks_told<M: VectorMemory>(
+    alloc: Global,
+    what: &str,
+    blocks: &Blocks<M>,
+    moved: usize,
+) -> Result<String, AllocError> {
+    let (used, count) = (blocks.memory().used(), blocks.memory().blocks());
+    format!(in alloc; "{what}, used {used}, blocks {count}, moved {moved}")
+}
+
+/// Does a call on what there is, and answers what it comes to.
+fn call(alloc: Global, made: &mut Made, line: &Line) -> Result<String, AllocError> {
+    match made {
+        Made::Nothing => String::from_str(alloc, "refused"),
+        Made::Holes(words) => call_holes(alloc, words, line),
+        Made::Packed(blocks) => call_blocks(alloc, blocks, line),
+        Made::Sliding(blocks) => call_blocks(alloc, blocks, line),
+    }
+}
+
+fn call_holes(alloc: Global, words: &mut FreeWords, line: &Line) -> Result<String, AllocError> {
+    match line {
+        Line::Take { len } => take(alloc, words, *len),
+        Line::Give { place, len } => give(alloc, words, *place, *len),
+        Line::Reset { place } => reset(alloc, words, *place),
+        _ => String::from_str(alloc, "refused"),
+    }
+}
+
+fn take(alloc: Global, words: &mut FreeWords, len: usize) -> Result<String, AllocError> {
+    if len == 0 {
+        return String::from_str(alloc, "refused");
+    }
+    match words.take(len) {
+        Some(place) => format!(in alloc; "place {place}"),
+        None => String::from_str(alloc, "none"),
+    }
+}
+
+fn give(
+    alloc: Global,
+    words: &mut FreeWords,
+    place: usize,
+    len: usize,
+) -> Result<String, AllocError> {
+    if !words.may_give(place, len) {
+        return String::from_str(alloc, "refused");
+    }
+    words.give(place, len);
+    String::from_str(alloc, "given")
+}
+
+fn reset(alloc: Global, words: &mut FreeWords, place: usize) -> Result<String, AllocError> {
+    if place > words.size() {
+        return String::from_str(alloc, "refused");
+    }
+    words.reset(place);
+    String::from_str(alloc, "reset")
+}
+
+fn call_blocks<M: VectorMemory>(
+    alloc: Global,
+    blocks: &mut Blocks<M>,
+    line: &Line,
+) -> Result<String, AllocError> {
+    match line {
+        Line::Place { owner, words } => place(alloc, blocks, *owner, words),
+        Line::Free { number } => free(alloc, blocks, *number),
+        Line::Pack => {
+            blocks.pack();
+            String::from_str(alloc, "packed")
+        }
+        Line::Words { number } => words_told(alloc, blocks, *number),
+        _ => String::from_str(alloc, "refused"),
+    }
+}
+
+fn place<M: VectorMemory>(
+    alloc: Global,
+    blocks: &mut Blocks<M>,
+    owner: usize,
+    words: &[i64],
+) -> Result<String, AllocError> {
+    match blocks.place(owner, words)? {
+        Placing::Placed(number) => format!(in alloc; "block {number}"),
+        Placing::NotPlaced(NoRoom::Full) => String::from_str(alloc, "full"),
+        Placing::NotPlaced(NoRoom::Memory) => String::from_str(alloc, "no memory"),
+        Placing::NoNumber => String::from_str(alloc, "refused"),
+    }
+}
+
+fn free<M: VectorMemory>(
+    alloc: Global,
+    blocks: &mut Blocks<M>,
+    number: usize,
+) -> Result<String, AllocError> {
+    let was_there = blocks.free(number);
+    String::from_str(alloc, if was_there { "freed" } else { "refused" })
+}
+
+fn words_told<M: VectorMemory>(
+    alloc: Global,
+    blocks: &Blocks<M>,
+    number: usize,
+) -> Result<String, AllocError> {
+    match blocks.block(number) {
+        Some((owner, words)) => format!(in alloc; "owner {owner} words {words:?}"),
+        None => String::from_str(alloc, "refused"),
+    }
+}

@@ -1,0 +1,84 @@
+//! The lines of the table.
+
+use std::alloc::{AllocError, Global};
+
+/// What a line says.
+#[derive(Drop)]
+pub enum Line {
+    /// Free words of this size, with room for at most so many holes.
+    Holes { size: usize, most: usize },
+    Take { len: usize },
+    Give { place: usize, len: usize },
+    Reset { place: usize },
+    /// A memory of so many words in at most so many blocks.
+    Packed { size: usize, most: usize },
+    Sliding { size: usize, most: usize },
+    Place { owner: usize, words: Vec<i64> },
+    Free { number: usize },
+    Pack,
+    Words { number: usize },
+}
+
+/// What a line of the table says. None where it isn't one.
+pub fn read_line(alloc: Global, line: &str) -> Result<Option<Line>, AllocError> {
+    let (word, operands) = line.split_once(' ').unwrap_or((line, ""));
+    match word {
+        "place" => block_line(alloc, operands),
+        "pack" if operands.is_empty() => Ok(Some(Line::Pack)),
+        "take" | "reset" | "free" | "words" => Ok(line_of_one(word, operands)),
+        _ => Ok(line_of_two(word, operands)),
+    }
+}
+
+/// A line with one number.
+fn line_of_one(word: &str, operand: &str) -> Option<Line> {
+    let number = operand.parse().ok()?;
+    match word {
+        "take" => Some(Line::Take { len: number }),
+        "reset" => Some(Line::Reset { place: number }),
+        "free" => Some(Line::Free { number }),
+        "words" => Some(Line::Words { number }),
+        _ => None,
+    }
+}
+
+/// A line with two numbers.
+fn line_of_two(word: &str, operands: &str) -> Option<Line> {
+    let (first, second) = operands.split_once(' ')?;
+    let (first, second) = (first.parse().ok()?, second.parse().ok()?);
+    match word {
+        "holes" => Some(Line::Holes {
+            size: first,
+            most: second,
+        }),
+        "give" => Some(Line::Give {
+            place: first,
+            len: second,
+        }),
+        "packed" => Some(Line::Packed {
+            size: first,
+            most: second,
+        }),
+        "sliding" => Some(Line::Sliding {
+            size: first,
+            most: second,
+        }),
+        _ => None,
+    }
+}
+
+/// The line of a block: its owner and its words, which are numbers of 64 bits.
+fn block_line(alloc: Global, operands: &str) -> Result<Option<Line>, AllocError> {
+    let mut parts = operands.split(' ');
+    let Ok(owner) = parts.next().unwrap_or("").parse() else {
+        return Ok(None);
+    };
+    let mut words = Vec::new(alloc);
+    for part in parts {
+        let Ok(word) = part.parse() else {
+            return Ok(None);
+        };
+        words.push(word)?;
+    }
+    Ok(Some(Line::Place { owner, words }))
+}

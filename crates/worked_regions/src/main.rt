@@ -1,0 +1,48 @@
+//! Prints a table of calls on holes and on memories of one region with what each comes to.
+//!
+//! Each line of standard input is a call: its word and its operands, split by one blank each. It is printed as it
+//! stands, and behind it ` = ` and the answer, which is `no case` where the line isn't understood. Blank lines and those
+//! that begin with `#` are printed alone.
+//!
+//! | Line | What it does |
+//! |---|---|
+//! | `holes SIZE MOST` | makes free words, with room for so many holes |
+//! | `take LEN` | takes words, and tells their place, or `none` |
+//! | `give PLACE LEN` | gives words back |
+//! | `reset PLACE` | makes exactly the words from a place on free |
+//! | `packed WORDS BLOCKS` | makes a memory that moves all blocks together at once |
+//! | `sliding WORDS BLOCKS` | makes a memory that slides blocks down one after another |
+//! | `place OWNER WORD ..` | places a block, and tells its number, or `full` |
+//! | `free NUMBER` | takes a block away |
+//! | `pack` | moves the blocks together |
+//! | `words NUMBER` | tells whose a block is, and its words |
+//!
+//! Calls go to what was made last. What isn't there or what a contract doesn't allow isn't called: the answer is
+//! `refused`. Blocks are counted from 0 in the order in which they were placed.
+//!
+//! Behind the answer stands what there is then: how many holes, the words of the widest and the free words, or the words
+//! in use, how many blocks, and the words that the last `place` moved.
+#![tactic(auto)]
+
+mod answers;
+mod blocks;
+mod free_words;
+mod lines;
+
+use crate::answers::{Made, answer};
+use std::io;
+
+fn main(rt: HostRuntime) -> io::Result<()> {
+    let mut made = Made::Nothing;
+    for line in rt.lines(rt.alloc()) {
+        let line = line?;
+        let line = line.as_str();
+        if line.is_empty() || line.starts_with('#') {
+            println!(rt; "{line}")?;
+            continue;
+        }
+        let told = answer(rt.alloc(), &mut made, line)?;
+        println!(rt; "{line} = {told}")?;
+    }
+    Ok(())
+}

@@ -1,0 +1,300 @@
+#!/usr/bin/env python3
+"""Free words and memories of one region, word by word, and random tables of calls on them.
+
+    python3 models/regions.py [SEED]
+
+writes the table that the gate gives to `worked_regions`, its `stdin`, and what is wanted of it, its `stdout`.
+
+A region is a plain list with one entry a word: what lies there, or None where it is free. A hole is a greatest row of free
+words, and is looked for from the first word on each time.
+"""
+import pathlib
+import random
+import sys
+from itertools import groupby
+
+from vectors import GREATEST, LEAST
+
+CRATE = pathlib.Path(__file__).resolve().parent.parent / "crates" / "worked_regions"
+GREATEST_SIZE = 2**64 - 1
+# Sizes round those of machine words.
+SIZES = [0, 1, 2, 12, 63, 64, 65, 127, 128, 129, 200, 1000]
+WORDS = [*range(-9, 90), LEAST, GREATEST]
+
+
+class Words:
+    """A row of words, free or taken."""
+
+    def __init__(self, size):
+        self.words = [None] * size
+
+    def rows(self, is_free):
+        """The place and the length of each greatest row of words that are free, or taken, in order of place."""
+        rows, place = [], 0
+        for free, row in groupby(self.words, key=lambda word: word is None):
+            length = len(list(row))
+            rows += [(place, length)] if free == is_free else []
+            place += length
+        return rows
+
+    def holes(self):
+        return self.rows(is_free=True)
+
+    def widest(self):
+        return max((length for _, length in self.holes()), default=0)
+
+    def free(self):
+        return self.words.count(None)
+
+    def lowest_fit(self, length):
+        return next((place for place, hole in self.holes() if length <= hole), None)
+
+    def put(self, place, values):
+        self.words[place : place + len(values)] = values
+
+
+class Holes(Words):
+    def __init__(self, size, most):
+        super().__init__(size)
+        self.most = most
+
+    def told(self):
+        return f"holes {len(self.holes())}, widest {self.widest()}, free {self.free()}"
+
+    def take(self, length):
+        if length == 0:
+            return "refused"
+        place = self.lowest_fit(length)
+        if place is None:
+            return "none"
+        self.put(place, ["taken"] * length)
+        return f"place {place}"
+
+    def give(self, place, length):
+        words = self.words[place : place + length]
+        if length == 0 or len(words) < length or None in words or len(self.holes()) >= self.most:
+            return "refused"
+        self.put(place, [None] * length)
+        return "given"
+
+    def reset(self, place):
+        if place > len(self.words):
+            return "refused"
+        self.words = ["taken"] * place + [None] * (len(self.words) - place)
+        return "reset"
+
+
+class Memory(Words):
+    """A word of a block is the number of the block, with its index in it."""
+
+    def __init__(self, size, most):
+        super().__init__(size)
+        self.most, self.moved, self.placed, self.blocks = most, 0, 0, {}
+
+    def told(self):
+        return f"used {len(self.words) - self.free()}, blocks {len(self.blocks)}, moved {self.moved}"
+
+    def place(self, owner, *words):
+        if len(self.blocks) == self.most:
+            return "refused"
+        if len(words) > self.free():
+            return "full"
+        before = list(self.words)
+        if words and self.lowest_fit(len(words)) is None:
+            self.make_room(len(words))
+        self.moved = sum(word is not None and word != old for word, old in zip(before, self.words)) if words else 0
+        if words:
+            self.put(self.lowest_fit(len(words)), [(self.placed, index) for index in range(len(words))])
+        self.blocks[self.placed] = owner, list(words)
+        self.placed += 1
+        return f"block {self.placed - 1}"
+
+    def free_block(self, number):
+        if number not in self.blocks:
+            return "refused"
+        del self.blocks[number]
+        self.words = [None if word is not None and word[0] == number else word for word in self.words]
+        return "freed"
+
+    def pack(self):
+        taken = [word for word in self.words if word is not None]
+        self.words = taken + [None] * self.free()
+        return "packed"
+
+    def words_of(self, number):
+        if number not in self.blocks:
+            return "refused"
+        owner, words = self.blocks[number]
+        return f"owner {owner} words {words}"
+
+
+class Packed(Memory):
+    def make_room(self, length):
+        self.pack()
+
+
+class Sliding(Memory):
+    def make_room(self, length):
+        """The block behind the lowest hole slides down to the hole's front, again and again."""
+        while self.lowest_fit(length) is None:
+            place, hole = self.holes()[0]
+            number = self.words[place + hole][0]
+            block = [word for word in self.words if word is not None and word[0] == number]
+            self.put(place, block + [None] * hole)
+
+
+MADE = {"holes": Holes, "packed": Packed, "sliding": Sliding}
+CALLS = {
+    Holes: {"take": Holes.take, "give": Holes.give, "reset": Holes.reset},
+    Memory: {"place": Memory.place, "free": Memory.free_block, "pack": Memory.pack, "words": Memory.words_of},
+}
+# How many operands a word has, but `place`, which has an owner and any words.
+OPERANDS = {"holes": 2, "packed": 2, "sliding": 2, "take": 1, "give": 2, "reset": 1, "free": 1, "pack": 0, "words": 1}
+
+
+def numbers_of(texts, least, greatest):
+    """The numbers that these texts are, or None where one is none."""
+    if not all((text.removeprefix("-") if least < 0 else text).isdecimal() for text in texts):
+        return None
+    numbers = [int(text) for text in texts]
+    return numbers if all(least <= number <= greatest for number in numbers) else None
+
+
+def read(line):
+    """The word of a line and its operands, or None where it isn't understood."""
+    word, *texts = line.split(" ")
+    if word == "place":
+        owner, words = numbers_of(texts[:1], 0, GREATEST_SIZE), numbers_of(texts[1:], LEAST, GREATEST)
+        return (word, [*owner, *words]) if owner and words is not None else None
+    numbers = numbers_of(texts, 0, GREATEST_SIZE)
+    return (word, numbers) if word in OPERANDS and numbers is not None and len(numbers) == OPERANDS[word] else None
+
+
+class Table:
+    """What the lines so far have made, and what the next ones come to."""
+
+    def __init__(self):
+        self.made = None
+
+    def answer(self, line):
+        understood = read(line)
+        if understood is None:
+            return "no case"
+        word, numbers = understood
+        what = self.call(word, numbers)
+        return f"{what}, {self.made.told()}" if self.made else what
+
+    def call(self, word, numbers):
+        if word in MADE and (word != "holes" or numbers[1] > 0):
+            self.made = MADE[word](*numbers)
+            return "made"
+        kind = Holes if isinstance(self.made, Holes) else Memory
+        if self.made is None or word not in CALLS[kind]:
+            return "refused"
+        return CALLS[kind][word](self.made, *numbers)
+
+
+class RandomTable:
+    """Random lines, each with its answer. What was made before decides which lines are likely."""
+
+    def __init__(self, source):
+        self.random, self.table = source, Table()
+        self.left = 0
+
+    def case(self):
+        if self.left == 0:
+            self.left = self.random.randint(20, 80)
+            line = self.making()
+        elif self.random.random() < 0.02:
+            line = self.random.choice([self.noise(), self.holes_call(), self.memory_call()])
+        else:
+            line = self.holes_call() if isinstance(self.table.made, Holes) else self.memory_call()
+        self.left -= 1
+        return line, self.table.answer(line)
+
+    def making(self):
+        pick, between = self.random.choice, self.random.randint
+        if pick([True, False]):
+            return f"holes {pick(SIZES)} {pick([0, 1, 1, 2, 2, 3, 3, 4, 8, 100])}"
+        return f"{pick(['packed', 'sliding'])} {between(12, 300)} {pick([0, 1, 4, 8, 8, 16, 16, 16, 40, 40, 40])}"
+
+    def noise(self):
+        return self.random.choice(["take", "take 1 2", "take -1", "take x", "take  1", "give 1", "give 1 ", "pack 1", "places 1", "place", "place x",
+                                   "place 1 x", "place 1 9223372036854775808", "place 1 ", "place 1 2 ", "words", "free 18446744073709551616", "reset",
+                                   f"give {GREATEST_SIZE} {GREATEST_SIZE}", f"take {GREATEST_SIZE}", f"reset {GREATEST_SIZE}", "x", "holes 1"])
+
+    # ---- holes
+
+    def holes_call(self):
+        region = self.table.made if isinstance(self.table.made, Holes) else Holes(64, 1)
+        is_full, rows = len(region.holes()) >= region.most, region.rows(is_free=False)
+        match self.random.choices(["take", "give", "given", "reset"], [12, 1, (3 if is_full else 12) if rows else 0, 1])[0]:
+            case "take":
+                return f"take {self.length(region)}"
+            case "give":
+                return f"give {self.random.randint(0, len(region.words) + 1)} {self.length(region)}"
+            case "given":
+                return self.give(rows)
+        return f"reset {self.random.randint(0, len(region.words) + 1)}"
+
+    def length(self, region):
+        size, widest = len(region.words), region.widest()
+        near = [0, 1, 2, 3, 63, 64, 65, widest, widest + 1]
+        return self.random.choice([self.random.choice(near), self.random.randint(1, max(1, widest)), self.random.randint(1, size // 4 + 1)])
+
+    def give(self, rows):
+        """A part of a row of taken words, often the whole of it or one that reaches its end."""
+        place, length = self.random.choice(rows)
+        first, end = sorted([self.random.randint(0, length), self.random.randint(0, length)])
+        first, end = self.random.choice([(first, end), (0, end), (first, length), (0, length)])
+        return f"give {place + first} {end - first}"
+
+    # ---- memories
+
+    def memory_call(self):
+        memory = self.table.made if isinstance(self.table.made, Memory) else Sliding(64, 8)
+        is_crowded = memory.free() < len(memory.words) // 4 or len(memory.blocks) >= memory.most
+        match self.random.choices(["place", "free", "words", "pack"], [6, 9 if is_crowded else 3, 4, 0.2])[0]:
+            case "place":
+                return self.place(memory)
+            case "free":
+                return f"free {self.number(memory)}"
+            case "words":
+                return f"words {self.number(memory)}"
+        return "pack"
+
+    def number(self, memory):
+        """A block that is there, mostly."""
+        there = list(memory.blocks)
+        return self.random.choice(there) if there and self.random.random() < 0.9 else self.random.randint(0, memory.placed + 1)
+
+    def place(self, memory):
+        """A block: where there are several holes often one that fits into none, at times one that just fits or doesn't fit at all."""
+        size, free, widest = len(memory.words), memory.free(), memory.widest()
+        length = self.random.randint(0, size // 8)
+        if widest < free and self.random.random() < 0.4:
+            length = self.random.randint(widest + 1, min(widest + size // 8, free))
+        elif self.random.random() < 0.1:
+            length = self.random.choice([widest, free, free + 1])
+        words = [self.random.choice(WORDS) for _ in range(length)]
+        return " ".join(map(str, ["place", self.random.randint(0, 9), *words]))
+
+
+# The first and the third of five blocks are freed, and two words of one block slide down for four words.
+SLIDES = ["sliding 12 6", "place 1 1 2", "place 2 3 4", "place 1 5 6", "place 2 7 8", "place 1 9 10", "free 0", "free 2", "place 3 -1 -2 -3 -4",
+          "words 1", "words 3", "words 4", "words 5", "place 1 11 12"]
+# The same in a memory that packs: three blocks move.
+PACKS = ["packed 12 6", *SLIDES[1:]]
+
+
+def main(seed=1, count=2_000):
+    table, cases = Table(), RandomTable(random.Random(int(seed)))
+    rows = ["# Nothing is made yet.", "take 1", "pack", "", "# Two words slide down.", *SLIDES, "", "# Six words move.", *PACKS, "", "# Random calls."]
+    told = [line if line == "" or line.startswith("#") else f"{line} = {table.answer(line)}" for line in rows]
+    random_rows = [cases.case() for _ in range(count)]
+    (CRATE / "stdin").write_text("".join(f"{line}\n" for line in [*rows, *(line for line, _ in random_rows)]))
+    (CRATE / "stdout").write_text("".join(f"{line}\n" for line in [*told, *(f"{line} = {answer}" for line, answer in random_rows)]))
+
+
+if __name__ == "__main__":
+    main(*sys.argv[1:])
