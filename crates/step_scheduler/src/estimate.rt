@@ -35,14 +35,15 @@ impl Estimate {
     /// Adds a step of so many words of operands, of which the longest has so many; its results are taken to be as long as
     /// that one.
     pub(crate) fn add(&mut self, op: Op, words: usize, longest: usize) {
-        let copied = (words as u64)
-            .saturating_mul(2)
-            .saturating_add(longest as u64);
-        let near = if copied > NEAR { 2 } else { 1 };
-        let inside = copied.saturating_mul(near).saturating_add(FIXED);
+        let inside = inside_weight(words as u64, longest as u64);
         let outside = weight(op).saturating_mul(longest as u64);
         self.inside = self.inside.saturating_add(inside);
         self.outside = self.outside.saturating_add(outside);
+        self.forget();
+    }
+
+    /// Forgets the older half of what was seen, where that is much.
+    fn forget(&mut self) {
         if self.inside > MOST {
             self.inside /= 2;
             self.outside /= 2;
@@ -58,6 +59,13 @@ impl Estimate {
             .saturating_mul((workers as u64).saturating_sub(1));
         taken < self.outside.saturating_mul(100)
     }
+}
+
+/// What a step takes under the lock, which copies its operands, and results as long as the longest of them.
+fn inside_weight(words: u64, longest: u64) -> u64 {
+    let copied = words.saturating_mul(2).saturating_add(longest);
+    let near = if copied > NEAR { 2 } else { 1 };
+    copied.saturating_mul(near).saturating_add(FIXED)
 }
 
 /// What an instruction computes for a word of its result, in units of about the time in which a word is copied.

@@ -17,7 +17,7 @@ use job_machine::{Desk, Machine};
 use std::alloc::{AllocError, Allocator};
 use std::marker::Brand;
 use std::sync::Wait;
-use std::sync::ledger::{Blank, Ledger};
+use std::sync::ledger::{Blank, Ledger, Share};
 use std::thread;
 use std::thread::Threads;
 
@@ -89,12 +89,53 @@ where
     let crew = Crew::new(alloc, &machine)?;
     let shared = SharedMachine::new(GuardedMachine::new(machine, book), crew, words);
     start_workers(rt, alloc, &shared, gate, &mut shares);
-    let (mut machine, mut book) = shared.into_inner().into_parts();
-    let workers = merge_shares(alloc, &mut all, shares)?;
-    book.audit(&mut all);
+    let (machine, workers) = take_back(alloc, shared.into_inner(), all, shares)?;
     if !machine.holds(list.as_slice()) {
         return Err(RunFault::Mixed);
     }
+    Ok(run_out_jobs(machine, desk, workers)?)
+}
+
+/// The machine that the workers leave, and how many instructions each of them has executed.
+///
+/// # Errors
+///
+/// [`AllocError`] where memory for the counts was refused.
+fn take_back<L: Opening, A: Allocator>(
+    alloc: A,
+    guarded: GuardedMachine<L, A>,
+    all: Share<L>,
+    shares: Vec<WorkerShare<L>, A>,
+) -> Result<(Machine<A>, Vec<u64, A>), AllocError>
+    requires parts { all.parts + vec_len shares ≡ L.parts }
+    requires amount { all.amount ≡ 0 }
+    ensures workers { IfOk result (λ back. vec_len back.1 ≡ vec_len shares) }
+    ensures counted { IfOk result (λ back. executed_sum back.0 ≡ L.executed_before + sum back.1.items) }
+{
+    let (machine, mut book) = guarded.into_parts();
+    let mut all = all;
+    let workers = merge_shares(alloc, &mut all, shares)?;
+    book.audit(&mut all);
+    Ok((machine, workers))
+}
+
+/// Runs out the machine that the workers leave, and counts what this thread does beside what they did.
+///
+/// # Errors
+///
+/// [`AllocError`] where memory for the results of a job was refused.
+fn run_out_jobs<A: Allocator + Clone>(
+    machine: Machine<A>,
+    desk: Desk<A>,
+    workers: Vec<u64, A>,
+) -> Result<(Machine<A>, Tally<A>), AllocError>
+    requires { All (λ task. task.limits.words ≤ desk) machine.tasks }
+    ensures jobs { IfOk result (λ ran. ran.0.tasks ≡ machine.tasks) }
+    ensures collected { IfOk result (λ ran. All (λ standing. standing ≡ Collected) ran.0.standings) }
+    ensures workers { IfOk result (λ ran. ran.1.workers ≡ workers) }
+    ensures counted { IfOk result (λ ran. executed_sum ran.0 ≡ executed_sum machine + ran.1.caller) }
+{
+    let mut machine = machine;
     let caller = run_out(&mut machine, desk)?;
     Ok((machine, Tally { workers, caller }))
 }
