@@ -1,85 +1,88 @@
--- The words that holes in order of place make free: what they count, and what taking and giving a range does to them.
-use Rattle.std.proofs.Common.{◌≡◌, ℕ, ◌+◌, ◌-◌, ◌<◌, ◌≤◌, max, Bool, true, false, List, [], ◌∷◌, ◌++◌, length, drop, get_or, refl, sym, ◌∙◌, ap, inl, inr, arith, zero, suc}
-use Rattle.std.specs.Prelude.{replicate, sum_by}
+-- Holes in order of place, and the words that they make free: what they count, and that they are the holes of these
+-- words.
+use Rattle.std.proofs.Math.Seq.{split_at}
+use Rattle.std.proofs.Common.{◌≡◌, ℕ, ◌+◌, ◌-◌, ◌<◌, ◌≤◌, max, Bool, true, false, List, [], ◌∷◌, ◌++◌, length, take, drop, get_or, refl, sym, ◌∙◌, ap, subst, inl, inr, arith, zero, suc}
+use Rattle.std.specs.Prelude.{replicate}
 use Rattle.std.proofs.lemmas.Bool.{cases_lt, false≢true}
 use Rattle.std.proofs.lemmas.List.{append_assoc, length-append, length-replicate, get_or-replicate, get_or_append_left, get_or-append_right, get_or_past, take_at, drop_at, replicate-append-replicate}
-use Rattle.std.proofs.lemmas.List.Sums.{sum_by-cons}
-use Rattle.holes.specs.declared.hole.Hole.{Hole}
-use Rattle.holes.specs.FreeWords.{is_free, AllFree, set_range, IsHole, free_count, hole_count_after, hole_count, front_run, widest}
-use Rattle.holes.specs.Layout.{words_from, AreApart}
-use Rattle.holes.proofs.Ranges.{set_range_inside, free_count-append, free_count-true, free_count-false}
+use Rattle.holes.specs.FreeWords.{is_free, AllFree, set_range, IsHole, hole_count_after, hole_count, front_run, widest, Range}
+use Rattle.holes.specs.Laws.{range_at}
+use Rattle.holes.proofs.Ranges.{set_range_inside}
+
+-- the words from a place to the end of the region, those of the holes free
+abbrev pub words_from : ℕ → ℕ → List Range → List Bool
+words_from from size [] = replicate (size - from) false
+words_from from size (hole ∷ holes) =
+    replicate (hole.place - from) false ++ replicate hole.len true ++ words_from (hole.place + hole.len) size holes
+
+-- the holes stand from a place on, none empty, none past the end, and a word between each two
+abbrev pub AreApart : ℕ → ℕ → List Range → Type 0
+AreApart from size [] = Unit {0}
+AreApart from size (hole ∷ holes) =
+    (from ≤ hole.place) × (0 < hole.len) × (hole.place + hole.len ≤ size)
+    × AreApart (hole.place + hole.len + 1) size holes
 
 -- where the words behind some holes begin
-unfoldable pub next_from : ℕ → List Hole → ℕ
+unfoldable pub next_from : ℕ → List Range → ℕ
 next_from from [] = from
 next_from from (hole ∷ holes) = next_from (hole.place + hole.len) holes
 
 -- the least place where a hole behind some holes may begin
-unfoldable pub bound : ℕ → List Hole → ℕ
+unfoldable pub bound : ℕ → List Range → ℕ
 bound from [] = from
 bound from (hole ∷ holes) = bound (hole.place + hole.len + 1) holes
 
 -- the words up to the end of the last hole
-unfoldable pub words_before : ℕ → List Hole → List Bool
+unfoldable pub words_before : ℕ → List Range → List Bool
 words_before from [] = []
 words_before from (hole ∷ holes) =
     replicate (hole.place - from) false ++ replicate hole.len true ++ words_before (hole.place + hole.len) holes
 
 -- no hole begins below a place, which lies in the region
-unfoldable pub StartsFrom : ℕ → ℕ → List Hole → Type 0
+unfoldable pub StartsFrom : ℕ → ℕ → List Range → Type 0
 StartsFrom from size [] = from ≤ size
 StartsFrom from size (hole ∷ holes) = from ≤ hole.place
 
-pub next_from-append : (from : ℕ) (xs ys : List Hole) → next_from from (xs ++ ys) ≡ next_from (next_from from xs) ys
-unfolding next_from
-next_from-append from [] ys = refl
-next_from-append from (hole ∷ xs) ys = next_from-append (hole.place + hole.len) xs ys
-
-pub bound-append : (from : ℕ) (xs ys : List Hole) → bound from (xs ++ ys) ≡ bound (bound from xs) ys
-unfolding bound
-bound-append from [] ys = refl
-bound-append from (hole ∷ xs) ys = bound-append (hole.place + hole.len + 1) xs ys
-
-pub next-le-bound : (from to : ℕ) (holes : List Hole) → from ≤ to → next_from from holes ≤ bound to holes
+pub next-le-bound : (from to : ℕ) (holes : List Range) → from ≤ to → next_from from holes ≤ bound to holes
 unfolding next_from bound
 next-le-bound from to [] le = le
 next-le-bound from to (hole ∷ holes) le =
     next-le-bound (hole.place + hole.len) (hole.place + hole.len + 1) holes (omega arith)
 
 -- behind holes there is a word that isn't free, or it is the region's first word
-next-lt-place : (place : ℕ) (holes : List Hole) → 0 < place → bound 0 holes ≤ place → next_from 0 holes < place
+next-lt-place : (place : ℕ) (holes : List Range) → 0 < place → bound 0 holes ≤ place → next_from 0 holes < place
 unfolding next_from bound
 next-lt-place place [] some le = some
 next-lt-place place (hole ∷ holes) some le = omega (arith, suc_bound (hole.place + hole.len) holes)
   where
-    suc_bound : (from : ℕ) (rest : List Hole) → bound (from + 1) rest ≡ next_from from rest + 1
+    suc_bound : (from : ℕ) (rest : List Range) → bound (from + 1) rest ≡ next_from from rest + 1
     suc_bound from [] = refl
     suc_bound from (next ∷ rest) = suc_bound (next.place + next.len) rest
 
 -- Holes that are apart.
-pub apart_weaker : (to from size : ℕ) (holes : List Hole) → to ≤ from → AreApart from size holes →
+pub apart_weaker : (to from size : ℕ) (holes : List Range) → to ≤ from → AreApart from size holes →
     AreApart to size holes
 apart_weaker to from size [] le a = tt
 apart_weaker to from size (hole ∷ holes) le a = (omega (arith, a.0), a.1, a.2, a.3)
 
-pub apart_front : (from size : ℕ) (xs ys : List Hole) → AreApart from size (xs ++ ys) → AreApart from size xs
+pub apart_front : (from size : ℕ) (xs ys : List Range) → AreApart from size (xs ++ ys) → AreApart from size xs
 apart_front from size [] ys a = tt
 apart_front from size (hole ∷ xs) ys a = (a.0, a.1, a.2, apart_front (hole.place + hole.len + 1) size xs ys a.3)
 
-pub apart_back : (from size : ℕ) (xs ys : List Hole) → AreApart from size (xs ++ ys) →
+pub apart_back : (from size : ℕ) (xs ys : List Range) → AreApart from size (xs ++ ys) →
     AreApart (bound from xs) size ys
 unfolding bound
 apart_back from size [] ys a = a
 apart_back from size (hole ∷ xs) ys a = apart_back (hole.place + hole.len + 1) size xs ys a.3
 
-pub apart-append : (from size : ℕ) (xs ys : List Hole) → AreApart from size xs → AreApart (bound from xs) size ys →
+pub apart-append : (from size : ℕ) (xs ys : List Range) → AreApart from size xs → AreApart (bound from xs) size ys →
     AreApart from size (xs ++ ys)
 unfolding bound
 apart-append from size [] ys a b = b
 apart-append from size (hole ∷ xs) ys a b = (a.0, a.1, a.2, apart-append (hole.place + hole.len + 1) size xs ys a.3 b)
 
 -- The words of holes.
-pub words_from-append : (from size : ℕ) (xs ys : List Hole) →
+pub words_from-append : (from size : ℕ) (xs ys : List Range) →
     words_from from size (xs ++ ys) ≡ words_before from xs ++ words_from (next_from from xs) size ys
 unfolding next_from words_before
 words_from-append from size [] ys = refl
@@ -89,14 +92,7 @@ words_from-append from size (hole ∷ xs) ys =
     ∙ sym (append_assoc front (words_before (hole.place + hole.len) xs)
     (words_from (next_from (hole.place + hole.len) xs) size ys))
 
-from-le-next : (from to size : ℕ) (holes : List Hole) → from ≤ to → AreApart to size holes →
-    from ≤ next_from from holes
-unfolding next_from
-from-le-next from to size [] le a = omega arith
-from-le-next from to size (hole ∷ holes) le a =
-    omega (arith, a.0, from-le-next (hole.place + hole.len) (hole.place + hole.len + 1) size holes (omega arith) a.3)
-
-pub length-words_before : (from to size : ℕ) (holes : List Hole) → from ≤ to → AreApart to size holes →
+pub length-words_before : (from to size : ℕ) (holes : List Range) → from ≤ to → AreApart to size holes →
     length (words_before from holes) + from ≡ next_from from holes
 unfolding next_from words_before
 length-words_before from to size [] le a = omega arith
@@ -112,7 +108,7 @@ length-words_before from to size (hole ∷ holes) le a =
       length-words_before (hole.place + hole.len) (hole.place + hole.len + 1) size holes (omega arith) a.3,
     )
 
-pub length-words_from : (from to size : ℕ) (holes : List Hole) → from ≤ to → AreApart to size holes →
+pub length-words_from : (from to size : ℕ) (holes : List Range) → from ≤ to → AreApart to size holes →
     length (words_from from size holes) ≡ size - from
 length-words_from from to size [] le a = length-replicate (size - from) false
 length-words_from from to size (hole ∷ holes) le a =
@@ -129,7 +125,7 @@ length-words_from from to size (hole ∷ holes) le a =
     )
 
 -- so many words before the first hole of the rest
-pub words_from_later : (from to size : ℕ) (holes : List Hole) → from ≤ to → StartsFrom to size holes →
+pub words_from_later : (from to size : ℕ) (holes : List Range) → from ≤ to → StartsFrom to size holes →
     words_from from size holes ≡ replicate (to - from) false ++ words_from to size holes
 unfolding StartsFrom
 words_from_later from to size [] le starts =
@@ -159,10 +155,10 @@ set_range_mid front back place len old new at =
     ∙ append_assoc front (replicate len new) back)
 
 -- the words before a place behind some holes
-front_of : List Hole → ℕ → List Bool
+front_of : List Range → ℕ → List Bool
 front_of xs place = words_before 0 xs ++ replicate (place - next_from 0 xs) false
 
-length-front_of : (size place : ℕ) (xs : List Hole) → AreApart 0 size xs → next_from 0 xs ≤ place →
+length-front_of : (size place : ℕ) (xs : List Range) → AreApart 0 size xs → next_from 0 xs ≤ place →
     length (front_of xs place) ≡ place
 unfolding front_of
 length-front_of size place xs a le =
@@ -174,7 +170,7 @@ length-front_of size place xs a le =
       length-replicate (place - next_from 0 xs) false,
     )
 
-hole_between : (size : ℕ) (xs : List Hole) (hole : Hole) (ys : List Hole) → words_from 0 size (xs ++ hole ∷ ys) ≡
+hole_between : (size : ℕ) (xs : List Range) (hole : Range) (ys : List Range) → words_from 0 size (xs ++ hole ∷ ys) ≡
     front_of xs hole.place ++ (replicate hole.len true ++ words_from (hole.place + hole.len) size ys)
 unfolding front_of
 hole_between size xs hole ys =
@@ -186,7 +182,7 @@ hole_between size xs hole ys =
     ∙ (ap (λ (zs : List Bool). before ++ zs) (append_assoc gap len rest) ∙ sym
     (append_assoc before gap (len ++ rest)))
 
-no_hole_between : (size : ℕ) (xs : List Hole) (place len : ℕ) (ys : List Hole) → next_from 0 xs ≤ place →
+no_hole_between : (size : ℕ) (xs : List Range) (place len : ℕ) (ys : List Range) → next_from 0 xs ≤ place →
     StartsFrom (place + len) size ys →
     words_from 0 size (xs ++ ys) ≡ front_of xs place ++ (replicate len false ++ words_from (place + len) size ys)
 unfolding front_of
@@ -204,7 +200,7 @@ no_hole_between size xs place len ys le starts =
     ∙ sym (append_assoc before gap (replicate len false ++ rest)))
 
 -- a hole more between holes, and a hole less
-pub words_given : (size : ℕ) (xs : List Hole) (place len : ℕ) (ys : List Hole) → AreApart 0 size xs →
+pub words_given : (size : ℕ) (xs : List Range) (place len : ℕ) (ys : List Range) → AreApart 0 size xs →
     next_from 0 xs ≤ place → StartsFrom (place + len) size ys → words_from 0 size
     (xs ++ record { place = place; len = len } ∷ ys) ≡ set_range (words_from 0 size (xs ++ ys)) place len true
 words_given size xs place len ys a le starts =
@@ -213,18 +209,8 @@ words_given size xs place len ys a le starts =
     ∙ sym (ap (λ (free : List Bool). set_range free place len true) (no_hole_between size xs place len ys le starts)
     ∙ set_range_mid (front_of xs place) rest place len false true (length-front_of size place xs a le))
 
-pub words_taken : (size : ℕ) (xs : List Hole) (place len : ℕ) (ys : List Hole) → AreApart 0 size xs →
-    next_from 0 xs ≤ place → StartsFrom (place + len) size ys → words_from 0 size (xs ++ ys) ≡ set_range (words_from 0
-    size (xs ++ record { place = place; len = len } ∷ ys)) place len false
-words_taken size xs place len ys a le starts =
-    let rest = words_from (place + len) size ys in
-    no_hole_between size xs place len ys le starts
-    ∙ sym (ap (λ (free : List Bool). set_range free place len false)
-    (hole_between size xs (record { place = place; len = len }) ys)
-    ∙ set_range_mid (front_of xs place) rest place len true false (length-front_of size place xs a le))
-
 -- two holes that touch make the same words free as one
-pub fused_first : (from size place first second : ℕ) (ys : List Hole) → words_from from size
+pub fused_first : (from size place first second : ℕ) (ys : List Range) → words_from from size
     (record { place = place; len = first + second } ∷ ys) ≡ words_from from size (record
     { place = place; len = first } ∷ (record { place = place + first; len = second } ∷ ys))
 fused_first from size place first second ys =
@@ -241,17 +227,8 @@ fused_first from size place first second ys =
     ∙ ap (λ (n : ℕ). gap ++ one ++ (replicate n false ++ two ++ rest))
     (let e : 0 ≡ (place + first) - (place + first) = omega arith in e)))))
 
-pub words_fused : (size : ℕ) (xs : List Hole) (place first second : ℕ) (ys : List Hole) → words_from 0 size
-    (xs ++ record { place = place; len = first + second } ∷ ys) ≡ words_from 0 size (xs ++ record
-    { place = place; len = first } ∷ (record { place = place + first; len = second } ∷ ys))
-words_fused size xs place first second ys =
-    words_from-append 0 size xs (record { place = place; len = first + second } ∷ ys)
-    ∙ (ap (λ (zs : List Bool). words_before 0 xs ++ zs) (fused_first (next_from 0 xs) size place first second ys)
-    ∙ sym (words_from-append 0 size xs (record { place = place; len = first } ∷
-    (record { place = place + first; len = second } ∷ ys))))
-
 -- The word right behind a hole isn't free.
-front_taken : (from size : ℕ) (holes : List Hole) → AreApart (from + 1) size holes →
+front_taken : (from size : ℕ) (holes : List Range) → AreApart (from + 1) size holes →
     is_free (words_from from size holes) 0 ≡ false
 front_taken from size [] a = no_words (size - from)
   where
@@ -266,24 +243,6 @@ front_taken from size (hole ∷ holes) a =
     get_or_append_left (gap ++ len) rest false 0 (omega (arith, length-append gap len))
     ∙ (get_or_append_left gap len false 0 some ∙ get_or-replicate (hole.place - from) 0 false false
     (omega (arith, length-replicate (hole.place - from) false)))
-
--- How many words, and how many holes.
-pub free_count-words_from : (from size : ℕ) (holes : List Hole) →
-    free_count (words_from from size holes) ≡ sum_by (λ hole. hole.len) holes
-free_count-words_from from size [] = free_count-false (size - from)
-free_count-words_from from size (hole ∷ holes) =
-    let gap = replicate (hole.place - from) false in
-    let len = replicate hole.len true in
-    let rest = words_from (hole.place + hole.len) size holes in
-    omega (
-      arith,
-      free_count-append (gap ++ len) rest,
-      free_count-append gap len,
-      free_count-false (hole.place - from),
-      free_count-true hole.len,
-      free_count-words_from (hole.place + hole.len) size holes,
-      sum_by-cons (λ (next : Hole). next.len) hole holes,
-    )
 
 count_behind_false : (n : ℕ) (free : List Bool) →
     hole_count_after false (replicate n false ++ free) ≡ hole_count_after false free
@@ -312,7 +271,7 @@ run_from_taken [] taken = refl
 run_from_taken (false ∷ free) taken = refl
 run_from_taken (true ∷ free) taken = absurd (false≢true (sym taken))
 
-pub hole_count-words_from : (from to size : ℕ) (holes : List Hole) → AreApart to size holes →
+pub hole_count-words_from : (from to size : ℕ) (holes : List Range) → AreApart to size holes →
     hole_count (words_from from size holes) ≡ length holes
 hole_count-words_from from to size [] a = none (size - from)
   where
@@ -335,7 +294,7 @@ hole_count-words_from from to size (hole ∷ holes) a =
     ) in e)))
 
 -- The widest hole.
-unfoldable pub most_len : List Hole → ℕ
+unfoldable pub most_len : List Range → ℕ
 most_len [] = 0
 most_len (hole ∷ holes) = max hole.len (most_len holes)
 
@@ -352,7 +311,7 @@ widest_of_hole : (n : ℕ) (free : List Bool) → front_run free ≡ 0 →
 widest_of_hole zero free taken = omega arith
 widest_of_hole (suc n) free taken = omega (arith, run_of_hole n free, widest_of_hole n free taken)
 
-pub widest-words_from : (from to size : ℕ) (holes : List Hole) → AreApart to size holes →
+pub widest-words_from : (from to size : ℕ) (holes : List Range) → AreApart to size holes →
     widest (words_from from size holes) ≡ most_len holes
 unfolding most_len
 widest-words_from from to size [] a = none (size - from)
@@ -370,31 +329,31 @@ widest-words_from from to size (hole ∷ holes) a =
     ∙ ap (max hole.len) (widest-words_from (hole.place + hole.len) (hole.place + hole.len + 1) size holes a.3)))
 
 -- The holes of the list are the holes of the words.
-pub starts : (from size : ℕ) (holes : List Hole) → from ≤ size → AreApart from size holes → StartsFrom from size holes
+pub starts : (from size : ℕ) (holes : List Range) → from ≤ size → AreApart from size holes → StartsFrom from size holes
 unfolding StartsFrom
 starts from size [] within a = within
 starts from size (hole ∷ holes) within a = a.0
 
-pub without_hole : (size : ℕ) (xs : List Hole) (hole : Hole) (ys : List Hole) → AreApart 0 size (xs ++ hole ∷ ys) →
+pub without_hole : (size : ℕ) (xs : List Range) (hole : Range) (ys : List Range) → AreApart 0 size (xs ++ hole ∷ ys) →
     AreApart 0 size (xs ++ ys)
 without_hole size xs hole ys a =
     let b = apart_back 0 size xs (hole ∷ ys) a in
     apart-append 0 size xs ys (apart_front 0 size xs (hole ∷ ys) a) (apart_weaker (bound 0 xs)
     (hole.place + hole.len + 1) size ys (omega (arith, b.0)) b.3)
 
-pub next-le-hole : (size : ℕ) (xs : List Hole) (hole : Hole) (ys : List Hole) → AreApart 0 size (xs ++ hole ∷ ys) →
+pub next-le-hole : (size : ℕ) (xs : List Range) (hole : Range) (ys : List Range) → AreApart 0 size (xs ++ hole ∷ ys) →
     next_from 0 xs ≤ hole.place
 next-le-hole size xs hole ys a =
     omega (arith, next-le-bound 0 0 xs (omega arith), (apart_back 0 size xs (hole ∷ ys) a).0)
 
-pub starts_behind : (size : ℕ) (xs : List Hole) (hole : Hole) (ys : List Hole) → AreApart 0 size (xs ++ hole ∷ ys) →
+pub starts_behind : (size : ℕ) (xs : List Range) (hole : Range) (ys : List Range) → AreApart 0 size (xs ++ hole ∷ ys) →
     StartsFrom (hole.place + hole.len) size ys
 starts_behind size xs hole ys a =
     let b = apart_back 0 size xs (hole ∷ ys) a in
     starts (hole.place + hole.len) size ys b.2 (apart_weaker (hole.place + hole.len) (hole.place + hole.len + 1) size
     ys (omega arith) b.3)
 
-pub hole_inside : (size : ℕ) (xs : List Hole) (hole : Hole) (ys : List Hole) → AreApart 0 size (xs ++ hole ∷ ys) →
+pub hole_inside : (size : ℕ) (xs : List Range) (hole : Range) (ys : List Range) → AreApart 0 size (xs ++ hole ∷ ys) →
     AllFree (words_from 0 size (xs ++ hole ∷ ys)) hole.place hole.len
 hole_inside size xs hole ys a word from to =
     let b = apart_back 0 size xs (hole ∷ ys) a in
@@ -406,7 +365,7 @@ hole_inside size xs hole ys a word from to =
     (starts_behind size xs hole ys a))
     ∙ set_range_inside others hole.place hole.len true word (omega (arith, b.2)) from to
 
-hole_before : (size : ℕ) (xs : List Hole) (hole : Hole) (ys : List Hole) → AreApart 0 size (xs ++ hole ∷ ys) →
+hole_before : (size : ℕ) (xs : List Range) (hole : Range) (ys : List Range) → AreApart 0 size (xs ++ hole ∷ ys) →
     (word : ℕ) → word + 1 ≡ hole.place → is_free (words_from 0 size (xs ++ hole ∷ ys)) word ≡ false
 unfolding front_of
 hole_before size xs hole ys a word next =
@@ -427,7 +386,7 @@ hole_before size xs hole ys a word next =
     ∙ (get_or-append_right before gap (next_from 0 xs) word false (omega arith) (omega arith)
     ∙ get_or-replicate (hole.place - next_from 0 xs) (word - next_from 0 xs) false false (omega arith)))
 
-hole_behind : (size : ℕ) (xs : List Hole) (hole : Hole) (ys : List Hole) → AreApart 0 size (xs ++ hole ∷ ys) →
+hole_behind : (size : ℕ) (xs : List Range) (hole : Range) (ys : List Range) → AreApart 0 size (xs ++ hole ∷ ys) →
     is_free (words_from 0 size (xs ++ hole ∷ ys)) (hole.place + hole.len) ≡ false
 hole_behind size xs hole ys a =
     let b = apart_back 0 size xs (hole ∷ ys) a in
@@ -444,7 +403,7 @@ hole_behind size xs hole ys a =
     e)
     ∙ front_taken (hole.place + hole.len) size ys b.3))
 
-pub hole_is_hole : (size : ℕ) (xs : List Hole) (hole : Hole) (ys : List Hole) → AreApart 0 size (xs ++ hole ∷ ys) →
+pub hole_is_hole : (size : ℕ) (xs : List Range) (hole : Range) (ys : List Range) → AreApart 0 size (xs ++ hole ∷ ys) →
     IsHole (words_from 0 size (xs ++ hole ∷ ys)) hole.place hole.len
 hole_is_hole size xs hole ys a = record {
   some = (apart_back 0 size xs (hole ∷ ys) a).1;
@@ -459,7 +418,7 @@ not_in_gap n word back lt free =
     ∙ get_or-replicate n word false false lt) ∙ free)
 
 -- free words in a row lie in one hole
-pub run_in_hole : (from to size : ℕ) (holes : List Hole) (place len : ℕ) (d : Hole) → from ≤ to →
+pub run_in_hole : (from to size : ℕ) (holes : List Range) (place len : ℕ) (d : Range) → from ≤ to →
     AreApart to size holes → AllFree (words_from from size holes) place len → 0 < len → (k : ℕ) × (k < length holes) ×
     ((get_or holes k d).place ≤ from + place) × (from + place + len ≤ (get_or holes k d).place +
     (get_or holes k d).len)
@@ -506,20 +465,20 @@ run_in_hole from to size (hole ∷ holes) place len d le a all some =
       ]
     ]
 
--- the holes stand in order
-place_from : (from size : ℕ) (holes : List Hole) (k : ℕ) (d : Hole) → AreApart from size holes → k < length holes →
-    from ≤ (get_or holes k d).place
-place_from from size [] k d a lt = absurd (omega arith)
-place_from from size (hole ∷ holes) zero d a lt = a.0
-place_from from size (hole ∷ holes) (suc k) d a lt =
-    omega (arith, a.0, place_from (hole.place + hole.len + 1) size holes k d a.3 (omega arith))
+-- each hole of the list is one of the words
+pub hole_is_at : (size : ℕ) (holes : List Range) (index : ℕ) → AreApart 0 size holes → index < length holes →
+    IsHole (words_from 0 size holes) (range_at holes index).place (range_at holes index).len
+hole_is_at size holes index a lt =
+    let split : holes ≡ take index holes ++ range_at holes index ∷ drop (suc index) holes = split_at holes index
+    (record { place = 0; len = 0 }) lt in
+    subst (λ (old : List Range). IsHole (words_from 0 size old) (range_at holes index).place (range_at holes index).len)
+    (sym split)
+    (hole_is_hole size (take index holes) (range_at holes index) (drop (suc index) holes)
+    (subst (AreApart 0 size) split a))
 
-pub places_in_order : (from size : ℕ) (holes : List Hole) (i k : ℕ) (d : Hole) → AreApart from size holes → i ≤ k →
-    k < length holes → (get_or holes i d).place ≤ (get_or holes k d).place
-places_in_order from size [] i k d a le lt = absurd (omega arith)
-places_in_order from size (hole ∷ holes) zero zero d a le lt = omega arith
-places_in_order from size (hole ∷ holes) zero (suc k) d a le lt =
-    omega (arith, place_from (hole.place + hole.len + 1) size holes k d a.3 (omega arith))
-places_in_order from size (hole ∷ holes) (suc i) zero d a le lt = absurd (omega arith)
-places_in_order from size (hole ∷ holes) (suc i) (suc k) d a le lt =
-    places_in_order (hole.place + hole.len + 1) size holes i k d a.3 (omega arith) (omega arith)
+pub len-le-most_len : (holes : List Range) (index : ℕ) → index < length holes →
+    (range_at holes index).len ≤ most_len holes
+unfolding most_len
+len-le-most_len [] index lt = absurd (omega arith)
+len-le-most_len (hole ∷ holes) zero lt = omega arith
+len-le-most_len (hole ∷ holes) (suc index) lt = omega (arith, len-le-most_len holes index (omega arith))

@@ -1,5 +1,12 @@
 pub mod Ranges
-mod Layouts
-mod Changes
-mod Facts
-mod Listed
+pub mod Runs
+pub mod Bits
+pub mod Nodes
+pub mod Bitmaps
+pub mod Finding
+pub mod Near
+pub mod Counts
+pub mod Regions
+pub mod Layouts
+pub mod Listed
+pub mod Long

@@ -4,38 +4,35 @@ use Rattle.std.specs.Prelude.{replicate}
 use Rattle.std.proofs.lemmas.Bool.{cases_lt, false≢true}
 use Rattle.std.proofs.lemmas.Bool.Decides.{eqb_tells}
 use Rattle.std.proofs.lemmas.List.{length-map, get_or-map}
-use Rattle.holes.specs.declared.hole.Hole.{Hole}
 use Rattle.holes.specs.FreeWords.{IsHole, hole_count, widest, Range}
 use Rattle.holes.specs.Laws.{range_at, AreHoles, HolesAreCounted, IsWidest, WidestIsGreatest}
-use Rattle.holes.specs.Layout.{words_from, AreApart, hole_at}
-use Rattle.holes.proofs.Layouts.{starts, apart_weaker, words_from_later, fused_first, hole_count-words_from, most_len, widest-words_from, run_in_hole}
-use Rattle.holes.proofs.Facts.{hole_is_at, len-le-most_len}
+use Rattle.holes.proofs.Layouts.{words_from, AreApart, hole_is_at, len-le-most_len, starts, apart_weaker, words_from_later, fused_first, hole_count-words_from, most_len, widest-words_from, run_in_hole}
 
 -- a hole of one word, joined with the one behind it
-grow : ℕ → List Hole → List Hole
+grow : ℕ → List Range → List Range
 grow place [] = record { place = place; len = 1 } ∷ []
 grow place (hole ∷ holes) =
     cond (eqb hole.place (place + 1)) (record { place = place; len = 1 + hole.len } ∷ holes)
     (record { place = place; len = 1 } ∷ (hole ∷ holes))
 
 -- the holes of some words, of which the first stands at a place
-holes_of : ℕ → List Bool → List Hole
+holes_of : ℕ → List Bool → List Range
 holes_of place [] = []
 holes_of place (false ∷ free) = holes_of (place + 1) free
 holes_of place (true ∷ free) = grow place (holes_of (place + 1) free)
 
 -- the holes show the words from a place on
-record Shows (place size : ℕ) (holes : List Hole) (free : List Bool) : Type 0 where
+record Shows (place size : ℕ) (holes : List Range) (free : List Bool) : Type 0 where
   apart : AreApart place size holes
   words : words_from place size holes ≡ free
 
-word_more : (place size : ℕ) (holes : List Hole) →
+word_more : (place size : ℕ) (holes : List Range) →
     words_from place size (record { place = place; len = 1 } ∷ holes) ≡ true ∷ words_from (place + 1) size holes
 word_more place size holes =
     ap (λ n. replicate n false ++ replicate 1 true ++ words_from (place + 1) size holes)
     (let e : place - place ≡ 0 = omega arith in e)
 
-shows_taken : (place size : ℕ) (holes : List Hole) (free : List Bool) → place + 1 ≤ size →
+shows_taken : (place size : ℕ) (holes : List Range) (free : List Bool) → place + 1 ≤ size →
     Shows (place + 1) size holes free → Shows place size holes (false ∷ free)
 shows_taken place size holes free within s = record {
   apart = apart_weaker place (place + 1) size holes (omega arith) s.apart;
@@ -44,7 +41,7 @@ shows_taken place size holes free within s = record {
       (let e : (place + 1) - place ≡ 1 = omega arith in e) ∙ ap (λ (rest : List Bool). false ∷ rest) s.words);
 }
 
-shows_free : (place size : ℕ) (holes : List Hole) (free : List Bool) → place + 1 ≤ size →
+shows_free : (place size : ℕ) (holes : List Range) (free : List Bool) → place + 1 ≤ size →
     Shows (place + 1) size holes free → Shows place size (grow place holes) (true ∷ free)
 unfolding grow
 shows_free place size [] free within s = record {
@@ -52,8 +49,8 @@ shows_free place size [] free within s = record {
   words = word_more place size [] ∙ ap (λ (rest : List Bool). true ∷ rest) s.words;
 }
 shows_free place size (hole ∷ holes) free within s =
-    let whole : Hole = record { place = place; len = 1 + hole.len } in
-    let one : Hole = record { place = place; len = 1 } in
+    let whole : Range = record { place = place; len = 1 + hole.len } in
+    let one : Range = record { place = place; len = 1 } in
     let alone : words_from place size (one ∷ (hole ∷ holes)) ≡ true ∷ free = word_more place size (hole ∷ holes) ∙ ap
     (λ (rest : List Bool). true ∷ rest) s.words in
     elim (eqb_tells hole.place (place + 1)) [
@@ -99,35 +96,35 @@ shows place size (true ∷ free) e =
     shows_free place size (holes_of (place + 1) free) free (omega arith) (shows (place + 1) size free (omega arith))
 
 -- a hole of the words is one of the list
-hole_is_listed : (size : ℕ) (holes : List Hole) (place len : ℕ) → AreApart 0 size holes →
+hole_is_listed : (size : ℕ) (holes : List Range) (place len : ℕ) → AreApart 0 size holes →
     IsHole (words_from 0 size holes) place len →
-    (k : ℕ) × (k < length holes) × ((hole_at holes k).place ≡ place) × ((hole_at holes k).len ≡ len)
+    (k : ℕ) × (k < length holes) × ((range_at holes k).place ≡ place) × ((range_at holes k).len ≡ len)
 hole_is_listed size holes place len a is =
     let found = run_in_hole 0 0 size holes place len (record { place = 0; len = 0 }) (omega arith) a is.inside is.some
     in
     let k = found.0 in
     let own = hole_is_at size holes k a found.1 in
-    let from : place ≤ (hole_at holes k).place = elim (cases_lt (hole_at holes k).place place) [
+    let from : place ≤ (range_at holes k).place = elim (cases_lt (range_at holes k).place place) [
       | inl before ↦ absurd (false≢true (sym (is.before (place - 1) (omega arith)) ∙ own.inside (place - 1)
           (omega arith) (omega (arith, is.some, found.3))))
       | inr same ↦ same
     ] in
-    let to : (hole_at holes k).place + (hole_at holes k).len ≤ place + len = elim (cases_lt (place + len)
-    ((hole_at holes k).place + (hole_at holes k).len)) [
+    let to : (range_at holes k).place + (range_at holes k).len ≤ place + len = elim (cases_lt (place + len)
+    ((range_at holes k).place + (range_at holes k).len)) [
       | inl behind ↦ absurd (false≢true (sym is.behind ∙ own.inside (place + len) (omega (arith, found.2)) behind))
       | inr same ↦ same
     ] in
     (k, found.1, omega (arith, found.2), omega (arith, found.2, found.3))
 
-ends_in_order : (from size : ℕ) (holes : List Hole) (i k : ℕ) → AreApart from size holes → i < k → k < length holes →
-    (hole_at holes i).place + (hole_at holes i).len < (hole_at holes k).place
+ends_in_order : (from size : ℕ) (holes : List Range) (i k : ℕ) → AreApart from size holes → i < k → k < length holes →
+    (range_at holes i).place + (range_at holes i).len < (range_at holes k).place
 ends_in_order from size [] i k a lt within = absurd (omega arith)
 ends_in_order from size (hole ∷ holes) i zero a lt within = absurd (omega arith)
 ends_in_order from size (hole ∷ holes) zero (suc k) a lt within =
     omega (arith, later (hole.place + hole.len + 1) size holes k a.3 (omega arith))
   where
-    later : (to end : ℕ) (rest : List Hole) (n : ℕ) → AreApart to end rest → n < length rest →
-        to ≤ (hole_at rest n).place
+    later : (to end : ℕ) (rest : List Range) (n : ℕ) → AreApart to end rest → n < length rest →
+        to ≤ (range_at rest n).place
     later to end [] n b h = absurd (omega arith)
     later to end (next ∷ rest) zero b h = b.0
     later to end (next ∷ rest) (suc n) b h =
@@ -135,16 +132,16 @@ ends_in_order from size (hole ∷ holes) zero (suc k) a lt within =
 ends_in_order from size (hole ∷ holes) (suc i) (suc k) a lt within =
     ends_in_order (hole.place + hole.len + 1) size holes i k a.3 (omega arith) (omega arith)
 
-range_of : Hole → Range
+range_of : Range → Range
 range_of hole = record { place = hole.place; len = hole.len }
 
-range_at-map : (holes : List Hole) (k : ℕ) → k < length holes →
-    range_at (map range_of holes) k ≡ record { place = (hole_at holes k).place; len = (hole_at holes k).len }
+range_at-map : (holes : List Range) (k : ℕ) → k < length holes →
+    range_at (map range_of holes) k ≡ record { place = (range_at holes k).place; len = (range_at holes k).len }
 unfolding range_of
 range_at-map holes k lt =
     get_or-map range_of holes k (record { place = 0; len = 0 }) (record { place = 0; len = 0 }) lt
 
-listed : (size : ℕ) (holes : List Hole) → AreApart 0 size holes →
+listed : (size : ℕ) (holes : List Range) → AreApart 0 size holes →
     AreHoles (words_from 0 size holes) (map range_of holes)
 listed size holes a =
     let len : length (map range_of holes) ≡ length holes = length-map holes range_of in
@@ -187,8 +184,8 @@ holes_counted free =
     )
 
 -- the longest hole of a list
-longest : (holes : List Hole) → 0 < most_len holes →
-    (k : ℕ) × (k < length holes) × ((hole_at holes k).len ≡ most_len holes)
+longest : (holes : List Range) → 0 < most_len holes →
+    (k : ℕ) × (k < length holes) × ((range_at holes k).len ≡ most_len holes)
 unfolding most_len
 longest [] some = absurd (omega arith)
 longest (hole ∷ holes) some = elim (cases_lt hole.len (most_len holes)) [
@@ -207,9 +204,9 @@ widest_greatest free =
       above = λ place len is. let found = hole_is_listed (length free) holes place len s.apart is in omega
           (arith, len-le-most_len holes found.0 found.1, found.3);
       reached = λ some. let found = longest holes (omega arith) in (
-        (hole_at holes found.0).place,
+        (range_at holes found.0).place,
         subst (λ n. IsHole (words_from 0 (length free) holes)
-            (hole_at holes found.0).place n) (found.2 ∙ sym most)
+            (range_at holes found.0).place n) (found.2 ∙ sym most)
             (hole_is_at (length free) holes found.0 s.apart found.1),
       );
     })

@@ -187,13 +187,12 @@ free_from_above place size word ge lt =
 -- How many holes there are.
 
 -- the last word, or the one before the words where there is none
-pub last_of : Bool → List Bool → Bool
+abbrev pub last_of : Bool → List Bool → Bool
 last_of before [] = before
 last_of before (word ∷ free) = last_of word free
 
 pub hole_count_after-append : (before : Bool) (xs ys : List Bool) →
     hole_count_after before (xs ++ ys) ≡ hole_count_after before xs + hole_count_after (last_of before xs) ys
-unfolding last_of
 hole_count_after-append before [] ys = omega arith
 hole_count_after-append before (false ∷ xs) ys = hole_count_after-append false xs ys
 hole_count_after-append true (true ∷ xs) ys = hole_count_after-append true xs ys

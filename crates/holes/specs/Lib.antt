@@ -1,3 +1,3 @@
 pub mod FreeWords
 pub mod Laws
-pub mod Layout
+pub mod Tree

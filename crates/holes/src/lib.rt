@@ -5,27 +5,41 @@
 //! free words (at each place whether the word there is free), and not as a list of holes.
 #![tactic(auto)]
 
-ghost use Rattle.std.specs.Prelude.{◌≡◌, ◌+◌, ◌<◌, ◌≤◌, ◌↔◌, length, replicate, true, IfOk, IfSome, IsNone, IfNone};
+ghost use Rattle.std.specs.Prelude.{◌≡◌, ◌+◌, ◌*◌, ◌^◌, ◌<◌, ◌≤◌, ◌↔◌, if◌then◌else◌, nat_eq, length, replicate, true, IfOk, IfSome, IsNone, IfNone};
 ghost use Rattle.holes.specs.FreeWords.{NoneFree, IsLowestFit, taken_from, given_to, free_from, free_count, hole_count, widest};
+ghost use Rattle.holes.specs.Tree.{IsPowerOfTwo, lowest_fit};
 
-mod hole;
+mod bitmap;
 pub mod laws;
+mod summary;
+mod tree;
 
-use hole::{Hole, cut_front, first_fit, index_from, join};
+use bitmap::WORDS;
 use std::alloc::{AllocError, Allocator};
 use std::marker::Model;
+use summary::Summary;
+use tree::Changed;
 
 /// The free words of a region.
 ///
-/// Room for its holes is reserved once, when it is made, so no other call takes memory.
+/// They are kept as a tree over the words, of which each node knows the widest hole among its words and how many
+/// words are free at their two ends. Room for it is reserved once, when it is made, so no other call takes memory.
 #[derive(Debug, Drop)]
 pub struct Holes<A: Allocator> {
-    /// In order of place, with a word that isn't free between each two.
-    holes: Vec<Hole, A>,
+    /// The free words, a power of two of bitmaps. None is free from `size` on.
+    bits: Vec<u64, A>,
+    /// The nodes of the tree over the bitmaps.
+    nodes: Vec<Summary, A>,
+    /// Which of the bitmaps' nodes changed after the nodes above them were joined.
+    changed: Changed,
+    /// A place below which no word is free.
+    low: usize,
     /// The words of the region.
     size: usize,
     /// How many of them are free.
     free: usize,
+    /// How many holes there are.
+    count: usize,
     /// How many holes there is room for.
     most: usize,
 }
@@ -35,12 +49,32 @@ impl<A: Allocator> Model for Holes<A> {
 
     ghost Value = { Region };
 
-    ghost use Rattle.std.specs.Prelude.{vec_capacity};
-    ghost use Rattle.holes.specs.Layout.{words_from, IsLayout};
+    ghost use Rattle.holes.specs.Tree.{IsHoles, words_from, word_at};
 
-    ghost view = { λ a. record { free = words_from 0 a.size a.holes.items; most = a.most } };
+    ghost view = { λ a. record { free = words_from (word_at a.bits.items) 0 a.size; most = a.most } };
 
-    ghost invariant = { λ a. IsLayout a.holes.items a.size a.free a.most (vec_capacity a.holes) };
+    ghost invariant = { λ a. IsHoles a.bits.items a.nodes.items a.changed a.low a.size a.free a.count a.most };
+}
+
+/// The number of bitmaps for so many words, a power of two.
+fn leaves_for(size: usize) -> usize
+    ensures power { IsPowerOfTwo result }
+    ensures enough { size ≤ 64 * result }
+    ensures few { 32 * result < size + 64 }
+{
+    let mut leaves = 1;
+    while leaves < size.div_ceil(WORDS) {
+        leaves *= 2;
+    }
+    leaves
+}
+
+/// A place below which no word is free after the words `place..place + len` were taken, where none was below `low`.
+fn low_after(low: usize, place: usize, len: usize) -> usize
+    requires { place + len < 2 ^ 64 }
+    ensures { result ≡ (if nat_eq low place then place + len else low) }
+{
+    if low == place { place + len } else { low }
 }
 
 impl<A: Allocator> Holes<A> {
@@ -48,17 +82,42 @@ impl<A: Allocator> Holes<A> {
     ///
     /// An error means that the allocator refused the room.
     pub fn new(alloc: A, size: usize, most: usize) -> Result<Self, AllocError>
+    where
+        A: Clone,
         requires { 1 ≤ most }
         ensures { IfOk result (λ holes. holes ≡ record { free = replicate size true; most = most }) }
     {
+        let leaves = leaves_for(size);
+        let nodes = vec![in alloc.clone()?; Summary::TAKEN; 2 * leaves]?;
+        let bits = vec![in alloc; 0; tree::leaf_count(&nodes)]?;
         let mut holes = Self {
-            holes: Vec::with_capacity(alloc, most)?,
+            bits,
+            nodes,
+            changed: Changed::NONE,
+            low: 0,
             size,
             free: 0,
+            count: 0,
             most,
         };
         holes.reset(0);
         Ok(holes)
+    }
+
+    /// Where the lowest hole of at least `len` words begins. No word changes.
+    fn find(&mut self, len: usize) -> Option<usize>
+        requires { 1 ≤ len }
+        ensures none { IsNone result ↔ (widest self.old.free < len) }
+        ensures lowest { IfSome result (λ place. place ≡ lowest_fit len self.old.free) }
+        ensures unchanged { self.new ≡ self.old }
+    {
+        if let Some(place) = tree::find_near(&self.bits, &self.nodes, self.low, len) {
+            return Some(place);
+        }
+        tree::join_changed(&self.bits, &mut self.nodes, self.changed);
+        self.changed = Changed::NONE;
+        self.low = tree::lowest_free(&self.bits, &self.nodes);
+        tree::find(&self.bits, &self.nodes, len)
     }
 
     /// First fit: takes `len` words from the front of the lowest hole that has as many, and answers
@@ -74,9 +133,17 @@ impl<A: Allocator> Holes<A> {
         ensures none { IsNone result ↔ (widest self.old.free < len) }
         ensures unchanged { IfNone result (self.new ≡ self.old) }
     {
-        let index = first_fit(&self.holes, len)?;
-        let place = self.holes[index].place;
-        cut_front(&mut self.holes, index, len);
+        let place = self.find(len)?;
+        self.count -= usize::from(!tree::is_free(&self.bits, place + len));
+        self.changed = tree::fill(
+            &mut self.bits,
+            &mut self.nodes,
+            self.changed,
+            place,
+            len,
+            false,
+        );
+        self.low = low_after(self.low, place, len);
         self.free -= len;
         Some(place)
     }
@@ -93,8 +160,17 @@ impl<A: Allocator> Holes<A> {
         requires room { hole_count self.old.free < self.old.most }
         ensures { self.new ≡ given_to self.old place len }
     {
-        let index = index_from(&self.holes, place);
-        join(&mut self.holes, index, place, len);
+        self.count += usize::from(!tree::is_free_before(&self.bits, place));
+        self.count -= usize::from(tree::is_free(&self.bits, place + len));
+        self.changed = tree::fill(
+            &mut self.bits,
+            &mut self.nodes,
+            self.changed,
+            place,
+            len,
+            true,
+        );
+        self.low = self.low.min(place);
         self.free += len;
     }
 
@@ -104,13 +180,24 @@ impl<A: Allocator> Holes<A> {
         ensures { self.new ≡ record { free = free_from from (length self.old.free); most = self.old.most } }
     {
         self.free = self.size - from;
-        self.holes.clear();
-        if self.free > 0 {
-            self.holes.push_reserved(Hole {
-                place: from,
-                len: self.free,
-            });
-        }
+        self.count = usize::from(self.free > 0);
+        self.low = from;
+        self.changed = tree::fill(
+            &mut self.bits,
+            &mut self.nodes,
+            self.changed,
+            0,
+            from,
+            false,
+        );
+        self.changed = tree::fill(
+            &mut self.bits,
+            &mut self.nodes,
+            self.changed,
+            from,
+            self.free,
+            true,
+        );
     }
 
     /// The number of free words.
@@ -125,7 +212,7 @@ impl<A: Allocator> Holes<A> {
     pub fn widest(&self) -> usize
         ensures { result ≡ widest self.now.free }
     {
-        hole::widest(&self.holes)
+        tree::widest(&self.bits, &self.nodes, self.changed)
     }
 
     /// The number of holes.
@@ -133,7 +220,7 @@ impl<A: Allocator> Holes<A> {
         ensures value { result ≡ hole_count self.now.free }
         ensures within { result ≤ self.now.most }
     {
-        self.holes.len()
+        self.count
     }
 
     /// The number of words of the region, free or not.

@@ -92,11 +92,7 @@ fn resets(rt: HostRuntime) -> Result<(), Fail> {
 }
 
 #[test]
-fn takes_the_largest_region(rt: HostRuntime) -> Result<(), Fail> {
-    let size = largest_size();
-    let mut holes = Holes::new(rt.alloc(), size, 1)?;
-    has(&rt, &holes, 1, size, size);
-    takes(&rt, &mut holes, usize::MAX, 0);
-    has(&rt, &holes, 0, 0, 0);
+fn has_no_room_for_the_largest_region(rt: HostRuntime) -> Result<(), Fail> {
+    assert!(rt; Holes::new(rt.alloc(), largest_size(), 1).is_err());
     Ok(())
 }

@@ -1,41 +1,118 @@
-use Rattle.std.proofs.Common.{◌≡◌, ◌-◌, ◌++◌, ◌∷◌, [], length, arith, sym, ap, ◌∙◌, List}
-use Rattle.holes.specs.declared.hole.Hole.{Hole}
+use Rattle.std.proofs.Common.{◌≡◌, ◌-◌, ◌≤◌, true, false, List, ℕ, length, arith, sym, ap, ◌∙◌, subst}
+use Rattle.std.specs.Vec.{with_items}
+use Rattle.std.proofs.lemmas.List.{with_items_is}
+use Rattle.holes.specs.declared.summary.Summary.{Summary}
 use Rattle.holes.specs.FreeWords.{Region, free_from}
-use Rattle.holes.specs.Layout.{words_from}
-use Rattle.holes.proofs.Facts.{length_words, words_of_none, words_of_one, same_region}
+use Rattle.holes.specs.Tree.{words_from, word_at, IsHoles, IsFilled}
+use Rattle.holes.proofs.Regions.{view_length, holes_reset, reset_words, same_region, flag_of_some}
 use Rattle.holes.proofs.Holes.reset.Given as given
 use Rattle.holes.proofs.Holes.reset.Goals as goal
-use Rattle.holes.proofs.Holes.reset.Goals.{After-self}
-
-size_is : (g : given.Over) (c : goal.After-self g) → length c.args.self.now.free ≡ c.self.inside.size
-size_is g c =
-    sym (ap (λ (r : Region). length r.free) c.self.view_is) ∙ length_words c.self.inside.size
-    c.self.inside.holes.items c.self.invariant.apart
+use Rattle.holes.proofs.Holes.reset.Goals.{After-self-9-1}
 
 pub overflow_sub-self : goal.overflow_sub-self
-overflow_sub-self g c = omega (arith, c.requires, size_is g c)
+overflow_sub-self g c =
+    omega (
+      arith,
+      c.requires,
+      view_length c.self.inside.bits.items c.self.inside.size c.self.inside.most c.args.self.now c.self.view_is,
+    )
 
--- One hole up to the end.
-pub returns-then-self-gt0 : goal.returns-then-self-gt0
-returns-then-self-gt0 g c =
-    let size = size_is g (goal.at.returns-then-self-gt0 g c).After-self in
-    let words = words_from 0 c.self.inside.size in
-    let rest : Hole = record { place = c.args.from; len = c.self.inside.size - c.args.from } in
-    same_region (words c.push_reserved.new.self.items) (free_from c.args.from (length c.args.self.now.free))
-    c.self.inside.most c.args.self.now.most
-    (ap words (c.push_reserved.ensures.items ∙ ap (λ (holes : List Hole). holes ++ rest ∷ []) c.clear.ensures.items)
-    ∙ (words_of_one c.args.from c.self.inside.size (omega (arith, c.if-self-gt0.true)) ∙ ap (free_from c.args.from)
-    (sym size)))
-    (ap (λ (r : Region). r.most) c.self.view_is)
+pub fill-self-inside-requires-clause-within : goal.fill-self-inside-requires-clause-within
+fill-self-inside-requires-clause-within g c =
+    omega (
+      arith,
+      c.requires,
+      view_length c.self.inside.bits.items c.self.inside.size c.self.inside.most c.args.self.now c.self.view_is,
+      c.self.invariant.within,
+      ap length c.deref_mut.ensures.value,
+    )
 
--- No hole.
-pub returns-else-self-gt0 : goal.returns-else-self-gt0
-returns-else-self-gt0 g c =
-    let size = size_is g (goal.at.returns-else-self-gt0 g c).After-self in
-    let words = words_from 0 c.self.inside.size in
-    same_region (words c.clear.new.self.items) (free_from c.args.from (length c.args.self.now.free))
-    c.self.inside.most c.args.self.now.most
-    (ap words c.clear.ensures.items
-    ∙ (words_of_none c.args.from c.self.inside.size (omega (arith, c.requires)) (omega (arith, c.if-self-gt0.false)) ∙
-    ap (free_from c.args.from) (sym size)))
+pub fill-self-inside-requires-2-clause-within : goal.fill-self-inside-requires-2-clause-within
+fill-self-inside-requires-2-clause-within g c =
+    let filled : IsFilled c.self.inside.bits.items c.fill-self-inside.new.bits 0 c.args.from false =
+    subst (λ (list : List ℕ). IsFilled list c.fill-self-inside.new.bits 0 c.args.from false) c.deref_mut.ensures.value
+    c.fill-self-inside.ensures.filled in
+    let bits = with_items_is c.self.inside.bits c.fill-self-inside.new.bits
+    (omega (arith, filled.same_length, c.self.inside.bits.ok.0)) in
+    omega (
+      arith,
+      c.requires,
+      view_length c.self.inside.bits.items c.self.inside.size c.self.inside.most c.args.self.now c.self.view_is,
+      filled.same_length,
+      c.self.invariant.within,
+      ap length (c.deref_mut-3.ensures.value ∙ bits),
+    )
+
+-- The bitmaps and the nodes that are written back at last.
+record Second (g : given.Over) (c : After-self-9-1 g) : Type 0 where
+  from_within : c.args.from ≤ c.self.inside.size
+  bits : (with_items (with_items c.self.inside.bits c.fill-self-inside.new.bits)
+      c.fill-self-inside-2.new.bits).items ≡ c.fill-self-inside-2.new.bits
+  nodes : (with_items (with_items c.self.inside.nodes c.fill-self-inside.new.nodes)
+      c.fill-self-inside-2.new.nodes).items ≡ c.fill-self-inside-2.new.nodes
+  first_filled : IsFilled c.self.inside.bits.items c.fill-self-inside.new.bits 0 c.args.from false
+  filled : IsFilled c.fill-self-inside.new.bits c.fill-self-inside-2.new.bits c.args.from
+      (c.self.inside.size - c.args.from) true
+
+second : (g : given.Over) (c : After-self-9-1 g) → Second g c
+second g c =
+    let filled_first : IsFilled c.self.inside.bits.items c.fill-self-inside.new.bits 0 c.args.from false =
+    subst (λ (list : List ℕ). IsFilled list c.fill-self-inside.new.bits 0 c.args.from false) c.deref_mut.ensures.value
+    c.fill-self-inside.ensures.filled in
+    let bits = with_items_is c.self.inside.bits c.fill-self-inside.new.bits
+    (omega (arith, filled_first.same_length, c.self.inside.bits.ok.0)) in
+    let filled : IsFilled c.fill-self-inside.new.bits c.fill-self-inside-2.new.bits c.args.from
+    (c.self.inside.size - c.args.from) true =
+    subst (λ (list : List ℕ). IsFilled list c.fill-self-inside-2.new.bits c.args.from
+    (c.self.inside.size - c.args.from) true)
+    (c.deref_mut-3.ensures.value ∙ bits) c.fill-self-inside-2.ensures.filled in
+    record {
+      from_within = omega (
+        arith,
+        c.requires,
+        view_length c.self.inside.bits.items c.self.inside.size c.self.inside.most c.args.self.now c.self.view_is,
+      );
+      bits = with_items_is (with_items c.self.inside.bits c.fill-self-inside.new.bits) c.fill-self-inside-2.new.bits
+          (omega (arith, filled.same_length, filled_first.same_length, c.self.inside.bits.ok.0));
+      nodes = with_items_is (with_items c.self.inside.nodes c.fill-self-inside.new.nodes)
+          c.fill-self-inside-2.new.nodes (omega (
+            arith,
+            filled.same_length,
+            filled_first.same_length,
+            c.fill-self-inside-2.ensures.tree.node_count,
+            c.self.invariant.tree.node_count,
+            c.self.inside.nodes.ok.0,
+          ));
+      first_filled = filled_first;
+      filled = filled;
+    }
+
+pub invariant_of-self : goal.invariant_of-self
+invariant_of-self g c =
+    let s = second g (goal.at.invariant_of-self g c).After-self-9-1 in
+    let free = c.self.inside.size - c.args.from in
+    let count = c.from-self-inside.result in
+    subst (λ (bits : List ℕ). IsHoles bits
+    (with_items (with_items c.self.inside.nodes c.fill-self-inside.new.nodes) c.fill-self-inside-2.new.nodes).items
+    c.fill-self-inside-2.result c.args.from c.self.inside.size free count c.self.inside.most) (sym s.bits)
+    (subst (λ (nodes : List Summary). IsHoles c.fill-self-inside-2.new.bits nodes c.fill-self-inside-2.result
+    c.args.from
+    c.self.inside.size free count c.self.inside.most)
+    (sym s.nodes)
+    (holes_reset c.self.inside.bits.items c.fill-self-inside.new.bits c.fill-self-inside-2.new.bits
+    c.self.inside.nodes.items c.fill-self-inside-2.new.nodes c.self.inside.changed c.fill-self-inside-2.result
+    c.self.inside.low c.self.inside.size c.self.inside.free c.self.inside.count c.self.inside.most c.args.from count
+    c.self.invariant c.fill-self-inside-2.ensures.tree s.from_within s.first_filled s.filled
+    (c.from-self-inside.ensures ∙ flag_of_some free)))
+
+pub returns : goal.returns
+returns g c =
+    let s = second g (goal.at.returns g c).After-self-9-1 in
+    same_region _ _ _ _
+    (ap (λ (list : List ℕ). words_from (word_at list) 0 c.self.inside.size) s.bits
+    ∙ (reset_words c.self.inside.bits.items c.fill-self-inside.new.bits c.fill-self-inside-2.new.bits
+    c.self.inside.size c.args.from
+    c.self.invariant.within s.from_within s.first_filled s.filled
+    ∙ ap (free_from c.args.from) (sym
+    (view_length c.self.inside.bits.items c.self.inside.size c.self.inside.most c.args.self.now c.self.view_is))))
     (ap (λ (r : Region). r.most) c.self.view_is)

@@ -1,121 +1,143 @@
-use Rattle.std.proofs.Common.{rules, ◌≡◌, ◌+◌, ◌-◌, ◌≤◌, ◌<◌, ◌^◌, false, leb, length, arith, sym, ap, ◌∙◌, subst, List}
-use Rattle.std.specs.Prelude.{position}
-use Rattle.std.specs.Vec.{vec_capacity}
-use Rattle.std.proofs.lemmas.Bool.{true≢false}
-use Rattle.std.proofs.lemmas.List.{get_or_default}
-use Rattle.holes.specs.declared.hole.Hole.{Hole}
-use Rattle.holes.specs.FreeWords.{Region, set_range, IsLowestFit, widest}
-use Rattle.holes.specs.Layout.{words_from, hole_at, holes_after_cut, IsLayout}
-use Rattle.holes.proofs.Layouts.{most_len, widest-words_from}
-use Rattle.holes.proofs.Changes.{Takes, takes_at}
-use Rattle.holes.proofs.Facts.{Fits, length_words, lowest_at, most_len-lt, len-le-most_len, end_small, none_fits, first_fits, taken_len, layout_taken, same_region}
+use Rattle.std.proofs.Common.{rules, ◌≡◌, ◌+◌, ◌-◌, ◌<◌, ◌^◌, false, not, List, ℕ, length, arith, sym, ap, ◌∙◌, subst}
+use Rattle.std.specs.Int.{from_bool}
+use Rattle.std.specs.Vec.{with_items}
+use Rattle.std.proofs.lemmas.List.{with_items_is}
+use Rattle.holes.specs.declared.summary.Summary.{Summary}
+use Rattle.holes.specs.FreeWords.{Region, IsLowestFit, set_range, free_count, hole_count}
+use Rattle.holes.specs.Tree.{words_from, word_at, IsHoles, IsFilled}
+use Rattle.holes.proofs.Ranges.{free_count_taken}
+use Rattle.holes.proofs.Bits.{length-words}
+use Rattle.holes.proofs.Regions.{Takes, takes_seen, takes_count, taken_low, view_length, holes_after, filled_words, same_region, flag_of_not}
 use Rattle.holes.proofs.Holes.take.Given as given
 use Rattle.holes.proofs.Holes.take.Goals as goal
-use Rattle.holes.proofs.Holes.take.Goals.{After-cut_front-arg-1}
+use Rattle.holes.proofs.Holes.take.Goals.{After-from, After-self-6-1}
 
-pub returns-in_err-index-clause-none : goal.returns-in_err-index-clause-none
-returns-in_err-index-clause-none g c =
-    let holes = c.self.inside.holes.items in
-    let most : widest c.args.self.now.free ≡ most_len holes =
-    sym (ap (λ (r : Region). widest r.free) c.self.view_is) ∙ widest-words_from 0 0 c.self.inside.size holes
-    c.self.invariant.apart in
-    let none = sym (ap (position (λ (hole : Hole). leb c.args.len hole.len)) c.deref.ensures.value) ∙
-    (sym c.first_fit.ensures ∙ c.in_err-index.was) in
-    let less : most_len holes < c.args.len = most_len-lt c.args.len holes (none_fits holes c.args.len none) c.requires
-    in
-    let short : widest c.args.self.now.free < c.args.len = omega arith in
+pub overflow_add-place : goal.overflow_add-place
+overflow_add-place g c =
+    let t = takes_seen c.self.inside.bits.items c.self.inside.size c.self.inside.most c.args.len c.in_ok-place.place
+    c.args.self.now c.self.invariant.within c.self.invariant.behind c.requires
+    (c.self.view_is ∙ c.in_ok-place.ensures.unchanged) c.in_ok-place.ensures.none.1 c.in_ok-place.ensures.lowest in
+    let size_small : c.self.inside.size < 2 ^ 64 = search rules in
+    let small : c.in_ok-place.place + c.args.len < 2 ^ 64 = omega (arith, t.within) in
     search rules
 
--- What is known of the hole that is wide enough.
-record Known (g : given.Over) (c : goal.After-cut_front-arg-1 g) : Type 0 where
-  fit : Fits c.self.inside.holes.items c.in_ok-index.index c.args.len
-  takes : Takes c.self.inside.size (hole_at c.self.inside.holes.items c.in_ok-index.index).place c.args.len
-      c.self.inside.holes.items (holes_after_cut c.self.inside.holes.items c.in_ok-index.index c.args.len)
-  at : c.index.result.now ≡ hole_at c.self.inside.holes.items c.in_ok-index.index
-  end : (hole_at c.self.inside.holes.items c.in_ok-index.index).place +
-      (hole_at c.self.inside.holes.items c.in_ok-index.index).len ≤ c.self.inside.size
-  same_most : c.self.inside.most ≡ c.args.self.now.most
+-- How many words and holes there are then.
+record Known (g : given.Over) (c : After-from g) : Type 0 where
+  takes : Takes c.self.inside.bits.items c.self.inside.size c.args.len c.in_ok-place.place
+  free : c.self.inside.free ≡ free_count (set_range (words_from (word_at c.self.inside.bits.items) 0 c.self.inside.size)
+      c.in_ok-place.place c.args.len false) + c.args.len
+  count : c.self.inside.count ≡ hole_count (set_range (words_from (word_at c.self.inside.bits.items) 0
+      c.self.inside.size)
+      c.in_ok-place.place c.args.len false) + c.from.result
 
-known : (g : given.Over) (c : goal.After-cut_front-arg-1 g) → Known g c
+known : (g : given.Over) (c : After-from g) → Known g c
 known g c =
-    let holes = c.self.inside.holes.items in
-    let index = c.in_ok-index.index in
-    let found = sym (ap (position (λ (hole : Hole). leb c.args.len hole.len)) c.deref.ensures.value) ∙
-    (sym c.first_fit.ensures ∙ c.in_ok-index.was) in
-    let fit = first_fits holes c.args.len index found in
+    let bits = c.self.inside.bits.items in
+    let size = c.self.inside.size in
+    let place = c.in_ok-place.place in
+    let i = c.self.invariant in
+    let t = takes_seen bits size c.self.inside.most c.args.len place c.args.self.now i.within i.behind c.requires
+    (c.self.view_is ∙ c.in_ok-place.ensures.unchanged) c.in_ok-place.ensures.none.1 c.in_ok-place.ensures.lowest in
+    let less = c.from.ensures ∙ (ap (λ b. from_bool (not b)) (c.is_free.ensures
+    ∙ ap (λ (list : List ℕ). word_at list (place + c.args.len)) c.deref.ensures.value)
+    ∙ flag_of_not (word_at bits (place + c.args.len))) in
     record {
-      fit = fit;
-      takes = takes_at c.self.inside.size holes index c.args.len c.self.invariant.apart fit.inside fit.wide;
-      at = c.index.ensures ∙ get_or_default holes index c.index.result.now (record { place = 0; len = 0 }) fit.inside;
-      end = end_small c.self.inside.size holes index c.self.invariant.apart;
-      same_most = ap (λ (r : Region). r.most) c.self.view_is;
+      takes = t;
+      free = i.free_is ∙ free_count_taken (words_from (word_at bits) 0 size) place c.args.len
+          (omega (arith, t.within, length-words (word_at bits) 0 size)) t.all;
+      count = i.count_is ∙ takes_count bits size c.args.len place c.from.result i.behind c.requires t less;
     }
 
-pub cut_front-requires-clause-fits : goal.cut_front-requires-clause-fits
-cut_front-requires-clause-fits g c = (known g c).fit.wide
-
-pub cut_front-requires-clause-small : goal.cut_front-requires-clause-small
-cut_front-requires-clause-small g c =
-    let k = known g c in
-    let small : c.self.inside.size < 2 ^ 64 = search rules in
-    omega (arith, k.fit.wide, k.end)
-
 pub overflow_sub-self : goal.overflow_sub-self
-overflow_sub-self g c =
-    let k = known g (goal.at.overflow_sub-self g c).After-cut_front-arg-1 in
-    let hole = hole_at c.self.inside.holes.items c.in_ok-index.index in
-    taken_len c.self.inside.holes.items _ c.self.inside.size c.self.inside.free c.self.inside.most
-    (vec_capacity c.self.inside.holes)
-    hole.place c.args.len c.self.invariant k.takes
+overflow_sub-self g c = omega (arith, (known g (goal.at.overflow_sub-self g c).After-from).count)
+
+pub fill-self-inside-requires-clause-within : goal.fill-self-inside-requires-clause-within
+fill-self-inside-requires-clause-within g c =
+    let k = known g (goal.at.fill-self-inside-requires-clause-within g c).After-from in
+    omega (arith, k.takes.within, c.self.invariant.within, ap length c.deref_mut.ensures.value)
+
+pub low_after-self-inside-requires : goal.low_after-self-inside-requires
+low_after-self-inside-requires g c =
+    let k = known g (goal.at.low_after-self-inside-requires g c).After-from in
+    let size_small : c.self.inside.size < 2 ^ 64 = search rules in
+    omega (arith, k.takes.within)
+
+pub overflow_sub-self-2 : goal.overflow_sub-self-2
+overflow_sub-self-2 g c = omega (arith, (known g (goal.at.overflow_sub-self-2 g c).After-from).free)
+
+-- The bitmaps and the nodes that are written back.
+record Written (g : given.Over) (c : After-self-6-1 g) : Type 0 where
+  bits : (with_items c.self.inside.bits c.fill-self-inside.new.bits).items ≡ c.fill-self-inside.new.bits
+  nodes : (with_items c.self.inside.nodes c.fill-self-inside.new.nodes).items ≡ c.fill-self-inside.new.nodes
+  filled : IsFilled c.self.inside.bits.items c.fill-self-inside.new.bits c.in_ok-place.place c.args.len false
+
+written : (g : given.Over) (c : After-self-6-1 g) → Written g c
+written g c =
+    let filled : IsFilled c.self.inside.bits.items c.fill-self-inside.new.bits c.in_ok-place.place c.args.len false =
+    subst (λ (list : List ℕ). IsFilled list c.fill-self-inside.new.bits c.in_ok-place.place c.args.len false)
+    c.deref_mut.ensures.value
+    c.fill-self-inside.ensures.filled in
+    record {
+      bits = with_items_is c.self.inside.bits c.fill-self-inside.new.bits
+          (omega (arith, filled.same_length, c.self.inside.bits.ok.0));
+      nodes = with_items_is c.self.inside.nodes c.fill-self-inside.new.nodes (omega (
+        arith,
+        filled.same_length,
+        c.self.inside.nodes.ok.0,
+        c.fill-self-inside.ensures.tree.node_count,
+        c.self.invariant.tree.node_count,
+      ));
+      filled = filled;
+    }
 
 pub invariant_of-self : goal.invariant_of-self
 invariant_of-self g c =
-    let k = known g (goal.at.invariant_of-self g c).After-cut_front-arg-1 in
-    let hole = hole_at c.self.inside.holes.items c.in_ok-index.index in
-    subst (λ (new : List Hole). IsLayout new c.self.inside.size (c.self.inside.free - c.args.len) c.self.inside.most
-    (vec_capacity c.cut_front.new.holes)) (sym c.cut_front.ensures.holes)
-    (layout_taken c.self.inside.holes.items _ c.self.inside.size c.self.inside.free c.self.inside.most
-    (vec_capacity c.self.inside.holes)
-    (vec_capacity c.cut_front.new.holes) hole.place c.args.len c.self.invariant k.takes c.cut_front.ensures.capacity)
+    let k = known g (goal.at.invariant_of-self g c).After-from in
+    let w = written g (goal.at.invariant_of-self g c).After-self-6-1 in
+    let free = c.self.inside.free - c.args.len in
+    let count = c.self.inside.count - c.from.result in
+    subst (λ (bits : List ℕ). IsHoles bits (with_items c.self.inside.nodes c.fill-self-inside.new.nodes).items
+    c.fill-self-inside.result c.low_after-self-inside.result c.self.inside.size free count c.self.inside.most)
+    (sym w.bits)
+    (subst (λ (nodes : List Summary). IsHoles c.fill-self-inside.new.bits nodes c.fill-self-inside.result
+    c.low_after-self-inside.result c.self.inside.size free count c.self.inside.most)
+    (sym w.nodes)
+    (holes_after c.self.inside.bits.items c.fill-self-inside.new.bits c.self.inside.nodes.items
+    c.fill-self-inside.new.nodes c.self.inside.changed c.fill-self-inside.result c.self.inside.low
+    c.low_after-self-inside.result c.self.inside.size c.self.inside.free c.self.inside.count c.self.inside.most
+    c.in_ok-place.place c.args.len free count false c.self.invariant c.fill-self-inside.ensures.tree w.filled
+    k.takes.within
+    (taken_low c.self.inside.bits.items c.fill-self-inside.new.bits c.self.inside.low c.low_after-self-inside.result
+    c.in_ok-place.place c.args.len w.filled c.self.invariant.none_below c.low_after-self-inside.ensures)
+    (omega (arith, k.free)) (omega (arith, k.count)) (omega (arith, c.self.invariant.few))))
 
 pub returns-clause-lowest : goal.returns-clause-lowest
 returns-clause-lowest g c =
-    let k = known g (goal.at.returns-clause-lowest g c).After-cut_front-arg-1 in
-    let words = words_from 0 c.self.inside.size c.self.inside.holes.items in
-    subst (λ (r : Region). IsLowestFit r.free c.args.len c.index.result.now.place) c.self.view_is
-    (subst (λ (hole : Hole). IsLowestFit words c.args.len hole.place) (sym k.at)
-    (lowest_at c.self.inside.size c.args.len c.self.inside.holes.items c.in_ok-index.index c.self.invariant.apart
-    c.requires k.fit.inside k.fit.wide k.fit.shorter))
+    let k = known g (goal.at.returns-clause-lowest g c).After-from in
+    subst (λ (r : Region). IsLowestFit r.free c.args.len c.in_ok-place.place) (c.self.view_is ∙
+    c.in_ok-place.ensures.unchanged) k.takes.lowest
 
 pub returns-clause-within : goal.returns-clause-within
 returns-clause-within g c =
-    let k = known g (goal.at.returns-clause-within g c).After-cut_front-arg-1 in
-    let size : length c.args.self.now.free ≡ c.self.inside.size =
-    sym (ap (λ (r : Region). length r.free) c.self.view_is) ∙ length_words c.self.inside.size
-    c.self.inside.holes.items c.self.invariant.apart in
-    let place : c.index.result.now.place ≡ (hole_at c.self.inside.holes.items c.in_ok-index.index).place = ap
-    (λ (hole : Hole). hole.place) k.at in
-    omega (arith, k.fit.wide, k.end)
+    let k = known g (goal.at.returns-clause-within g c).After-from in
+    omega (
+      arith,
+      k.takes.within,
+      view_length c.self.inside.bits.items c.self.inside.size c.self.inside.most c.args.self.now
+          (c.self.view_is ∙ c.in_ok-place.ensures.unchanged),
+    )
 
 pub returns-clause-taken : goal.returns-clause-taken
 returns-clause-taken g c =
-    let k = known g (goal.at.returns-clause-taken g c).After-cut_front-arg-1 in
-    let words = words_from 0 c.self.inside.size in
-    let place = c.index.result.now.place in
-    same_region (words c.cut_front.new.holes.items) (set_range c.args.self.now.free place c.args.len false)
-    c.self.inside.most c.args.self.now.most
-    (ap words c.cut_front.ensures.holes
-    ∙ (k.takes.words
-    ∙ (ap (λ (hole : Hole). set_range (words c.self.inside.holes.items) hole.place c.args.len false) (sym k.at)
-    ∙ ap (λ (r : Region). set_range r.free place c.args.len false) c.self.view_is)))
-    k.same_most
-
-pub returns-clause-none : goal.returns-clause-none
-returns-clause-none g c =
-    let k = known g (goal.at.returns-clause-none g c).After-cut_front-arg-1 in
-    let holes = c.self.inside.holes.items in
-    let most : widest c.args.self.now.free ≡ most_len holes =
-    sym (ap (λ (r : Region). widest r.free) c.self.view_is) ∙ widest-words_from 0 0 c.self.inside.size holes
-    c.self.invariant.apart in
-    let wide = len-le-most_len holes c.in_ok-index.index k.fit.inside in
-    ((λ e. absurd (true≢false e)), (λ short. absurd (omega (arith, k.fit.wide))))
+    let k = known g (goal.at.returns-clause-taken g c).After-from in
+    let w = written g (goal.at.returns-clause-taken g c).After-self-6-1 in
+    let bits = c.self.inside.bits.items in
+    let size = c.self.inside.size in
+    let place = c.in_ok-place.place in
+    let seen = c.self.view_is ∙ c.in_ok-place.ensures.unchanged in
+    same_region _ _ _ _
+    (ap (λ (list : List ℕ). words_from (word_at list) 0 size) w.bits
+    ∙ (filled_words bits c.fill-self-inside.new.bits size place c.args.len false c.self.invariant.within
+    k.takes.within w.filled
+    ∙ ap (λ (r : Region). set_range r.free place c.args.len false) seen))
+    (ap (λ (r : Region). r.most) seen)

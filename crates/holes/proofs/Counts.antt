@@ -1,0 +1,95 @@
+-- How many holes there are after a range was taken or given, by the words right before and right behind it.
+use Rattle.std.proofs.Common.{◌≡◌, ℕ, ◌+◌, ◌-◌, ◌<◌, ◌≤◌, Bool, true, false, cond, eqb, List, [], ◌∷◌, ◌++◌, length, take, drop, refl, sym, ◌∙◌, ap, arith, zero, suc}
+use Rattle.std.specs.Prelude.{replicate}
+use Rattle.std.proofs.lemmas.Bool.{ne_eqb}
+use Rattle.std.proofs.lemmas.List.{get_or-drop}
+use Rattle.holes.specs.FreeWords.{is_free, set_range, free_from, hole_count_after, hole_count}
+use Rattle.holes.proofs.Ranges.{last_of, hole_count_after-append, hole_count_after-false, hole_count_after_true-true}
+
+count_behind : (free : List Bool) →
+    hole_count_after false free ≡ hole_count_after true free + cond (is_free free 0) 1 0
+count_behind [] = refl
+count_behind (false ∷ free) = omega arith
+count_behind (true ∷ free) = omega arith
+
+count_free : (before : Bool) (n : ℕ) → hole_count_after before (replicate (suc n) true) ≡ cond before 0 1
+count_free true n = hole_count_after_true-true n
+count_free false n = omega (arith, hole_count_after_true-true n)
+
+last_same : (before value : Bool) (n : ℕ) → last_of before (replicate (suc n) value) ≡ value
+last_same before value zero = refl
+last_same before value (suc n) = last_same value value n
+
+pub last_taken : (before : Bool) (free : List Bool) (place : ℕ) → place < length free →
+    last_of before (take (suc place) free) ≡ is_free free place
+last_taken before [] place lt = absurd (omega arith)
+last_taken before (word ∷ free) zero lt = refl
+last_taken before (word ∷ free) (suc place) lt = last_taken word free place (omega arith)
+
+last-append : (before : Bool) (xs ys : List Bool) → last_of before (xs ++ ys) ≡ last_of (last_of before xs) ys
+last-append before [] ys = refl
+last-append before (word ∷ xs) ys = last-append word xs ys
+
+count_set : (free : List Bool) (place len : ℕ) (value : Bool) → hole_count (set_range free place (suc len) value) ≡
+    hole_count_after false (take place free)
+    + hole_count_after (last_of false (take place free)) (replicate (suc len) value)
+    + hole_count_after value (drop (place + suc len) free)
+count_set free place len value =
+    let front = take place free in
+    let range = replicate (suc len) value in
+    let back = drop (place + suc len) free in
+    let last : last_of false (front ++ range) ≡ value =
+    last-append false front range ∙ last_same (last_of false front) value len in
+    omega (
+      arith,
+      hole_count_after-append false (front ++ range) back,
+      hole_count_after-append false front range,
+      ap (λ b. hole_count_after b back) last,
+    )
+
+-- of a range that is free and one that isn't
+count_both : (free : List Bool) (place len : ℕ) → hole_count (set_range free place (suc len) true)
+    + cond (is_free free (place + suc len)) 1 0
+    ≡ hole_count (set_range free place (suc len) false) + cond (last_of false (take place free)) 0 1
+count_both free place len =
+    let back = drop (place + suc len) free in
+    let first : is_free back 0 ≡ is_free free (place + suc len) =
+    get_or-drop (place + suc len) free 0 false ∙ ap (is_free free)
+    (let e : (place + suc len) + 0 ≡ place + suc len = omega arith in e) in
+    omega (
+      arith,
+      count_set free place len true,
+      count_set free place len false,
+      count_free (last_of false (take place free)) len,
+      hole_count_after-false (last_of false (take place free)) (suc len),
+      count_behind back,
+      ap {B = ℕ} (λ (b : Bool). cond b 1 0) first,
+    )
+
+pub hole_count_changed : (free : List Bool) (place len : ℕ) → 1 ≤ len →
+    hole_count (set_range free place len true) + cond (is_free free (place + len)) 1 0
+    ≡ hole_count (set_range free place len false) + cond (last_of false (take place free)) 0 1
+hole_count_changed free place zero some = absurd (omega arith)
+hole_count_changed free place (suc len) some = count_both free place len
+
+last_none : (place : ℕ) → last_of false (replicate place false) ≡ false
+last_none zero = refl
+last_none (suc place) = last_none place
+
+count_all_from : (place n : ℕ) →
+    hole_count (replicate place false ++ replicate n true) ≡ hole_count_after false (replicate n true)
+count_all_from place n =
+    omega (
+      arith,
+      hole_count_after-append false (replicate place false) (replicate n true),
+      hole_count_after-false false place,
+      ap (λ b. hole_count_after b (replicate n true)) (last_none place),
+    )
+
+count_some : (n : ℕ) → hole_count_after false (replicate n true) ≡ cond (eqb n 0) 0 1
+count_some zero = refl
+count_some (suc n) =
+    count_free false n ∙ sym (ap (λ (b : Bool). cond b 0 1) (ne_eqb (suc n) 0 (λ e. absurd (omega arith))))
+
+pub hole_count_from : (place size : ℕ) → hole_count (free_from place size) ≡ cond (eqb (size - place) 0) 0 1
+hole_count_from place size = count_all_from place (size - place) ∙ count_some (size - place)

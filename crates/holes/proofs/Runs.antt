@@ -1,0 +1,319 @@
+-- The free words at the front and at the end of some words, the widest hole and the lowest fit, also of words that
+-- stand before others.
+use Rattle.std.proofs.Common.{◌≡◌, ℕ, ◌+◌, ◌-◌, ◌<◌, ◌≤◌, ◌^◌, min, max, Bool, true, false, cond, List, [], ◌∷◌, ◌++◌, length, drop, refl, sym, ◌∙◌, ap, inl, inr, arith, zero, suc}
+use Rattle.std.proofs.lemmas.Bool.{cases_lt, cases_Bool, false≢true, le-leb, lt-leb, cond-true, cond-false}
+use Rattle.std.proofs.lemmas.List.{length-append, length-drop, get_or-drop}
+use Rattle.holes.specs.declared.summary.Summary.{Summary}
+use Rattle.holes.specs.FreeWords.{is_free, AllFree, IsLowestFit, front_run, widest}
+use Rattle.holes.specs.Tree.{all_free, back_run, lowest_fit, summary, join}
+
+pub front-le-length : (free : List Bool) → front_run free ≤ length free
+front-le-length [] = omega arith
+front-le-length (false ∷ free) = omega arith
+front-le-length (true ∷ free) = omega (arith, front-le-length free)
+
+pub front-le-widest : (free : List Bool) → front_run free ≤ widest free
+front-le-widest [] = omega arith
+front-le-widest (word ∷ free) = omega arith
+
+pub widest-le-length : (free : List Bool) → widest free ≤ length free
+widest-le-length [] = omega arith
+widest-le-length (word ∷ free) = omega (arith, front-le-length (word ∷ free), widest-le-length free)
+
+pub front_all : (free : List Bool) → all_free free ≡ true → front_run free ≡ length free
+front_all [] all = refl
+front_all (false ∷ free) all = absurd (false≢true all)
+front_all (true ∷ free) all = omega (arith, front_all free all)
+
+pub back-le-length : (free : List Bool) → back_run free ≤ length free
+back-le-length [] = omega arith
+back-le-length (false ∷ free) = omega (arith, back-le-length free)
+back-le-length (true ∷ free) = elim (cases_Bool (all_free free)) [
+  | inl all ↦ omega (arith, cond-true (all_free free) (1 + length free) (back_run free) all)
+  | inr some ↦ omega (arith, cond-false (all_free free) (1 + length free) (back_run free) some, back-le-length free)
+]
+
+pub back_all : (free : List Bool) → all_free free ≡ true → back_run free ≡ length free
+back_all [] all = refl
+back_all (false ∷ free) all = absurd (false≢true all)
+back_all (true ∷ free) all = omega (arith, cond-true (all_free free) (1 + length free) (back_run free) all)
+
+-- Words and those behind them.
+pub all_free-append : (xs ys : List Bool) → all_free (xs ++ ys) ≡ cond (all_free xs) (all_free ys) false
+all_free-append [] ys = refl
+all_free-append (false ∷ xs) ys = refl
+all_free-append (true ∷ xs) ys = all_free-append xs ys
+
+front_more : (all : Bool) (n xs ys : ℕ) → n ≡ cond all (xs + ys) xs → 1 + n ≡ cond all ((1 + xs) + ys) (1 + xs)
+front_more true n xs ys e = omega arith
+front_more false n xs ys e = omega arith
+
+pub front-append : (xs ys : List Bool) →
+    front_run (xs ++ ys) ≡ cond (all_free xs) (front_run xs + front_run ys) (front_run xs)
+front-append [] ys = omega arith
+front-append (false ∷ xs) ys = refl
+front-append (true ∷ xs) ys =
+    front_more (all_free xs) (front_run (xs ++ ys)) (front_run xs) (front_run ys) (front-append xs ys)
+
+back_none : (all : Bool) (n : ℕ) → n ≡ cond all (n + 0) n
+back_none true n = omega arith
+back_none false n = refl
+
+back_more : (all_xs all_ys : Bool) (n len_xs len_ys xs ys : ℕ) → (all_ys ≡ true → ys ≡ len_ys) →
+    n ≡ cond all_ys (ys + xs) ys →
+    cond (cond all_xs all_ys false) (1 + (len_xs + len_ys)) n ≡ cond all_ys (ys + cond all_xs (1 + len_xs) xs) ys
+back_more true true n len_xs len_ys xs ys len e = omega (arith, len refl)
+back_more true false n len_xs len_ys xs ys len e = e
+back_more false all_ys n len_xs len_ys xs ys len e = e
+
+pub back-append : (xs ys : List Bool) →
+    back_run (xs ++ ys) ≡ cond (all_free ys) (back_run ys + back_run xs) (back_run ys)
+back-append [] ys = back_none (all_free ys) (back_run ys)
+back-append (false ∷ xs) ys = back-append xs ys
+back-append (true ∷ xs) ys =
+    ap (λ n. cond (all_free (xs ++ ys)) (1 + n) (back_run (xs ++ ys))) (length-append xs ys)
+    ∙ (ap (λ all. cond all (1 + (length xs + length ys)) (back_run (xs ++ ys))) (all_free-append xs ys)
+    ∙ back_more (all_free xs) (all_free ys) (back_run (xs ++ ys)) (length xs) (length ys) (back_run xs) (back_run ys)
+    (back_all ys) (back-append xs ys))
+
+widest_more : (all : Bool) (front_xs back_xs len_xs widest_xs front_ys widest_ys front n : ℕ) →
+    (all ≡ true → front_xs ≡ len_xs) → (all ≡ true → back_xs ≡ len_xs) →
+    front ≡ cond all (front_xs + front_ys) front_xs → n ≡ max (max widest_xs widest_ys) (back_xs + front_ys) →
+    max (1 + front) n ≡
+    max (max (max (1 + front_xs) widest_xs) widest_ys) (cond all (1 + len_xs) back_xs + front_ys)
+widest_more true front_xs back_xs len_xs widest_xs front_ys widest_ys front n f b e w =
+    omega (arith, f refl, b refl)
+widest_more false front_xs back_xs len_xs widest_xs front_ys widest_ys front n f b e w = omega arith
+
+pub widest-append : (xs ys : List Bool) →
+    widest (xs ++ ys) ≡ max (max (widest xs) (widest ys)) (back_run xs + front_run ys)
+widest-append [] ys = omega (arith, front-le-widest ys)
+widest-append (false ∷ xs) ys = omega (arith, widest-append xs ys)
+widest-append (true ∷ xs) ys =
+    widest_more (all_free xs) (front_run xs) (back_run xs) (length xs) (widest xs) (front_run ys) (widest ys)
+    (front_run (xs ++ ys)) (widest (xs ++ ys)) (front_all xs) (back_all xs) (front-append xs ys) (widest-append xs ys)
+
+pub same_summary : (f1 f2 b1 b2 l1 l2 : ℕ) (w1 w2 : Bool) → f1 ≡ f2 → b1 ≡ b2 → l1 ≡ l2 → w1 ≡ w2 →
+    ◌≡◌ {A = Summary} (record { front = f1; back = b1; longest = l1; whole = w1 })
+    (record { front = f2; back = b2; longest = l2; whole = w2 })
+same_summary f1 f2 b1 b2 l1 l2 w1 w2 f b l w = cc
+
+sum_fits : (all : Bool) (n a b : ℕ) → a + b < 2 ^ 64 → n ≡ cond all (a + b) a →
+    n ≡ cond all (min (a + b) (2 ^ 64 - 1)) a
+sum_fits true n a b small e = omega arith
+sum_fits false n a b small e = e
+
+-- The summary of words and of those behind them.
+pub summary-append : (xs ys : List Bool) → length xs + length ys < 2 ^ 64 →
+    summary (xs ++ ys) ≡ join (summary xs) (summary ys)
+summary-append xs ys small =
+    same_summary (front_run (xs ++ ys)) (join (summary xs) (summary ys)).front (back_run (xs ++ ys))
+    (join (summary xs) (summary ys)).back (widest (xs ++ ys)) (join (summary xs) (summary ys)).longest
+    (all_free (xs ++ ys)) (join (summary xs) (summary ys)).whole
+    (sum_fits (all_free xs) (front_run (xs ++ ys)) (front_run xs) (front_run ys)
+    (omega (arith, front-le-length xs, front-le-length ys)) (front-append xs ys))
+    (sum_fits (all_free ys) (back_run (xs ++ ys)) (back_run ys) (back_run xs)
+    (omega (arith, back-le-length xs, back-le-length ys)) (back-append xs ys))
+    (omega (arith, widest-append xs ys, back-le-length xs, front-le-length ys))
+    (all_free-append xs ys)
+
+-- The lowest fit.
+pub lowest_here : (len : ℕ) (word : Bool) (free : List Bool) → len ≤ front_run (word ∷ free) →
+    lowest_fit len (word ∷ free) ≡ 0
+lowest_here len word free fits =
+    ap (λ here. cond here 0 (1 + lowest_fit len free)) (le-leb len (front_run (word ∷ free)) fits)
+
+pub lowest_later : (len : ℕ) (word : Bool) (free : List Bool) → front_run (word ∷ free) < len →
+    lowest_fit len (word ∷ free) ≡ 1 + lowest_fit len free
+lowest_later len word free short =
+    ap (λ here. cond here 0 (1 + lowest_fit len free)) (lt-leb len (front_run (word ∷ free)) short)
+
+pub lowest_front : (len : ℕ) (free : List Bool) → len ≤ front_run free → lowest_fit len free ≡ 0
+lowest_front len [] fits = refl
+lowest_front len (word ∷ free) fits = lowest_here len word free fits
+
+-- the front of words that aren't all free, and of those behind them
+pub front_same : (xs ys : List Bool) → all_free xs ≡ false → front_run (xs ++ ys) ≡ front_run xs
+front_same xs ys some =
+    front-append xs ys ∙ cond-false (all_free xs) (front_run xs + front_run ys) (front_run xs) some
+
+front_long : (xs ys : List Bool) → all_free xs ≡ true → front_run (xs ++ ys) ≡ length xs + front_run ys
+front_long xs ys all =
+    omega (
+      arith,
+      front-append xs ys,
+      cond-true (all_free xs) (front_run xs + front_run ys) (front_run xs) all,
+      front_all xs all,
+    )
+
+-- it stands in the first words where they have one
+pub lowest-append_left : (len : ℕ) (xs ys : List Bool) → 1 ≤ len → len ≤ widest xs →
+    lowest_fit len (xs ++ ys) ≡ lowest_fit len xs
+lowest-append_left len [] ys some fits = absurd (omega arith)
+lowest-append_left len (word ∷ xs) ys some fits = elim (cases_lt (front_run (word ∷ xs)) len) [
+  | inl short ↦ elim (cases_Bool (all_free (word ∷ xs))) [
+    | inl all ↦ absurd (omega (arith, front_all (word ∷ xs) all, widest-le-length xs))
+    | inr rest ↦ lowest_later len word (xs ++ ys) (omega (arith, front_same (word ∷ xs) ys rest))
+        ∙ (ap (λ n. 1 + n) (lowest-append_left len xs ys some (omega arith)) ∙ sym (lowest_later len word xs short))
+  ]
+  | inr here ↦ elim (cases_Bool (all_free (word ∷ xs))) [
+    | inl all ↦ lowest_here len word (xs ++ ys)
+        (omega (arith, front_long (word ∷ xs) ys all, front_all (word ∷ xs) all)) ∙ sym (lowest_here len word xs here)
+    | inr rest ↦ lowest_here len word (xs ++ ys) (omega (arith, front_same (word ∷ xs) ys rest)) ∙ sym
+        (lowest_here len word xs here)
+  ]
+]
+
+back_rest : (word : Bool) (xs : List Bool) → all_free (word ∷ xs) ≡ false → back_run (word ∷ xs) ≡ back_run xs
+back_rest word xs some = cond-false (all_free (word ∷ xs)) (1 + length xs) (back_run xs) some
+
+-- it begins at the end of the first words where only what meets there is long enough
+pub lowest-append_between : (len : ℕ) (xs ys : List Bool) → widest xs < len → len ≤ back_run xs + front_run ys →
+    lowest_fit len (xs ++ ys) ≡ length xs - back_run xs
+lowest-append_between len [] ys short fits = omega (arith, lowest_front len ys (omega arith))
+lowest-append_between len (word ∷ xs) ys short fits = elim (cases_Bool (all_free (word ∷ xs))) [
+  | inl all ↦ omega (
+    arith,
+    lowest_here len word (xs ++ ys)
+        (omega (arith, front_long (word ∷ xs) ys all, back_all (word ∷ xs) all)),
+    back_all (word ∷ xs) all,
+  )
+  | inr rest ↦ omega (
+    arith,
+    lowest_later len word (xs ++ ys)
+        (omega (arith, front_same (word ∷ xs) ys rest, front-le-widest (word ∷ xs))),
+    back_rest word xs rest,
+    back-le-length xs,
+    lowest-append_between len xs ys (omega arith) (omega (arith, back_rest word xs rest)),
+  )
+]
+
+-- it stands in the last words otherwise
+pub lowest-append_right : (len : ℕ) (xs ys : List Bool) → widest xs < len → back_run xs + front_run ys < len →
+    lowest_fit len (xs ++ ys) ≡ length xs + lowest_fit len ys
+lowest-append_right len [] ys short meet = omega arith
+lowest-append_right len (word ∷ xs) ys short meet = elim (cases_Bool (all_free (word ∷ xs))) [
+  | inl all ↦ omega (
+    arith,
+    lowest_later len word (xs ++ ys)
+        (omega (arith, front_long (word ∷ xs) ys all, back_all (word ∷ xs) all)),
+    lowest-append_right len xs ys (omega arith)
+        (omega (arith, back_all (word ∷ xs) all, back-le-length xs)),
+  )
+  | inr rest ↦ omega (
+    arith,
+    lowest_later len word (xs ++ ys)
+        (omega (arith, front_same (word ∷ xs) ys rest, front-le-widest (word ∷ xs))),
+    lowest-append_right len xs ys (omega arith) (omega (arith, back_rest word xs rest)),
+  )
+]
+
+-- The lowest fit is the front of the lowest hole that is wide enough.
+drop_later : (word : Bool) (free : List Bool) (n len : ℕ) → len ≤ front_run (drop n free) →
+    len ≤ front_run (drop (1 + n) (word ∷ free))
+drop_later word free n len e = let same : 1 + n ≡ suc n = omega arith in rw same e
+
+pub fit_here : (len : ℕ) (free : List Bool) → 1 ≤ len → len ≤ widest free →
+    len ≤ front_run (drop (lowest_fit len free) free)
+fit_here len [] some fits = absurd (omega arith)
+fit_here len (word ∷ free) some fits = elim (cases_lt (front_run (word ∷ free)) len) [
+  | inl short ↦ rw (lowest_later len word free short) (drop_later word free (lowest_fit len free) len
+      (fit_here len free some (omega arith)))
+  | inr here ↦ rw (lowest_here len word free here) here
+]
+
+pub fit_before : (len place : ℕ) (free : List Bool) → place < lowest_fit len free → front_run (drop place free) < len
+fit_before len place [] lt = absurd (omega arith)
+fit_before len zero (word ∷ free) lt = elim (cases_lt (front_run (word ∷ free)) len) [
+  | inl short ↦ short
+  | inr here ↦ absurd (omega (arith, lowest_here len word free here))
+]
+fit_before len (suc place) (word ∷ free) lt = elim (cases_lt (front_run (word ∷ free)) len) [
+  | inl short ↦ fit_before len place free (omega (arith, lowest_later len word free short))
+  | inr here ↦ absurd (omega (arith, lowest_here len word free here))
+]
+
+front_free : (free : List Bool) (word : ℕ) → word < front_run free → is_free free word ≡ true
+front_free [] word lt = absurd (omega arith)
+front_free (false ∷ free) word lt = absurd (omega arith)
+front_free (true ∷ free) zero lt = refl
+front_free (true ∷ free) (suc word) lt = front_free free word (omega arith)
+
+front_end : (free : List Bool) → is_free free (front_run free) ≡ false
+front_end [] = refl
+front_end (false ∷ free) = refl
+front_end (true ∷ free) = let same : 1 + front_run free ≡ suc (front_run free) = omega arith in rw same (front_end free)
+
+front_at_least : (free : List Bool) (len : ℕ) → ((word : ℕ) → word < len → is_free free word ≡ true) →
+    len ≤ front_run free
+front_at_least free zero all = omega arith
+front_at_least [] (suc len) all = absurd (false≢true (all zero (omega arith)))
+front_at_least (false ∷ free) (suc len) all = absurd (false≢true (all zero (omega arith)))
+front_at_least (true ∷ free) (suc len) all =
+    omega (arith, front_at_least free len (λ word lt. all (suc word) (omega arith)))
+
+pub run_free : (free : List Bool) (place len : ℕ) → len ≤ front_run (drop place free) → AllFree free place len
+run_free free place len fits word from to =
+    ap (is_free free) (let e : word ≡ place + (word - place) = omega arith in e)
+    ∙ (sym (get_or-drop place free (word - place) false)
+    ∙ front_free (drop place free) (word - place) (omega arith))
+
+pub free_run : (free : List Bool) (place len : ℕ) → AllFree free place len → len ≤ front_run (drop place free)
+free_run free place len all =
+    front_at_least (drop place free) len (λ word lt. get_or-drop place free word false ∙ all (place + word)
+    (omega arith) (omega arith))
+
+pub lowest_within : (len : ℕ) (free : List Bool) → 1 ≤ len → len ≤ widest free →
+    lowest_fit len free + len ≤ length free
+lowest_within len free some fits =
+    omega (
+      arith,
+      fit_here len free some fits,
+      front-le-length (drop (lowest_fit len free) free),
+      length-drop (lowest_fit len free) free,
+    )
+
+more_free : (free : List Bool) (word place len : ℕ) → is_free free word ≡ true → word + 1 ≡ place →
+    AllFree free place len → AllFree free word len
+more_free free word place len is next all at from to = elim (cases_lt word at) [
+  | inl above ↦ all at (omega arith) (omega arith)
+  | inr here ↦ ap (is_free free) (let e : at ≡ word = omega arith in e) ∙ is
+]
+
+pub lowest_is_lowest : (len : ℕ) (free : List Bool) → 1 ≤ len → len ≤ widest free →
+    IsLowestFit free len (lowest_fit len free)
+lowest_is_lowest len free some fits =
+    let place = lowest_fit len free in
+    let run = front_run (drop place free) in
+    let wide : len ≤ run = fit_here len free some fits in
+    record {
+      hole_len = run;
+      hole = record {
+        some = omega arith;
+        inside = run_free free place run (omega arith);
+        before = λ word next. elim (cases_Bool (is_free free word)) [
+          | inl is ↦ absurd (omega (
+            arith,
+            fit_before len word free (omega arith),
+            free_run free word len (more_free free word place len is next (run_free free place len wide)),
+          ))
+          | inr none ↦ none
+        ];
+        behind = sym (get_or-drop place free run false) ∙ front_end (drop place free);
+      };
+      fits = wide;
+      lowest = λ other other_len is long. elim (cases_lt other place) [
+        | inl below ↦ absurd (omega (arith, fit_before len other free below, free_run free other other_len is.inside))
+        | inr above ↦ above
+      ];
+    }
+
+pub run-le-widest : (place : ℕ) (free : List Bool) → front_run (drop place free) ≤ widest free
+run-le-widest zero free = front-le-widest free
+run-le-widest (suc place) [] = omega arith
+run-le-widest (suc place) (word ∷ free) = omega (arith, run-le-widest place free)
+
+-- a free word begins a run
+pub word_run : (free : List Bool) (word : ℕ) → is_free free word ≡ true → 1 ≤ front_run (drop word free)
+word_run free word is =
+    free_run free word 1 (λ at from to. ap (is_free free) (let e : at ≡ word = omega arith in e) ∙ is)

@@ -1,0 +1,167 @@
+-- What the nodes of a tree over bitmaps tell of the free words.
+use Rattle.std.specs.Prelude.{◌≡◌, ℕ, zero, suc, ◌+◌, ◌-◌, ◌*◌, ◌/◌, ◌%◌, ◌^◌, ◌<◌, ◌≤◌, min, max, nat_eq, nat_le, if◌then◌else◌, Bool, true, false, List, [], ◌∷◌, length, slice_index_or, ◌⊎◌}
+use Rattle.std.specs.Int.{bit_at}
+use Rattle.holes.specs.declared.summary.Summary.{Summary}
+use Rattle.holes.specs.declared.tree.Changed.{Changed}
+use Rattle.holes.specs.FreeWords.{free_count, hole_count, front_run, widest}
+
+-- whether each of some words is free
+abbrev pub all_free : List Bool → Bool
+all_free [] = true
+all_free (false ∷ free) = false
+all_free (true ∷ free) = all_free free
+
+-- how many words are free in a row up to the end
+abbrev pub back_run : List Bool → ℕ
+back_run [] = 0
+back_run (word ∷ free) = if all_free (word ∷ free) then 1 + length free else back_run free
+
+-- where the lowest hole of at least so many words begins, in words that have one
+abbrev pub lowest_fit : ℕ → List Bool → ℕ
+lowest_fit len [] = 0
+lowest_fit len (word ∷ free) = if nat_le len (front_run (word ∷ free)) then 0 else 1 + lowest_fit len free
+
+abbrev pub summary : List Bool → Summary
+summary free = record { front = front_run free; back = back_run free; longest = widest free; whole = all_free free }
+
+-- where no word is free
+abbrev pub nothing_free : Summary
+nothing_free = record { front = 0; back = 0; longest = 0; whole = false }
+
+-- a sum, or the largest number where the sum is greater
+abbrev pub sum_at_most : ℕ → ℕ → ℕ
+sum_at_most a b = min (a + b) (2 ^ 64 - 1)
+
+-- the summary of words and of those behind them
+abbrev pub join : Summary → Summary → Summary
+join left right = record {
+  front = if left.whole then sum_at_most left.front right.front else left.front;
+  back = if right.whole then sum_at_most right.back left.back else right.back;
+  longest = max (max left.longest right.longest) (sum_at_most left.back right.front);
+  whole = if left.whole then right.whole else false;
+}
+
+-- whether a bit is set
+abbrev pub is_set : ℕ → ℕ → Bool
+is_set bits word = nat_eq (bit_at bits word) 1
+
+-- so many words from a place on, as bits tell them
+abbrev pub words_from : (ℕ → Bool) → ℕ → ℕ → List Bool
+words_from each place zero = []
+words_from each place (suc len) = each place ∷ words_from each (place + 1) len
+
+-- the 64 words of a bitmap
+unfoldable pub words_of_bits : ℕ → List Bool
+words_of_bits bits = words_from (is_set bits) 0 64
+
+-- whether a word is free, of the words of some bitmaps
+abbrev pub word_at : List ℕ → ℕ → Bool
+word_at bits word = is_set (slice_index_or bits (word / 64) 0) (word % 64)
+
+-- whether the word right before a place is free, of words told so
+abbrev pub word_before : (ℕ → Bool) → ℕ → Bool
+word_before each place = if nat_eq place 0 then false else each (place - 1)
+
+-- all words of some bitmaps
+abbrev pub words_of : List ℕ → List Bool
+words_of bits = words_from (word_at bits) 0 (64 * length bits)
+
+-- the bitmaps with the words of place..place + len free, or not free, and the others as they were
+pub record IsFilled (old new : List ℕ) (place len : ℕ) (value : Bool) : Type 0 where
+  pub same_length : length new ≡ length old
+  pub inside : (word : ℕ) → place ≤ word → word < place + len → word_at new word ≡ value
+  pub before : (word : ℕ) → word < place → word_at new word ≡ word_at old word
+  pub behind : (word : ℕ) → place + len ≤ word → word < 64 * length old → word_at new word ≡ word_at old word
+
+-- the items with those of first..end set to a value, and the others as they were
+pub record IsWritten {A : Type 0} (old new : List A) (first end : ℕ) (value : A) : Type 0 where
+  pub same_length : length new ≡ length old
+  pub inside : (index : ℕ) (none : A) → first ≤ index → index < end → slice_index_or new index none ≡ value
+  pub outside : (index : ℕ) (none : A) → (index < first) ⊎ (end ≤ index) →
+      slice_index_or new index none ≡ slice_index_or old index none
+
+-- the node at an index, past the end one without a free word
+abbrev pub node_at : List Summary → ℕ → Summary
+node_at nodes index = slice_index_or nodes index nothing_free
+
+-- the nodes of the leaves are those of their bitmaps
+abbrev pub AreLeaves : List ℕ → List Summary → Type 0
+AreLeaves bits nodes =
+    (leaf : ℕ) → leaf < length bits →
+    node_at nodes (length bits + leaf) ≡ summary (words_of_bits (slice_index_or bits leaf 0))
+
+-- the node at an index is that of its two parts
+abbrev pub IsJoined : List Summary → ℕ → Type 0
+IsJoined nodes index = node_at nodes index ≡ join (node_at nodes (2 * index)) (node_at nodes (2 * index + 1))
+
+-- each node that has parts is that of its parts, but for the nodes from an index to another
+abbrev pub AreJoinedBeside : List Summary → ℕ → ℕ → Type 0
+AreJoinedBeside nodes first last =
+    (index : ℕ) → 1 ≤ index → 2 * index + 1 < length nodes → (index < first) ⊎ (last < index) → IsJoined nodes index
+
+-- each node that has parts is that of its parts
+abbrev pub AreJoined : List Summary → Type 0
+AreJoined nodes = (index : ℕ) → 1 ≤ index → 2 * index + 1 < length nodes → IsJoined nodes index
+
+-- the nodes from an index on are the same
+abbrev pub AreSameFrom : List Summary → List Summary → ℕ → Type 0
+AreSameFrom old new from = (index : ℕ) → from ≤ index → node_at new index ≡ node_at old index
+
+-- the nodes are the same, but for those from an index to another
+abbrev pub AreSameBeside : List Summary → List Summary → ℕ → ℕ → Type 0
+AreSameBeside old new first last =
+    (index : ℕ) → (index < first) ⊎ (last < index) → node_at new index ≡ node_at old index
+
+-- the nodes are the same, but for those of the bitmaps with the words of place..place + len
+abbrev pub AreSameBesideWords : List Summary → List Summary → ℕ → ℕ → ℕ → Type 0
+AreSameBesideWords old new leaves place len =
+    AreSameBeside old new (leaves + place / 64) (leaves + (place + len - 1) / 64)
+
+-- the nodes strictly between two indices are all alike
+abbrev pub AreAlike : List Summary → ℕ → ℕ → Summary → Type 0
+AreAlike nodes first last node = (index : ℕ) → first < index → index < last → node_at nodes index ≡ node
+
+-- the nodes from an index to another are of one depth
+pub record IsLevel (first last : ℕ) : Type 0 where
+  pub depth : ℕ
+  pub from : 2 ^ depth ≤ first
+  pub order : first ≤ last
+  pub to : last < 2 * 2 ^ depth
+
+-- the nodes of the tree over some bitmaps
+pub record IsTree (bits : List ℕ) (nodes : List Summary) : Type 0 where
+  pub height : ℕ
+  pub leaves : length bits ≡ 2 ^ height
+  pub small : 64 * length bits < 2 ^ 64
+  pub node_count : length nodes ≡ 2 * length bits
+  pub are_leaves : AreLeaves bits nodes
+  pub joined : AreJoined nodes
+
+-- the nodes of a tree over some bitmaps, where those above the nodes from an index to another needn't be joined
+pub record IsTreeBeside (bits : List ℕ) (nodes : List Summary) (first last : ℕ) : Type 0 where
+  pub height : ℕ
+  pub leaves : length bits ≡ 2 ^ height
+  pub small : 64 * length bits < 2 ^ 64
+  pub node_count : length nodes ≡ 2 * length bits
+  pub are_leaves : AreLeaves bits nodes
+  pub within : last < length nodes
+  pub joined : AreJoinedBeside nodes (first / 2) (last / 2)
+
+-- no word is free below a place
+abbrev pub NoneBelow : List ℕ → ℕ → Type 0
+NoneBelow bits low = (word : ℕ) → word < low → word_at bits word ≡ false
+
+abbrev pub IsPowerOfTwo : ℕ → Type 0
+IsPowerOfTwo n = (exponent : ℕ) × (n ≡ 2 ^ exponent)
+
+-- the free words of a region of so many, of which so many are free in so many holes, with room for so many holes
+pub record IsHoles (bits : List ℕ) (nodes : List Summary) (changed : Changed) (low size free count most : ℕ) :
+    Type 0 where
+  pub tree : IsTreeBeside bits nodes changed.first changed.last
+  pub none_below : NoneBelow bits low
+  pub within : size ≤ 64 * length bits
+  pub behind : (word : ℕ) → size ≤ word → word < 64 * length bits → word_at bits word ≡ false
+  pub free_is : free ≡ free_count (words_from (word_at bits) 0 size)
+  pub count_is : count ≡ hole_count (words_from (word_at bits) 0 size)
+  pub few : count ≤ most
+  pub some : 1 ≤ most

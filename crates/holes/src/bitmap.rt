@@ -1,0 +1,85 @@
+//! Bitmaps of 64 words, the lowest bit the first word, where a set bit is a free word.
+
+ghost use Rattle.std.specs.Prelude.{◌≡◌, ℕ, ◌+◌, ◌-◌, ◌<◌, ◌≤◌, true, false, if◌then◌else◌, nat_le, nat_lt};
+ghost use Rattle.holes.specs.FreeWords.{front_run, widest};
+ghost use Rattle.holes.specs.Tree.{lowest_fit, summary, is_set, words_of_bits, back_run};
+
+use crate::summary::Summary;
+
+/// The words of a bitmap.
+pub const WORDS: usize = 64;
+
+/// The number of words of the widest hole of a bitmap.
+fn longest_run(bits: u64) -> usize
+    ensures { result ≡ widest (words_of_bits bits) }
+{
+    if bits == u64::MAX {
+        return WORDS;
+    }
+    let mut rest = bits;
+    let mut longest = 0;
+    while rest != 0 {
+        rest >>= rest.trailing_zeros();
+        let run = rest.trailing_ones();
+        rest >>= run;
+        longest = longest.max(run as usize);
+    }
+    longest
+}
+
+/// The summary of the words of a bitmap.
+pub fn summary(bits: u64) -> Summary
+    ensures { result ≡ summary (words_of_bits bits) }
+{
+    Summary {
+        front: bits.trailing_ones() as usize,
+        back: bits.leading_ones() as usize,
+        longest: longest_run(bits),
+        whole: bits == u64::MAX,
+    }
+}
+
+/// Where the lowest hole of at least `len` words begins in a bitmap that has one.
+pub fn lowest_fit(bits: u64, len: usize) -> usize
+    requires some { 1 ≤ len }
+    requires fits { len ≤ widest (words_of_bits bits) }
+    ensures value { result ≡ lowest_fit len (words_of_bits bits) }
+    ensures within { result + len ≤ 64 }
+{
+    if bits == u64::MAX {
+        return 0;
+    }
+    let mut rest = bits;
+    let mut place = 0;
+    while rest != 0 {
+        let gap = rest.trailing_zeros();
+        rest >>= gap;
+        place += gap as usize;
+        let run = rest.trailing_ones();
+        if len <= run as usize {
+            return place;
+        }
+        rest >>= run;
+        place += run as usize;
+    }
+    place
+}
+
+/// A bitmap with the words `from..to` free or not free, and the others as they were.
+pub fn with_range(bits: u64, from: usize, to: usize, value: bool) -> u64
+    requires some { from < to }
+    requires within { to ≤ 64 }
+    ensures inside { (word : ℕ) → from ≤ word → word < to → is_set result word ≡ value }
+    ensures before { (word : ℕ) → word < from → is_set result word ≡ is_set bits word }
+    ensures behind { (word : ℕ) → to ≤ word → word < 64 → is_set result word ≡ is_set bits word }
+{
+    let mask = (u64::MAX << from) & (u64::MAX >> (WORDS - to));
+    if value { bits | mask } else { bits & !mask }
+}
+
+/// A bitmap of which all words are free or not free.
+pub fn whole(value: bool) -> u64
+    ensures { (word : ℕ) → word < 64 → is_set result word ≡ value }
+{
+    if value { u64::MAX } else { 0 }
+}
