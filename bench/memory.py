@@ -1,13 +1,15 @@
 #!/usr/bin/env python3
-"""Times a fragmenting load of the region memory: releases and makes of blocks of mixed lengths, in no order.
+"""Times the memory of a region: releases and makes of blocks of mixed lengths, in no order, and takes and gives of ranges of
+words beside a plain list of holes in C.
 
 Run it at the top of the repository. It builds crates/bench_memory (proving it and what it stands on, unless that was done) and
-prints its time. The words that packing moves are those of the same load by a plain model of first fit with packing, written
-here: the memory itself counts none. The model and the program have to end with as many blocks and words.
+bench/plain_holes.c. The words that packing moves are those of the same load by a plain model of first fit with packing, written
+here: the memory itself counts none. The programs and the model have to end with the same blocks, words and holes.
 """
 import bisect
 import pathlib
 import subprocess
+import tempfile
 
 TOP = pathlib.Path(__file__).resolve().parent.parent
 # The words of the region, the live blocks, the words of the longest and the operations, as in crates/bench_memory.
@@ -89,24 +91,60 @@ def model(size, blocks, longest, operations):
     return region
 
 
-def lines_of(*words):
-    program = str(TOP / "crates" / "bench_memory" / "out" / "bench_memory")
-    return subprocess.run([program, *words], check=True, capture_output=True, text=True).stdout.splitlines()
+def lines_of(*command):
+    return subprocess.run(command, check=True, capture_output=True, text=True).stdout.splitlines()
+
+
+def print_blocks(lines, load):
+    region = model(*load)
+    ends = f"{len(region.blocks)} blocks of {region.used} words"
+    if lines[0] != ends:
+        raise SystemExit(f"the program ends with {lines[0]}, and the model with {ends}")
+    print(f"{load[3]} operations on at most {load[1]} blocks of up to {load[2]} words in {load[0]} words: {ends}")
+    print(f"  {region.packs} packs, {region.moved / load[3]:.1f} words moved an operation, {region.refused} blocks refused")
+    for line in lines[1:]:
+        print(f"  {line}")
+
+
+def plain_lines(turns, loads):
+    """What the plain list of holes prints on these loads."""
+    words = [word for load in loads for word in load.split()]
+    with tempfile.TemporaryDirectory() as room:
+        plain = f"{room}/plain_holes"
+        subprocess.run(["cc", "-O3", "-o", plain, str(TOP / "bench" / "plain_holes.c")], check=True)
+        return lines_of(plain, str(LONG[0]), "10", turns, *words)
+
+
+def nanoseconds(line, load):
+    """Of a take and a give: a turn has both, but in a stack only one of them."""
+    words = line.split()
+    return int(words[0]) / int(words[3]) * (2 if load.endswith("stack") else 1)
+
+
+def print_takes(lines):
+    *lines, resets = lines
+    loads = [line.partition(":")[0] for line in lines[::2]]
+    plain = plain_lines(lines[1].split()[3], loads)
+    print(f"{'nanoseconds a take and a give':44} {'holes':>8} {'plain list':>11}   what stands at the end")
+    for place, load in enumerate(loads):
+        ends, took = lines[2 * place : 2 * place + 2]
+        if plain[2 * place] != ends:
+            raise SystemExit(f"the program ends with {ends}, and the plain list with {plain[2 * place]}")
+        numbers, least, greatest, order = load.split()
+        name = f"{numbers} ranges of {least} to {greatest} words, {order}"
+        list_took = nanoseconds(plain[2 * place + 1], load)
+        print(f"{name:44} {nanoseconds(took, load):8.1f} {list_took:11.1f}   {ends.partition(': ')[2]}")
+    print(f"a reset takes {nanoseconds(resets, '') / 1000:.1f} microseconds")
 
 
 def main():
     crate = TOP / "crates" / "bench_memory"
     subprocess.run(["rt", "run"], cwd=crate, check=True, stdout=subprocess.DEVNULL)
-    for words, load in (([], SHORT), (["time"], LONG)):
-        region = model(*load)
-        lines = lines_of(*words)
-        ends = f"{len(region.blocks)} blocks of {region.used} words"
-        if lines[0] != ends:
-            raise SystemExit(f"the program ends with {lines[0]}, and the model with {ends}")
-        print(f"{load[3]} operations on at most {load[1]} blocks of up to {load[2]} words in {load[0]} words: {ends}")
-        print(f"  {region.packs} packs, {region.moved / load[3]:.1f} words moved an operation, {region.refused} blocks refused")
-        for line in lines[1:]:
-            print(f"  {line}")
+    program = str(crate / "out" / "bench_memory")
+    print_blocks(lines_of(program)[:1], SHORT)
+    lines = lines_of(program, "time")
+    print_blocks(lines[:2], LONG)
+    print_takes(lines[2:])
 
 
 if __name__ == "__main__":

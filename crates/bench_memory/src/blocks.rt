@@ -1,0 +1,122 @@
+//! A fragmenting load of counted blocks: blocks of mixed lengths are released and made in no order.
+//!
+//! The short load has a small region, the long one 4,096 live blocks that nearly fill the largest. An operation is a
+//! release and a make.
+
+use crate::draw::{SEED, next, pick};
+use block_memory::{BlockId, RegionMemory};
+use refcounts::SharedMemory;
+use std::alloc::Allocator;
+use std::io;
+use std::rt::Runtime;
+use std::time::Instant;
+use vcode_base::limits::MOST_WORDS;
+
+/// How large the load is.
+#[derive(Clone, Copy, Debug)]
+struct Load {
+    region: usize,
+    blocks: usize,
+    longest: usize,
+    operations: usize,
+}
+
+const SHORT: Load = Load {
+    region: 2048,
+    blocks: 64,
+    longest: 48,
+    operations: 2_000,
+};
+
+const LONG: Load = Load {
+    region: MOST_WORDS,
+    blocks: 4_096,
+    longest: 495,
+    operations: 200_000,
+};
+
+type Memory<A> = SharedMemory<RegionMemory<A>, A>;
+
+/// Makes a block of a length that the seed gives. None where its words don't fit, and then no block is made.
+fn make<A: Allocator + Clone>(memory: &mut Memory<A>, words: &[i64], seed: u64) -> Option<BlockId> {
+    if memory.blocks() >= memory.ids() {
+        return None;
+    }
+    let words = words.get(..pick(seed, words.len() + 1))?;
+    memory.make(1, words).ok()
+}
+
+/// Releases one block after another and makes another in its place.
+fn churn<A: Allocator + Clone>(
+    memory: &mut Memory<A>,
+    blocks: &mut [Option<BlockId>],
+    words: &[i64],
+    operations: usize,
+) {
+    if blocks.is_empty() {
+        return;
+    }
+    let mut seed = SEED;
+    for _ in 0..operations {
+        seed = next(seed);
+        let place = pick(seed, blocks.len());
+        if let Some(id) = blocks[place] {
+            if memory.count(id) > 0 {
+                let _ = memory.release(id);
+            }
+        }
+        seed = next(seed);
+        blocks[place] = make(memory, words, seed);
+    }
+}
+
+/// Prints what stands after the load, and the time that an operation took.
+fn show<A: Allocator + Clone>(
+    rt: &impl Runtime,
+    load: Load,
+    memory: &Memory<A>,
+    time: Option<u128>,
+) -> io::Result<()> {
+    println!(rt; "{} blocks of {} words", memory.blocks(), memory.used())?;
+    match time {
+        Some(nanoseconds) => {
+            let each = nanoseconds / (load.operations.max(1) as u128);
+            println!(rt; "{each} nanoseconds an operation")
+        }
+        None => Ok(()),
+    }
+}
+
+/// Runs a quarter of a load, and then the load itself, which is timed.
+fn run_twice<A: Allocator + Clone>(
+    rt: &impl Runtime,
+    load: Load,
+    memory: &mut Memory<A>,
+    blocks: &mut [Option<BlockId>],
+    words: &[i64],
+) -> io::Result<u128> {
+    churn(memory, blocks, words, load.operations / 4);
+    let start = Instant::now(rt)?;
+    churn(memory, blocks, words, load.operations);
+    Ok(start.elapsed(rt)?.as_nanos())
+}
+
+/// Runs the load over a memory that was just made.
+fn run_new<A: Allocator + Clone>(
+    rt: &impl Runtime,
+    load: Load,
+    memory: &mut Memory<A>,
+) -> io::Result<u128> {
+    let mut blocks = vec![in rt.alloc(); None; load.blocks]?;
+    let words = vec![in rt.alloc(); 7; load.longest]?;
+    run_twice(rt, load, memory, &mut blocks, &words)
+}
+
+/// Runs the short load, or the long one and times it.
+pub fn run(rt: &impl Runtime, is_timed: bool) -> io::Result<()> {
+    let load = if is_timed { LONG } else { SHORT };
+    let region = RegionMemory::new(rt.alloc(), load.region, load.blocks)?;
+    let mut memory = SharedMemory::new(rt.alloc(), region)?;
+    let took = run_new(rt, load, &mut memory)?;
+    show(rt, load, &memory, is_timed.then_some(took))
+}
