@@ -1,6 +1,6 @@
 //! What a line makes of a stage.
 
-ghost use Rattle.std.specs.Prelude.{◌≡◌, ◌+◌, ℕ, [], IsErr, IfOk};
+ghost use Rattle.std.specs.Prelude.{◌≡◌, ◌+◌, ℕ, [], IsErr, IfOk, OnOk};
 ghost use Rattle.job_steps.specs.Jobs.{IsName};
 ghost use Rattle.batch_reader.specs.declared.stage.Stage.TheVariants as stages;
 ghost use Rattle.batch_reader.specs.declared.stage.Step.TheVariants.{To};
@@ -135,7 +135,7 @@ fn signatures_part<A: Allocator + Copy>(
 fn step_in_signatures<A: Allocator + Copy>(
     alloc: A,
     head: Head<JobName<A>>,
-    part: Part<SigReader<A>>,
+    mut part: Part<SigReader<A>>,
     line: BatchLine<'_>,
 ) -> Result<JobStage<A>, AllocError>
     requires name { IsName head.name }
@@ -152,28 +152,25 @@ fn step_in_signatures<A: Allocator + Copy>(
             Ok(Stage::Code(head, part))
         }
         _ => {
-            let part = more_signatures(part, line)?;
+            more_signatures(&mut part, line)?;
             Ok(Stage::Signatures(head, part))
         }
     }
 }
 
-/// The signatures with one line more.
+/// Takes one line more of the signatures.
 fn more_signatures<A: Allocator + Copy>(
-    part: Part<SigReader<A>>,
+    part: &mut Part<SigReader<A>>,
     line: BatchLine<'_>,
-) -> Result<Part<SigReader<A>>, AllocError>
-    requires { SignaturesFit line.number part }
-    ensures fits { IfOk result (SignaturesFit (line.entry.number + 1)) }
-    ensures shown { IfOk result (λ p. (region : ℕ) (job : JobText) → ShowsSignatures region part job
-        → ShowsSignatures region p (with_signatures job line.entry.text.now)) }
+) -> Result<(), AllocError>
+    requires { SignaturesFit line.number part.old }
+    ensures fits { OnOk result (SignaturesFit (line.entry.number + 1) part.new) }
+    ensures shown { OnOk result ((region : ℕ) (job : JobText) → ShowsSignatures region part.old job
+        → ShowsSignatures region part.new (with_signatures job line.entry.text.now)) }
 {
     match part {
-        Part::Reading(mut reader) => {
-            reader.feed(line.text)?;
-            Ok(Part::Reading(reader))
-        }
-        Part::Refused(number, fault) => Ok(Part::Refused(number, fault)),
+        Part::Reading(reader) => reader.feed(line.text),
+        Part::Refused(..) => Ok(()),
     }
 }
 
@@ -204,7 +201,7 @@ fn code_part<A: Allocator + Copy>(
 fn step_in_code<A: Allocator + Copy>(
     alloc: A,
     head: Head<JobName<A>>,
-    part: Part<CodeReading<A>>,
+    mut part: Part<CodeReading<A>>,
     line: BatchLine<'_>,
 ) -> Result<JobStep<A>, AllocError>
     requires name { IsName head.name }
@@ -217,27 +214,24 @@ fn step_in_code<A: Allocator + Copy>(
     match line.heading {
         Heading::End => Ok(Step::Ends(job_entry(alloc, head, part)?)),
         _ => {
-            let part = more_code(part, line)?;
+            more_code(&mut part, line)?;
             Ok(Step::To(Stage::Code(head, part)))
         }
     }
 }
 
-/// The code with one line more.
+/// Takes one line more of the code.
 fn more_code<A: Allocator + Copy>(
-    part: Part<CodeReading<A>>,
+    part: &mut Part<CodeReading<A>>,
     line: BatchLine<'_>,
-) -> Result<Part<CodeReading<A>>, AllocError>
-    requires { CodeFits line.number part }
-    ensures fits { IfOk result (CodeFits (line.entry.number + 1)) }
-    ensures shown { IfOk result (λ p. (region : ℕ) (job : JobText) → ShowsCode region part job
-        → ShowsCode region p (with_code job line.entry.text.now)) }
+) -> Result<(), AllocError>
+    requires { CodeFits line.number part.old }
+    ensures fits { OnOk result (CodeFits (line.entry.number + 1) part.new) }
+    ensures shown { OnOk result ((region : ℕ) (job : JobText) → ShowsCode region part.old job
+        → ShowsCode region part.new (with_code job line.entry.text.now)) }
 {
     match part {
-        Part::Reading((signatures, mut reader)) => {
-            reader.feed(line.text)?;
-            Ok(Part::Reading((signatures, reader)))
-        }
-        Part::Refused(number, fault) => Ok(Part::Refused(number, fault)),
+        Part::Reading((_, reader)) => reader.feed(line.text),
+        Part::Refused(..) => Ok(()),
     }
 }

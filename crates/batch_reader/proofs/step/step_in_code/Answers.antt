@@ -9,12 +9,12 @@ returns-in_ok-job_entry-in-End-clause-turns g c =
     has
     (c.in_ok-job_entry-in-End.ensures region job shown.0 shown.1)
 
-pub returns-in_ok-part-in_default : goal.returns-in_ok-part-in_default
-returns-in_ok-part-in_default g c = record {
-  fits = (c.requires.name, c.in_ok-part-in_default.ensures.fits);
+pub returns-in_ok-more_code-in_default : goal.returns-in_ok-more_code-in_default
+returns-in_ok-more_code-in_default g c = record {
+  fits = (c.requires.name, c.in_ok-more_code-in_default.ensures.fits);
   turns = λ region ended room job shown has. turns_in_code region ended room job (shown_line c.args.line) _ refl
       (isnt_end c.args.line.heading c.in_default.not-End) has (
         record { name = shown.0.name; limits = shown.0.limits; line = shown.0.line },
-        c.in_ok-part-in_default.ensures.shown region job shown.1,
+        c.in_ok-more_code-in_default.ensures.shown region job shown.1,
       );
 }

@@ -18,13 +18,13 @@ returns-in_ok-part-in-Code-clause-turns g c =
           region job shown.1 shown.2,
     )
 
-pub returns-in_ok-part-in_default : goal.returns-in_ok-part-in_default
-returns-in_ok-part-in_default g c = record {
-  fits = (c.requires.name, c.in_ok-part-in_default.ensures.fits);
+pub returns-in_ok-more_signatures-in_default : goal.returns-in_ok-more_signatures-in_default
+returns-in_ok-more_signatures-in_default g c = record {
+  fits = (c.requires.name, c.in_ok-more_signatures-in_default.ensures.fits);
   turns = λ region ended room job shown has. turns_in_signatures region ended room job (shown_line c.args.line) _ refl
       (ends_no_signatures c.args.line.heading c.in_default.not-Code c.in_default.not-End) has (
         record { name = shown.0.name; limits = shown.0.limits; line = shown.0.line },
-        c.in_ok-part-in_default.ensures.shown region job shown.1,
+        c.in_ok-more_signatures-in_default.ensures.shown region job shown.1,
         shown.2,
       );
 }
