@@ -7,9 +7,9 @@ use Rattle.std.proofs.lemmas.Option.{none-some, same_Some, slice_get_within}
 use Rattle.std.proofs.lemmas.List.{length-replicate}
 use Rattle.vcode_base.specs.declared.limits.TheConstants.{MOST_JOBS, MOST_WORDS}
 use Rattle.refcounts.specs.SharedState.{Slot, empty_slot, words_in, blocks_in}
-use Rattle.refcounts.specs.Owners.{slot_seen_by, slots_seen_by}
+use Rattle.refcounts.specs.Owners.{slot_seen_by}
 use Rattle.job_memory.specs.JobBlocks.{JobBlocks, own_slots}
-use Rattle.job_steps.specs.Standings.{Standing, Waiting, first_standings}
+use Rattle.job_steps.specs.Standings.{Waiting, first_standings}
 use Rattle.job_steps.specs.States.{Task}
 use Rattle.job_slots.specs.declared.status.Status.{Status}
 use Rattle.job_slots.specs.Laws.{NewIsShown}

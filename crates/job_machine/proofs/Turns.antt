@@ -1,13 +1,12 @@
 -- Jobs that are run to their ends one after another.
-use Rattle.std.proofs.Common.{◌≡◌, ◌⊎◌, ℕ, zero, suc, ◌+◌, ◌<◌, ◌≤◌, Bool, true, false, List, [], ◌∷◌, length}
-use Rattle.std.proofs.Common.{get_or, slice_get, All, Option, Some, None, refl, sym, ◌∙◌, ap, subst, arith, inl, inr}
+use Rattle.std.proofs.Common.{◌≡◌, ◌⊎◌, ℕ, suc, ◌<◌, ◌≤◌, false, List, [], length}
+use Rattle.std.proofs.Common.{slice_get, All, Option, Some, None, refl, sym, ◌∙◌, subst, arith, inl, inr}
 use Rattle.std.proofs.lemmas.Bool.{cases_eq}
 use Rattle.std.proofs.lemmas.Option.{none-some, same_Some, slice_get-get_or}
-use Rattle.job_steps.specs.declared.event.Event.{Event}
-use Rattle.job_steps.specs.declared.event.Event.TheVariants.{Admit, Begin, Finish, Recall, Collect}
+use Rattle.job_steps.specs.declared.event.Event.TheVariants.{Admit, Collect}
 use Rattle.job_steps.specs.EventLaws.{EventsGoOn, EventsKeep, EventsUseUp, LeadsJoin, AdmittedHaveRoom, IsVerified}
 use Rattle.job_steps.specs.EventLaws.{AreKept}
-use Rattle.job_steps.specs.Events.{next_standing, next_standing_in, after_event, recalled_standing, recalled_standings, all_events_left}
+use Rattle.job_steps.specs.Events.{next_standing, next_standing_in, recalled_standing, recalled_standings, all_events_left}
 use Rattle.job_steps.specs.Standings.{Standing, Waiting, Live, InFlight, Ended, Collected, of_job, admission}
 use Rattle.job_steps.specs.States.{Task}
 use Rattle.job_machine.specs.declared.machine.Admission.TheVariants.{Admitted}
@@ -16,7 +15,6 @@ use Rattle.job_machine.specs.Machines.{IsWaitingOrCollected, IsDone, admission_i
 use Rattle.job_machine.proofs.RunningOut.{Opens, Happens, Passed, Opened, happens, leads_on, goes_on_on, all_kept}
 use Rattle.job_machine.proofs.RunningOut.{no_step_after, fewer_after, collects, done_after, admitted, idle_at, leads_one}
 use Rattle.job_machine.proofs.RunningOut.{others_by, all_collected, after_none, not_admitted}
-use Rattle.job_machine.proofs.Stepping.{HasStepped}
 
 abbrev pub left_in : MachineState → ℕ
 left_in m = all_events_left m.tasks m.standings

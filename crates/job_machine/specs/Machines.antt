@@ -1,5 +1,5 @@
 -- What a machine shows, and what events make of it.
-use Rattle.std.specs.Prelude.{◌≡◌, ℕ, zero, suc, nat_lt, Bool, false, if◌then◌else◌, List, position, Option, Some, None, refl}
+use Rattle.std.specs.Prelude.{◌≡◌, ℕ, zero, suc, nat_lt, max, Bool, false, if◌then◌else◌, List, fold, position, Option, Some, None, refl}
 use Rattle.std.specs.Coded.{Coded, code_by, coded_ℕ, coded×, coded_list}
 use Rattle.job_steps.specs.declared.event.Event.{Event}
 use Rattle.job_steps.specs.Events.{after_event, after_events, recalled_standings, LeadTo}
@@ -49,6 +49,10 @@ recalled m = with_standings m (recalled_standings m.standings)
 abbrev pub Leads : MachineState → MachineState → Type 0
 Leads old new =
     (new.region ≡ old.region) × (new.tasks ≡ old.tasks) × LeadTo old.region old.tasks old.standings new.standings
+
+-- the words of the job that has the most, and 0 where there is no job
+abbrev pub most_words : List Task → ℕ
+most_words tasks = fold (λ most task. max most task.limits.words) 0 tasks
 
 -- ---- admission
 

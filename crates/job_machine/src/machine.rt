@@ -9,7 +9,7 @@ ghost use Rattle.job_steps.specs.EventLaws.{IsVerified, AreKept, EventsChangeThe
 ghost use Rattle.job_steps.specs.Standings.{Collected, of_job, first_standings, executed_at, peak_at, used_words, granted_words};
 ghost use Rattle.job_slots.specs.Laws.{OthersAreShown};
 ghost use Rattle.job_slots.specs.Slots.{status_of};
-ghost use Rattle.job_machine.specs.Machines.{machine_after, Leads, admission_in, BeginsIn, after_begun, FinishesIn, after_finished, is_flying, is_over, told, outcome_in, HasReturnedIn, HasNoStep, place_of};
+ghost use Rattle.job_machine.specs.Machines.{machine_after, Leads, admission_in, BeginsIn, after_begun, FinishesIn, after_finished, is_flying, is_over, told, outcome_in, HasReturnedIn, HasNoStep, most_words, place_of};
 ghost use Rattle.job_machine.specs.SlotOf.{IsSlotIn};
 
 use crate::setting::{all_cells, first_waiting, most_words, new_slots, same_jobs};
@@ -269,6 +269,7 @@ impl<A: Allocator> Machine<A> {
 
     /// The words of the job that has the most, and 0 where there is no job: a desk of so many serves each job.
     pub fn most_words(&self) -> usize
+        ensures value { result ≡ most_words self.now.tasks }
         ensures each { All (λ task. task.limits.words ≤ result) self.now.tasks }
         ensures within { result ≤ MOST_WORDS }
     {

@@ -5,6 +5,7 @@ ghost use Rattle.vcode_base.specs.declared.limits.TheConstants.{MOST_JOBS, MOST_
 ghost use Rattle.job_steps.specs.States.{Task};
 ghost use Rattle.job_steps.specs.Standings.{is_waiting};
 ghost use Rattle.job_slots.specs.Slots.{SlotState, IsNewSlot, standing_of};
+ghost use Rattle.job_machine.specs.Machines.{most_words};
 
 use job_slots::{Slot, Status};
 use job_steps::Job;
@@ -42,6 +43,7 @@ pub(crate) fn all_cells<A: Allocator>(jobs: &[Job<A>]) -> usize
 
 /// The words of the job that has the most, and 0 where there is none.
 pub(crate) fn most_words<A: Allocator>(jobs: &[Job<A>]) -> usize
+    ensures value { result ≡ most_words jobs.now }
     ensures each { All (λ task. task.limits.words ≤ result) jobs.now }
     ensures within { result ≤ MOST_WORDS }
 {

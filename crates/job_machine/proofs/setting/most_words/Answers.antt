@@ -1,7 +1,7 @@
 use Rattle.std.proofs.Common.{◌≡◌, arith, take}
 use Rattle.std.proofs.lemmas.Grind.{common_steps}
 use Rattle.std.proofs.lemmas.List.{take_all}
-use Rattle.job_machine.proofs.WordLemmas.{more_within}
+use Rattle.job_machine.proofs.WordLemmas.{more_within, most_more}
 use Rattle.job_machine.proofs.setting.most_words.Goals as goal
 
 pub loop-job-preserved : goal.loop-job-preserved
@@ -9,10 +9,18 @@ loop-job-preserved g c =
     let inv = c.loop-job.invariant in
     let job = c.job-item.result in
     record {
+      value = most_more c.args.jobs.now c.loop-job.job-index c.loop-job.most c.max-most.result job
+          (grind (arith, common_steps)) inv.value (grind (arith, common_steps));
       each = more_within c.args.jobs.now c.loop-job.job-index c.loop-job.most c.max-most.result job
           (grind (arith, common_steps)) inv.each (grind (arith, common_steps)) (grind (arith, common_steps));
       within = grind (arith, common_steps);
     }
+
+pub returns-clause-value : goal.returns-clause-value
+returns-clause-value g c =
+    let whole : take c.loop-job.job-index c.args.jobs.now ≡ c.args.jobs.now =
+    take_all c.loop-job.job-index c.args.jobs.now (grind (arith, common_steps)) in
+    rw whole at c.loop-job.invariant.value
 
 pub returns-clause-each : goal.returns-clause-each
 returns-clause-each g c =

@@ -1,4 +1,4 @@
-use Rattle.std.proofs.Common.{◌≡◌, ◌≤◌, length, All, sym, ◌∙◌, ap, subst, arith}
+use Rattle.std.proofs.Common.{◌≤◌, length, All, ap, subst, arith}
 use Rattle.std.specs.Arc.{arc_value}
 use Rattle.vcode_base.specs.declared.limits.TheConstants.{MOST_JOBS}
 use Rattle.job_steps.specs.EventLaws.{IsVerified, AreKept}

@@ -1,4 +1,4 @@
-use Rattle.std.proofs.Common.{◌≡◌, ℕ, suc, ◌+◌, length, refl, ◌∙◌, arith}
+use Rattle.std.proofs.Common.{refl, arith}
 use Rattle.job_machine.proofs.RunningOut.{AreRecalled, recalled_next, all_recalled}
 use Rattle.job_machine.proofs.machine.Machine.recall_all.Given.{Over}
 use Rattle.job_machine.proofs.machine.Machine.recall_all.Goals as goal

@@ -1,4 +1,4 @@
-use Rattle.std.proofs.Common.{◌≡◌, ◌≤◌, ℕ, suc, ◌+◌, All, OnOk, length, subst, sym, ◌∙◌, ap, refl, arith}
+use Rattle.std.proofs.Common.{◌≤◌, ℕ, ◌+◌, All, length, subst, sym, ◌∙◌, ap, refl, arith}
 use Rattle.job_steps.specs.Standings.{of_job}
 use Rattle.job_machine.specs.Machines.{IsDone}
 use Rattle.job_machine.proofs.RunningOut.{leads_on}

@@ -1,7 +1,7 @@
-use Rattle.std.proofs.Common.{◌≡◌, ◌≤◌, ℕ, All, OnOk, subst, sym, ◌∙◌, refl, arith}
-use Rattle.job_steps.specs.Standings.{of_job, Collected}
+use Rattle.std.proofs.Common.{◌≤◌, ℕ, All, subst, sym, ◌∙◌, arith}
+use Rattle.job_steps.specs.Standings.{of_job}
 use Rattle.job_machine.specs.Machines.{IsWaitingOrCollected, IsDone}
-use Rattle.job_machine.proofs.Turns.{Admits, RunsIdle, AreOut, admits, turns, turn_leads, out, words_on, left_in}
+use Rattle.job_machine.proofs.Turns.{Admits, AreOut, admits, turns, turn_leads, out, words_on}
 use Rattle.job_machine.proofs.machine.Machine.run_all.Given.{Over}
 use Rattle.job_machine.proofs.machine.Machine.run_all.Goals as goal
 

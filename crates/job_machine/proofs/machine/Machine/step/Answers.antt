@@ -1,5 +1,3 @@
-use Rattle.std.proofs.Common.{◌≡◌, ℕ}
-use Rattle.job_machine.specs.Machines.{machine_after}
 use Rattle.job_machine.proofs.Stepping.{CanStep, HasStepped, has_begun, began_by, ended_by, not_ready, small_desk}
 use Rattle.job_machine.proofs.machine.Machine.step.Given.{Over}
 use Rattle.job_machine.proofs.machine.Machine.step.Goals as goal
