@@ -35,13 +35,24 @@ pub(crate) fn answer_of_caller<A: Allocator + Copy>(
 {
     match batch {
         Batch::Refused(line, fault) => refusal(alloc, line, fault),
-        Batch::Jobs(entries) => {
-            let (machine, seats) = seat_jobs(alloc, entries, options)?;
-            let machine = run_on_caller(alloc, machine, &seats, options)?;
-            let answer = told(alloc, &machine, &seats)?;
-            Ok(answer)
-        }
+        Batch::Jobs(entries) => jobs_of_caller(alloc, entries, options),
     }
+}
+
+/// The report on jobs that the calling thread runs, and what they came to.
+fn jobs_of_caller<A: Allocator + Copy>(
+    alloc: A,
+    entries: JobEntries<A>,
+    options: &Options,
+) -> Result<(Vec<u8, A>, Status), AllocError>
+    requires few { length entries ≤ MOST_JOBS }
+    requires fits { EntriesFit options.now.region entries }
+    ensures report { IfOk result (λ r. r.0.items ≡ jobs_text entries) }
+    ensures status { IfOk result (λ r. r.1 ≡ jobs_status entries) }
+{
+    let (machine, seats) = seat_jobs(alloc, entries, options)?;
+    let machine = run_on_caller(alloc, machine, &seats, options)?;
+    told(alloc, &machine, &seats)
 }
 
 /// The same of a batch whose jobs worker threads run, which pass the gate in the middle of each step.
@@ -64,13 +75,30 @@ where
 {
     match batch {
         Batch::Refused(line, fault) => Ok(refusal(alloc, line, fault)?),
-        Batch::Jobs(entries) => {
-            let (machine, seats) = seat_jobs(alloc, entries, options)?;
-            let machine = run_on_workers(rt, alloc, machine, options, gate)?;
-            let answer = told(alloc, &machine, &seats)?;
-            Ok(answer)
-        }
+        Batch::Jobs(entries) => jobs_of_workers(rt, alloc, entries, options, gate),
     }
+}
+
+/// The report on jobs that worker threads run, and what they came to.
+fn jobs_of_workers<A, H, G>(
+    rt: &H,
+    alloc: A,
+    entries: JobEntries<A>,
+    options: &Options,
+    gate: &G,
+) -> Result<(Vec<u8, A>, Status), RunFault>
+where
+    A: Allocator + Copy + Send + Sync,
+    H: Threads + Wait + Sync,
+    G: Gate + Sync,
+    requires few { length entries ≤ MOST_JOBS }
+    requires fits { EntriesFit options.now.region entries }
+    ensures report { IfOk result (λ r. r.0.items ≡ jobs_text entries) }
+    ensures status { IfOk result (λ r. r.1 ≡ jobs_status entries) }
+{
+    let (machine, seats) = seat_jobs(alloc, entries, options)?;
+    let machine = run_on_workers(rt, alloc, machine, options, gate)?;
+    Ok(told(alloc, &machine, &seats)?)
 }
 
 /// The report of a batch that is refused as a whole, and what it came to.

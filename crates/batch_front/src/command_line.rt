@@ -38,36 +38,52 @@ const DEFAULT_WORKERS: u32 = 4;
 /// The same as the text of an argument.
 const DEFAULT_WORKERS_TEXT: &str = "4";
 
-/// The command.
-fn command<'a>(alloc: Global) -> Result<Command<'a>, clap::Error> {
-    let region = Arg::new(alloc, "region")
+/// The option for the words of the region.
+fn region_option<'a>(alloc: Global) -> Arg<'a> {
+    Arg::new(alloc, "region")
         .long("region")
         .value_name("N")
         .value_parser(value_parser!(u32).range(1..=i64::from(MOST_REGION)))
         .default_value(MOST_REGION_TEXT)
-        .help("Words of the region that the jobs share");
-    let workers = Arg::new(alloc, "workers")
+        .help("Words of the region that the jobs share")
+}
+
+/// The option for the number of workers.
+fn workers_option<'a>(alloc: Global) -> Arg<'a> {
+    Arg::new(alloc, "workers")
         .long("workers")
         .value_name("W")
         .value_parser(value_parser!(u32).range(1..=i64::from(MOST_THREADS)))
         .default_value(DEFAULT_WORKERS_TEXT)
-        .help("Threads that run the jobs where no schedule is given");
-    let schedule = Arg::new(alloc, "schedule")
+        .help("Threads that run the jobs where no schedule is given")
+}
+
+/// The option for a schedule.
+fn schedule_option<'a>(alloc: Global) -> Arg<'a> {
+    Arg::new(alloc, "schedule")
         .long("schedule")
         .value_name("LIST")
-        .help("Turns that the jobs take first, as in 1,b2,1,f2");
-    let file = Arg::new(alloc, "file")
+        .help("Turns that the jobs take first, as in 1,b2,1,f2")
+}
+
+/// The argument for the batch.
+fn file_argument<'a>(alloc: Global) -> Arg<'a> {
+    Arg::new(alloc, "file")
         .value_name("FILE")
         .required(true)
-        .help("The batch, or - for standard input");
+        .help("The batch, or - for standard input")
+}
+
+/// The command.
+fn command<'a>(alloc: Global) -> Result<Command<'a>, clap::Error> {
     Ok(
         Command::new(alloc, "vjobs")
             .about("Runs a batch of VCODE jobs and prints a report")
             .version("0.1.0")
-            .arg(region)?
-            .arg(workers)?
-            .arg(schedule)?
-            .arg(file)?,
+            .arg(region_option(alloc))?
+            .arg(workers_option(alloc))?
+            .arg(schedule_option(alloc))?
+            .arg(file_argument(alloc))?,
     )
 }
 

@@ -1,6 +1,6 @@
 -- How many instructions the jobs have executed, after events.
-use Rattle.std.proofs.Common.{◌≡◌, ℕ, zero, suc, ◌+◌, ◌*◌, ◌<◌, ◌≤◌, Bool, true, false, List, [], ◌∷◌, length, map, set, take}
-use Rattle.std.proofs.Common.{cond, get_or, slice_get, All, Option, Some, None, is_some, refl, sym, ◌∙◌, ap, subst, arith}
+use Rattle.std.proofs.Common.{◌≡◌, ℕ, zero, suc, ◌+◌, ◌*◌, ◌≤◌, List, [], ◌∷◌, length, map, set, take}
+use Rattle.std.proofs.Common.{cond, slice_get, All, Option, Some, None, is_some, refl, sym, ◌∙◌, ap, subst, arith}
 use Rattle.std.proofs.Common.{add-one}
 use Rattle.std.specs.Option.{unwrap_or}
 use Rattle.std.proofs.lemmas.Bool.{false≢true}
@@ -9,23 +9,23 @@ use Rattle.vcode_base.specs.declared.fault.DataFault.{DataFault}
 use Rattle.vcode_base.specs.declared.limits.TheConstants.{MOST_BUDGET, MOST_JOBS}
 use Rattle.job_steps.specs.declared.event.Event.{Event}
 use Rattle.job_steps.specs.declared.event.Event.TheVariants.{Admit, Begin, Finish, Recall, Collect}
-use Rattle.job_steps.specs.EventLaws.{IsVerified, AreKept, IsRunning, HasBegun, StandsOnRun, HasRoom, IsReady}
-use Rattle.job_steps.specs.EventLaws.{AdmittedHaveRoom, EarlyEndsEnd, OthersAreReady, EventsKeep, UseIsWithin}
+use Rattle.job_steps.specs.EventLaws.{IsVerified, IsRunning, HasBegun}
+use Rattle.job_steps.specs.EventLaws.{EarlyEndsEnd, OthersAreReady, EventsKeep, UseIsWithin}
 use Rattle.job_steps.specs.Events.{early_end, next_standing, job_of, next_standing_in, next_standing_of, with_next}
-use Rattle.job_steps.specs.Events.{standing_after_begin, standing_after, after_event, after_events, recalled_standing, LeadTo}
+use Rattle.job_steps.specs.Events.{standing_after_begin, standing_after, after_event, after_events, recalled_standing}
 use Rattle.job_steps.specs.Reached.{Reaches, EndIsOwn}
-use Rattle.job_steps.specs.Runs.{state_after, executed_count}
+use Rattle.job_steps.specs.Runs.{state_after}
 use Rattle.job_steps.specs.Standings.{Standing, Waiting, Live, InFlight, Ended, Collected, of_job, with_standing}
 use Rattle.job_steps.specs.Standings.{sum_over, executed_at, admission}
 use Rattle.job_steps.specs.States.{Task, Active, State}
-use Rattle.job_steps.specs.Steps.{Ending, Progress, Running, Over, Stuck, progress_by}
+use Rattle.job_steps.specs.Steps.{Ending, Progress, Running, progress_by}
 use Rattle.vcode_reader.specs.declared.line.Numbered.{Numbered}
 use Rattle.vcode_reader.specs.Trees.{Item}
 use Rattle.job_slots.specs.declared.answer.Finished.{Finished}
 use Rattle.job_slots.specs.declared.answer.Finished.TheVariants as finished
-use Rattle.job_machine.specs.Machines.{MachineState, with_standings, machine_after, Leads, told, told_by}
+use Rattle.job_machine.specs.Machines.{MachineState, machine_after, told, told_by}
 use Rattle.job_machine.specs.Machines.{after_finished}
-use Rattle.step_scheduler.specs.Tallies.{executed_sum, IsKept, is_finish, OthersCountNothing, RaisesByItsJob}
+use Rattle.step_scheduler.specs.Tallies.{executed_sum, IsKept, OthersCountNothing, RaisesByItsJob}
 use Rattle.step_scheduler.specs.Tallies.{FinishesRaise, RecallsCountNothing, EventsKeepCounts, CountsAreWithin}
 
 -- ---- sums

@@ -13,7 +13,7 @@ use crate::shared::SharedMachine;
 use crate::shares::{merge_shares, split_shares};
 use crate::tally::{RunFault, Tally};
 use crate::worker::work;
-use job_machine::{Desk, Machine};
+use job_machine::{Desk, Job, Machine};
 use std::alloc::{AllocError, Allocator};
 use std::marker::Brand;
 use std::sync::Wait;
@@ -78,22 +78,48 @@ where
     ensures workers { IfOk result (λ ran. vec_len ran.1.workers ≡ workers) }
     ensures counted { IfOk result (λ ran. executed_sum ran.0 ≡ executed_sum machine + (sum ran.1.workers.items + ran.1.caller)) }
 {
-    let mut machine = machine;
     let list = machine.list()?;
+    let desk = Desk::new(alloc, machine.most_words())?;
+    let (machine, workers) = run_threads::<L, A, R, G>(rt, alloc, machine, workers, gate, blank)?;
+    run_out_jobs(machine, list.as_slice(), desk, workers)
+}
+
+/// Gives up the steps that have begun, and lets workers run the machine's jobs: the machine that they leave, and how many
+/// instructions each of them has executed.
+///
+/// # Errors
+///
+/// [`AllocError`] where memory was refused that the workers need all together.
+fn run_threads<L, A, R, G>(
+    rt: &R,
+    alloc: A,
+    machine: Machine<A>,
+    workers: usize,
+    gate: &G,
+    blank: Blank,
+) -> Result<(Machine<A>, Vec<u64, A>), AllocError>
+where
+    L: Opening + Send + Sync,
+    A: Allocator + Copy + Send + Sync,
+    R: Threads + Wait + Sync,
+    G: Gate + Sync,
+    requires workers { workers ≤ MOST_WORKERS }
+    requires name { blank.name ≡ L.name }
+    requires parts { (blank.parts ≡ L.parts) × (blank.parts ≡ workers + 1) }
+    requires before { executed_sum machine ≡ L.executed_before }
+    ensures workers { IfOk result (λ left. vec_len left.1 ≡ workers) }
+    ensures counted { IfOk result (λ left. executed_sum left.0 ≡ L.executed_before + sum left.1.items) }
+{
+    let mut machine = machine;
     let words = machine.most_words();
-    let desk = Desk::new(alloc, words)?;
     count_laws();
     machine.recall_all();
+    let crew = Crew::new(alloc, &machine)?;
     let (book, mut all) = blank.open::<L>();
     let mut shares = split_shares(alloc, &mut all, workers)?;
-    let crew = Crew::new(alloc, &machine)?;
     let shared = SharedMachine::new(GuardedMachine::new(machine, book), crew, words);
     start_workers(rt, alloc, &shared, gate, &mut shares);
-    let (machine, workers) = take_back(alloc, shared.into_inner(), all, shares)?;
-    if !machine.holds(list.as_slice()) {
-        return Err(RunFault::Mixed);
-    }
-    Ok(run_out_jobs(machine, desk, workers)?)
+    take_back(alloc, shared.into_inner(), all, shares)
 }
 
 /// The machine that the workers leave, and how many instructions each of them has executed.
@@ -119,22 +145,28 @@ fn take_back<L: Opening, A: Allocator>(
     Ok((machine, workers))
 }
 
-/// Runs out the machine that the workers leave, and counts what this thread does beside what they did.
+/// Runs out the machine that the workers leave, whose jobs have to be these, and counts what this thread does beside what
+/// they did.
 ///
 /// # Errors
 ///
-/// [`AllocError`] where memory for the results of a job was refused.
+/// [`RunFault::Mixed`] where the machine has other jobs, and [`RunFault::Memory`] where memory for the results of a job was
+/// refused.
 fn run_out_jobs<A: Allocator + Clone>(
     machine: Machine<A>,
+    jobs: &[Job<A>],
     desk: Desk<A>,
     workers: Vec<u64, A>,
-) -> Result<(Machine<A>, Tally<A>), AllocError>
-    requires { All (λ task. task.limits.words ≤ desk) machine.tasks }
-    ensures jobs { IfOk result (λ ran. ran.0.tasks ≡ machine.tasks) }
+) -> Result<(Machine<A>, Tally<A>), RunFault>
+    requires { All (λ task. task.limits.words ≤ desk) jobs.now }
+    ensures jobs { IfOk result (λ ran. ran.0.tasks ≡ jobs.now) }
     ensures collected { IfOk result (λ ran. All (λ standing. standing ≡ Collected) ran.0.standings) }
     ensures workers { IfOk result (λ ran. ran.1.workers ≡ workers) }
-    ensures counted { IfOk result (λ ran. executed_sum ran.0 ≡ executed_sum machine + ran.1.caller) }
+    ensures counted { IfOk result (λ ran. executed_sum ran.0 + sum workers.items ≡ executed_sum machine + (sum ran.1.workers.items + ran.1.caller)) }
 {
+    if !machine.holds(jobs) {
+        return Err(RunFault::Mixed);
+    }
     let mut machine = machine;
     let caller = run_out(&mut machine, desk)?;
     Ok((machine, Tally { workers, caller }))

@@ -1,27 +1,16 @@
-use Rattle.std.proofs.Common.{◌∙◌, ap, sym}
-use Rattle.batch_front.specs.Reports.{report_of, status_of}
-use Rattle.batch_front.proofs.SeatLemmas.{seated_after}
+use Rattle.std.proofs.Common.{◌≡◌, ◌∙◌, ap, sym}
+use Rattle.std.proofs.lemmas.Result.{IfOk-weaker}
+use Rattle.batch_front.specs.Reports.{jobs_status, jobs_text, report_of, status_of}
 use Rattle.batch_front.proofs.answer.answer_of_caller.Goals as goal
 
-pub told-requires-clause-seated : goal.told-requires-clause-seated
-told-requires-clause-seated g c = (
-  c.in-Jobs.entries,
-  seated_after _ _ _ _ c.in-Jobs.entries c.in_ok-machine-in-Jobs-2.ensures.tasks c.deref-in-Jobs.ensures.value
-      c.in_ok-machine-in-Jobs.ensures.seated,
-)
-
-pub returns-in_ok-answer-in-Jobs-clause-report : goal.returns-in_ok-answer-in-Jobs-clause-report
+pub returns-in-Jobs-clause-report : goal.returns-in-Jobs-clause-report
 unfolding report_of
-returns-in_ok-answer-in-Jobs-clause-report g c =
-    c.in_ok-answer-in-Jobs.ensures.report c.in-Jobs.entries
-    (seated_after _ _ _ _ c.in-Jobs.entries c.in_ok-machine-in-Jobs-2.ensures.tasks c.deref-in-Jobs.ensures.value
-    c.in_ok-machine-in-Jobs.ensures.seated)
-    ∙ ap report_of (sym c.in-Jobs.is)
+returns-in-Jobs-clause-report g c =
+    IfOk-weaker c.jobs_of_caller.result (λ r. r.0.items ≡ jobs_text c.in-Jobs.entries) (λ r. r.0.items ≡ report_of c.args.batch)
+    (λ r e. e ∙ ap report_of (sym c.in-Jobs.is)) c.jobs_of_caller.ensures.report
 
-pub returns-in_ok-answer-in-Jobs-clause-status : goal.returns-in_ok-answer-in-Jobs-clause-status
+pub returns-in-Jobs-clause-status : goal.returns-in-Jobs-clause-status
 unfolding status_of
-returns-in_ok-answer-in-Jobs-clause-status g c =
-    c.in_ok-answer-in-Jobs.ensures.status c.in-Jobs.entries
-    (seated_after _ _ _ _ c.in-Jobs.entries c.in_ok-machine-in-Jobs-2.ensures.tasks c.deref-in-Jobs.ensures.value
-    c.in_ok-machine-in-Jobs.ensures.seated)
-    ∙ ap status_of (sym c.in-Jobs.is)
+returns-in-Jobs-clause-status g c =
+    IfOk-weaker c.jobs_of_caller.result (λ r. r.1 ≡ jobs_status c.in-Jobs.entries) (λ r. r.1 ≡ status_of c.args.batch)
+    (λ r e. e ∙ ap status_of (sym c.in-Jobs.is)) c.jobs_of_caller.ensures.status

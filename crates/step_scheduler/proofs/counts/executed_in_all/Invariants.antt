@@ -1,4 +1,4 @@
-use Rattle.std.proofs.Common.{◌≡◌, ◌≤◌, length, take}
+use Rattle.std.proofs.Common.{◌≡◌, length, take}
 use Rattle.job_steps.specs.Standings.{sum_over, executed_at}
 use Rattle.step_scheduler.proofs.counts.executed_in_all.Given as goal
 

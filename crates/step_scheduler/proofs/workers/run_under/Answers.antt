@@ -1,41 +1,33 @@
-use Rattle.std.proofs.Common.{◌≡◌, ◌≤◌, ◌∙◌, refl, ap, sym, subst, arith}
+use Rattle.std.proofs.Common.{◌≡◌, ◌≤◌, ◌+◌, ◌∙◌, ap, sym, subst, arith}
 use Rattle.std.specs.Prelude.{All, sum, vec_len}
+use Rattle.std.proofs.lemmas.Result.{IfOk-weaker}
 use Rattle.job_steps.specs.States.{Task}
 use Rattle.step_scheduler.specs.Tallies.{executed_sum}
 use Rattle.step_scheduler.proofs.workers.run_under.Goals as goal
 
-pub new-requires-3 : goal.new-requires-3
-new-requires-3 g c =
-    let recalled = ap executed_sum c.recall_all.ensures.recalled in
-    let same = c.count_laws.ensures.recalls c.args.machine in
-    omega (arith, recalled, same, c.requires.before, c.open-book.ensures.total)
-
 pub run_out_jobs-requires : goal.run_out_jobs-requires
 run_out_jobs-requires g c =
-    let same : c.in_ok-machine.machine.tasks ≡ c.args.machine.tasks =
-    c.if-not-holds.ensures.0 refl ∙ c.as_slice.ensures.value ∙ ap (λ v. v.items) c.deref.ensures ∙ c.in_ok-list.ensures in
-    subst (All (λ (task : Task). task.limits.words ≤ c.in_ok-desk.desk)) (sym same)
+    let jobs_are = c.as_slice.ensures.value ∙ ap (λ v. v.items) c.deref.ensures ∙ c.in_ok-list.ensures in
+    subst (All (λ (task : Task). task.limits.words ≤ c.in_ok-desk.desk)) (sym jobs_are)
     (subst (λ n. All (λ (task : Task). task.limits.words ≤ n) c.args.machine.tasks) (sym c.in_ok-desk.ensures)
-    c.most_words-words.ensures.each)
+    c.most_words.ensures.each)
 
 pub returns-clause-jobs : goal.returns-clause-jobs
 returns-clause-jobs g c =
-    c.in_ok-run_out_jobs.ensures.jobs ∙ c.if-not-holds.ensures.0 refl ∙ c.as_slice.ensures.value
-    ∙ ap (λ v. v.items) c.deref.ensures
-    ∙ c.in_ok-list.ensures
+    let jobs_are = c.as_slice.ensures.value ∙ ap (λ v. v.items) c.deref.ensures ∙ c.in_ok-list.ensures in
+    IfOk-weaker c.run_out_jobs.result (λ ran. ran.0.tasks ≡ c.as_slice.result.now)
+    (λ ran. ran.0.tasks ≡ c.args.machine.tasks) (λ ran e. e ∙ jobs_are) c.run_out_jobs.ensures.jobs
 
 pub returns-clause-workers : goal.returns-clause-workers
 returns-clause-workers g c =
-    let same = ap vec_len c.in_ok-run_out_jobs.ensures.workers in
-    omega (arith, same, c.in_ok-machine.ensures.workers, c.start_workers.ensures, c.in_ok-shares.ensures.shares)
+    IfOk-weaker c.run_out_jobs.result (λ ran. ran.1.workers ≡ c.in_ok-machine.workers)
+    (λ ran. vec_len ran.1.workers ≡ c.args.workers) (λ ran e. ap vec_len e ∙ c.in_ok-machine.ensures.workers)
+    c.run_out_jobs.ensures.workers
 
 pub returns-clause-counted : goal.returns-clause-counted
 returns-clause-counted g c =
-    let same = ap (λ v. sum v.items) c.in_ok-run_out_jobs.ensures.workers in
-    omega (
-      arith,
-      same,
-      c.in_ok-run_out_jobs.ensures.counted,
-      c.in_ok-machine.ensures.counted,
-      c.requires.before,
-    )
+    IfOk-weaker c.run_out_jobs.result
+    (λ ran. executed_sum ran.0 + sum c.in_ok-machine.workers.items
+    ≡ executed_sum c.in_ok-machine.machine + (sum ran.1.workers.items + ran.1.caller))
+    (λ ran. executed_sum ran.0 ≡ executed_sum c.args.machine + (sum ran.1.workers.items + ran.1.caller))
+    (λ ran e. omega (arith, e, c.in_ok-machine.ensures.counted, c.requires.before)) c.run_out_jobs.ensures.counted
