@@ -45,13 +45,23 @@ fn feed_blanks(feed: &mut Feed<Global>, piece: &[u8], count: usize) -> Result<()
     Ok(())
 }
 
+/// Feeds a job, and behind it blanks in pieces of this size, until so many bytes more have come than a batch may have.
+fn feed_past(
+    feed: &mut Feed<Global>,
+    alloc: Global,
+    size: usize,
+    more: usize,
+) -> Result<(), AllocError> {
+    feed.feed(JOB)?;
+    let piece = blanks(alloc, size)?;
+    let count = bytes_behind(JOB.len()).saturating_add(more);
+    feed_blanks(feed, piece.as_slice(), count)
+}
+
 /// What a batch comes to that has so many bytes more than it may: a job, and blanks in pieces of this size.
 fn ends(alloc: Global, size: usize, more: usize) -> Result<Option<(u64, BatchFault)>, AllocError> {
-    let piece = blanks(alloc, size)?;
     let mut feed = Feed::new(alloc, REGION)?;
-    feed.feed(JOB)?;
-    let count = bytes_behind(JOB.len()).saturating_add(more);
-    feed_blanks(&mut feed, piece.as_slice(), count)?;
+    feed_past(&mut feed, alloc, size, more)?;
     match feed.end()? {
         Batch::Jobs(_) => Ok(None),
         Batch::Refused(line, fault) => Ok(Some((line, fault))),

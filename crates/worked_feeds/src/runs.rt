@@ -2,6 +2,8 @@
 use crate::shortage::LEAST_BLOCK;
 use batch_front::{Device, FrontFault, Options, Status, run_alone};
 use linked_list_allocator::LocalHeap;
+use std::alloc::{AllocError, Global};
+use std::process::Abort;
 use std::test::Fail;
 
 /// The most bytes of a heap.
@@ -20,27 +22,40 @@ const REPORT: &[u8] = b"JOB 1 a RETURNED\nINT (1 2)\nUSED 2 instructions 2 words
     JOB 2 b REFUSED line 12 V7 NO_MAIN\n\
     JOB 3 c MEMORY line 18 M1 WORDS\nUSED 0 instructions 0 words\nEND 3 jobs 1 refused\n";
 
+/// What a run comes to that takes its memory of this heap, and what was written.
+fn ending(heap: &LocalHeap, alloc: Global) -> (Result<Status, FrontFault>, Vec<u8>) {
+    let options = Options {
+        region: REGION,
+        workers: 1,
+        schedule: None,
+    };
+    let mut reader = Device::new(BATCH);
+    let mut writer = Device::new(Vec::new(alloc));
+    let outcome = run_alone(heap, &mut reader, &mut writer, &options);
+    (outcome, writer.into_inner())
+}
+
+/// Whether a run over a heap of so many bytes writes the whole report. If it doesn't, it wants memory and writes nothing.
+fn is_whole(rt: &impl Abort, alloc: Global, size: usize) -> Result<bool, AllocError> {
+    let heap = LocalHeap::new(alloc, size)?;
+    let (outcome, written) = ending(&heap, alloc);
+    assert_eq!(rt; heap.used(), 0);
+    if outcome == Ok(Status::SomeNot) {
+        assert_eq!(rt; written.as_slice(), REPORT);
+        return Ok(true);
+    }
+    assert_eq!(rt; outcome, Err(FrontFault::Memory), "{size}");
+    assert!(rt; written.is_empty());
+    Ok(false)
+}
+
 #[test]
 fn a_run_ends_whole_or_with_nothing(rt: HostRuntime) -> Result<(), Fail> {
-    for size in (0..MOST_BYTES).step_by(LEAST_BLOCK) {
-        let heap = LocalHeap::new(rt.alloc(), size)?;
-        let mut reader = Device::new(BATCH);
-        let mut writer = Device::new(Vec::new(rt.alloc()));
-        let options = Options {
-            region: REGION,
-            workers: 1,
-            schedule: None,
-        };
-        let outcome = run_alone(&heap, &mut reader, &mut writer, &options);
-        let written = writer.into_inner();
-        assert_eq!(rt; heap.used(), 0);
-        if outcome == Ok(Status::SomeNot) {
-            assert_eq!(rt; written.as_slice(), REPORT);
-            assert!(rt; size > 0);
+    assert!(rt; !is_whole(&rt, rt.alloc(), 0)?);
+    for size in (LEAST_BLOCK..MOST_BYTES).step_by(LEAST_BLOCK) {
+        if is_whole(&rt, rt.alloc(), size)? {
             return Ok(());
         }
-        assert_eq!(rt; outcome, Err(FrontFault::Memory), "{size}");
-        assert!(rt; written.is_empty());
     }
     Err(Fail::from("no heap is large enough"))
 }

@@ -220,25 +220,3 @@ fn blocks_of_no_words_need_no_room(rt: HostRuntime) -> Result<(), Fail> {
     places_no_words(&rt, rt.alloc(), &mut RegionMemory::new(rt.alloc(), 0, 2)?)?;
     places_no_words(&rt, rt.alloc(), &mut SlidingMemory::new(rt.alloc(), 0, 2)?)
 }
-
-/// Two words of one block slide down, and the hole that they leave is wide enough.
-#[test]
-fn blocks_slide_until_a_hole_is_wide_enough(rt: HostRuntime) -> Result<(), Fail> {
-    let mut memory = SlidingMemory::new(rt.alloc(), 12, 6)?;
-    let a = put(&rt, &mut memory, 1, &[1, 2])?;
-    let b = put(&rt, &mut memory, 2, &[3, 4])?;
-    let c = put(&rt, &mut memory, 1, &[5, 6])?;
-    let d = put(&rt, &mut memory, 2, &[7, 8])?;
-    let e = put(&rt, &mut memory, 1, &[9, 10])?;
-    take_away(&rt, &mut memory, a);
-    take_away(&rt, &mut memory, c);
-    let wide = put(&rt, &mut memory, 3, &[-1, -2, -3, -4])?;
-    assert_eq!(rt; memory.moved(), 2);
-    reads(&rt, rt.alloc(), &memory, b, 2, &[3, 4])?;
-    reads(&rt, rt.alloc(), &memory, d, 2, &[7, 8])?;
-    reads(&rt, rt.alloc(), &memory, e, 1, &[9, 10])?;
-    reads(&rt, rt.alloc(), &memory, wide, 3, &[-1, -2, -3, -4])?;
-    put(&rt, &mut memory, 1, &[11, 12])?;
-    assert_eq!(rt; (memory.moved(), memory.used()), (0, 12));
-    Ok(())
-}

@@ -1,10 +1,14 @@
 //! Whole runs, from the bytes of a batch to those of its report, whose jobs workers run.
 
+ghost use Rattle.std.specs.Prelude.{◌≤◌};
+ghost use Rattle.vcode_base.specs.declared.limits.TheConstants.{MOST_WORKERS};
+
 use crate::batches::{TWO_JOBS, twelve_jobs};
 use crate::machines::REGION;
 use crate::meeting::Meeting;
 use batch_front::{Device, FrontFault, Gate, NoGate, Options, Status, parse_schedule, run};
 use std::alloc::Global;
+use std::process::Abort;
 use std::sync::Wait;
 use std::test::Fail;
 use std::thread::Threads;
@@ -43,52 +47,64 @@ where
     (outcome, writer.into_inner())
 }
 
+/// How a batch is run by so many workers, where it has no schedule.
+fn options_of(workers: u32) -> Options
+    requires { (1 ≤ workers) × (workers ≤ MOST_WORKERS) }
+{
+    Options {
+        region: REGION as u32,
+        workers,
+        schedule: None,
+    }
+}
+
 #[test]
 fn two_workers_compute_at_once(rt: HostRuntime) {
     let gate = Meeting::new(&rt);
-    let options = Options {
-        region: REGION as u32,
-        workers: 2,
-        schedule: None,
-    };
-    let (outcome, report) = ending(&rt, rt.alloc(), TWO_JOBS, &options, &gate);
+    let (outcome, report) = ending(&rt, rt.alloc(), TWO_JOBS, &options_of(2), &gate);
     assert!(rt; gate.have_met());
     assert_eq!(rt; gate.calls(), 6);
     assert_eq!(rt; outcome, Ok(Status::AllReturned));
     assert_eq!(rt; report.as_slice(), REPORT_ON_TWO);
 }
 
+/// The twelve jobs, run so, have the report that is wanted.
+fn reports_on_twelve<H>(rt: &H, alloc: Global, batch: &[u8], options: &Options)
+where
+    H: Abort + Threads + Wait + Sync,
+{
+    let (outcome, report) = ending(rt, alloc, batch, options, &NoGate);
+    assert_eq!(rt; outcome, Ok(Status::SomeNot), "{options:?}");
+    assert_eq!(rt; report.as_slice(), REPORT_ON_TWELVE, "{options:?}");
+}
+
 #[test]
 fn each_number_of_workers_gives_the_same_report(rt: HostRuntime) -> Result<(), Fail> {
     let batch = twelve_jobs(rt.alloc())?;
     for workers in 1..MOST_WORKERS as u32 + 1 {
-        let options = Options {
-            region: REGION as u32,
-            workers,
-            schedule: None,
-        };
-        let (outcome, report) = ending(&rt, rt.alloc(), batch.as_bytes(), &options, &NoGate);
-        assert_eq!(rt; outcome, Ok(Status::SomeNot), "{workers}");
-        assert_eq!(rt; report.as_slice(), REPORT_ON_TWELVE, "{workers}");
+        reports_on_twelve(&rt, rt.alloc(), batch.as_bytes(), &options_of(workers));
     }
     Ok(())
+}
+
+/// How a batch is run that has this schedule.
+fn options_by(alloc: Global, list: &str) -> Result<Options, Fail> {
+    let Ok(schedule) = parse_schedule(alloc, list) else {
+        return Err(Fail::from("this is no schedule"));
+    };
+    Ok(Options {
+        region: REGION as u32,
+        workers: MOST_WORKERS as u32,
+        schedule: Some(schedule),
+    })
 }
 
 #[test]
 fn each_schedule_gives_the_same_report(rt: HostRuntime) -> Result<(), Fail> {
     let batch = twelve_jobs(rt.alloc())?;
     for list in ["1,2,3", "b5,1,f5", "12,11,10"] {
-        let Ok(schedule) = parse_schedule(rt.alloc(), list) else {
-            return Err(Fail::from("this is no schedule"));
-        };
-        let options = Options {
-            region: REGION as u32,
-            workers: MOST_WORKERS as u32,
-            schedule: Some(schedule),
-        };
-        let (outcome, report) = ending(&rt, rt.alloc(), batch.as_bytes(), &options, &NoGate);
-        assert_eq!(rt; outcome, Ok(Status::SomeNot), "{list}");
-        assert_eq!(rt; report.as_slice(), REPORT_ON_TWELVE, "{list}");
+        let options = options_by(rt.alloc(), list)?;
+        reports_on_twelve(&rt, rt.alloc(), batch.as_bytes(), &options);
     }
     Ok(())
 }

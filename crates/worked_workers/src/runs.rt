@@ -6,12 +6,23 @@ ghost use Rattle.vcode_base.specs.declared.limits.TheConstants.{MOST_WORKERS};
 use crate::batches::{EXECUTED_BY_TWELVE, EXECUTED_BY_TWO, TWO_JOBS, twelve_jobs};
 use crate::machines::machine;
 use crate::meeting::Meeting;
-use job_machine::{Admission, Begun, Desk, Finished, Machine, Status, compute};
+use job_machine::{Admission, Begun, Desk, Filled, Finished, Machine, Status, compute};
 use std::alloc::Global;
+use std::process::Abort;
 use std::sync::Wait;
 use std::test::Fail;
 use std::thread::Threads;
 use step_scheduler::{NoGate, Tally, run_workers};
+
+/// Each of the two workers has executed some of the instructions of the two jobs, and the calling thread none.
+fn have_shared_two(rt: &impl Abort, machine: &Machine<Global>, tally: &Tally<Global>) {
+    for job in 0..2usize {
+        assert_eq!(rt; machine.executed(job + 1), Some(EXECUTED_BY_TWO[job]));
+    }
+    assert_eq!(rt; tally.workers.len(), 2);
+    assert!(rt; tally.workers.iter().all(|count| *count > 0));
+    assert_eq!(rt; (by_workers(tally), tally.caller), (6, 0));
+}
 
 #[test]
 fn two_workers_compute_at_once(rt: HostRuntime) -> Result<(), Fail> {
@@ -20,16 +31,9 @@ fn two_workers_compute_at_once(rt: HostRuntime) -> Result<(), Fail> {
     let Ok((machine, tally)) = run_workers(&rt, rt.alloc(), machine, 2, &gate) else {
         return Err(Fail::from("the run gave up"));
     };
+    have_shared_two(&rt, &machine, &tally);
     assert!(rt; gate.have_met());
-    for job in 0..2usize {
-        assert_eq!(rt; machine.executed(job + 1), Some(EXECUTED_BY_TWO[job]));
-    }
-    assert_eq!(rt; tally.workers.len(), 2);
-    let (one, two) = (tally.workers[0], tally.workers[1]);
-    assert!(rt; one > 0 && two > 0);
-    assert_eq!(rt; one.wrapping_add(two), 6);
     assert_eq!(rt; gate.calls(), 6);
-    assert_eq!(rt; tally.caller, 0);
     Ok(())
 }
 
@@ -71,42 +75,50 @@ fn by_workers(tally: &Tally<Global>) -> u64 {
     sum
 }
 
-#[test]
-fn each_number_of_workers_executes_the_same(rt: HostRuntime) -> Result<(), Fail> {
-    let (machine, tally) = run_of_twelve(&rt, rt.alloc(), 1)?;
+/// So many workers execute what the twelve jobs execute.
+fn execute_the_twelve<R>(rt: &R, alloc: Global, workers: usize) -> Result<(), Fail>
+where
+    R: Abort + Threads + Wait + Sync,
+    requires { (1 ≤ workers) × (workers ≤ MOST_WORKERS) }
+{
+    let (machine, tally) = run_of_twelve(rt, alloc, workers)?;
     assert!(rt; are_the_twelve(&machine));
     assert_eq!(rt;
         (tally.workers.len(), by_workers(&tally), tally.caller),
-        (1, 35, 0)
-    );
-    let (machine, tally) = run_of_twelve(&rt, rt.alloc(), 2)?;
-    assert!(rt; are_the_twelve(&machine));
-    assert_eq!(rt;
-        (tally.workers.len(), by_workers(&tally), tally.caller),
-        (2, 35, 0)
-    );
-    let (machine, tally) = run_of_twelve(&rt, rt.alloc(), 16)?;
-    assert!(rt; are_the_twelve(&machine));
-    assert_eq!(rt;
-        (tally.workers.len(), by_workers(&tally), tally.caller),
-        (16, 35, 0)
+        (workers, 35, 0)
     );
     Ok(())
 }
 
 #[test]
+fn each_number_of_workers_executes_the_same(rt: HostRuntime) -> Result<(), Fail> {
+    execute_the_twelve(&rt, rt.alloc(), 1)?;
+    execute_the_twelve(&rt, rt.alloc(), 2)?;
+    execute_the_twelve(&rt, rt.alloc(), 16)
+}
+
+/// The first step of job 1, which has begun on a machine of jobs that wait, and is computed.
+fn first_step(
+    rt: &impl Abort,
+    alloc: Global,
+    machine: &mut Machine<Global>,
+) -> Result<Filled<Global>, Fail> {
+    assert_eq!(rt; machine.admit(), Admission::Admitted(1));
+    match machine.begin(1, Desk::new(alloc, 8)?) {
+        Begun::Began(ticket) => Ok(compute(ticket)),
+        _ => Err(Fail::from("no step has begun")),
+    }
+}
+
+#[test]
 fn a_step_that_has_begun_is_given_up(rt: HostRuntime) -> Result<(), Fail> {
     let mut machine = machine(rt.alloc(), TWO_JOBS)?;
-    assert_eq!(rt; machine.admit(), Admission::Admitted(1));
-    let Begun::Began(ticket) = machine.begin(1, Desk::new(rt.alloc(), 8)?) else {
-        return Err(Fail::from("no step has begun"));
-    };
-    let filled = compute(ticket);
+    let filled = first_step(&rt, rt.alloc(), &mut machine)?;
     let Ok((mut machine, tally)) = run_workers(&rt, rt.alloc(), machine, 1, &NoGate) else {
         return Err(Fail::from("the run gave up"));
     };
     assert_eq!(rt; machine.executed(1), Some(2));
-    assert_eq!(rt; (tally.workers[0], tally.caller), (6, 0));
+    assert_eq!(rt; (by_workers(&tally), tally.caller), (6, 0));
     let (finished, _) = machine.finish(filled);
     assert_eq!(rt; finished, Finished::Stale);
     Ok(())
