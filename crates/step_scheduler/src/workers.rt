@@ -89,7 +89,7 @@ where
 ///
 /// # Errors
 ///
-/// [`AllocError`] where memory was refused that the workers need all together.
+/// [`AllocError`] where memory for the crew, for the workers' shares or for their counts was refused.
 fn run_threads<L, A, R, G>(
     rt: &R,
     alloc: A,
