@@ -13,6 +13,7 @@ use Rattle.batch_reader.specs.Fates.{JobEntry, IsBatch}
 use Rattle.batch_front.specs.declared.status.Status.{Status}
 use Rattle.batch_front.specs.Inputs.{first_bytes, AreFirstBytes, IsBatchIn, ReadsFirstBytes, ReadsNoFurther}
 use Rattle.batch_front.specs.Reports.{report_of, status_of}
+use Rattle.batch_front.specs.Runs.{WritesReport, WritesFront}
 use Rattle.batch_front.proofs.Bytes.{front_at_stop, front_when_full, reads_more, reads_none}
 use Rattle.batch_front.proofs.Bytes.{rest_at_stop, rest_is_some, rest_when_full, some_rest, consumes_nothing}
 
@@ -116,8 +117,7 @@ fed_no_further a b feed left h =
 -- its report was written, and its status is this
 pub report_of_input : (region : ℕ) (old : Option (List ℕ)) (batch : Batch (List JobEntry)) (before after : Option (List ℕ))
     (status : Status) → IsBatchIn region old batch → Appends before after (report_of batch) → status ≡ status_of batch
-    → IfSome old (λ input. (b : Batch (List JobEntry)) × IsBatch region (first_bytes input) b
-    × Appends before after (report_of b) × (status ≡ status_of b))
+    → WritesReport region old before after status
 report_of_input region None batch before after status h w s = tt
 report_of_input region (Some input) batch before after status h w s =
     (batch, subst (λ bytes. IsBatch region bytes batch) h.first h.comes, w, s)
@@ -125,8 +125,7 @@ report_of_input region (Some input) batch before after status h w s =
 -- a front of its report was written
 pub front_of_input : (region : ℕ) (old : Option (List ℕ)) (batch : Batch (List JobEntry)) (before after : Option (List ℕ))
     (n : ℕ) → IsBatchIn region old batch → Appends before after (take n (report_of batch))
-    → IfSome old (λ input. (b : Batch (List JobEntry)) × IsBatch region (first_bytes input) b
-    × (k : ℕ) × Appends before after (take k (report_of b)))
+    → WritesFront region old before after
 front_of_input region None batch before after n h w = tt
 front_of_input region (Some input) batch before after n h w =
     (batch, subst (λ bytes. IsBatch region bytes batch) h.first h.comes, n, w)

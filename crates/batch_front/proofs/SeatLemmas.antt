@@ -1,5 +1,6 @@
 -- The jobs of a batch on a machine: their numbers, and what is told of them.
-use Rattle.std.proofs.Common.{◌≡◌, ℕ, zero, suc, ◌+◌, ◌-◌, ◌≤◌, ◌<◌, take, get_or, Bool, true, false, ◌&&◌, List, [], ◌∷◌, ◌++◌, length}
+use Rattle.std.proofs.Common.{◌≡◌, ℕ, zero, suc, ◌+◌, ◌-◌, ◌≤◌, ◌<◌, take, get_or, Bool, true, false, ◌&&◌}
+use Rattle.std.proofs.Common.{List, [], ◌∷◌, ◌++◌, length}
 use Rattle.std.proofs.Common.{cond, refl, sym, ap, subst, ◌∙◌, arith, Some}
 use Rattle.std.specs.Prelude.{All, slice_get, if◌then◌else◌}
 use Rattle.std.specs.List.{list_all}
@@ -18,8 +19,10 @@ use Rattle.batch_reader.specs.declared.entry.Batch.TheVariants.{Refused as Batch
 use Rattle.batch_front.specs.declared.status.Status.TheVariants.{AllReturned, SomeNot}
 use Rattle.batch_front.specs.Reports.{end_text, entries_text, entry_text, fate_text, has_returned, is_refused}
 use Rattle.batch_front.specs.Reports.{job_text, jobs_status, jobs_text, refused_count}
-use Rattle.batch_front.specs.Seats.{AreAmong, AreSeated, AreSeatsOf, BatchFits, EntriesFit, FateFits, IsAmong, IsFateOn, IsSeatOf, Seat}
-use Rattle.batch_front.specs.Seats.{fate_tasks, fate_text_on, has_returned_on, have_returned_on, report_text, seat_text, seats_status}
+use Rattle.batch_front.specs.Seats.{AreAmong, AreSeated, AreSeatsOf, BatchFits, EntriesFit, FateFits, IsAmong}
+use Rattle.batch_front.specs.Seats.{IsFateOn, IsSeatOf, Seat}
+use Rattle.batch_front.specs.Seats.{fate_tasks, fate_text_on, has_returned_on, have_returned_on, report_text}
+use Rattle.batch_front.specs.Seats.{seat_text, seats_status}
 use Rattle.batch_front.specs.Seats.{seats_text, tasks_of, told_return, told_text}
 
 -- ---- numbers
@@ -111,7 +114,8 @@ counted_in (e ∷ es) =
 -- there are no more tasks than jobs, and the others are refused
 pub counted : (entries : List JobEntry) → length (tasks_of entries) + refused_count entries ≡ length entries
 counted entries =
-    ap (λ n. length (tasks_of entries) + n) (sym (is_count_by refused_in (λ (e : JobEntry). is_refused e.fate) refl (λ _ _. refl)
+    ap (λ n. length (tasks_of entries) + n)
+    (sym (is_count_by refused_in (λ (e : JobEntry). is_refused e.fate) refl (λ _ _. refl)
     entries))
     ∙ counted_in entries
 
@@ -196,8 +200,10 @@ one_told_more tasks number (s ∷ ss) (suc place) any h =
     let same : (number + 1) + place ≡ number + suc place = omega arith in
     let count : suc place + 1 ≡ suc (place + 1) = omega arith in
     ap (λ n. seats_text tasks number (take n (s ∷ ss))) count ∙ ap (λ t. seat_text tasks number s ++ t) later
-    ∙ sym (append_assoc (seat_text tasks number s) (seats_text tasks (number + 1) (take place ss)) (seat_text tasks ((number + 1) + place) (get_or ss place any)))
-    ∙ ap (λ n. (seat_text tasks number s ++ seats_text tasks (number + 1) (take place ss)) ++ seat_text tasks n (get_or ss place any)) same
+    ∙ sym (append_assoc (seat_text tasks number s) (seats_text tasks (number + 1) (take place ss))
+    (seat_text tasks ((number + 1) + place) (get_or ss place any)))
+    ∙ ap (λ n. (seat_text tasks number s ++ seats_text tasks (number + 1) (take place ss))
+    ++ seat_text tasks n (get_or ss place any)) same
 
 -- the same of a report
 pub report_with : (tasks : List Task) (seats : List Seat) (place : ℕ) (seat : Seat) (old before new : List ℕ)

@@ -1,6 +1,7 @@
 -- What a device of a reader or a writer shows, and what a call makes of that.
-use Rattle.std.specs.Prelude.{ℕ, ◌+◌, ◌-◌, ◌^◌, ◌≡◌, Bool, true, false, min}
+use Rattle.std.specs.Prelude.{ℕ, ◌+◌, ◌-◌, ◌^◌, ◌≡◌, ◌≤◌, ◌⊎◌, Bool, true, false, min}
 use Rattle.batch_front.specs.declared.device.Device.{Device}
+use Rattle.batch_front.specs.declared.device.TheConstants.{MOST_INTERRUPTIONS}
 use Rattle.batch_front.specs.declared.device.Trouble.{Trouble}
 use Rattle.batch_front.specs.declared.device.Trouble.TheVariants.{Interrupted, Failed}
 
@@ -34,3 +35,13 @@ abbrev pub IsTroubled : {D : Type 0} → Device D → Device D → Trouble → T
 IsTroubled old new Interrupted =
     (has_failed new ≡ has_failed old) × (interrupts_of new ≡ saturating_suc (interrupts_of old))
 IsTroubled old new Failed = (has_failed new ≡ true) × (interrupts_of new ≡ interrupts_of old)
+
+-- ---- a run, in which so many interruptions came
+
+-- a device without a fault: it never failed, and no interruption is one too many
+abbrev pub HasWorked : {D : Type 0} → Device D → ℕ → Type 0
+HasWorked device count = (has_failed device ≡ false) × (count ≤ MOST_INTERRUPTIONS)
+
+-- a device at fault: it failed, or its interruption is the one too many
+abbrev pub IsAtFault : {D : Type 0} → Device D → ℕ → Type 0
+IsAtFault device count = (has_failed device ≡ true) ⊎ (count ≡ MOST_INTERRUPTIONS + 1)

@@ -3,6 +3,7 @@ pub mod Devices
 pub mod Exits
 pub mod Inputs
 pub mod Reports
+pub mod Runs
 pub mod Schedules
 pub mod Seats
 pub mod Turns

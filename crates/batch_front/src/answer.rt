@@ -7,7 +7,8 @@ ghost use Rattle.batch_reader.specs.BatchTexts.{batch_fault_text};
 ghost use Rattle.batch_reader.specs.Fates.{JobEntry};
 ghost use Rattle.batch_reader.specs.Feeds.{HasFewJobs};
 ghost use Rattle.batch_front.specs.Reports.{fault_text, jobs_status, jobs_text, report_of, status_of};
-ghost use Rattle.batch_front.specs.Seats.{AreAmong, AreSeated, BatchFits, EntriesFit, HasRunOut, report_text, seats_status};
+ghost use Rattle.batch_front.specs.Seats.{AreAmong, AreSeated, BatchFits, EntriesFit, HasRunOut, report_text};
+ghost use Rattle.batch_front.specs.Seats.{seats_status};
 
 use crate::machine_run::{run_on_caller, run_on_workers};
 use crate::options::Options;
@@ -140,8 +141,10 @@ fn told<A: Allocator>(
 ) -> Result<(Vec<u8, A>, Status), AllocError>
     requires out { HasRunOut machine.now }
     requires seated { (entries : List JobEntry) × AreSeated machine.now.tasks seats.now entries }
-    ensures report { IfOk result (λ r. (entries : List JobEntry) → AreSeated machine.now.tasks seats.now entries → r.0.items ≡ jobs_text entries) }
-    ensures status { IfOk result (λ r. (entries : List JobEntry) → AreSeated machine.now.tasks seats.now entries → r.1 ≡ jobs_status entries) }
+    ensures report { IfOk result
+        (λ r. (entries : List JobEntry) → AreSeated machine.now.tasks seats.now entries → r.0.items ≡ jobs_text entries) }
+    ensures status { IfOk result
+        (λ r. (entries : List JobEntry) → AreSeated machine.now.tasks seats.now entries → r.1 ≡ jobs_status entries) }
 {
     let mut report = Vec::new(alloc);
     put_report(&mut report, machine, seats)?;

@@ -1,13 +1,10 @@
 //! A whole run, from a batch's bytes to its report's.
 
-ghost use Rattle.std.specs.Prelude.{◌≡◌, ◌⊎◌, ℕ, ◌+◌, ◌≤◌, false, true, List, take, IfOk, IfSome, OnOk, IsErrOf};
-ghost use Rattle.std.specs.Io.KnownBytes.{Appends, Keeps};
-ghost use Rattle.batch_front.specs.declared.device.TheConstants.{MOST_INTERRUPTIONS};
-ghost use Rattle.batch_front.specs.Devices.{inner_of, has_failed, interrupts_of, IsFresh};
-ghost use Rattle.batch_reader.specs.declared.entry.Batch.{Batch};
-ghost use Rattle.batch_reader.specs.Fates.{IsBatch, JobEntry};
-ghost use Rattle.batch_front.specs.Inputs.{first_bytes, ReadsFirstBytes, ReadsNoFurther};
-ghost use Rattle.batch_front.specs.Reports.{report_of, status_of};
+ghost use Rattle.std.specs.Prelude.{◌⊎◌, ◌+◌, IfOk, OnOk, IsErrOf};
+ghost use Rattle.std.specs.Io.KnownBytes.{Keeps};
+ghost use Rattle.batch_front.specs.Devices.{inner_of, interrupts_of, IsFresh, HasWorked, IsAtFault};
+ghost use Rattle.batch_front.specs.Inputs.{ReadsFirstBytes, ReadsNoFurther};
+ghost use Rattle.batch_front.specs.Runs.{WritesReport, WritesFront};
 
 use crate::answer::{answer_of_caller, answer_of_workers};
 use crate::device::{Device, MOST_INTERRUPTIONS};
@@ -43,13 +40,11 @@ pub fn run_alone<A: Allocator + Copy, R: Read, W: Write>(
     requires writer { IsFresh writer.old }
 
     // The report is written and nothing else, and the status is the batch's.
-    ensures report { IfOk result (λ status. IfSome (R.remaining (inner_of reader.old)) (λ input. (batch : Batch (List JobEntry)) ×
-        IsBatch options.now.region (first_bytes input) batch
-        × Appends (W.contents (inner_of writer.old)) (W.contents (inner_of writer.new)) (report_of batch)
-        × (status ≡ status_of batch))) }
+    ensures report { IfOk result (WritesReport options.now.region (R.remaining (inner_of reader.old))
+        (W.contents (inner_of writer.old)) (W.contents (inner_of writer.new))) }
     // No fault of a device is passed over, nor one interruption too many.
-    ensures few_interruptions { OnOk result ((has_failed reader.new ≡ false) × (has_failed writer.new ≡ false)
-        × (interrupts_of reader.new + interrupts_of writer.new ≤ MOST_INTERRUPTIONS)) }
+    ensures reader_worked { OnOk result (HasWorked reader.new (interrupts_of reader.new + interrupts_of writer.new)) }
+    ensures writer_worked { OnOk result (HasWorked writer.new (interrupts_of reader.new + interrupts_of writer.new)) }
 
     // The input is read to its end, or exactly one byte further than a batch may have, before anything is written.
     ensures read_to_the_end { OnOk result (ReadsFirstBytes (R.remaining (inner_of reader.old)) (R.remaining (inner_of reader.new))) }
@@ -59,18 +54,17 @@ pub fn run_alone<A: Allocator + Copy, R: Read, W: Write>(
     ensures read_no_further { ReadsNoFurther (R.remaining (inner_of reader.old)) (R.remaining (inner_of reader.new)) }
 
     // A part of the report from its front was written.
-    ensures front_written { IsErrOf result FrontFault.Write → IfSome (R.remaining (inner_of reader.old)) (λ input.
-        (batch : Batch (List JobEntry)) × IsBatch options.now.region (first_bytes input) batch
-        × (n : ℕ) × Appends (W.contents (inner_of writer.old)) (W.contents (inner_of writer.new)) (take n (report_of batch))) }
+    ensures front_written { IsErrOf result FrontFault.Write → WritesFront options.now.region (R.remaining (inner_of reader.old))
+        (W.contents (inner_of writer.old)) (W.contents (inner_of writer.new)) }
     ensures nothing_written { IsErrOf result FrontFault.Read ⊎ IsErrOf result FrontFault.Memory →
         Keeps (W.contents (inner_of writer.old)) (W.contents (inner_of writer.new)) }
     ensures never_mixed { IsErrOf result FrontFault.Mixed → ⊥ }
 
     // The side that failed, or the first interruption of the run that is too many.
-    ensures read_fault { IsErrOf result FrontFault.Read →
-        (has_failed reader.new ≡ true) ⊎ (interrupts_of reader.new + interrupts_of writer.new ≡ MOST_INTERRUPTIONS + 1) }
-    ensures write_fault { IsErrOf result FrontFault.Write →
-        (has_failed writer.new ≡ true) ⊎ (interrupts_of reader.new + interrupts_of writer.new ≡ MOST_INTERRUPTIONS + 1) }
+    ensures read_fault { IsErrOf result FrontFault.Read
+        → IsAtFault reader.new (interrupts_of reader.new + interrupts_of writer.new) }
+    ensures write_fault { IsErrOf result FrontFault.Write
+        → IsAtFault writer.new (interrupts_of reader.new + interrupts_of writer.new) }
 {
     let batch = read_batch(alloc, reader, options.region)?;
     let (report, status) = answer_of_caller(alloc, batch, options)?;
@@ -107,13 +101,11 @@ where
     requires writer { IsFresh writer.old }
 
     // The report is written and nothing else, and the status is the batch's.
-    ensures report { IfOk result (λ status. IfSome (I.remaining (inner_of reader.old)) (λ input. (batch : Batch (List JobEntry)) ×
-        IsBatch options.now.region (first_bytes input) batch
-        × Appends (O.contents (inner_of writer.old)) (O.contents (inner_of writer.new)) (report_of batch)
-        × (status ≡ status_of batch))) }
+    ensures report { IfOk result (WritesReport options.now.region (I.remaining (inner_of reader.old))
+        (O.contents (inner_of writer.old)) (O.contents (inner_of writer.new))) }
     // No fault of a device is passed over, nor one interruption too many.
-    ensures few_interruptions { OnOk result ((has_failed reader.new ≡ false) × (has_failed writer.new ≡ false)
-        × (interrupts_of reader.new + interrupts_of writer.new ≤ MOST_INTERRUPTIONS)) }
+    ensures reader_worked { OnOk result (HasWorked reader.new (interrupts_of reader.new + interrupts_of writer.new)) }
+    ensures writer_worked { OnOk result (HasWorked writer.new (interrupts_of reader.new + interrupts_of writer.new)) }
 
     // The input is read to its end, or exactly one byte further than a batch may have, before anything is written.
     ensures read_to_the_end { OnOk result (ReadsFirstBytes (I.remaining (inner_of reader.old)) (I.remaining (inner_of reader.new))) }
@@ -123,17 +115,16 @@ where
     ensures read_no_further { ReadsNoFurther (I.remaining (inner_of reader.old)) (I.remaining (inner_of reader.new)) }
 
     // A part of the report from its front was written.
-    ensures front_written { IsErrOf result FrontFault.Write → IfSome (I.remaining (inner_of reader.old)) (λ input.
-        (batch : Batch (List JobEntry)) × IsBatch options.now.region (first_bytes input) batch
-        × (n : ℕ) × Appends (O.contents (inner_of writer.old)) (O.contents (inner_of writer.new)) (take n (report_of batch))) }
+    ensures front_written { IsErrOf result FrontFault.Write → WritesFront options.now.region (I.remaining (inner_of reader.old))
+        (O.contents (inner_of writer.old)) (O.contents (inner_of writer.new)) }
     ensures nothing_written { IsErrOf result FrontFault.Read ⊎ IsErrOf result FrontFault.Memory ⊎ IsErrOf result FrontFault.Mixed →
         Keeps (O.contents (inner_of writer.old)) (O.contents (inner_of writer.new)) }
 
     // The side that failed, or the first interruption of the run that is too many.
-    ensures read_fault { IsErrOf result FrontFault.Read →
-        (has_failed reader.new ≡ true) ⊎ (interrupts_of reader.new + interrupts_of writer.new ≡ MOST_INTERRUPTIONS + 1) }
-    ensures write_fault { IsErrOf result FrontFault.Write →
-        (has_failed writer.new ≡ true) ⊎ (interrupts_of reader.new + interrupts_of writer.new ≡ MOST_INTERRUPTIONS + 1) }
+    ensures read_fault { IsErrOf result FrontFault.Read
+        → IsAtFault reader.new (interrupts_of reader.new + interrupts_of writer.new) }
+    ensures write_fault { IsErrOf result FrontFault.Write
+        → IsAtFault writer.new (interrupts_of reader.new + interrupts_of writer.new) }
 {
     if options.schedule.is_some() {
         return run_alone(alloc, reader, writer, options);

@@ -3,7 +3,8 @@
 ghost use Rattle.std.specs.Prelude.{◌≡◌, ◌∷◌, ◌++◌, decimal, map, OnOk};
 ghost use Rattle.std.specs.Fmt.{signed_decimal};
 ghost use Rattle.std.specs.List.{flat_map, join_with_byte};
-ghost use Rattle.batch_front.specs.Reports.{count_text, end_text, fault_text, job_text, kind_text, next_word_text, outcome_text, used_text, value_text, word_text};
+ghost use Rattle.batch_front.specs.Reports.{count_text, end_text, fault_text, job_text, kind_text};
+ghost use Rattle.batch_front.specs.Reports.{next_word_text, outcome_text, used_text, value_text, word_text};
 
 use itoa::Buffer;
 use std::alloc::{AllocError, Allocator};

@@ -4,7 +4,8 @@ ghost use Rattle.std.specs.Prelude.{◌≡◌, ◌++◌, [], IfOk, OnOk};
 ghost use Rattle.job_steps.specs.Standings.{of_job};
 ghost use Rattle.batch_front.specs.Reports.{end_text};
 ghost use Rattle.batch_front.specs.Seats.{AreAmong, AreSeatsOf, HasRunOut, IsAmong, IsFateOn, IsSeatOf, IsTask};
-ghost use Rattle.batch_front.specs.Seats.{fate_tasks, fate_text_on, has_returned_on, have_returned_on, seat_text, seats_text, tasks_of, told_text};
+ghost use Rattle.batch_front.specs.Seats.{fate_tasks, fate_text_on, has_returned_on, have_returned_on};
+ghost use Rattle.batch_front.specs.Seats.{seat_text, seats_text, tasks_of, told_text};
 ghost use Rattle.batch_front.specs.Turns.{number_of};
 
 use crate::report::{put_fault, put_job, put_outcome, put_used};

@@ -1,9 +1,9 @@
 //! The bytes of a batch in, and those of its report out.
 
-ghost use Rattle.std.specs.Prelude.{◌≡◌, ◌⊎◌, ℕ, ◌+◌, ◌≤◌, false, true, List, [], take, IfOk, IfSome, OnOk, OnErr, IsErrOf};
+ghost use Rattle.std.specs.Prelude.{◌≡◌, ◌⊎◌, ℕ, ◌+◌, ◌≤◌, false, List, [], take, IfOk, IfSome, OnOk, OnErr, IsErrOf};
 ghost use Rattle.std.specs.Io.KnownBytes.{Appends, Keeps};
 ghost use Rattle.batch_front.specs.declared.device.TheConstants.{MOST_INTERRUPTIONS};
-ghost use Rattle.batch_front.specs.Devices.{inner_of, has_failed, interrupts_of, IsFresh};
+ghost use Rattle.batch_front.specs.Devices.{inner_of, has_failed, interrupts_of, IsFresh, HasWorked, IsAtFault};
 ghost use Rattle.batch_reader.specs.declared.entry.Batch.{Batch};
 ghost use Rattle.batch_reader.specs.Fates.{IsBatch, JobEntry};
 ghost use Rattle.batch_reader.specs.Feeds.{HasCome, HasFewJobs};
@@ -35,9 +35,8 @@ fn feed_all<A: Allocator + Copy, R: Read>(
     ensures region { feed.new.lines.region ≡ feed.old.lines.region }
     ensures read_to_the_end { OnOk result (ReadsFirstBytes (R.remaining (inner_of reader.old)) (R.remaining (inner_of reader.new))) }
     ensures read_no_further { ReadsNoFurther (R.remaining (inner_of reader.old)) (R.remaining (inner_of reader.new)) }
-    ensures few_interruptions { OnOk result ((has_failed reader.new ≡ false) × (interrupts_of reader.new ≤ MOST_INTERRUPTIONS)) }
-    ensures read_fault { IsErrOf result FrontFault.Read →
-        (has_failed reader.new ≡ true) ⊎ (interrupts_of reader.new ≡ MOST_INTERRUPTIONS + 1) }
+    ensures reader_worked { OnOk result (HasWorked reader.new (interrupts_of reader.new)) }
+    ensures read_fault { IsErrOf result FrontFault.Read → IsAtFault reader.new (interrupts_of reader.new) }
     ensures read_or_memory { OnErr result (IsErrOf result FrontFault.Read ⊎ IsErrOf result FrontFault.Memory) }
 {
     let mut piece = [0u8; PIECE];
@@ -73,9 +72,8 @@ pub(crate) fn read_batch<A: Allocator + Copy, R: Read>(
     ensures fits { IfOk result (BatchFits region) }
     ensures read_to_the_end { OnOk result (ReadsFirstBytes (R.remaining (inner_of reader.old)) (R.remaining (inner_of reader.new))) }
     ensures read_no_further { ReadsNoFurther (R.remaining (inner_of reader.old)) (R.remaining (inner_of reader.new)) }
-    ensures few_interruptions { OnOk result ((has_failed reader.new ≡ false) × (interrupts_of reader.new ≤ MOST_INTERRUPTIONS)) }
-    ensures read_fault { IsErrOf result FrontFault.Read →
-        (has_failed reader.new ≡ true) ⊎ (interrupts_of reader.new ≡ MOST_INTERRUPTIONS + 1) }
+    ensures reader_worked { OnOk result (HasWorked reader.new (interrupts_of reader.new)) }
+    ensures read_fault { IsErrOf result FrontFault.Read → IsAtFault reader.new (interrupts_of reader.new) }
     ensures read_or_memory { OnErr result (IsErrOf result FrontFault.Read ⊎ IsErrOf result FrontFault.Memory) }
 {
     let mut feed = Feed::new(alloc, region as usize)?;
@@ -91,8 +89,8 @@ fn write_bytes<W: Write>(writer: &mut Device<W>, bytes: &[u8], spent: u64) -> Re
     requires spent { spent ≤ MOST_INTERRUPTIONS }
     ensures all_written { OnOk result (Appends (W.contents (inner_of writer.old)) (W.contents (inner_of writer.new)) bytes.now) }
     ensures front_written { (n : ℕ) × Appends (W.contents (inner_of writer.old)) (W.contents (inner_of writer.new)) (take n bytes.now) }
-    ensures few_interruptions { OnOk result ((has_failed writer.new ≡ false) × (interrupts_of writer.new + spent ≤ MOST_INTERRUPTIONS)) }
-    ensures write_fault { OnErr result ((has_failed writer.new ≡ true) ⊎ (interrupts_of writer.new + spent ≡ MOST_INTERRUPTIONS + 1)) }
+    ensures writer_worked { OnOk result (HasWorked writer.new (interrupts_of writer.new + spent)) }
+    ensures write_fault { OnErr result (IsAtFault writer.new (interrupts_of writer.new + spent)) }
     ensures write_alone { OnErr result (IsErrOf result FrontFault.Write) }
 {
     let mut done = 0;
@@ -115,8 +113,8 @@ fn flush<W: Write>(writer: &mut Device<W>, spent: u64) -> Result<(), FrontFault>
     requires not_failed { has_failed writer.old ≡ false }
     requires spent { interrupts_of writer.old + spent ≤ MOST_INTERRUPTIONS }
     ensures nothing_written { Keeps (W.contents (inner_of writer.old)) (W.contents (inner_of writer.new)) }
-    ensures few_interruptions { OnOk result ((has_failed writer.new ≡ false) × (interrupts_of writer.new + spent ≤ MOST_INTERRUPTIONS)) }
-    ensures write_fault { OnErr result ((has_failed writer.new ≡ true) ⊎ (interrupts_of writer.new + spent ≡ MOST_INTERRUPTIONS + 1)) }
+    ensures writer_worked { OnOk result (HasWorked writer.new (interrupts_of writer.new + spent)) }
+    ensures write_fault { OnErr result (IsAtFault writer.new (interrupts_of writer.new + spent)) }
     ensures write_alone { OnErr result (IsErrOf result FrontFault.Write) }
 {
     'flushes: loop {
@@ -142,8 +140,8 @@ pub(crate) fn write_all<W: Write>(
     requires spent { spent ≤ MOST_INTERRUPTIONS }
     ensures all_written { OnOk result (Appends (W.contents (inner_of writer.old)) (W.contents (inner_of writer.new)) bytes.now) }
     ensures front_written { (n : ℕ) × Appends (W.contents (inner_of writer.old)) (W.contents (inner_of writer.new)) (take n bytes.now) }
-    ensures few_interruptions { OnOk result ((has_failed writer.new ≡ false) × (interrupts_of writer.new + spent ≤ MOST_INTERRUPTIONS)) }
-    ensures write_fault { OnErr result ((has_failed writer.new ≡ true) ⊎ (interrupts_of writer.new + spent ≡ MOST_INTERRUPTIONS + 1)) }
+    ensures writer_worked { OnOk result (HasWorked writer.new (interrupts_of writer.new + spent)) }
+    ensures write_fault { OnErr result (IsAtFault writer.new (interrupts_of writer.new + spent)) }
     ensures write_alone { OnErr result (IsErrOf result FrontFault.Write) }
 {
     write_bytes(writer, bytes, spent)?;

@@ -32,7 +32,13 @@ impl<A: Allocator> Model for Feed<A> {
 
     ghost Value = { FeedState };
 
-    ghost coded = { feed_code (lines_code (Prim.hlevel (codes, fed_code (scan_code (parse_code (Prim.hlevel codes) (Prim.hlevel codes) (Prim.hlevel codes) (Prim.hlevel codes) (Prim.hlevel codes) (Prim.hlevel codes)) (Prim.hlevel codes)))) (Prim.hlevel (codes, task_code (Prim.hlevel codes) (Prim.hlevel codes) (Prim.hlevel codes)))) };
+    ghost coded = { feed_code (lines_code (Prim.hlevel (
+      codes,
+      fed_code (scan_code
+          (parse_code (Prim.hlevel codes) (Prim.hlevel codes) (Prim.hlevel codes) (Prim.hlevel codes) (Prim.hlevel codes)
+          (Prim.hlevel codes)) (Prim.hlevel codes)),
+    ))
+        (Prim.hlevel (codes, task_code (Prim.hlevel codes) (Prim.hlevel codes) (Prim.hlevel codes)))) };
 
     ghost view = { λ f. record { held = f.held.items; lines = f.lines } };
 

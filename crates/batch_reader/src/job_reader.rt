@@ -40,7 +40,13 @@ impl<A: Allocator> Model for JobReader<A> {
 
     ghost Value = { LinesState };
 
-    ghost coded = { lines_code (Prim.hlevel (codes, fed_code (scan_code (parse_code (Prim.hlevel codes) (Prim.hlevel codes) (Prim.hlevel codes) (Prim.hlevel codes) (Prim.hlevel codes) (Prim.hlevel codes)) (Prim.hlevel codes)))) (Prim.hlevel (codes, task_code (Prim.hlevel codes) (Prim.hlevel codes) (Prim.hlevel codes))) };
+    ghost coded = { lines_code (Prim.hlevel (
+      codes,
+      fed_code (scan_code
+          (parse_code (Prim.hlevel codes) (Prim.hlevel codes) (Prim.hlevel codes) (Prim.hlevel codes) (Prim.hlevel codes)
+          (Prim.hlevel codes)) (Prim.hlevel codes)),
+    ))
+        (Prim.hlevel (codes, task_code (Prim.hlevel codes) (Prim.hlevel codes) (Prim.hlevel codes))) };
 
     ghost view = { λ r. record { region = r.region; number = r.number; left = r.left; stage = r.stage; entries = r.entries } };
 

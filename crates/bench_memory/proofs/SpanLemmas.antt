@@ -1,5 +1,6 @@
 -- Ranges that are taken and given back stay apart from each other and from the free words.
-use Rattle.std.proofs.Common.{◌≡◌, ℕ, ◌+◌, ◌<◌, ◌≤◌, Bool, true, false, cond, List, length, get_or, set, sum_by, refl, sym, ap, subst, inl, inr, arith}
+use Rattle.std.proofs.Common.{◌≡◌, ℕ, ◌+◌, ◌<◌, ◌≤◌, Bool, true, false, cond, List, length, get_or, set}
+use Rattle.std.proofs.Common.{sum_by, refl, sym, ap, subst, inl, inr, arith}
 use Rattle.std.specs.Prelude.{All, nat_le, nat_lt}
 use Rattle.std.proofs.lemmas.Bool.{cases_lt, le-leb, lt-ltb}
 use Rattle.std.proofs.lemmas.Bool.Decides.{nat_tests}
@@ -70,7 +71,8 @@ module _ (free : List Bool) (spans : List Span) (number : ℕ) (any : Span) (wit
             (set_range_before free old.place old.len true word (omega arith) before)
         | inr from ↦ elim (cases_lt word (old.place + old.len)) [
           | inl below ↦
-              let freed = ap {B = ℕ} (λ b. cond b 1 0) (set_range_inside free old.place old.len true word (omega arith) from below) in
+              let freed = ap {B = ℕ} (λ b. cond b 1 0)
+              (set_range_inside free old.place old.len true word (omega arith) from below) in
               let sums = sum_by-set (covers word) spans number new any within in
               omega (arith, freed, sums, none, covers_inside word old from below, apart word)
           | inr behind ↦ untouched new after word (covers_behind word old behind) none
@@ -88,7 +90,8 @@ module _ (free : List Bool) (spans : List Span) (number : ℕ) (any : Span) (wit
             (set_range_before free new.place new.len false word (omega arith) before)
         | inr from ↦ elim (cases_lt word (new.place + new.len)) [
           | inl below ↦
-              let gone = ap {B = ℕ} (λ b. cond b 1 0) (set_range_inside free new.place new.len false word (omega arith) from below) in
+              let gone = ap {B = ℕ} (λ b. cond b 1 0)
+              (set_range_inside free new.place new.len false word (omega arith) from below) in
               let was = ap {B = ℕ} (λ b. cond b 1 0) (all word from below) in
               let sums = sum_by-set (covers word) spans number new any within in
               omega (arith, gone, was, sums, none, covers_inside word new from below, apart word)

@@ -1,7 +1,9 @@
 //! Blocks that lie in one region of words, each at a place of its own.
-ghost use Rattle.std.specs.Prelude.{◌≡◌, ◌+◌, ◌^◌, ◌<◌, ◌≤◌, ℕ, length, take, drop, replicate, None, Some, IsSome, is_some, IfOk, IfSome, IfNone};
+ghost use Rattle.std.specs.Prelude.{◌≡◌, ◌+◌, ◌^◌, ◌<◌, ◌≤◌, ℕ, length, take, drop, replicate, None, Some};
+ghost use Rattle.std.specs.Prelude.{IsSome, is_some, IfOk, IfSome, IfNone};
 ghost use Rattle.block_memory.specs.Table.{value_at, value_count};
-ghost use Rattle.block_memory.specs.Layout.{IsBare, IsClear, Begins, owner_at, place_at, words_at, with_slot, layout_after_move};
+ghost use Rattle.block_memory.specs.Layout.{IsBare, IsClear, Begins, owner_at, place_at, words_at, with_slot};
+ghost use Rattle.block_memory.specs.Layout.{layout_after_move};
 ghost use Rattle.block_memory.specs.BlocksWritten.{IsWritten, IsMarked};
 
 use crate::table::Table;

@@ -1,6 +1,8 @@
 //! The contract of a vector memory.
-ghost use Rattle.std.specs.Prelude.{◌≡◌, ◌+◌, ◌<◌, ◌≤◌, ◌↔◌, ℕ, Bool, Option, Some, None, length, slice_get, IsTrue, IfOk, OnErr};
-ghost use Rattle.block_memory.specs.Content.{Content, IsLive, block_at, owner_at, words_at, used_words, block_count, with_block, without_block};
+ghost use Rattle.std.specs.Prelude.{◌≡◌, ◌+◌, ◌<◌, ◌≤◌, ◌↔◌, ℕ, Bool, Option, Some, None, length, slice_get};
+ghost use Rattle.std.specs.Prelude.{IsTrue, IfOk, OnErr};
+ghost use Rattle.block_memory.specs.Content.{Content, IsLive, block_at, owner_at, words_at, used_words};
+ghost use Rattle.block_memory.specs.Content.{block_count, with_block, without_block};
 
 use std::marker::Model;
 
@@ -64,9 +66,11 @@ pub trait VectorMemory {
     fn place(&mut self, owner: usize, words: &[i64]) -> Result<BlockId, NoRoom>
         requires { block_count (content self.old) < length (content self.old) }
         ensures fresh { IfOk result (λ id. (id < length (content self.old)) × (block_at (content self.old) id ≡ None)) }
-        ensures placed { IfOk result (λ id. content self.new ≡ with_block (content self.old) id (record { owner = owner; words = words.now })) }
+        ensures placed { IfOk result
+            (λ id. content self.new ≡ with_block (content self.old) id (record { owner = owner; words = words.now })) }
         ensures full { (result ≡ Err NoRoom.Full) ↔ (room self.old < used_words (content self.old) + length words.now) }
-        ensures memory { result ≡ Err NoRoom.Memory → IsTrue may_refuse × (used_words (content self.old) + length words.now ≤ room self.old) }
+        ensures memory { result ≡ Err NoRoom.Memory → IsTrue may_refuse
+            × (used_words (content self.old) + length words.now ≤ room self.old) }
         ensures err { OnErr result (content self.new ≡ content self.old) }
         ensures same_room { room self.new ≡ room self.old };
 

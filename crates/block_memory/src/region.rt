@@ -42,7 +42,8 @@ impl<P, A: Allocator> Model for PackedRegion<P, A> {
 
     ghost Value = { RegionState };
 
-    ghost view = { λ m. record { room = m.blocks.size; content = content_of m.blocks.slots; free = m.holes.free; moved = m.last.moved } };
+    ghost view = { λ m. record
+        { room = m.blocks.size; content = content_of m.blocks.slots; free = m.holes.free; moved = m.last.moved } };
 
     ghost invariant = { λ m. IsRegion m.blocks m.holes m.used };
 }

@@ -1,5 +1,6 @@
 //! A table of numbered places, each with a value or empty, that takes memory only when it is made.
-ghost use Rattle.std.specs.Prelude.{◌≡◌, ◌+◌, ◌<◌, ◌≤◌, length, replicate, slice_set, Some, None, IsSome, IfOk, option_copied};
+ghost use Rattle.std.specs.Prelude.{◌≡◌, ◌+◌, ◌<◌, ◌≤◌, length, replicate, slice_set, Some, None, IsSome};
+ghost use Rattle.std.specs.Prelude.{IfOk, option_copied};
 ghost use Rattle.block_memory.specs.Table.{value_at, value_count};
 
 use slab::Slab;

@@ -1,15 +1,20 @@
 -- The words of a bitmap after its lowest words were shifted out.
-use Rattle.std.proofs.Common.{◌≡◌, ℕ, ◌+◌, ◌-◌, ◌*◌, ◌/◌, ◌%◌, ◌^◌, ◌<◌, ◌≤◌, max, Bool, true, false, eqb, List, [], ◌∷◌, ◌++◌, length, refl, sym, ◌∙◌, ap, subst, inl, inr, arith, zero, suc}
+use Rattle.std.proofs.Common.{◌≡◌, ℕ, ◌+◌, ◌-◌, ◌*◌, ◌/◌, ◌%◌, ◌^◌, ◌<◌, ◌≤◌, max, Bool, true, false, eqb}
+use Rattle.std.proofs.Common.{List, [], ◌∷◌, ◌++◌, length, refl, sym, ◌∙◌, ap, subst, inl, inr, arith, zero}
+use Rattle.std.proofs.Common.{suc}
 use Rattle.std.specs.Prelude.{replicate}
 use Rattle.std.specs.Int.{bit_at, bit_not, w64, trailing_zeros, trailing_ones, leading_ones}
 use Rattle.std.specs.Int.Count.{count_leading_zeros}
 use Rattle.std.proofs.lemmas.Bool.{cases_lt, cases_eq, cases_Bool, cond-true, cond-false, eq-eqb, ne_eqb}
 use Rattle.std.proofs.lemmas.List.{length-replicate}
 use Rattle.std.proofs.lemmas.Nat.{shr-shr, shr_le, shr_below, leading_top, div-mul-add}
-use Rattle.std.proofs.lemmas.Nat.Bits.{bit_at-trailing_zeros, bit_at-trailing_ones, bit_at_above, bit_at-zero, bit_at_ones, bit_at_not, bit_at-lt}
+use Rattle.std.proofs.lemmas.Nat.Bits.{bit_at-trailing_zeros, bit_at-trailing_ones, bit_at_above, bit_at-zero}
+use Rattle.std.proofs.lemmas.Nat.Bits.{bit_at_ones, bit_at_not, bit_at-lt}
 use Rattle.holes.specs.FreeWords.{front_run, widest}
 use Rattle.holes.specs.Tree.{is_set, words_from, words_of_bits, all_free, back_run, lowest_fit, summary, nothing_free}
-use Rattle.holes.proofs.Runs.{front_all, front-le-widest, widest-le-length, front-append, back-append, all_free-append, widest-append, back_all, lowest-append_left, lowest-append_right, lowest_later, lowest_front}
+use Rattle.holes.proofs.Runs.{front_all, front-le-widest, widest-le-length, front-append, back-append}
+use Rattle.holes.proofs.Runs.{all_free-append, widest-append, back_all, lowest-append_left}
+use Rattle.holes.proofs.Runs.{lowest-append_right, lowest_later, lowest_front}
 use Rattle.holes.proofs.Bits.{same_words_from, words_from-add, all_words, length-words}
 
 -- Words of one kind.

@@ -1,14 +1,19 @@
 -- Going down a tree to the lowest fit.
-use Rattle.std.proofs.Common.{◌≡◌, ℕ, true, false, drop, sym, inl, inr, ◌+◌, ◌-◌, ◌*◌, ◌/◌, ◌^◌, ◌<◌, ◌≤◌, max, List, ◌++◌, length, get_or, ◌∙◌, ap, arith, Bool}
+use Rattle.std.proofs.Common.{◌≡◌, ℕ, true, false, drop, sym, inl, inr, ◌+◌, ◌-◌, ◌*◌, ◌/◌, ◌^◌, ◌<◌, ◌≤◌}
+use Rattle.std.proofs.Common.{max, List, ◌++◌, length, get_or, ◌∙◌, ap, arith, Bool}
 use Rattle.std.proofs.lemmas.List.{get_or_default}
 use Rattle.std.proofs.lemmas.Nat.{pow_pos}
 use Rattle.holes.specs.declared.summary.Summary.{Summary}
 use Rattle.holes.specs.FreeWords.{is_free, front_run, widest}
-use Rattle.holes.specs.Tree.{words_of_bits, words_of, node_at, nothing_free, back_run, lowest_fit, word_at, NoneBelow, IsTree}
-use Rattle.holes.proofs.Runs.{run-le-widest, word_run, fit_before, fit_here, run_free, front-le-length, back-le-length, widest-append, lowest-append_left, lowest-append_between, lowest-append_right}
+use Rattle.holes.specs.Tree.{words_of_bits, words_of, node_at, nothing_free, back_run, lowest_fit, word_at}
+use Rattle.holes.specs.Tree.{NoneBelow, IsTree}
+use Rattle.holes.proofs.Runs.{run-le-widest, word_run, fit_before, fit_here, run_free, front-le-length}
+use Rattle.holes.proofs.Runs.{back-le-length, widest-append, lowest-append_left, lowest-append_between}
+use Rattle.holes.proofs.Runs.{lowest-append_right}
 use Rattle.std.proofs.lemmas.Bool.{cases_lt, cases_Bool}
 use Rattle.holes.proofs.Bits.{word_in}
-use Rattle.holes.proofs.Nodes.{word_past, width, first_leaf, node_words, IsNode, length-node_words, node_is, root_is, root_words, first_leaf-root, width-pow, inner_index, parts, leaf_of}
+use Rattle.holes.proofs.Nodes.{word_past, width, first_leaf, node_words, IsNode, length-node_words, node_is}
+use Rattle.holes.proofs.Nodes.{root_is, root_words, first_leaf-root, width-pow, inner_index, parts, leaf_of}
 
 -- the lowest fit is that of the node at an index, whose words begin at a place
 pub record At (bits : List ℕ) (len height index place wide : ℕ) : Type 0 where

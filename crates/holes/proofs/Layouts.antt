@@ -1,11 +1,15 @@
 -- Holes in order of place, and the words that they make free: what they count, and that they are the holes of these
 -- words.
 use Rattle.std.proofs.Math.Seq.{split_at}
-use Rattle.std.proofs.Common.{◌≡◌, ℕ, ◌+◌, ◌-◌, ◌<◌, ◌≤◌, max, Bool, true, false, List, [], ◌∷◌, ◌++◌, length, take, drop, get_or, refl, sym, ◌∙◌, ap, subst, inl, inr, arith, zero, suc}
+use Rattle.std.proofs.Common.{◌≡◌, ℕ, ◌+◌, ◌-◌, ◌<◌, ◌≤◌, max, Bool, true, false, List, [], ◌∷◌, ◌++◌, length}
+use Rattle.std.proofs.Common.{take, drop, get_or, refl, sym, ◌∙◌, ap, subst, inl, inr, arith, zero, suc}
 use Rattle.std.specs.Prelude.{replicate}
 use Rattle.std.proofs.lemmas.Bool.{cases_lt, false≢true}
-use Rattle.std.proofs.lemmas.List.{append_assoc, length-append, length-replicate, get_or-replicate, get_or_append_left, get_or-append_right, get_or_past, take_at, drop_at, replicate-append-replicate}
-use Rattle.holes.specs.FreeWords.{is_free, AllFree, set_range, IsHole, hole_count_after, hole_count, front_run, widest, Range}
+use Rattle.std.proofs.lemmas.List.{append_assoc, length-append, length-replicate, get_or-replicate}
+use Rattle.std.proofs.lemmas.List.{get_or_append_left, get_or-append_right, get_or_past, take_at, drop_at}
+use Rattle.std.proofs.lemmas.List.{replicate-append-replicate}
+use Rattle.holes.specs.FreeWords.{is_free, AllFree, set_range, IsHole, hole_count_after, hole_count}
+use Rattle.holes.specs.FreeWords.{front_run, widest, Range}
 use Rattle.holes.specs.Laws.{range_at}
 use Rattle.holes.proofs.Ranges.{set_range_inside}
 

@@ -1,12 +1,15 @@
 -- Every region's holes can be listed, which is what the counts of holes count.
-use Rattle.std.proofs.Common.{◌≡◌, ℕ, ◌+◌, ◌-◌, ◌<◌, ◌≤◌, Bool, true, false, cond, eqb, List, [], ◌∷◌, ◌++◌, length, map, sym, ◌∙◌, ap, subst, inl, inr, arith, zero, suc}
+use Rattle.std.proofs.Common.{◌≡◌, ℕ, ◌+◌, ◌-◌, ◌<◌, ◌≤◌, Bool, true, false, cond, eqb, List, [], ◌∷◌, ◌++◌}
+use Rattle.std.proofs.Common.{length, map, sym, ◌∙◌, ap, subst, inl, inr, arith, zero, suc}
 use Rattle.std.specs.Prelude.{replicate}
 use Rattle.std.proofs.lemmas.Bool.{cases_lt, false≢true}
 use Rattle.std.proofs.lemmas.Bool.Decides.{eqb_tells}
 use Rattle.std.proofs.lemmas.List.{length-map, get_or-map}
 use Rattle.holes.specs.FreeWords.{IsHole, hole_count, widest, Range}
 use Rattle.holes.specs.Laws.{range_at, AreHoles, HolesAreCounted, IsWidest, WidestIsGreatest}
-use Rattle.holes.proofs.Layouts.{words_from, AreApart, hole_is_at, len-le-most_len, starts, apart_weaker, words_from_later, fused_first, hole_count-words_from, most_len, widest-words_from, run_in_hole}
+use Rattle.holes.proofs.Layouts.{words_from, AreApart, hole_is_at, len-le-most_len, starts, apart_weaker}
+use Rattle.holes.proofs.Layouts.{words_from_later, fused_first, hole_count-words_from, most_len}
+use Rattle.holes.proofs.Layouts.{widest-words_from, run_in_hole}
 
 -- a hole of one word, joined with the one behind it
 grow : ℕ → List Range → List Range

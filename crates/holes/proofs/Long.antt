@@ -1,10 +1,12 @@
 -- Long ranges: bitmaps that are alike, and the nodes above them.
-use Rattle.std.proofs.Common.{◌≡◌, ℕ, ◌+◌, ◌-◌, ◌*◌, ◌/◌, ◌^◌, ◌<◌, ◌≤◌, Bool, List, length, get_or, set, ◌⊎◌, sym, ◌∙◌, ap, inl, inr, arith, zero, suc}
+use Rattle.std.proofs.Common.{◌≡◌, ℕ, ◌+◌, ◌-◌, ◌*◌, ◌/◌, ◌^◌, ◌<◌, ◌≤◌, Bool, List, length, get_or, set, ◌⊎◌}
+use Rattle.std.proofs.Common.{sym, ◌∙◌, ap, inl, inr, arith, zero, suc}
 use Rattle.std.specs.Prelude.{replicate}
 use Rattle.std.proofs.lemmas.Bool.{cases_lt}
 use Rattle.std.proofs.lemmas.List.{length-set, get_or-set_same, get_or-set_other}
 use Rattle.holes.specs.declared.summary.Summary.{Summary}
-use Rattle.holes.specs.Tree.{is_set, words_of_bits, word_at, node_at, nothing_free, summary, join, AreLeaves, AreAlike, AreSameBeside, AreJoinedBeside, IsJoined, IsFilled, IsLevel, IsWritten}
+use Rattle.holes.specs.Tree.{is_set, words_of_bits, word_at, node_at, nothing_free, summary, join, AreLeaves}
+use Rattle.holes.specs.Tree.{AreAlike, AreSameBeside, AreJoinedBeside, IsJoined, IsFilled, IsLevel, IsWritten}
 use Rattle.holes.proofs.Bits.{all_words}
 use Rattle.holes.proofs.Nodes.{leaf_words}
 

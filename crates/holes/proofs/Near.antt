@@ -1,11 +1,14 @@
 -- Looking for the lowest fit in the bitmaps from the lowest free word on.
-use Rattle.std.proofs.Common.{◌≡◌, ℕ, ◌+◌, ◌-◌, ◌*◌, ◌<◌, ◌≤◌, Bool, false, cond, List, ◌++◌, length, get_or, sym, ◌∙◌, ap, arith}
+use Rattle.std.proofs.Common.{◌≡◌, ℕ, ◌+◌, ◌-◌, ◌*◌, ◌<◌, ◌≤◌, Bool, false, cond, List, ◌++◌, length, get_or}
+use Rattle.std.proofs.Common.{sym, ◌∙◌, ap, arith}
 use Rattle.std.specs.Prelude.{replicate}
 use Rattle.std.proofs.lemmas.Nat.{pow_pos}
 use Rattle.holes.specs.declared.summary.Summary.{Summary}
 use Rattle.holes.specs.FreeWords.{front_run, widest}
-use Rattle.holes.specs.Tree.{words_from, words_of_bits, word_at, words_of, node_at, all_free, back_run, lowest_fit, summary, join, NoneBelow, IsTreeBeside}
-use Rattle.holes.proofs.Runs.{back-le-length, widest-append, back-append, summary-append, lowest-append_left, lowest-append_between, lowest-append_right}
+use Rattle.holes.specs.Tree.{words_from, words_of_bits, word_at, words_of, node_at, all_free, back_run}
+use Rattle.holes.specs.Tree.{lowest_fit, summary, join, NoneBelow, IsTreeBeside}
+use Rattle.holes.proofs.Runs.{back-le-length, widest-append, back-append, summary-append, lowest-append_left}
+use Rattle.holes.proofs.Runs.{lowest-append_between, lowest-append_right}
 use Rattle.holes.proofs.Bits.{length-words, words_from-add, all_words}
 use Rattle.holes.proofs.Bitmaps.{length-bits, widest_none, back_none}
 use Rattle.holes.proofs.Nodes.{leaf_words}

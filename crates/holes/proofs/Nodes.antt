@@ -1,11 +1,14 @@
 -- Each node of a tree tells of its words, the nodes of its parts and the bitmaps of its leaves.
-use Rattle.std.proofs.Common.{false, eqb, ◌≡◌, ◌≢◌, ℕ, ◌+◌, ◌-◌, ◌*◌, ◌/◌, ◌%◌, ◌^◌, ◌<◌, ◌≤◌, Bool, List, ◌++◌, length, get_or, set, ◌⊎◌, refl, sym, ◌∙◌, ap, inl, inr, arith, zero, suc}
+use Rattle.std.proofs.Common.{false, eqb, ◌≡◌, ◌≢◌, ℕ, ◌+◌, ◌-◌, ◌*◌, ◌/◌, ◌%◌, ◌^◌, ◌<◌, ◌≤◌, Bool, List}
+use Rattle.std.proofs.Common.{◌++◌, length, get_or, set, ◌⊎◌, refl, sym, ◌∙◌, ap, inl, inr, arith, zero, suc}
 use Rattle.std.proofs.lemmas.Bool.{cases_lt, cases_eq}
 use Rattle.std.proofs.lemmas.Nat.{pow_pos}
 use Rattle.std.proofs.lemmas.List.{get_or_past, length-set, get_or-set_same, get_or-set_other, get_or_default}
 use Rattle.std.proofs.lemmas.Nat.Bits.{bit_at-zero}
 use Rattle.holes.specs.declared.summary.Summary.{Summary}
-use Rattle.holes.specs.Tree.{is_set, words_from, words_of_bits, word_at, words_of, node_at, nothing_free, AreLeaves, IsJoined, AreSameFrom, AreSameBeside, AreJoined, AreJoinedBeside, IsFilled, IsTreeBeside, IsTree, summary, join}
+use Rattle.holes.specs.Tree.{is_set, words_from, words_of_bits, word_at, words_of, node_at, nothing_free}
+use Rattle.holes.specs.Tree.{AreLeaves, IsJoined, AreSameFrom, AreSameBeside, AreJoined, AreJoinedBeside}
+use Rattle.holes.specs.Tree.{IsFilled, IsTreeBeside, IsTree, summary, join}
 use Rattle.holes.proofs.Runs.{summary-append}
 use Rattle.holes.proofs.Bits.{same_words_from, words_from-add, length-words}
 

@@ -1,10 +1,14 @@
 -- What follows from which words of a region are free: ranges set, counts of words and of holes, the widest hole.
-use Rattle.std.proofs.Common.{◌≡◌, ℕ, ◌+◌, ◌-◌, ◌<◌, ◌≤◌, Bool, true, false, cond, List, [], ◌∷◌, ◌++◌, length, take, drop, get_or, refl, sym, ◌∙◌, ap, inl, inr, arith, zero, suc}
+use Rattle.std.proofs.Common.{◌≡◌, ℕ, ◌+◌, ◌-◌, ◌<◌, ◌≤◌, Bool, true, false, cond, List, [], ◌∷◌, ◌++◌}
+use Rattle.std.proofs.Common.{length, take, drop, get_or, refl, sym, ◌∙◌, ap, inl, inr, arith, zero, suc}
 use Rattle.std.specs.Prelude.{replicate}
 use Rattle.std.proofs.lemmas.Bool.{cases_lt}
-use Rattle.std.proofs.lemmas.List.{length-append, length-take-le, length-drop, length-replicate, get_or-replicate, get_or_append_left, get_or-append_right, get_or-take, get_or-drop, drop-drop, take-append-drop, ext_get_or}
+use Rattle.std.proofs.lemmas.List.{length-append, length-take-le, length-drop, length-replicate}
+use Rattle.std.proofs.lemmas.List.{get_or-replicate, get_or_append_left, get_or-append_right, get_or-take}
+use Rattle.std.proofs.lemmas.List.{get_or-drop, drop-drop, take-append-drop, ext_get_or}
 use Rattle.std.proofs.lemmas.List.Sums.{sum_by-append, sum_by-cons, count_by-le-length}
-use Rattle.holes.specs.FreeWords.{is_free, AllFree, NoneFree, set_range, free_from, free_count, hole_count_after, hole_count, front_run, widest, Range, free_beside}
+use Rattle.holes.specs.FreeWords.{is_free, AllFree, NoneFree, set_range, free_from, free_count}
+use Rattle.holes.specs.FreeWords.{hole_count_after, hole_count, front_run, widest, Range, free_beside}
 
 -- A range that is set.
 length_front : (free : List Bool) (place len : ℕ) (value : Bool) → place ≤ length free →

@@ -1,5 +1,7 @@
 -- The words of a region, which are the first of its bitmaps' words.
-use Rattle.std.proofs.Common.{◌≡◌, ℕ, ◌+◌, ◌-◌, ◌*◌, ◌/◌, ◌%◌, ◌<◌, ◌≤◌, Bool, true, false, not, cond, eqb, ltb, List, ◌++◌, ◌^◌, length, take, get_or, Option, Some, None, IsNone, IfSome, refl, sym, ◌∙◌, ap, subst, inl, inr, arith, zero, suc}
+use Rattle.std.proofs.Common.{◌≡◌, ℕ, ◌+◌, ◌-◌, ◌*◌, ◌/◌, ◌%◌, ◌<◌, ◌≤◌, Bool, true, false, not, cond, eqb}
+use Rattle.std.proofs.Common.{ltb, List, ◌++◌, ◌^◌, length, take, get_or, Option, Some, None, IsNone, IfSome}
+use Rattle.std.proofs.Common.{refl, sym, ◌∙◌, ap, subst, inl, inr, arith, zero, suc}
 use Rattle.std.specs.Prelude.{replicate}
 use Rattle.std.specs.Int.{bit_at, from_bool}
 use Rattle.holes.specs.declared.summary.Summary.{Summary}
@@ -7,9 +9,15 @@ use Rattle.holes.specs.declared.tree.Changed.{Changed}
 use Rattle.std.proofs.lemmas.Bool.{true≢false, cases_lt, cases_eq, eq-eqb, ne_eqb, lt-ltb}
 use Rattle.std.proofs.lemmas.List.{get_or_past, get_or-replicate, length-replicate}
 use Rattle.std.proofs.lemmas.Nat.Bits.{bit_at-zero}
-use Rattle.holes.specs.FreeWords.{Region, is_free, AllFree, NoneFree, IsLowestFit, set_range, free_from, free_count, hole_count, widest}
-use Rattle.holes.specs.Tree.{words_from, words_of_bits, word_at, word_before, words_of, lowest_fit, nothing_free, summary, join, node_at, NoneBelow, IsFilled, IsTree, IsTreeBeside, IsHoles, IsPowerOfTwo}
-use Rattle.holes.proofs.Ranges.{last_of, free_count_given, free_count-le-length, free_count-false, free_count-free_from, hole_count_after-false, set_range_same, length-set_range, set_range_inside, set_range_before, set_range_behind, same_words, length-free_from, free_from_below, free_from_above}
+use Rattle.holes.specs.FreeWords.{Region, is_free, AllFree, NoneFree, IsLowestFit, set_range, free_from}
+use Rattle.holes.specs.FreeWords.{free_count, hole_count, widest}
+use Rattle.holes.specs.Tree.{words_from, words_of_bits, word_at, word_before, words_of, lowest_fit}
+use Rattle.holes.specs.Tree.{nothing_free, summary, join, node_at, NoneBelow, IsFilled, IsTree, IsTreeBeside}
+use Rattle.holes.specs.Tree.{IsHoles, IsPowerOfTwo}
+use Rattle.holes.proofs.Ranges.{last_of, free_count_given, free_count-le-length, free_count-false}
+use Rattle.holes.proofs.Ranges.{free_count-free_from, hole_count_after-false, set_range_same}
+use Rattle.holes.proofs.Ranges.{length-set_range, set_range_inside, set_range_before, set_range_behind}
+use Rattle.holes.proofs.Ranges.{same_words, length-free_from, free_from_below, free_from_above}
 use Rattle.holes.proofs.Runs.{lowest-append_left, lowest_is_lowest, lowest_within}
 use Rattle.holes.proofs.Bits.{length-words, word_in, words_from-add, all_words}
 use Rattle.holes.proofs.Bitmaps.{widest_behind, summary_of_zero}

@@ -1,5 +1,6 @@
 -- Which words of a region are free, and the holes that they make: the greatest ranges of free words.
-use Rattle.std.specs.Prelude.{◌≡◌, ℕ, ◌+◌, ◌-◌, ◌<◌, ◌≤◌, max, Bool, true, false, List, [], ◌∷◌, ◌++◌, take, drop, replicate, count_by, slice_index_or}
+use Rattle.std.specs.Prelude.{◌≡◌, ℕ, ◌+◌, ◌-◌, ◌<◌, ◌≤◌, max, Bool, true, false, List, [], ◌∷◌, ◌++◌, take}
+use Rattle.std.specs.Prelude.{drop, replicate, count_by, slice_index_or}
 
 -- a region: at each place whether the word there is free, and how many holes there is room for
 pub record Region : Type 0 where

@@ -1,6 +1,7 @@
 -- The laws of free words, as the public module `laws` promises them.
 use Rattle.std.specs.Prelude.{◌≡◌, ℕ, ◌+◌, ◌<◌, ◌≤◌, Bool, true, false, List, length, slice_index_or}
-use Rattle.holes.specs.FreeWords.{AllFree, NoneFree, set_range, IsHole, free_count, hole_count, widest, Range, free_beside}
+use Rattle.holes.specs.FreeWords.{AllFree, NoneFree, set_range, IsHole, free_count, hole_count, widest, Range}
+use Rattle.holes.specs.FreeWords.{free_beside}
 
 -- where there is at most one hole, it has all free words
 abbrev pub OneHoleHasAll : Type 0

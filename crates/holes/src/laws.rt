@@ -1,6 +1,7 @@
 //! Laws of free words. Each function does nothing, and its contract is the law.
 
-ghost use Rattle.holes.specs.Laws.{OneHoleHasAll, TakingLowersCount, GivingRaisesCount, OneHoleMoreThanRanges, HolesAreCounted, WidestIsGreatest};
+ghost use Rattle.holes.specs.Laws.{OneHoleHasAll, TakingLowersCount, GivingRaisesCount};
+ghost use Rattle.holes.specs.Laws.{OneHoleMoreThanRanges, HolesAreCounted, WidestIsGreatest};
 
 /// Where there is at most one hole, it has all free words, so that every length up to their number fits.
 pub fn one_hole_has_all()

@@ -5,8 +5,10 @@
 //! free words (at each place whether the word there is free), and not as a list of holes.
 #![tactic(auto)]
 
-ghost use Rattle.std.specs.Prelude.{◌≡◌, ◌+◌, ◌*◌, ◌^◌, ◌<◌, ◌≤◌, ◌↔◌, if◌then◌else◌, nat_eq, length, replicate, true, IfOk, IfSome, IsNone, IfNone};
-ghost use Rattle.holes.specs.FreeWords.{NoneFree, IsLowestFit, taken_from, given_to, free_from, free_count, hole_count, widest};
+ghost use Rattle.std.specs.Prelude.{◌≡◌, ◌+◌, ◌*◌, ◌^◌, ◌<◌, ◌≤◌, ◌↔◌, if◌then◌else◌, nat_eq, length};
+ghost use Rattle.std.specs.Prelude.{replicate, true, IfOk, IfSome, IsNone, IfNone};
+ghost use Rattle.holes.specs.FreeWords.{NoneFree, IsLowestFit, taken_from, given_to, free_from, free_count};
+ghost use Rattle.holes.specs.FreeWords.{hole_count, widest};
 ghost use Rattle.holes.specs.Tree.{IsPowerOfTwo, lowest_fit};
 
 mod bitmap;

@@ -3,9 +3,12 @@
 //! The leaves are bitmaps, a power of two of them. The nodes stand in one list: the root at 1, the parts of the
 //! node at `index` at `2 * index` and `2 * index + 1`, and the bitmap at `k` in the node at `leaves + k`.
 
-ghost use Rattle.std.specs.Prelude.{◌≡◌, ℕ, ◌+◌, ◌-◌, ◌*◌, ◌/◌, ◌^◌, ◌<◌, ◌≤◌, ◌↔◌, ◌⊎◌, nat_eq, true, length, IfSome, IsNone};
+ghost use Rattle.std.specs.Prelude.{◌≡◌, ℕ, ◌+◌, ◌-◌, ◌*◌, ◌/◌, ◌^◌, ◌<◌, ◌≤◌, ◌↔◌, ◌⊎◌, nat_eq, true};
+ghost use Rattle.std.specs.Prelude.{length, IfSome, IsNone};
 ghost use Rattle.holes.specs.FreeWords.{widest};
-ghost use Rattle.holes.specs.Tree.{IsTree, AreJoined, AreJoinedBeside, AreSameFrom, AreSameBeside, AreSameBesideWords, AreAlike, IsLevel, IsWritten, IsTreeBeside, NoneBelow, IsFilled, AreLeaves, lowest_fit, words_of, node_at, word_at, word_before};
+ghost use Rattle.holes.specs.Tree.{IsTree, AreJoined, AreJoinedBeside, AreSameFrom, AreSameBeside};
+ghost use Rattle.holes.specs.Tree.{AreSameBesideWords, AreAlike, IsLevel, IsWritten, IsTreeBeside, NoneBelow};
+ghost use Rattle.holes.specs.Tree.{IsFilled, AreLeaves, lowest_fit, words_of, node_at, word_at, word_before};
 
 use crate::bitmap::{self, WORDS};
 use crate::summary::Summary;

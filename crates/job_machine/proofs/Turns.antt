@@ -6,14 +6,16 @@ use Rattle.std.proofs.lemmas.Option.{none-some, same_Some, slice_get-get_or}
 use Rattle.job_steps.specs.declared.event.Event.TheVariants.{Admit, Collect}
 use Rattle.job_steps.specs.EventLaws.{EventsGoOn, EventsKeep, EventsUseUp, LeadsJoin, AdmittedHaveRoom, IsVerified}
 use Rattle.job_steps.specs.EventLaws.{AreKept}
-use Rattle.job_steps.specs.Events.{next_standing, next_standing_in, recalled_standing, recalled_standings, all_events_left}
+use Rattle.job_steps.specs.Events.{next_standing, next_standing_in, recalled_standing, recalled_standings}
+use Rattle.job_steps.specs.Events.{all_events_left}
 use Rattle.job_steps.specs.Standings.{Standing, Waiting, Live, InFlight, Ended, Collected, of_job, admission}
 use Rattle.job_steps.specs.States.{Task}
 use Rattle.job_machine.specs.declared.machine.Admission.TheVariants.{Admitted}
 use Rattle.job_machine.specs.Machines.{MachineState, machine_after, Leads, HasNoStep, HasReturnedIn, GoesOn}
 use Rattle.job_machine.specs.Machines.{IsWaitingOrCollected, IsDone, admission_in, is_running}
 use Rattle.job_machine.proofs.RunningOut.{Opens, Happens, Passed, Opened, happens, leads_on, goes_on_on, all_kept}
-use Rattle.job_machine.proofs.RunningOut.{no_step_after, fewer_after, collects, done_after, admitted, idle_at, leads_one}
+use Rattle.job_machine.proofs.RunningOut.{no_step_after, fewer_after, collects, done_after, admitted, idle_at}
+use Rattle.job_machine.proofs.RunningOut.{leads_one}
 use Rattle.job_machine.proofs.RunningOut.{others_by, all_collected, after_none, not_admitted}
 
 abbrev pub left_in : MachineState → ℕ

@@ -1,5 +1,6 @@
 -- What a machine shows, and what events make of it.
-use Rattle.std.specs.Prelude.{◌≡◌, ℕ, zero, suc, nat_lt, max, Bool, false, if◌then◌else◌, List, fold, position, Option, Some, None, refl}
+use Rattle.std.specs.Prelude.{◌≡◌, ℕ, zero, suc, nat_lt, max, Bool, false, if◌then◌else◌, List, fold}
+use Rattle.std.specs.Prelude.{position, Option, Some, None, refl}
 use Rattle.std.specs.Coded.{Coded, code_by, coded_ℕ, coded×, coded_list}
 use Rattle.job_steps.specs.declared.event.Event.{Event}
 use Rattle.job_steps.specs.Events.{after_event, after_events, recalled_standings, LeadTo}

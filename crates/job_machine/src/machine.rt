@@ -1,15 +1,20 @@
 //! Jobs over one region of words.
 
-ghost use Rattle.std.specs.Prelude.{◌≡◌, ◌≤◌, ◌↔◌, ℕ, length, All, IfOk, OnOk, OnErr, IsTrue, option_map, option_copied};
+ghost use Rattle.std.specs.Prelude.{◌≡◌, ◌≤◌, ◌↔◌, ℕ, length, All, IfOk, OnOk, OnErr, IsTrue, option_map};
+ghost use Rattle.std.specs.Prelude.{option_copied};
 ghost use Rattle.std.specs.Arc.{arc_value};
 ghost use Rattle.vcode_base.specs.declared.limits.TheConstants.{MOST_JOBS, MOST_WORDS};
 ghost use Rattle.job_steps.specs.declared.event.Event.TheVariants.{Admit, Begin, Finish, Recall, Collect};
 ghost use Rattle.job_memory.specs.Laws.{ChangesJoin};
-ghost use Rattle.job_steps.specs.EventLaws.{IsVerified, AreKept, EventsChangeTheirJob, MissingAreClosed, ClosedChangeNothing};
-ghost use Rattle.job_steps.specs.Standings.{Collected, of_job, first_standings, executed_at, peak_at, used_words, granted_words};
+ghost use Rattle.job_steps.specs.EventLaws.{IsVerified, AreKept, EventsChangeTheirJob, MissingAreClosed};
+ghost use Rattle.job_steps.specs.EventLaws.{ClosedChangeNothing};
+ghost use Rattle.job_steps.specs.Standings.{Collected, of_job, first_standings, executed_at, peak_at};
+ghost use Rattle.job_steps.specs.Standings.{used_words, granted_words};
 ghost use Rattle.job_slots.specs.Laws.{OthersAreShown};
 ghost use Rattle.job_slots.specs.Slots.{status_of};
-ghost use Rattle.job_machine.specs.Machines.{machine_after, Leads, admission_in, BeginsIn, after_begun, FinishesIn, after_finished, is_flying, is_over, told, outcome_in, HasReturnedIn, HasNoStep, most_words, place_of};
+ghost use Rattle.job_machine.specs.Machines.{machine_after, Leads, admission_in, BeginsIn, after_begun};
+ghost use Rattle.job_machine.specs.Machines.{FinishesIn, after_finished, is_flying, is_over, told};
+ghost use Rattle.job_machine.specs.Machines.{outcome_in, HasReturnedIn, HasNoStep, most_words, place_of};
 ghost use Rattle.job_machine.specs.SlotOf.{IsSlotIn};
 
 use crate::setting::{all_cells, first_waiting, most_words, new_slots, same_jobs};
@@ -59,7 +64,8 @@ impl<A: Allocator> Model for Machine<A> {
 
     ghost coded = { machine_code (task_code (Prim.hlevel codes) (Prim.hlevel codes) (Prim.hlevel codes)) (Prim.hlevel codes) };
 
-    ghost view = { λ m. record { region = m.blocks.memory.room; tasks = (arc_value m.jobs).items; standings = standings_of m.slots.items } };
+    ghost view = { λ m. record
+        { region = m.blocks.memory.room; tasks = (arc_value m.jobs).items; standings = standings_of m.slots.items } };
 
     ghost invariant = { λ m. IsSound m.blocks (arc_value m.jobs).items m.slots.items };
 }

@@ -81,7 +81,8 @@ impl<A: Allocator + Clone> Machine<A> {
     fn play_all(&mut self, events: &[Event], hands: &mut Hands<A>) -> Result<(), usize>
         requires { HandsFit self.old hands.old }
         ensures ok { OnOk result (self.new ≡ after_all events.now self.old) }
-        ensures refused { IfErr result (λ place. IsRefusedAt events.now self.old place × (self.new ≡ after_all (take place events.now) self.old)) }
+        ensures refused { IfErr result
+            (λ place. IsRefusedAt events.now self.old place × (self.new ≡ after_all (take place events.now) self.old)) }
     {
         for place in 0..events.len() {
             if self.play(events[place], hands).is_err() {

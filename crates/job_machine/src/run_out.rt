@@ -3,7 +3,8 @@
 ghost use Rattle.std.specs.Prelude.{◌≡◌, ◌<◌, ◌≤◌, ℕ, true, All, OnOk, OnErr};
 ghost use Rattle.job_steps.specs.Events.{all_events_left, recalled_standings};
 ghost use Rattle.job_steps.specs.Standings.{Collected, of_job};
-ghost use Rattle.job_machine.specs.Machines.{with_standings, Leads, GoesOn, HasNoStep, HasReturnedIn, IsDone, IsWaitingOrCollected, is_running};
+ghost use Rattle.job_machine.specs.Machines.{with_standings, Leads, GoesOn, HasNoStep, HasReturnedIn, IsDone};
+ghost use Rattle.job_machine.specs.Machines.{IsWaitingOrCollected, is_running};
 
 use crate::machine::{Admission, Machine};
 use job_slots::{Begun, Status};

@@ -1,6 +1,7 @@
 //! The slots of a machine's jobs.
 
-ghost use Rattle.std.specs.Prelude.{◌≡◌, ◌*◌, ◌<◌, ◌≤◌, ◌↔◌, length, All, position, sum_by, slice_get, Some, IfOk, IfSome, IsTrue, ℕ};
+ghost use Rattle.std.specs.Prelude.{◌≡◌, ◌*◌, ◌<◌, ◌≤◌, ◌↔◌, length, All, position, sum_by, slice_get, Some};
+ghost use Rattle.std.specs.Prelude.{IfOk, IfSome, IsTrue, ℕ};
 ghost use Rattle.vcode_base.specs.declared.limits.TheConstants.{MOST_JOBS, MOST_CELLS, MOST_WORDS};
 ghost use Rattle.job_steps.specs.States.{Task};
 ghost use Rattle.job_steps.specs.Standings.{is_waiting};

@@ -54,7 +54,8 @@ impl<A: Allocator> JobMemory<A> {
     pub fn new(alloc: A, region: usize, jobs: usize, most_blocks: usize) -> Result<Self, AllocError>
     where
         A: Clone,
-        ensures memory { IfOk result (λ blocks. blocks.memory ≡ record { room = region; slots = replicate most_blocks empty_slot }) }
+        ensures memory { IfOk result
+            (λ blocks. blocks.memory ≡ record { room = region; slots = replicate most_blocks empty_slot }) }
         ensures grants { IfOk result (λ blocks. blocks.grants ≡ replicate jobs None) }
     {
         let memory = SlidingMemory::new(alloc.clone()?, region, most_blocks)?;

@@ -136,7 +136,8 @@ early_end_is task t s op line sources held runs at can next held_is unspent =
     ∙ (ap (λ (b : Bool). cond b (Some Budget) (early_end_in task s s.calls)) no
     ∙ (ap (early_end_in task s) can.calls
     ∙ same_ending (next_item can.call).number line (question_of (next_item can.call).item s.stack)
-    (question_by op sources) task.limits t.limits (held_words s.stack) held (length s.stack) (length t.cells) (length s.calls) (length t.frames)
+    (question_by op sources) task.limits t.limits (held_words s.stack) held (length s.stack) (length t.cells)
+    (length s.calls) (length t.frames)
     (same_line task t s op line sources runs can next) (same_question task t s op line sources runs can next)
     (sym at.limits) (sym held_is) (sym at.cells) (sym (as_many (functions_of task) t.frames s.calls at.frames))))
 

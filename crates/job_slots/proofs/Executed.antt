@@ -73,7 +73,8 @@ listed ids (first ∷ rest) within =
 few_held : (job : ℕ) (old : JobBlocks) (cells : List Cell) → AreHeld (own_slots job old) cells →
     length (ids_of cells) + length (ids_of cells) < 2 ^ 64 → AreFew old (ids_of cells)
 few_held job old cells held small =
-    All-weaker (λ id. 0 < occurrences id (ids_of cells)) (λ id. (slot_at old.memory id).count + length (ids_of cells) < 2 ^ 64)
+    All-weaker (λ id. 0 < occurrences id (ids_of cells))
+    (λ id. (slot_at old.memory id).count + length (ids_of cells) < 2 ^ 64)
     (λ id some.
     let own : (slot_in (own_slots job old) id).count ≡ occurrences id (ids_of cells) = held.counts id in
     let seen : (slot_at old.memory id).count ≡ (slot_in (own_slots job old) id).count =
@@ -241,7 +242,8 @@ module _ (laws : Laws) (signatures : List Signature) (task : Task) (verified : I
           laws.each_track_follows task t u s call outer ids at calls (subst (IsDeep op) at.cells can.deep) has.given
           (subst (λ (w : ℕ). Advances task op flag ids w t u) (sym words_are) advances)
 
-      executed : state_after task (t.executed + 1) ≡ progress_by (value_fault op (sources_of item s.stack)) (next_item call) s
+      executed : state_after task (t.executed + 1) ≡ progress_by (value_fault op (sources_of item s.stack))
+          (next_item call) s
           (calls_after task flag call.rest call.ret outer) →
           IsExecuted job old (blocks_after_taking op t.cells placed) task t u
       executed next =

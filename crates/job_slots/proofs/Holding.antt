@@ -1,5 +1,6 @@
 -- How many words and blocks the cells of a stack hold.
-use Rattle.std.proofs.Common.{◌≡◌, ◌≢◌, ℕ, zero, suc, ◌+◌, ◌<◌, ◌≤◌, Bool, true, false, cond, eqb, ltb, List, [], ◌∷◌, length}
+use Rattle.std.proofs.Common.{◌≡◌, ◌≢◌, ℕ, zero, suc, ◌+◌, ◌<◌, ◌≤◌, Bool, true, false, cond, eqb, ltb, List}
+use Rattle.std.proofs.Common.{[], ◌∷◌, length}
 use Rattle.std.proofs.Common.{set, refl, sym, ◌∙◌, ap, inl, inr, arith}
 use Rattle.std.specs.Prelude.{All, sum_by, map, ◌||◌}
 use Rattle.std.proofs.lemmas.Bool.{cases_eq, eq-eqb}
@@ -7,7 +8,8 @@ use Rattle.std.proofs.lemmas.Bool.Decides.{nat_tests}
 use Rattle.std.proofs.lemmas.List.{get_or-set_other}
 use Rattle.std.proofs.lemmas.List.Elements.{All-nil, All-cons, All-head, All-tail, All-weaker}
 use Rattle.std.proofs.lemmas.List.Sums.{sum_by-cons}
-use Rattle.refcounts.specs.SharedState.{Slot, SharedState, empty_slot, slot_in, slot_at, words_in, blocks_in, occurrences, IsTidy}
+use Rattle.refcounts.specs.SharedState.{Slot, SharedState, empty_slot, slot_in, slot_at, words_in, blocks_in}
+use Rattle.refcounts.specs.SharedState.{occurrences, IsTidy}
 use Rattle.refcounts.specs.Owners.{slot_seen_by, slots_seen_by}
 use Rattle.job_steps.specs.States.{has_tag, held_words}
 use Rattle.job_slots.specs.Holdings.{Cell, ids_of, entries_of, AreAlike, AreHeld, HoldStack, HoldNothing}

@@ -1,5 +1,6 @@
 -- The results of a job that has returned, cell by cell.
-use Rattle.std.proofs.Common.{◌≡◌, ℕ, ℤ, ◌+◌, ◌<◌, Bool, true, false, cond, eqb, List, [], ◌∷◌, ◌++◌, length, get_or, take}
+use Rattle.std.proofs.Common.{◌≡◌, ℕ, ℤ, ◌+◌, ◌<◌, Bool, true, false, cond, eqb, List, [], ◌∷◌, ◌++◌, length}
+use Rattle.std.proofs.Common.{get_or, take}
 use Rattle.std.proofs.Common.{refl, sym, ◌∙◌, ap, subst, arith}
 use Rattle.std.specs.Prelude.{All, map, min, reverse}
 use Rattle.std.proofs.lemmas.List.{length-map, get_or-map, take_more, take_all}
@@ -194,7 +195,8 @@ all_results have ends slots task t verified returned ids kinds paired n items n_
     let id_count : length ids ≡ length values =
     ap length paired.ids_are ∙ sym (length-results slots task t returned) in
     let all : n ≡ length values = omega arith in
-    let is : items ≡ values = items_are ∙ (ap (λ (m : ℕ). take m values) all ∙ take_all (length values) values (omega arith)) in
+    let is : items ≡ values =
+    items_are ∙ (ap (λ (m : ℕ). take m values) all ∙ take_all (length values) values (omega arith)) in
     returned.outcome_is
     ∙ ap (λ (vs : List Vector). let o : Outcome (List Vector) = Returned vs in o)
     (sym (ap values_in returned.outcome_is) ∙ sym is)

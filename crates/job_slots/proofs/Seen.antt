@@ -1,5 +1,6 @@
 -- A memory's slots as a job sees them.
-use Rattle.std.proofs.Common.{◌≡◌, ◌∙◌, ◌+◌, ◌<◌, ℕ, zero, suc, Bool, true, false, cond, eqb, ltb, List, [], ◌∷◌, length}
+use Rattle.std.proofs.Common.{◌≡◌, ◌∙◌, ◌+◌, ◌<◌, ℕ, zero, suc, Bool, true, false, cond, eqb, ltb, List, []}
+use Rattle.std.proofs.Common.{◌∷◌, length}
 use Rattle.std.proofs.Common.{map, set, refl, sym, ap, subst, arith}
 use Rattle.std.specs.Prelude.{sum_by}
 use Rattle.std.proofs.lemmas.List.Sums.{sum_by-cons, sum_by-set}

@@ -89,7 +89,8 @@ pub no_grant : (number : ℕ) (blocks : JobBlocks) (task : Task) (slot : SlotSta
 no_grant number blocks task slot shows is = shows.grant ∙ ap (grant_by task) is
 
 pub shows_admitted : (number : ℕ) (blocks : JobBlocks) (task : Task) (slot : SlotState) →
-    Shows number blocks task slot → slot.status ≡ Waiting → Shows number (with_grant blocks number (Some task.limits.words)) task (live slot)
+    Shows number blocks task slot → slot.status ≡ Waiting
+    → Shows number (with_grant blocks number (Some task.limits.words)) task (live slot)
 shows_admitted number blocks task slot shows is =
     let place : number - 1 < length blocks.grants = omega arith in
     let long = length-set blocks.grants (number - 1) (Some task.limits.words) in

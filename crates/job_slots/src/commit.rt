@@ -2,7 +2,8 @@
 
 ghost use Rattle.std.specs.Prelude.{◌≡◌, ◌+◌, ◌<◌, ◌≤◌, length, reverse, Some};
 ghost use Rattle.refcounts.specs.SharedState.{block_count, empty_slot, slot_at};
-ghost use Rattle.job_memory.specs.JobBlocks.{IsJob, HasGrant, ChangesOnlyOf, grant_of, words_of, own_slots, held_words, with_block};
+ghost use Rattle.job_memory.specs.JobBlocks.{IsJob, HasGrant, ChangesOnlyOf, grant_of, words_of, own_slots};
+ghost use Rattle.job_memory.specs.JobBlocks.{held_words, with_block};
 ghost use Rattle.job_steps.specs.EventLaws.{IsVerified};
 ghost use Rattle.job_steps.specs.Motions.{top_entries};
 ghost use Rattle.job_steps.specs.Runs.{state_after};

@@ -1,6 +1,7 @@
 //! A job with where it stands.
 
-ghost use Rattle.std.specs.Prelude.{◌≡◌, ◌≢◌, ◌+◌, ◌<◌, ◌≤◌, ◌↔◌, [], false, length, IsErr, IfOk, OnOk, OnErr, None, Some, option_copied};
+ghost use Rattle.std.specs.Prelude.{◌≡◌, ◌≢◌, ◌+◌, ◌<◌, ◌≤◌, ◌↔◌, [], false, length, IsErr, IfOk, OnOk};
+ghost use Rattle.std.specs.Prelude.{OnErr, None, Some, option_copied};
 ghost use Rattle.vcode_base.specs.declared.limits.TheConstants.{MOST_WORDS};
 ghost use Rattle.vcode_base.specs.declared.outcome.Outcome.TheVariants.{Returned};
 ghost use Rattle.refcounts.specs.SharedState.{block_count};
@@ -14,7 +15,8 @@ ghost use Rattle.job_slots.specs.declared.status.Status.TheVariants as status;
 ghost use Rattle.job_slots.specs.declared.answer.Finished.TheVariants as finished;
 ghost use Rattle.job_slots.specs.Holdings.{HoldSomeStack, HoldNothing};
 ghost use Rattle.job_slots.specs.Slots.{Shows, Leaves, IsActive, IsNewSlot, standing_of, told_outcome, recalled_slot};
-ghost use Rattle.job_slots.specs.Answers.{Begins, IsPutOff, Finishes, Fits, IsEnding, is_ended, is_in_flight, or_same, standing_after_begun, standing_after_finished, IsReturned};
+ghost use Rattle.job_slots.specs.Answers.{Begins, IsPutOff, Finishes, Fits, IsEnding, is_ended, is_in_flight};
+ghost use Rattle.job_slots.specs.Answers.{or_same, standing_after_begun, standing_after_finished, IsReturned};
 
 use crate::answer::{Begun, Finished};
 use crate::collect::results;
@@ -239,7 +241,9 @@ impl<A: Allocator> Slot<A> {
         A: Clone,
         requires { Shows number blocks.old job.now self.old }
         ensures answer { IfOk result (λ yes. yes ≡ is_ended (standing_of self.old)) }
-        ensures standing { OnOk result (standing_of self.new ≡ or_same (standing_of self.old) (next_standing (event.Collect number) job.now (standing_of self.old))) }
+        ensures standing { OnOk result
+            (standing_of self.new ≡ or_same (standing_of self.old)
+            (next_standing (event.Collect number) job.now (standing_of self.old))) }
         ensures shows { Shows number blocks.new job.now self.new }
         ensures others { ChangesOnlyOf number blocks.old blocks.new }
         ensures nothing_to_collect { IfOk result (λ yes. yes ≡ false
@@ -331,8 +335,10 @@ impl<A: Allocator> Slot<A> {
 
     /// After an instruction: the job runs on, or it has returned, and its results are on its stack.
     fn go_on(&mut self) -> Finished
-        ensures done { result ≡ finished.Done → (0 < length self.old.trace.frames) × (self.new ≡ record self.old { status = status.Live }) }
-        ensures ended { result ≡ finished.Ended → (self.old.trace.frames ≡ []) × (self.new ≡ record self.old { status = status.Ended; outcome = None }) }
+        ensures done { result ≡ finished.Done → (0 < length self.old.trace.frames)
+            × (self.new ≡ record self.old { status = status.Live }) }
+        ensures ended { result ≡ finished.Ended → (self.old.trace.frames ≡ [])
+            × (self.new ≡ record self.old { status = status.Ended; outcome = None }) }
         ensures not_stale { result ≢ finished.Stale }
     {
         if self.track.calls() == 0 {

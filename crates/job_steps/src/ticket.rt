@@ -28,7 +28,8 @@ impl<A: Allocator> Model for Ticket<A> {
         let step = t.begun in
         asked_by step.job step.number step.op step.buffers.value.operands.lists step.buffers.value.words };
 
-    ghost invariant = { λ t. CanAnswer t.begun.buffers.value.words (question_by t.begun.op t.begun.buffers.value.operands.lists) };
+    ghost invariant = { λ t. CanAnswer t.begun.buffers.value.words
+        (question_by t.begun.op t.begun.buffers.value.operands.lists) };
 }
 
 impl<A: Allocator> Ticket<A> {

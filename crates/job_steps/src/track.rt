@@ -38,7 +38,8 @@ impl<C, A: Allocator> Model for Track<C, A> {
 
     ghost Value = { Trace C };
 
-    ghost view = { λ t. record { limits = t.limits; cells = t.cells.entries; frames = t.frames.entries; executed = t.executed; peak = t.peak } };
+    ghost view = { λ t. record
+        { limits = t.limits; cells = t.cells.entries; frames = t.frames.entries; executed = t.executed; peak = t.peak } };
 
     ghost invariant = { λ t. HasLimits t.limits t.cells.room t.frames.room };
 }

@@ -1,6 +1,8 @@
 //! Laws of memories of counted blocks. Each function does nothing, and its contract is the law.
 
-ghost use Rattle.refcounts.specs.Laws.{MakingChangesOnlyOwn, SharingChangesOnlyOwn, ReleasingChangesOnlyOwn, SharesAreCounted, ReleasesAreCounted, ReleasesKeepBlocks, ReleaseStaysTidy};
+ghost use Rattle.refcounts.specs.Laws.{MakingChangesOnlyOwn, SharingChangesOnlyOwn, ReleasingChangesOnlyOwn};
+ghost use Rattle.refcounts.specs.Laws.{SharesAreCounted, ReleasesAreCounted, ReleasesKeepBlocks};
+ghost use Rattle.refcounts.specs.Laws.{ReleaseStaysTidy};
 
 /// A block that an owner makes changes no other owner's blocks.
 pub fn making_changes_only_own()

@@ -6,9 +6,11 @@
 //! the block's owner, count and words, and one empty slot for a number that has no block.
 #![tactic(auto)]
 
-ghost use Rattle.std.specs.Prelude.{◌≡◌, ◌+◌, ◌-◌, ◌^◌, ◌<◌, ◌≤◌, ◌↔◌, length, replicate, slice_get, Some, IsTrue, IfOk, OnErr};
+ghost use Rattle.std.specs.Prelude.{◌≡◌, ◌+◌, ◌-◌, ◌^◌, ◌<◌, ◌≤◌, ◌↔◌, length, replicate, slice_get, Some};
+ghost use Rattle.std.specs.Prelude.{IsTrue, IfOk, OnErr};
 ghost use Rattle.block_memory.specs.Content.{block_count as block_count_of};
-ghost use Rattle.refcounts.specs.SharedState.{empty_slot, slot_at, IsLive, IsTidy, used_words, block_count, with_slot, new_slot, state_after_share, state_after_release};
+ghost use Rattle.refcounts.specs.SharedState.{empty_slot, slot_at, IsLive, IsTidy, used_words, block_count};
+ghost use Rattle.refcounts.specs.SharedState.{with_slot, new_slot, state_after_share, state_after_release};
 
 pub mod laws;
 
@@ -48,7 +50,8 @@ impl<M: VectorMemory, A: Allocator> SharedMemory<M, A> {
     where
         M: Drop,
         requires { block_count_of (M.content memory) ≡ 0 }
-        ensures { IfOk result (λ shared. shared ≡ record { room = M.room memory; slots = replicate (length (M.content memory)) empty_slot }) }
+        ensures { IfOk result
+            (λ shared. shared ≡ record { room = M.room memory; slots = replicate (length (M.content memory)) empty_slot }) }
     {
         let counts = vec![in alloc; 0; memory.ids()]?;
         Ok(Self { memory, counts })
@@ -64,7 +67,8 @@ impl<M: VectorMemory, A: Allocator> SharedMemory<M, A> {
         ensures made { IfOk result (λ id. self.new ≡ with_slot self.old id (new_slot owner words.now)) }
 
         ensures full { (result ≡ Err NoRoom.Full) ↔ (self.old.room < used_words self.old + length words.now) }
-        ensures memory { result ≡ Err NoRoom.Memory → IsTrue M.may_refuse × (used_words self.old + length words.now ≤ self.old.room) }
+        ensures memory { result ≡ Err NoRoom.Memory → IsTrue M.may_refuse
+            × (used_words self.old + length words.now ≤ self.old.room) }
         ensures err { OnErr result (self.new ≡ self.old) }
     {
         let id = self.memory.place(owner, words)?;

@@ -1,6 +1,7 @@
 //! Laws of books of reservations. Each function does nothing, and its contract is the law.
 
-ghost use Rattle.reservations.specs.Laws.{NothingIsGrantedAtFirst, HeldIsWithinGranted, GrantedWordsAreThere, OneGrantChanges, GrantedAddsUp, HeldAddsUp, ClosingGivesBack};
+ghost use Rattle.reservations.specs.Laws.{NothingIsGrantedAtFirst, HeldIsWithinGranted, GrantedWordsAreThere};
+ghost use Rattle.reservations.specs.Laws.{OneGrantChanges, GrantedAddsUp, HeldAddsUp, ClosingGivesBack};
 
 /// In a book that was just made nothing is granted, and nothing is held.
 pub fn nothing_is_granted_at_first()

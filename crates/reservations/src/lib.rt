@@ -6,8 +6,10 @@
 //! region's words and, for each job, its grant or none.
 #![tactic(auto)]
 
-ghost use Rattle.std.specs.Prelude.{◌≡◌, ◌+◌, ◌-◌, ◌<◌, ◌≤◌, ◌↔◌, length, replicate, Some, None, IsSome, IsErr, IfOk, IfSome, OnOk, OnErr};
-ghost use Rattle.reservations.specs.BookState.{IsJob, grant_of, words_granted_to, words_held_by, granted_words, IsCovered, with_grant, new_grant, with_held};
+ghost use Rattle.std.specs.Prelude.{◌≡◌, ◌+◌, ◌-◌, ◌<◌, ◌≤◌, ◌↔◌, length, replicate, Some, None, IsSome};
+ghost use Rattle.std.specs.Prelude.{IsErr, IfOk, IfSome, OnOk, OnErr};
+ghost use Rattle.reservations.specs.BookState.{IsJob, grant_of, words_granted_to, words_held_by};
+ghost use Rattle.reservations.specs.BookState.{granted_words, IsCovered, with_grant, new_grant, with_held};
 
 pub mod laws;
 

@@ -1,8 +1,11 @@
 -- Elements that go to their indices.
-use Rattle.std.proofs.Common.{◌≡◌, ℕ, ◌+◌, ◌<◌, ℤ, pos, true, false, ◌||◌, List, [], ◌∷◌, length, take, set, get_or, zip, refl, ap, sym, ◌∙◌, arith, unsigned_abs, length-set, zero-add, replicate, if◌then◌else◌, get_or-set_same, get_or-set_other}
+use Rattle.std.proofs.Common.{◌≡◌, ℕ, ◌+◌, ◌<◌, ℤ, pos, true, false, ◌||◌, List, [], ◌∷◌, length, take, set}
+use Rattle.std.proofs.Common.{get_or, zip, refl, ap, sym, ◌∙◌, arith, unsigned_abs, length-set, zero-add}
+use Rattle.std.proofs.Common.{replicate, if◌then◌else◌, get_or-set_same, get_or-set_other}
 use Rattle.std.specs.List.{list_any, enumerate_from}
 use Rattle.std.proofs.lemmas.List.{ext_get_or, length-map, get_or-map, get_or-replicate, length-replicate}
-use Rattle.std.proofs.lemmas.List.FromFn.{length-enumerate_from, get_or-enumerate_from, length-map-range_with_len, get_or-map-range_with_len}
+use Rattle.std.proofs.lemmas.List.FromFn.{length-enumerate_from, get_or-enumerate_from}
+use Rattle.std.proofs.lemmas.List.FromFn.{length-map-range_with_len, get_or-map-range_with_len}
 use Rattle.std.proofs.lemmas.List.Sums.{fold_more}
 use Rattle.std.proofs.lemmas.Slice.Zip.{length-zip, get_or-zip}
 use Rattle.vcode_base.specs.Elements.{flag}

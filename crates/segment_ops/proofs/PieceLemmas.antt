@@ -1,5 +1,8 @@
 -- The pieces that a walk over one or two descriptors goes through, and what stands at an index of a piece.
-use Rattle.std.proofs.Common.{◌≡◌, ℕ, ◌+◌, ◌-◌, ◌<◌, ◌≤◌, ℤ, pos, Bool, true, false, ◌||◌, List, [], ◌∷◌, ◌++◌, length, take, drop, set, get_or, zip, refl, ap, sym, ◌∙◌, arith, zero, suc, unsigned_abs, ◌≤ℤ◌, ◌<ℤ◌, length-take, length-drop, append_assoc, slice_set}
+use Rattle.std.proofs.Common.{◌≡◌, ℕ, ◌+◌, ◌-◌, ◌<◌, ◌≤◌, ℤ, pos, Bool, true, false, ◌||◌, List, [], ◌∷◌}
+use Rattle.std.proofs.Common.{◌++◌, length, take, drop, set, get_or, zip, refl, ap, sym, ◌∙◌, arith, zero}
+use Rattle.std.proofs.Common.{suc, unsigned_abs, ◌≤ℤ◌, ◌<ℤ◌, length-take, length-drop, append_assoc}
+use Rattle.std.proofs.Common.{slice_set}
 use Rattle.std.specs.List.{list_any, flat_map}
 use Rattle.std.proofs.Math.Nat.{add-sub_cancel_left}
 use Rattle.std.proofs.Math.Seq.{take-add, take-set-lt}

@@ -1,5 +1,6 @@
 -- One step of an arithmetic progression.
-use Rattle.std.proofs.Common.{◌≡◌, ℕ, ◌+◌, ◌%◌, ◌^◌, ◌<◌, ℤ, pos, ◌+ℤ◌, ◌*ℤ◌, ap, sym, ◌∙◌, arith, FitsSigned, w64, to_z, of_z}
+use Rattle.std.proofs.Common.{◌≡◌, ℕ, ◌+◌, ◌%◌, ◌^◌, ◌<◌, ℤ, pos, ◌+ℤ◌, ◌*ℤ◌, ap, sym, ◌∙◌, arith, FitsSigned}
+use Rattle.std.proofs.Common.{w64, to_z, of_z}
 use Rattle.std.proofs.Math.IntN.{suc_ℤ-*ℤ, +ℤ_assoc}
 use Rattle.std.proofs.lemmas.Int.{wrapping_add_onto, int_wrap-add_left}
 use Rattle.vcode_base.specs.Elements.{wrap}

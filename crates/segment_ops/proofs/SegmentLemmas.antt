@@ -1,5 +1,6 @@
 -- A walk over segments, one after the other.
-use Rattle.std.proofs.Common.{◌≡◌, ℕ, ◌+◌, ◌-◌, ◌<◌, ◌≤◌, ℤ, pos, List, [], ◌∷◌, ◌++◌, length, take, drop, map, set, get_or, zip, ap, sym, ◌∙◌, arith, unsigned_abs, append_assoc, refl}
+use Rattle.std.proofs.Common.{◌≡◌, ℕ, ◌+◌, ◌-◌, ◌<◌, ◌≤◌, ℤ, pos, List, [], ◌∷◌, ◌++◌, length, take, drop}
+use Rattle.std.proofs.Common.{map, set, get_or, zip, ap, sym, ◌∙◌, arith, unsigned_abs, append_assoc, refl}
 use Rattle.std.specs.List.{flat_map}
 use Rattle.std.proofs.lemmas.List.{drop_more, drop-drop, take_more_set}
 use Rattle.std.proofs.lemmas.List.Sums.{sum_by-drop_more}

@@ -1,4 +1,5 @@
-ghost use Rattle.std.specs.Prelude.{◌≡◌, ◌≤◌, ◌<◌, ◌+◌, ◌^◌, pos, length, drop, slice_index_or, unsigned_abs, ◌∷◌, [], MatchResult, None, Some};
+ghost use Rattle.std.specs.Prelude.{◌≡◌, ◌≤◌, ◌<◌, ◌+◌, ◌^◌, pos, length, drop, slice_index_or, unsigned_abs};
+ghost use Rattle.std.specs.Prelude.{◌∷◌, [], MatchResult, None, Some};
 ghost use Rattle.vcode_base.specs.Kinds.{AreLengths};
 ghost use Rattle.vcode_base.specs.declared.limits.TheConstants.{MOST_TOTAL};
 ghost use Rattle.vcode_base.specs.Meaning.{segmented_fault, segmented_result};

@@ -1,7 +1,8 @@
 ghost use Rattle.std.specs.Prelude.{◌≡◌, length, MatchResult, None, Some};
 ghost use Rattle.vcode_base.specs.Kinds.{HaveKinds, source_kinds, segmented_operands};
 ghost use Rattle.vcode_base.specs.Meaning.{shape, need, value_fault, result_of, second_result_of};
-ghost use Rattle.vcode_base.specs.Meaning.{segmented_shape, segmented_need, segmented_fault, segmented_result, segmented_second};
+ghost use Rattle.vcode_base.specs.Meaning.{segmented_shape, segmented_need, segmented_fault};
+ghost use Rattle.vcode_base.specs.Meaning.{segmented_result, segmented_second};
 ghost use Rattle.vcode_base.specs.Operands.{contents};
 ghost use Rattle.segment_ops.specs.Served.{IsServed};
 

@@ -2,7 +2,8 @@
 
 ghost use Rattle.std.specs.Prelude.{◌≡◌, ◌*◌, ◌≤◌, length};
 ghost use Rattle.vcode_base.specs.declared.limits.TheConstants.{MOST_BUDGET, MOST_JOBS};
-ghost use Rattle.step_scheduler.specs.Tallies.{CountsAreWithin, EventsKeepCounts, FinishesRaise, OthersCountNothing, RecallsCountNothing, executed_sum};
+ghost use Rattle.step_scheduler.specs.Tallies.{CountsAreWithin, EventsKeepCounts, FinishesRaise};
+ghost use Rattle.step_scheduler.specs.Tallies.{OthersCountNothing, RecallsCountNothing, executed_sum};
 
 use job_machine::Machine;
 use job_steps::laws::{

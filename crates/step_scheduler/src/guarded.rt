@@ -3,7 +3,8 @@
 ghost use Rattle.std.specs.Prelude.{◌≡◌, ℕ, ◌+◌, OnOk, OnErr, IfOk};
 ghost use Rattle.job_steps.specs.declared.event.Event.TheVariants.{Admit, Begin, Collect, Finish};
 ghost use Rattle.job_steps.specs.Standings.{of_job};
-ghost use Rattle.job_machine.specs.Machines.{BeginsIn, FinishesIn, admission_in, after_begun, after_finished, is_over, machine_after};
+ghost use Rattle.job_machine.specs.Machines.{BeginsIn, FinishesIn, admission_in, after_begun, after_finished};
+ghost use Rattle.job_machine.specs.Machines.{is_over, machine_after};
 ghost use Rattle.step_scheduler.specs.Tallies.{executed_sum};
 
 use crate::counts::count_laws;
@@ -102,9 +103,11 @@ impl<L: Opening, A: Allocator> GuardedMachine<L, A> {
         filled: Filled<A>,
         mine: &mut WorkerShare<L>,
     ) -> (Finished, Desk<A>)
-        ensures answer { FinishesIn filled (of_job filled.job self.old.machine.tasks) (of_job filled.job self.old.machine.standings) result.0 }
+        ensures answer { FinishesIn filled (of_job filled.job self.old.machine.tasks)
+            (of_job filled.job self.old.machine.standings) result.0 }
         ensures desk { result.1 ≡ filled.words }
-        ensures state { self.new.machine ≡ after_finished result.0 self.old.machine (machine_after (Finish filled.job) self.old.machine) }
+        ensures state { self.new.machine ≡ after_finished result.0 self.old.machine
+            (machine_after (Finish filled.job) self.old.machine) }
         ensures counted { mine.new.count + executed_sum self.old.machine ≡ mine.old.count + executed_sum self.new.machine }
     {
         let GuardedMachine { machine, book } = self;

@@ -162,7 +162,8 @@ fn run_out_jobs<A: Allocator + Clone>(
     ensures jobs { IfOk result (λ ran. ran.0.tasks ≡ jobs.now) }
     ensures collected { IfOk result (λ ran. All (λ standing. standing ≡ Collected) ran.0.standings) }
     ensures workers { IfOk result (λ ran. ran.1.workers ≡ workers) }
-    ensures counted { IfOk result (λ ran. executed_sum ran.0 + sum workers.items ≡ executed_sum machine + (sum ran.1.workers.items + ran.1.caller)) }
+    ensures counted { IfOk result
+        (λ ran. executed_sum ran.0 + sum workers.items ≡ executed_sum machine + (sum ran.1.workers.items + ran.1.caller)) }
 {
     if !machine.holds(jobs) {
         return Err(RunFault::Mixed);

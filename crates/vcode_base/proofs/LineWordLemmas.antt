@@ -1,7 +1,9 @@
 -- Words at the front of a line.
-use Rattle.std.proofs.Common.{◌≡◌, ℕ, ◌+◌, ◌<◌, ◌≤◌, suc, zero, Bool, true, false, not, ◌||◌, List, [], ◌∷◌, length, get_or, take, drop, refl, arith}
+use Rattle.std.proofs.Common.{◌≡◌, ℕ, ◌+◌, ◌<◌, ◌≤◌, suc, zero, Bool, true, false, not, ◌||◌, List, [], ◌∷◌}
+use Rattle.std.proofs.Common.{length, get_or, take, drop, refl, arith}
 use Rattle.std.proofs.lemmas.List.{drop_all, drop_more}
-use Rattle.vcode_base.specs.LineWords.{words_of_line, is_separator, stands_alone, is_plain, begins_plain, begins_with_word}
+use Rattle.vcode_base.specs.LineWords.{words_of_line, is_separator, stands_alone, is_plain, begins_plain}
+use Rattle.vcode_base.specs.LineWords.{begins_with_word}
 use Rattle.vcode_base.specs.declared.line_words.Parentheses.{Parentheses}
 
 neither : (a b : Bool) → not (a || b) ≡ true → (a ≡ false) × (b ≡ false)
@@ -43,7 +45,8 @@ pub words_behind : (p : Parentheses) (xs : List ℕ) (i : ℕ) → i < length xs
 unfolding words_of_line
 words_behind p xs i h here = rw (drop_more xs i 0 h, here) refl
 
-pub begins_at : (xs : List ℕ) (i : ℕ) → i < length xs → is_separator (get_or xs i 0) ≡ false → begins_with_word (drop i xs) ≡ true
+pub begins_at : (xs : List ℕ) (i : ℕ) → i < length xs → is_separator (get_or xs i 0) ≡ false
+    → begins_with_word (drop i xs) ≡ true
 begins_at xs i h here = rw (drop_more xs i 0 h, here) refl
 
 pub ends_at : (p : Parentheses) (xs : List ℕ) (i : ℕ) → i < length xs
@@ -63,7 +66,8 @@ no_end false true h k here = cc
 no_end false false h k here = cc
 
 -- a first byte that isn't between words nor a word by itself is no end of a run
-pub run_begins : (p : Parentheses) (xs : List ℕ) (i : ℕ) → begins_with_word xs ≡ true → stands_alone p (get_or xs 0 0) ≡ false
+pub run_begins : (p : Parentheses) (xs : List ℕ) (i : ℕ) → begins_with_word xs ≡ true
+    → stands_alone p (get_or xs 0 0) ≡ false
     → (is_separator (get_or xs i 0) || stands_alone p (get_or xs i 0)) ≡ true → 0 < i
 run_begins p xs (suc i) begins alone here = omega arith
 run_begins p [] zero begins alone here = cc

@@ -5,36 +5,50 @@ use Rattle.std.proofs.lemmas.List.{length-map}
 use Rattle.vcode_base.specs.Elements.{flag, is_set, arithmetic, comparison, logic, negation}
 use Rattle.vcode_base.specs.Kinds.{elementwise_operands}
 use Rattle.vcode_base.specs.Laws.{ResultsHaveNeededLengths}
-use Rattle.vcode_base.specs.Meaning.{operand, wrong_length, shape, need, result_of, second_result_of, elementwise_shape, elementwise_result, segmented_shape, segmented_need, segmented_result, segmented_second}
+use Rattle.vcode_base.specs.Meaning.{operand, wrong_length, shape, need, result_of, second_result_of}
+use Rattle.vcode_base.specs.Meaning.{elementwise_shape, elementwise_result, segmented_shape, segmented_need}
+use Rattle.vcode_base.specs.Meaning.{segmented_result, segmented_second}
 use Rattle.vcode_base.specs.Segments.{total}
 use Rattle.vcode_base.specs.declared.op.Op.TheVariants.{Const, Elementwise, Segmented, If, Move, Call, Return}
 use Rattle.vcode_base.specs.declared.op.Elementwise.{Elementwise as ElementwiseOp}
-use Rattle.vcode_base.specs.declared.op.Elementwise.TheVariants.{Arith, Compare, Logic, Not, Select, IntToBool, BoolToInt}
+use Rattle.vcode_base.specs.declared.op.Elementwise.TheVariants.{Arith, Compare, Logic, Not, Select}
+use Rattle.vcode_base.specs.declared.op.Elementwise.TheVariants.{IntToBool, BoolToInt}
 use Rattle.vcode_base.specs.declared.op.Segmented.{Segmented as SegmentedOp}
-use Rattle.vcode_base.specs.declared.op.Segmented.TheVariants.{Scan, Reduce, Distribute, Index, Permute, BackPermute, DefaultPermute, Extract, Replace, Pack, MakeSegdes, Lengths}
+use Rattle.vcode_base.specs.declared.op.Segmented.TheVariants.{Scan, Reduce, Distribute, Index, Permute}
+use Rattle.vcode_base.specs.declared.op.Segmented.TheVariants.{BackPermute, DefaultPermute, Extract, Replace}
+use Rattle.vcode_base.specs.declared.op.Segmented.TheVariants.{Pack, MakeSegdes, Lengths}
 use Rattle.vcode_base.specs.declared.fault.DataFault.TheVariants.{LengthsDiffer}
 use Rattle.vcode_base.proofs.Permuted.{first_false, last_false}
 use Rattle.vcode_base.proofs.Lengths as lengths
 
 -- an operand of an elementwise instruction without a shape fault is as long as the first
-as_long : (n : ℕ) (xs : List (List ℤ)) (k : ℕ) → list_any (λ x. wrong_length x n) xs ≡ false → k < length xs → length (operand xs k) ≡ n
+as_long : (n : ℕ) (xs : List (List ℤ)) (k : ℕ) → list_any (λ x. wrong_length x n) xs ≡ false → k < length xs
+    → length (operand xs k) ≡ n
 as_long n [] k h l = absurd (omega arith)
-as_long n (x ∷ xs) zero h l = lengths.right_length x n (first_false (wrong_length x n) (list_any (λ y. wrong_length y n) xs) h)
-as_long n (x ∷ xs) (suc k) h l = as_long n xs k (last_false (wrong_length x n) (list_any (λ y. wrong_length y n) xs) h) (omega arith)
+as_long n (x ∷ xs) zero h l = lengths.right_length x n
+    (first_false (wrong_length x n) (list_any (λ y. wrong_length y n) xs) h)
+as_long n (x ∷ xs) (suc k) h l =
+    as_long n xs k (last_false (wrong_length x n) (list_any (λ y. wrong_length y n) xs) h) (omega arith)
 
-operands_as_long : (xs : List (List ℤ)) (k : ℕ) → elementwise_shape xs ≡ None → k < length xs → length (operand xs k) ≡ length (operand xs 0)
+operands_as_long : (xs : List (List ℤ)) (k : ℕ) → elementwise_shape xs ≡ None → k < length xs → length (operand xs k)
+    ≡ length (operand xs 0)
 operands_as_long xs k h l =
     let n = length (operand xs 0) in
     as_long n xs k (lengths.no_fault (list_any (λ x. wrong_length x n) xs) LengthsDiffer [] h).0 l
 
-elementwise_long : (op : ElementwiseOp) (xs : List (List ℤ)) → length xs ≡ length (elementwise_operands op) → elementwise_shape xs ≡ None
+elementwise_long : (op : ElementwiseOp) (xs : List (List ℤ)) → length xs ≡ length (elementwise_operands op)
+    → elementwise_shape xs ≡ None
     → length (elementwise_result op xs) ≡ length (operand xs 0)
-elementwise_long (Arith op) xs many h = lengths.pairs_long (arithmetic op) (operand xs 0) (operand xs 1) (operands_as_long xs 1 h (omega arith))
-elementwise_long (Compare op) xs many h = lengths.pairs_long (comparison op) (operand xs 0) (operand xs 1) (operands_as_long xs 1 h (omega arith))
-elementwise_long (Logic op k) xs many h = lengths.pairs_long (logic op) (operand xs 0) (operand xs 1) (operands_as_long xs 1 h (omega arith))
+elementwise_long (Arith op) xs many h = lengths.pairs_long (arithmetic op) (operand xs 0) (operand xs 1)
+    (operands_as_long xs 1 h (omega arith))
+elementwise_long (Compare op) xs many h = lengths.pairs_long (comparison op) (operand xs 0) (operand xs 1)
+    (operands_as_long xs 1 h (omega arith))
+elementwise_long (Logic op k) xs many h = lengths.pairs_long (logic op) (operand xs 0) (operand xs 1)
+    (operands_as_long xs 1 h (omega arith))
 elementwise_long (Not k) xs many h = length-map (operand xs 0) (negation k)
 elementwise_long (Select k) xs many h =
-    lengths.selected_long (operand xs 0) (operand xs 1) (operand xs 2) (operands_as_long xs 1 h (omega arith)) (operands_as_long xs 2 h (omega arith))
+    lengths.selected_long (operand xs 0) (operand xs 1) (operand xs 2) (operands_as_long xs 1 h (omega arith))
+    (operands_as_long xs 2 h (omega arith))
 elementwise_long IntToBool xs many h = length-map (operand xs 0) (λ x. flag (is_set x))
 elementwise_long BoolToInt xs many h = refl
 

@@ -1,5 +1,7 @@
 -- Where no index comes twice, each element stands at its index.
-use Rattle.std.proofs.Common.{◌≡◌, ℕ, zero, suc, ◌<◌, ℤ, pos, Bool, true, false, ◌||◌, List, [], ◌∷◌, length, get_or, zip, replicate, refl, ap, ◌∙◌, arith, zero-add, unsigned_abs, if◌then◌else◌}
+use Rattle.std.proofs.Common.{◌≡◌, ℕ, zero, suc, ◌<◌, ℤ, pos, Bool, true, false, ◌||◌, List, [], ◌∷◌, length}
+use Rattle.std.proofs.Common.{get_or, zip, replicate, refl, ap, ◌∙◌, arith, zero-add, unsigned_abs}
+use Rattle.std.proofs.Common.{if◌then◌else◌}
 use Rattle.std.specs.List.{list_any, enumerate_from}
 use Rattle.std.proofs.lemmas.List.{get_or-map, length-replicate}
 use Rattle.std.proofs.lemmas.List.FromFn.{get_or-enumerate_from, length-enumerate_from}
@@ -34,21 +36,25 @@ arrives (i ∷ is) (x ∷ xs) zero d once same h =
     ap (λ t. arrival (zip is xs) (unsigned_abs i) (if t then x else d)) (names_own i)
     ∙ unnamed is xs (unsigned_abs i) x (first_false (list_any (names (unsigned_abs i)) is) (has_twice is) once)
 arrives (i ∷ is) (x ∷ xs) (suc p) d once same h =
-    arrives is xs p (if names (unsigned_abs (get_or is p (pos 0))) i then x else d) (last_false (list_any (names (unsigned_abs i)) is) (has_twice is) once) (omega arith) (omega arith)
+    arrives is xs p (if names (unsigned_abs (get_or is p (pos 0))) i then x else d)
+    (last_false (list_any (names (unsigned_abs i)) is) (has_twice is) once) (omega arith) (omega arith)
 
 -- an index that is inside names a place
 below : (n : ℕ) (i : ℤ) → is_outside n i ≡ false → unsigned_abs i < n
 below n i h = grind arith
 
-inside : (n : ℕ) (is : List ℤ) (p : ℕ) → list_any (is_outside n) is ≡ false → p < length is → unsigned_abs (get_or is p (pos 0)) < n
+inside : (n : ℕ) (is : List ℤ) (p : ℕ) → list_any (is_outside n) is ≡ false → p < length is
+    → unsigned_abs (get_or is p (pos 0)) < n
 inside n [] p h l = absurd (omega arith)
 inside n (i ∷ is) zero h l = below n i (first_false (is_outside n i) (list_any (is_outside n) is) h)
 inside n (i ∷ is) (suc p) h l = inside n is p (last_false (is_outside n i) (list_any (is_outside n) is) h) (omega arith)
 
 -- what stands at place q of a moved list
-pub moved_at : (xs is there : List ℤ) (q : ℕ) → q < length there → get_or (scatter_of xs is there) q (pos 0) ≡ arrival (zip is xs) q (get_or there q (pos 0))
+pub moved_at : (xs is there : List ℤ) (q : ℕ) → q < length there → get_or (scatter_of xs is there) q (pos 0)
+    ≡ arrival (zip is xs) q (get_or there q (pos 0))
 moved_at xs is there q h =
-    get_or-map (λ (p : ℕ × ℤ). arrival (zip is xs) p.0 p.1) (enumerate_from 0 there) q (0, pos 0) (pos 0) (simp (length-enumerate_from 0 there) h)
+    get_or-map (λ (p : ℕ × ℤ). arrival (zip is xs) p.0 p.1) (enumerate_from 0 there) q (0, pos 0) (pos 0)
+    (simp (length-enumerate_from 0 there) h)
     ∙ ap (λ (p : ℕ × ℤ). arrival (zip is xs) p.0 p.1) (get_or-enumerate_from 0 there q (0, pos 0) h)
     ∙ ap (λ k. arrival (zip is xs) k (get_or there q (pos 0))) (zero-add q)
 

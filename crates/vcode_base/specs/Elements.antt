@@ -1,12 +1,16 @@
 -- What one element of a result is, by the elements at its place.
-use Rattle.std.specs.Prelude.{ℕ, ℤ, pos, negsuc, ◌+ℤ◌, ◌-ℤ◌, ◌*ℤ◌, ◌-◌, ◌^◌, Bool, not, ◌||◌, if◌then◌else◌, List, int_lt, int_le, int_div, int_rem, unsigned_abs, Option, Some, None, fold}
-use Rattle.std.specs.Int.{w64, int_wrap, int_bit_and, int_bit_or, int_bit_xor, int_bit_not, int_div_euclid, int_min, int_max}
+use Rattle.std.specs.Prelude.{ℕ, ℤ, pos, negsuc, ◌+ℤ◌, ◌-ℤ◌, ◌*ℤ◌, ◌-◌, ◌^◌, Bool, not, ◌||◌, if◌then◌else◌}
+use Rattle.std.specs.Prelude.{List, int_lt, int_le, int_div, int_rem, unsigned_abs, Option, Some, None, fold}
+use Rattle.std.specs.Int.{w64, int_wrap, int_bit_and, int_bit_or, int_bit_xor, int_bit_not, int_div_euclid}
+use Rattle.std.specs.Int.{int_min, int_max}
 use Rattle.std.specs.List.{list_any}
 use Rattle.std.specs.Ordering.{int_eq}
 use Rattle.vcode_base.specs.declared.op.Arith.{Arith}
-use Rattle.vcode_base.specs.declared.op.Arith.TheVariants.{Add, Subtract, Multiply, Divide, Remainder, ShiftLeft, ShiftRight}
+use Rattle.vcode_base.specs.declared.op.Arith.TheVariants.{Add, Subtract, Multiply, Divide, Remainder}
+use Rattle.vcode_base.specs.declared.op.Arith.TheVariants.{ShiftLeft, ShiftRight}
 use Rattle.vcode_base.specs.declared.op.Comparison.{Comparison}
-use Rattle.vcode_base.specs.declared.op.Comparison.TheVariants.{Less, LessOrEqual, Greater, GreaterOrEqual, Equal, NotEqual}
+use Rattle.vcode_base.specs.declared.op.Comparison.TheVariants.{Less, LessOrEqual, Greater, GreaterOrEqual}
+use Rattle.vcode_base.specs.declared.op.Comparison.TheVariants.{Equal, NotEqual}
 use Rattle.vcode_base.specs.declared.op.Logic.{Logic}
 use Rattle.vcode_base.specs.declared.op.Logic.TheVariants.{And, Or, Xor}
 use Rattle.vcode_base.specs.declared.op.Fold.{Fold}

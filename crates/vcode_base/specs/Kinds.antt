@@ -10,9 +10,12 @@ use Rattle.vcode_base.specs.declared.kind.Scalar.TheVariants.{Int as Numbers, Bo
 use Rattle.vcode_base.specs.declared.op.Fold.{Fold}
 use Rattle.vcode_base.specs.declared.op.Fold.TheVariants.{Sum, Product, Max, Min, Logic as LogicFold}
 use Rattle.vcode_base.specs.declared.op.Elementwise.{Elementwise as ElementwiseOp}
-use Rattle.vcode_base.specs.declared.op.Elementwise.TheVariants.{Arith, Compare, Logic, Not, Select, IntToBool, BoolToInt}
+use Rattle.vcode_base.specs.declared.op.Elementwise.TheVariants.{Arith, Compare, Logic, Not, Select}
+use Rattle.vcode_base.specs.declared.op.Elementwise.TheVariants.{IntToBool, BoolToInt}
 use Rattle.vcode_base.specs.declared.op.Segmented.{Segmented as SegmentedOp}
-use Rattle.vcode_base.specs.declared.op.Segmented.TheVariants.{Scan, Reduce, Distribute, Index, Permute, BackPermute, DefaultPermute, Extract, Replace, Pack, MakeSegdes, Lengths}
+use Rattle.vcode_base.specs.declared.op.Segmented.TheVariants.{Scan, Reduce, Distribute, Index, Permute}
+use Rattle.vcode_base.specs.declared.op.Segmented.TheVariants.{BackPermute, DefaultPermute, Extract, Replace}
+use Rattle.vcode_base.specs.declared.op.Segmented.TheVariants.{Pack, MakeSegdes, Lengths}
 use Rattle.vcode_base.specs.declared.op.Op.{Op}
 use Rattle.vcode_base.specs.declared.op.Op.TheVariants.{Const, Elementwise, Segmented, If, Move, Call, Return}
 

@@ -1,17 +1,25 @@
 -- For each instruction: when the shapes of its operands don't fit, how long its results are, when it has none, and what they are.
-use Rattle.std.specs.Prelude.{ℕ, ℤ, pos, ◌==◌, nat_lt, Bool, not, ◌||◌, if◌then◌else◌, List, [], ◌∷◌, length, map, zip, flat_map, filter, count_by, replicate, slice_index_or, slice_set, unsigned_abs, Option, Some, None, int_lt}
+use Rattle.std.specs.Prelude.{ℕ, ℤ, pos, ◌==◌, nat_lt, Bool, not, ◌||◌, if◌then◌else◌, List, [], ◌∷◌, length}
+use Rattle.std.specs.Prelude.{map, zip, flat_map, filter, count_by, replicate, slice_index_or, slice_set}
+use Rattle.std.specs.Prelude.{unsigned_abs, Option, Some, None, int_lt}
 use Rattle.std.specs.List.{list_any}
-use Rattle.vcode_base.specs.Elements.{flag, is_set, is_outside, arithmetic, arithmetic_fault, comparison, logic, negation, fold_of}
+use Rattle.vcode_base.specs.Elements.{flag, is_set, is_outside, arithmetic, arithmetic_fault, comparison}
+use Rattle.vcode_base.specs.Elements.{logic, negation, fold_of}
 use Rattle.vcode_base.specs.declared.limits.TheConstants.{MOST_TOTAL}
-use Rattle.vcode_base.specs.Segments.{sizes, total, segments, folds_before, progression, element, scatter_of, permutation_of, has_twice, any_outside}
+use Rattle.vcode_base.specs.Segments.{sizes, total, segments, folds_before, progression, element, scatter_of}
+use Rattle.vcode_base.specs.Segments.{permutation_of, has_twice, any_outside}
 use Rattle.vcode_base.specs.declared.op.Op.{Op}
 use Rattle.vcode_base.specs.declared.op.Op.TheVariants.{Const, Elementwise, Segmented, If, Move, Call, Return}
 use Rattle.vcode_base.specs.declared.op.Elementwise.{Elementwise as ElementwiseOp}
-use Rattle.vcode_base.specs.declared.op.Elementwise.TheVariants.{Arith, Compare, Logic, Not, Select, IntToBool, BoolToInt}
+use Rattle.vcode_base.specs.declared.op.Elementwise.TheVariants.{Arith, Compare, Logic, Not, Select}
+use Rattle.vcode_base.specs.declared.op.Elementwise.TheVariants.{IntToBool, BoolToInt}
 use Rattle.vcode_base.specs.declared.op.Segmented.{Segmented as SegmentedOp}
-use Rattle.vcode_base.specs.declared.op.Segmented.TheVariants.{Scan, Reduce, Distribute, Index, Permute, BackPermute, DefaultPermute, Extract, Replace, Pack, MakeSegdes, Lengths}
+use Rattle.vcode_base.specs.declared.op.Segmented.TheVariants.{Scan, Reduce, Distribute, Index, Permute}
+use Rattle.vcode_base.specs.declared.op.Segmented.TheVariants.{BackPermute, DefaultPermute, Extract, Replace}
+use Rattle.vcode_base.specs.declared.op.Segmented.TheVariants.{Pack, MakeSegdes, Lengths}
 use Rattle.vcode_base.specs.declared.fault.DataFault.{DataFault}
-use Rattle.vcode_base.specs.declared.fault.DataFault.TheVariants.{LengthsDiffer, SegmentTotal, SegmentCount, BadIndex, IndexTwice, BadLength, NotSingle}
+use Rattle.vcode_base.specs.declared.fault.DataFault.TheVariants.{LengthsDiffer, SegmentTotal, SegmentCount}
+use Rattle.vcode_base.specs.declared.fault.DataFault.TheVariants.{BadIndex, IndexTwice, BadLength, NotSingle}
 
 -- one of the operands, which are counted from the bottom of the stack up; of a CONST its list is the only one
 abbrev pub operand : List (List ℤ) → ℕ → List ℤ
@@ -30,12 +38,16 @@ wrong_length xs n = not (length xs == n)
 -- of the operands beside the descriptor s some have one element a segment, and some have its total as length
 abbrev pub shape_in : List ℤ → List (List ℤ) → List (List ℤ) → Option DataFault
 shape_in s each whole = first_fault
-    ((list_any (λ x. wrong_length x (length s)) each, SegmentCount) ∷ (list_any (λ x. wrong_length x (total s)) whole, SegmentTotal) ∷ [])
+    ((list_any (λ x. wrong_length x (length s)) each, SegmentCount)
+    ∷ (list_any (λ x. wrong_length x (total s)) whole, SegmentTotal) ∷ [])
 
 -- between two descriptors of equally many segments, whose totals are the lengths of the other operands
 abbrev pub shape_between : List ℤ → List ℤ → List (List ℤ) → List (List ℤ) → Option DataFault
 shape_between s r of_s of_r = first_fault
-    ((wrong_length s (length r), SegmentCount) ∷ (list_any (λ x. wrong_length x (total s)) of_s || list_any (λ x. wrong_length x (total r)) of_r, SegmentTotal) ∷ [])
+    ((wrong_length s (length r), SegmentCount) ∷ (
+      list_any (λ x. wrong_length x (total s)) of_s || list_any (λ x. wrong_length x (total r)) of_r,
+      SegmentTotal,
+    ) ∷ [])
 
 -- all operands have the length of the first
 abbrev pub elementwise_shape : List (List ℤ) → Option DataFault
@@ -48,7 +60,8 @@ segmented_shape (Distribute k) xs = shape_in (operand xs 1) (operand xs 0 ∷ []
 segmented_shape Index xs = shape_in (operand xs 2) (operand xs 0 ∷ operand xs 1 ∷ []) []
 segmented_shape (Permute k) xs = shape_in (operand xs 2) [] (operand xs 0 ∷ operand xs 1 ∷ [])
 segmented_shape (BackPermute k) xs = shape_between (operand xs 2) (operand xs 3) (operand xs 0 ∷ []) (operand xs 1 ∷ [])
-segmented_shape (DefaultPermute k) xs = shape_between (operand xs 3) (operand xs 4) (operand xs 0 ∷ operand xs 1 ∷ []) (operand xs 2 ∷ [])
+segmented_shape (DefaultPermute k) xs = shape_between (operand xs 3) (operand xs 4)
+    (operand xs 0 ∷ operand xs 1 ∷ []) (operand xs 2 ∷ [])
 segmented_shape (Extract k) xs = shape_in (operand xs 2) (operand xs 1 ∷ []) (operand xs 0 ∷ [])
 segmented_shape (Replace k) xs = shape_in (operand xs 3) (operand xs 1 ∷ operand xs 2 ∷ []) (operand xs 0 ∷ [])
 segmented_shape (Pack k) xs = shape_in (operand xs 2) [] (operand xs 0 ∷ operand xs 1 ∷ [])
@@ -100,12 +113,17 @@ elementwise_fault _ xs = None
 -- an index outside its segment goes before two that are equal, wherever they stand
 abbrev pub segmented_fault : SegmentedOp → List (List ℤ) → Option DataFault
 segmented_fault (Permute k) xs = first_fault
-    ((any_outside (sizes (operand xs 2)) (segments (operand xs 2) (operand xs 1)), BadIndex) ∷ (list_any has_twice (segments (operand xs 2) (operand xs 1)), IndexTwice) ∷ [])
-segmented_fault (BackPermute k) xs = first_fault ((any_outside (sizes (operand xs 2)) (segments (operand xs 3) (operand xs 1)), BadIndex) ∷ [])
+    ((any_outside (sizes (operand xs 2)) (segments (operand xs 2) (operand xs 1)), BadIndex)
+    ∷ (list_any has_twice (segments (operand xs 2) (operand xs 1)), IndexTwice) ∷ [])
+segmented_fault (BackPermute k) xs =
+    first_fault ((any_outside (sizes (operand xs 2)) (segments (operand xs 3) (operand xs 1)), BadIndex) ∷ [])
 segmented_fault (DefaultPermute k) xs = first_fault
-    ((any_outside (sizes (operand xs 4)) (segments (operand xs 3) (operand xs 1)), BadIndex) ∷ (list_any has_twice (segments (operand xs 3) (operand xs 1)), IndexTwice) ∷ [])
-segmented_fault (Extract k) xs = first_fault ((list_any (λ (n, i). is_outside n i) (zip (sizes (operand xs 2)) (operand xs 1)), BadIndex) ∷ [])
-segmented_fault (Replace k) xs = first_fault ((list_any (λ (n, i). is_outside n i) (zip (sizes (operand xs 3)) (operand xs 1)), BadIndex) ∷ [])
+    ((any_outside (sizes (operand xs 4)) (segments (operand xs 3) (operand xs 1)), BadIndex)
+    ∷ (list_any has_twice (segments (operand xs 3) (operand xs 1)), IndexTwice) ∷ [])
+segmented_fault (Extract k) xs =
+    first_fault ((list_any (λ (n, i). is_outside n i) (zip (sizes (operand xs 2)) (operand xs 1)), BadIndex) ∷ [])
+segmented_fault (Replace k) xs =
+    first_fault ((list_any (λ (n, i). is_outside n i) (zip (sizes (operand xs 3)) (operand xs 1)), BadIndex) ∷ [])
 segmented_fault MakeSegdes xs = first_fault
     ((list_any (λ n. int_lt n (pos 0)) (operand xs 0) || nat_lt MOST_TOTAL (total (operand xs 0)), BadLength) ∷ [])
 segmented_fault _ xs = None
@@ -141,12 +159,18 @@ abbrev pub segmented_result : SegmentedOp → List (List ℤ) → List ℤ
 segmented_result (Scan f) xs = flat_map (folds_before f) (segments (operand xs 1) (operand xs 0))
 segmented_result (Reduce f) xs = map (fold_of f) (segments (operand xs 1) (operand xs 0))
 segmented_result (Distribute k) xs = flat_map (λ (n, x). replicate n x) (zip (sizes (operand xs 1)) (operand xs 0))
-segmented_result Index xs = flat_map (λ (n, p). progression n p.0 p.1) (zip (sizes (operand xs 2)) (zip (operand xs 0) (operand xs 1)))
-segmented_result (Permute k) xs = flat_map (λ (v, is). permutation_of v is) (zip (segments (operand xs 2) (operand xs 0)) (segments (operand xs 2) (operand xs 1)))
-segmented_result (BackPermute k) xs = flat_map (λ (v, is). map (element v) is) (zip (segments (operand xs 2) (operand xs 0)) (segments (operand xs 3) (operand xs 1)))
-segmented_result (DefaultPermute k) xs = flat_map (λ (v, p). scatter_of v p.0 p.1) (zip (segments (operand xs 3) (operand xs 0)) (zip (segments (operand xs 3) (operand xs 1)) (segments (operand xs 4) (operand xs 2))))
+segmented_result Index xs = flat_map (λ (n, p). progression n p.0 p.1)
+    (zip (sizes (operand xs 2)) (zip (operand xs 0) (operand xs 1)))
+segmented_result (Permute k) xs = flat_map (λ (v, is). permutation_of v is)
+    (zip (segments (operand xs 2) (operand xs 0)) (segments (operand xs 2) (operand xs 1)))
+segmented_result (BackPermute k) xs = flat_map (λ (v, is). map (element v) is)
+    (zip (segments (operand xs 2) (operand xs 0)) (segments (operand xs 3) (operand xs 1)))
+segmented_result (DefaultPermute k) xs = flat_map (λ (v, p). scatter_of v p.0 p.1)
+    (zip (segments (operand xs 3) (operand xs 0))
+    (zip (segments (operand xs 3) (operand xs 1)) (segments (operand xs 4) (operand xs 2))))
 segmented_result (Extract k) xs = map (λ (v, i). element v i) (zip (segments (operand xs 2) (operand xs 0)) (operand xs 1))
-segmented_result (Replace k) xs = flat_map (λ (v, p). slice_set v (unsigned_abs p.0) p.1) (zip (segments (operand xs 3) (operand xs 0)) (zip (operand xs 1) (operand xs 2)))
+segmented_result (Replace k) xs = flat_map (λ (v, p). slice_set v (unsigned_abs p.0) p.1)
+    (zip (segments (operand xs 3) (operand xs 0)) (zip (operand xs 1) (operand xs 2)))
 segmented_result (Pack k) xs = flagged_elements (operand xs 0) (operand xs 1)
 segmented_result MakeSegdes xs = operand xs 0
 segmented_result Lengths xs = operand xs 0

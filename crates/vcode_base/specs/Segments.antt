@@ -1,5 +1,7 @@
 -- A vector in the segments of a descriptor, and what an instruction makes of one segment.
-use Rattle.std.specs.Prelude.{ℕ, ℤ, pos, ◌+ℤ◌, ◌*ℤ◌, ◌==◌, Bool, false, ◌||◌, if◌then◌else◌, List, [], ◌∷◌, length, map, take, drop, sum_by, zip, fold, replicate, slice_index_or, unsigned_abs}
+use Rattle.std.specs.Prelude.{ℕ, ℤ, pos, ◌+ℤ◌, ◌*ℤ◌, ◌==◌, Bool, false, ◌||◌, if◌then◌else◌, List, [], ◌∷◌}
+use Rattle.std.specs.Prelude.{length, map, take, drop, sum_by, zip, fold, replicate, slice_index_or}
+use Rattle.std.specs.Prelude.{unsigned_abs}
 use Rattle.std.specs.List.{list_any, range_with_len, enumerate_from}
 use Rattle.vcode_base.specs.Elements.{wrap, is_outside, fold_of}
 use Rattle.vcode_base.specs.declared.op.Fold.{Fold}

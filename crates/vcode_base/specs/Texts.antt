@@ -1,7 +1,9 @@
 -- The names of the faults as the report prints them.
 use Rattle.std.specs.Prelude.{ℕ, List, codes}
 use Rattle.vcode_base.specs.declared.fault.DataFault.{DataFault}
-use Rattle.vcode_base.specs.declared.fault.DataFault.TheVariants.{LengthsDiffer, SegmentTotal, SegmentCount, ZeroDivisor, BadShift, BadIndex, IndexTwice, BadLength, NotSingle}
+use Rattle.vcode_base.specs.declared.fault.DataFault.TheVariants.{LengthsDiffer, SegmentTotal, SegmentCount}
+use Rattle.vcode_base.specs.declared.fault.DataFault.TheVariants.{ZeroDivisor, BadShift, BadIndex, IndexTwice}
+use Rattle.vcode_base.specs.declared.fault.DataFault.TheVariants.{BadLength, NotSingle}
 use Rattle.vcode_base.specs.declared.fault.MemoryFault.{MemoryFault}
 use Rattle.vcode_base.specs.declared.fault.MemoryFault.TheVariants.{Words, Cells, Calls}
 

@@ -1,7 +1,8 @@
 //! The words of a line.
 
 ghost use Rattle.std.specs.Prelude.{◌≡◌, ◌∷◌, [], MatchOption, true};
-ghost use Rattle.vcode_base.specs.LineWords.{begins_with_word, is_parenthesis, is_separator, stands_alone, words_of_line};
+ghost use Rattle.vcode_base.specs.LineWords.{begins_with_word, is_parenthesis, is_separator, stands_alone};
+ghost use Rattle.vcode_base.specs.LineWords.{words_of_line};
 
 use std::marker::Model;
 

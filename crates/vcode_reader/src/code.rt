@@ -1,6 +1,7 @@
 //! The lines of a function, and where they go on.
 
-ghost use Rattle.std.specs.Prelude.{◌≡◌, ◌+◌, ◌<◌, ◌^◌, ◌++◌, [], ◌∷◌, true, false, length, IfOk, OnOk, OnErr, IsErr, option_copied};
+ghost use Rattle.std.specs.Prelude.{◌≡◌, ◌+◌, ◌<◌, ◌^◌, ◌++◌, [], ◌∷◌, true, false, length, IfOk, OnOk};
+ghost use Rattle.std.specs.Prelude.{OnErr, IsErr, option_copied};
 ghost use Rattle.vcode_reader.specs.Trees.{line_of};
 ghost use Rattle.vcode_reader.specs.Drafts.{no_lines, with_item, with_if, with_else, lines_after_endif, with_endif};
 ghost use Rattle.vcode_reader.specs.Drafts.{takes_else, is_open, innermost_line};

@@ -33,7 +33,8 @@ impl<'a, A: Allocator> Model for Linker<'a, A> {
 
     ghost view = { λ l. l.functions.now };
 
-    ghost invariant = { λ l. (name : List ℕ) → get_by (λ k. slice_cmp nat_cmp name k.now) l.places ≡ position (λ f. bytes_eq f.name name) l.functions.now };
+    ghost invariant = { λ l. (name : List ℕ) → get_by (λ k. slice_cmp nat_cmp name k.now) l.places
+        ≡ position (λ f. bytes_eq f.name name) l.functions.now };
 }
 
 impl<'a, A: Allocator + Clone> Linker<'a, A> {

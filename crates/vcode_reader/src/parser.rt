@@ -4,7 +4,8 @@ ghost use Rattle.std.specs.Prelude.{◌≡◌, [], false, OnOk, IfOk};
 ghost use Rattle.vcode_reader.specs.declared.head.Head.TheVariants.{Return, If, Else, Endif};
 ghost use Rattle.vcode_reader.specs.Drafts.{is_open};
 ghost use Rattle.vcode_reader.specs.Heads.{head_slots};
-ghost use Rattle.vcode_reader.specs.Parsing.{start, with_fault, after_slot, item_place, after_part, with_kind, with_value};
+ghost use Rattle.vcode_reader.specs.Parsing.{start, with_fault, after_slot, item_place, after_part};
+ghost use Rattle.vcode_reader.specs.Parsing.{with_kind, with_value};
 ghost use Rattle.vcode_reader.specs.Parsing.{with_count, with_callee, in_slot, one_element, in_list, outside, has_name};
 ghost use Rattle.vcode_reader.specs.Parsing.{after_name, after_return, inside, take};
 ghost use Rattle.vcode_reader.specs.Parsing.{is_no_name, no_value, int_of, kind_of, count_in};
@@ -48,7 +49,8 @@ impl<A: Allocator> Model for Parser<A> {
     ghost use Rattle.std.specs.Coded.{codes};
     ghost use Rattle.vcode_reader.specs.ParseCode.{parse_code};
 
-    ghost coded = { parse_code (Prim.hlevel codes) (Prim.hlevel codes) (Prim.hlevel codes) (Prim.hlevel codes) (Prim.hlevel codes) (Prim.hlevel codes) };
+    ghost coded = { parse_code (Prim.hlevel codes) (Prim.hlevel codes) (Prim.hlevel codes) (Prim.hlevel codes)
+        (Prim.hlevel codes) (Prim.hlevel codes) };
 
     ghost view = { λ p. record {
       functions = p.functions.items;

@@ -46,7 +46,8 @@ impl<A: Allocator> Model for Function<A> {
 
     ghost inverse = { λ f. record { name = f.name; begun = f.line; lines = lines_of f; targets = targets_of (lines_of f) } };
 
-    ghost inverse_ok = { λ f h. ap (λ (ls : List CodeLine). record f { lines = ls; targets = targets_of ls }) h.lines ∙ ap (λ (ts : List (Option ℕ)). record f { targets = ts }) (sym h.targets) };
+    ghost inverse_ok = { λ f h. ap (λ (ls : List CodeLine). record f { lines = ls; targets = targets_of ls }) h.lines
+        ∙ ap (λ (ts : List (Option ℕ)). record f { targets = ts }) (sym h.targets) };
 }
 
 impl<A: Allocator> Function<A> {

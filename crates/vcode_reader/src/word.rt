@@ -2,7 +2,8 @@
 
 ghost use Rattle.std.specs.Prelude.{◌≡◌};
 ghost use Rattle.vcode_reader.specs.Numbers.{natural_of};
-ghost use Rattle.vcode_reader.specs.Parsing.{is_bad_byte, is_bad, is_parenthesis, is_no_name, no_number, no_value, int_of, kind_of, count_in};
+ghost use Rattle.vcode_reader.specs.Parsing.{is_bad_byte, is_bad, is_parenthesis, is_no_name, no_number};
+ghost use Rattle.vcode_reader.specs.Parsing.{no_value, int_of, kind_of, count_in};
 
 use crate::fault::CodeFault;
 use crate::number::natural_of;

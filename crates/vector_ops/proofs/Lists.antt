@@ -1,5 +1,6 @@
 -- A list written place by place is the one that the definitions name.
-use Rattle.std.proofs.Common.{◌≡◌, ℕ, ◌<◌, ℤ, pos, Bool, false, ◌||◌, List, [], ◌∷◌, length, map, get_or, refl, ap, ◌∙◌, arith, zero, suc, if◌then◌else◌}
+use Rattle.std.proofs.Common.{◌≡◌, ℕ, ◌<◌, ℤ, pos, Bool, false, ◌||◌, List, [], ◌∷◌, length, map, get_or}
+use Rattle.std.proofs.Common.{refl, ap, ◌∙◌, arith, zero, suc, if◌then◌else◌}
 use Rattle.std.specs.List.{list_any}
 use Rattle.std.proofs.lemmas.List.{ext_get_or, get_or-map, length-map}
 use Rattle.vcode_base.specs.Elements.{is_set}

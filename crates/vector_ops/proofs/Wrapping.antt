@@ -1,5 +1,6 @@
 -- What is left of a quotient or a shifted number in 64 bits.
-use Rattle.std.proofs.Common.{◌≡◌, ℕ, zero, suc, false, ◌/◌, ◌^◌, ◌<◌, ◌≤◌, ℤ, pos, negsuc, ◌*ℤ◌, refl, ap, sym, ◌∙◌, arith, FitsSigned, w64, to_z, of_z, unsigned_abs}
+use Rattle.std.proofs.Common.{◌≡◌, ℕ, zero, suc, false, ◌/◌, ◌^◌, ◌<◌, ◌≤◌, ℤ, pos, negsuc, ◌*ℤ◌, refl, ap}
+use Rattle.std.proofs.Common.{sym, ◌∙◌, arith, FitsSigned, w64, to_z, of_z, unsigned_abs}
 use Rattle.std.specs.Prelude.{int_div, neg_ℤ}
 use Rattle.std.specs.Int.{int_wrap, int_shl}
 use Rattle.std.proofs.Math.Nat.{mod-eq_of_lt, div-le_self}

@@ -3,7 +3,9 @@
 ghost use Rattle.std.specs.Prelude.{◌≡◌, length, MatchResult, None, Some};
 ghost use Rattle.vcode_base.specs.Meaning.{two_by_two};
 ghost use Rattle.vcode_base.specs.Elements.{arithmetic, arithmetic_fault, is_outside, is_zero};
-ghost use Rattle.vcode_base.specs.declared.op.Arith.TheVariants.{Subtract, Divide, Remainder as ArithRemainder, ShiftLeft, ShiftRight};
+ghost use Rattle.vcode_base.specs.declared.op.Arith.TheVariants.{Subtract, Divide};
+ghost use Rattle.vcode_base.specs.declared.op.Arith.TheVariants.{Remainder as ArithRemainder, ShiftLeft};
+ghost use Rattle.vcode_base.specs.declared.op.Arith.TheVariants.{ShiftRight};
 
 use crate::steps::{ElementTest, PairStep, fill_pairs, fill_pairs_unless};
 use vcode_base::element::{Combine, Product, Sum};

@@ -3,7 +3,8 @@
 ghost use Rattle.std.specs.Prelude.{◌≡◌, length};
 ghost use Rattle.vcode_base.specs.Meaning.{two_by_two};
 ghost use Rattle.vcode_base.specs.Elements.{comparison};
-ghost use Rattle.vcode_base.specs.declared.op.Comparison.TheVariants.{Less, LessOrEqual, Greater, GreaterOrEqual, Equal, NotEqual};
+ghost use Rattle.vcode_base.specs.declared.op.Comparison.TheVariants.{Less, LessOrEqual, Greater};
+ghost use Rattle.vcode_base.specs.declared.op.Comparison.TheVariants.{GreaterOrEqual, Equal, NotEqual};
 
 use crate::steps::fill_pairs;
 use vcode_base::Comparison;

@@ -1,6 +1,7 @@
 ghost use Rattle.std.specs.Prelude.{◌≡◌, length, MatchResult, None, Some};
 ghost use Rattle.vcode_base.specs.Kinds.{HaveKinds, source_kinds, elementwise_operands};
-ghost use Rattle.vcode_base.specs.Meaning.{shape, need, value_fault, result_of, second_result_of, operand, elementwise_shape, elementwise_fault, elementwise_result};
+ghost use Rattle.vcode_base.specs.Meaning.{shape, need, value_fault, result_of, second_result_of, operand};
+ghost use Rattle.vcode_base.specs.Meaning.{elementwise_shape, elementwise_fault, elementwise_result};
 ghost use Rattle.vcode_base.specs.Operands.{contents};
 ghost use Rattle.vector_ops.specs.Served.{IsServed};
 

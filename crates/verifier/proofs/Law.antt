@@ -1,6 +1,7 @@
 -- A program has no kind fault exactly where it is well kinded.
 use Rattle.std.proofs.Common.{◌≡◌, ◌∙◌, ℕ, ◌+◌, ◌<◌, ◌≤◌, Bool, true, false, cond, refl, sym, ap, arith}
-use Rattle.std.proofs.Common.{List, [], ◌∷◌, ◌++◌, length, take, drop, get_or, length-append, take-append-drop, append-nil}
+use Rattle.std.proofs.Common.{List, [], ◌∷◌, ◌++◌, length, take, drop, get_or, length-append}
+use Rattle.std.proofs.Common.{take-append-drop, append-nil}
 use Rattle.std.proofs.Common.{Option, Some, None, Result, Ok, Err}
 use Rattle.std.proofs.Math.Seq.{drop-append_seam, take-append_seam}
 use Rattle.std.specs.Prelude.{nat_lt, All, IsTrue, position, is_some, ok_or}
@@ -24,7 +25,8 @@ use Rattle.verifier.specs.declared.fault.KindFault.{KindFault}
 use Rattle.verifier.specs.declared.fault.KindFault.TheVariants.{MissingOperand, UnknownFunction, ResultDiffers}
 use Rattle.verifier.specs.declared.fault.KindFault.TheVariants.{NoSignature, NoMain, MainTakes}
 use Rattle.verifier.specs.Faults.{Fault}
-use Rattle.verifier.specs.First.{count_below, stack_after_arrow, stack_with_move, stack_after_move, arrow_of, stack_after_call}
+use Rattle.verifier.specs.First.{count_below, stack_after_arrow, stack_with_move, stack_after_move, arrow_of}
+use Rattle.verifier.specs.First.{stack_after_call}
 use Rattle.verifier.specs.First.{stack_after_instruction, stack_after_endif, stack_after_body, fault_at_return, ◌>>=◌}
 use Rattle.verifier.specs.First.{is_main, is_main_with_operands, fault_by_signature, function_fault}
 use Rattle.verifier.specs.First.{functions_fault, kind_fault}
@@ -78,7 +80,8 @@ arrow_replaces takes gives line ks out h =
 no_fewer : (a b : ℕ) → nat_lt (a + b) b ≡ false
 no_fewer a b = grind (arith, nat_tests)
 
-arrow_on : (takes gives rest : List Kind) (line : ℕ) → stack_after_arrow takes gives line (rest ++ takes) ≡ Ok (rest ++ gives)
+arrow_on : (takes gives rest : List Kind) (line : ℕ) → stack_after_arrow takes gives line (rest ++ takes)
+    ≡ Ok (rest ++ gives)
 unfolding stack_after_arrow
 arrow_on takes gives rest line =
     let ks : List Kind = rest ++ takes in

@@ -1,5 +1,6 @@
 -- The walk over the lines of a body comes to what the body comes to.
-use Rattle.std.proofs.Common.{◌≡◌, ℕ, refl, sym, ap, ◌∙◌, List, [], ◌∷◌, ◌++◌, Result, Ok, Err, append_assoc, append-nil}
+use Rattle.std.proofs.Common.{◌≡◌, ℕ, refl, sym, ap, ◌∙◌, List, [], ◌∷◌, ◌++◌, Result, Ok, Err, append_assoc}
+use Rattle.std.proofs.Common.{append-nil}
 use Rattle.vcode_base.specs.declared.fault.TextFault.{TextFault}
 use Rattle.vcode_base.specs.declared.fault.TextFault.TheVariants.{Memory, At}
 use Rattle.vcode_base.specs.declared.kind.Kind.{Kind}

@@ -1,7 +1,9 @@
 //! Holes beside a plain list of which words are free.
 
-ghost use Rattle.std.specs.Prelude.{◌≡◌, ◌+◌, ◌<◌, ◌≤◌, ◌↔◌, length, replicate, true, false, All, IsTrue, IfOk, IfSome, IsNone, IfNone};
-ghost use Rattle.holes.specs.FreeWords.{NoneFree, IsLowestFit, widest, free_from, hole_count, set_range, taken_from, given_to};
+ghost use Rattle.std.specs.Prelude.{◌≡◌, ◌+◌, ◌<◌, ◌≤◌, ◌↔◌, length, replicate, true, false, All, IsTrue};
+ghost use Rattle.std.specs.Prelude.{IfOk, IfSome, IsNone, IfNone};
+ghost use Rattle.holes.specs.FreeWords.{NoneFree, IsLowestFit, widest, free_from, hole_count, set_range};
+ghost use Rattle.holes.specs.FreeWords.{taken_from, given_to};
 
 use holes::Holes;
 use std::alloc::{AllocError, Global};

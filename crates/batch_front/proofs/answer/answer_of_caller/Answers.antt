@@ -6,7 +6,8 @@ use Rattle.batch_front.proofs.answer.answer_of_caller.Goals as goal
 pub returns-in-Jobs-clause-report : goal.returns-in-Jobs-clause-report
 unfolding report_of
 returns-in-Jobs-clause-report g c =
-    IfOk-weaker c.jobs_of_caller.result (λ r. r.0.items ≡ jobs_text c.in-Jobs.entries) (λ r. r.0.items ≡ report_of c.args.batch)
+    IfOk-weaker c.jobs_of_caller.result (λ r. r.0.items ≡ jobs_text c.in-Jobs.entries)
+    (λ r. r.0.items ≡ report_of c.args.batch)
     (λ r e. e ∙ ap report_of (sym c.in-Jobs.is)) c.jobs_of_caller.ensures.report
 
 pub returns-in-Jobs-clause-status : goal.returns-in-Jobs-clause-status

@@ -35,7 +35,8 @@ reads-preserved-in-Ok g c = record {
   few = search rules;
 }
 
-pub returns-then-interrupts-gt-MOST_INTERRUPTIONS-clause-read_no_further : goal.returns-then-interrupts-gt-MOST_INTERRUPTIONS-clause-read_no_further
+pub returns-then-interrupts-gt-MOST_INTERRUPTIONS-clause-read_no_further :
+    goal.returns-then-interrupts-gt-MOST_INTERRUPTIONS-clause-read_no_further
 returns-then-interrupts-gt-MOST_INTERRUPTIONS-clause-read_no_further g c =
     fed_no_further _ _ _ _ (fed_none _ _ _ _ _ c.reads.invariant.fed c.in-Err-Interrupted.ensures.bytes)
 

@@ -23,4 +23,5 @@ pub returns-in_ok-end-in-Ok-clause-few : goal.returns-in_ok-end-in-Ok-clause-few
 returns-in_ok-end-in-Ok-clause-few g c = c.in_ok-end-in-Ok.ensures.few c.in-Ok.ensures.bytes.0 c.in-Ok.ensures.bytes.1
 
 pub returns-in-Err-clause-read_fault : goal.returns-in-Err-clause-read_fault
-returns-in-Err-clause-read_fault g c = λ h. c.in-Err.ensures.read_fault (ap (λ x. Err x) (ap (λ r. fault_in c.in-Err.fault r) h))
+returns-in-Err-clause-read_fault g c = λ h. c.in-Err.ensures.read_fault
+    (ap (λ x. Err x) (ap (λ r. fault_in c.in-Err.fault r) h))

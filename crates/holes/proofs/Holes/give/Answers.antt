@@ -1,11 +1,13 @@
-use Rattle.std.proofs.Common.{rules, min, ◌≡◌, ◌+◌, ◌-◌, ◌≤◌, ◌<◌, ◌^◌, true, not, List, ℕ, length, arith, sym, ap, ◌∙◌, subst}
+use Rattle.std.proofs.Common.{rules, min, ◌≡◌, ◌+◌, ◌-◌, ◌≤◌, ◌<◌, ◌^◌, true, not, List, ℕ, length, arith}
+use Rattle.std.proofs.Common.{sym, ap, ◌∙◌, subst}
 use Rattle.std.specs.Int.{from_bool}
 use Rattle.std.specs.Vec.{with_items}
 use Rattle.std.proofs.lemmas.List.{with_items_is}
 use Rattle.holes.specs.declared.summary.Summary.{Summary}
 use Rattle.holes.specs.FreeWords.{Region, set_range, hole_count}
 use Rattle.holes.specs.Tree.{words_from, word_at, word_before, IsHoles, IsFilled}
-use Rattle.holes.proofs.Regions.{Gives, gives, gives_count, given_low, holes_after, filled_words, same_region, at_most_one, flag_of, flag_of_not}
+use Rattle.holes.proofs.Regions.{Gives, gives, gives_count, given_low, holes_after, filled_words, same_region}
+use Rattle.holes.proofs.Regions.{at_most_one, flag_of, flag_of_not}
 use Rattle.holes.proofs.Holes.give.Given as given
 use Rattle.holes.proofs.Holes.give.Goals as goal
 use Rattle.holes.proofs.Holes.give.Goals.{After-self, After-from-2, After-self-7-1}

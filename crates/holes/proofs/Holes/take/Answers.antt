@@ -7,7 +7,8 @@ use Rattle.holes.specs.FreeWords.{Region, IsLowestFit, set_range, free_count, ho
 use Rattle.holes.specs.Tree.{words_from, word_at, IsHoles, IsFilled}
 use Rattle.holes.proofs.Ranges.{free_count_taken}
 use Rattle.holes.proofs.Bits.{length-words}
-use Rattle.holes.proofs.Regions.{Takes, takes_seen, takes_count, taken_low, view_length, holes_after, filled_words, same_region, flag_of_not}
+use Rattle.holes.proofs.Regions.{Takes, takes_seen, takes_count, taken_low, view_length, holes_after}
+use Rattle.holes.proofs.Regions.{filled_words, same_region, flag_of_not}
 use Rattle.holes.proofs.Holes.take.Given as given
 use Rattle.holes.proofs.Holes.take.Goals as goal
 use Rattle.holes.proofs.Holes.take.Goals.{After-from, After-self-6-1}

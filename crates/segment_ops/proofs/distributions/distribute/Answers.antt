@@ -1,4 +1,5 @@
-use Rattle.std.proofs.Common.{◌≡◌, ◌-◌, ◌<◌, ◌∙◌, ap, pos, get_or, length, replicate, arith, rules, FitsSigned, w64, length-take, length-drop, ℤ}
+use Rattle.std.proofs.Common.{◌≡◌, ◌-◌, ◌<◌, ◌∙◌, ap, pos, get_or, length, replicate, arith, rules}
+use Rattle.std.proofs.Common.{FitsSigned, w64, length-take, length-drop, ℤ}
 use Rattle.std.proofs.lemmas.Int.{to_z-of_z}
 use Rattle.segment_ops.proofs.SegmentLemmas.{flat_more, lies_from, sized_more}
 use Rattle.segment_ops.proofs.distributions.distribute.Goals as goal

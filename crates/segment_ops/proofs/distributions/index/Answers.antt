@@ -1,4 +1,5 @@
-use Rattle.std.proofs.Common.{◌≡◌, ◌-◌, ◌<◌, ◌∙◌, ap, pos, get_or, length, arith, rules, FitsSigned, w64, length-take, length-drop, ℤ}
+use Rattle.std.proofs.Common.{◌≡◌, ◌-◌, ◌<◌, ◌∙◌, ap, pos, get_or, length, arith, rules, FitsSigned, w64}
+use Rattle.std.proofs.Common.{length-take, length-drop, ℤ}
 use Rattle.std.proofs.lemmas.Int.{to_z-of_z}
 use Rattle.vcode_base.specs.Segments.{progression}
 use Rattle.segment_ops.proofs.SegmentLemmas.{flat_more, lies_from, sized_pair_more}

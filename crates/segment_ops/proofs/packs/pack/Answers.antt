@@ -1,4 +1,5 @@
-use Rattle.std.proofs.Common.{◌≡◌, ◌+◌, ◌-◌, ◌++◌, ◌∙◌, pos, take, drop, ap, sym, arith, w64, count_by, length-take, length-drop, ℤ}
+use Rattle.std.proofs.Common.{◌≡◌, ◌+◌, ◌-◌, ◌++◌, ◌∙◌, pos, take, drop, ap, sym, arith, w64, count_by}
+use Rattle.std.proofs.Common.{length-take, length-drop, ℤ}
 use Rattle.std.proofs.lemmas.Int.{to_z_pos}
 use Rattle.vcode_base.specs.Elements.{is_set}
 use Rattle.std.proofs.lemmas.List.Sums.{count_by-le-length}

@@ -1,8 +1,10 @@
-use Rattle.std.proofs.Common.{◌≡◌, ◌<◌, ◌∙◌, ap, sym, pos, true, false, get_or, length, ◌++◌, ◌∷◌, [], arith, rules, FitsSigned, w64}
+use Rattle.std.proofs.Common.{◌≡◌, ◌<◌, ◌∙◌, ap, sym, pos, true, false, get_or, length, ◌++◌, ◌∷◌, [], arith}
+use Rattle.std.proofs.Common.{rules, FitsSigned, w64}
 use Rattle.std.proofs.lemmas.Int.{to_z-of_z}
 use Rattle.std.proofs.lemmas.List.{take_more_set, append-nil}
 use Rattle.vcode_base.specs.Elements.{is_set}
-use Rattle.segment_ops.proofs.PackLemmas.{packed_more, set_from_bits, clear_from_bits, count_more, count_room, one_if, none_if}
+use Rattle.segment_ops.proofs.PackLemmas.{packed_more, set_from_bits, clear_from_bits, count_more, count_room}
+use Rattle.segment_ops.proofs.PackLemmas.{one_if, none_if}
 use Rattle.segment_ops.proofs.packs.pack_segment.Goals as goal
 use Rattle.segment_ops.proofs.packs.pack_segment.Goals.{then-flags-place-ne0, else-flags-place-ne0}
 

@@ -13,5 +13,8 @@ as_many [] (r ∷ refs) have = absurd have
 as_many (k ∷ ks) [] have = absurd have
 
 pub returns-then-kinds-vectors : goal.returns-then-kinds-vectors
-returns-then-kinds-vectors c =
-    (λ no. absurd (false≢true no), λ have. absurd (c.if-kinds-vectors.true (as_many c.args.kinds.now c.args.vectors.now have)))
+returns-then-kinds-vectors c = (
+  λ no. absurd (false≢true no),
+  λ have. absurd
+      (c.if-kinds-vectors.true (as_many c.args.kinds.now c.args.vectors.now have)),
+)

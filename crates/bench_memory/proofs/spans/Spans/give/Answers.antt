@@ -24,5 +24,6 @@ invariant_of-self g c =
           (all_within free spans number new old.place old.len true c.args.self.now.within (omega arith) inside);
       apart = subst (λ free. AreApart free (set spans number new)) (sym after)
           (subst (λ (range : Span). AreApart (set_range free range.place range.len true) (set spans number new)) same
-          (given free spans number old there c.args.self.now.apart new refl (subst (λ (range : Span). range.place + range.len ≤ length free) (sym same) inside)));
+          (given free spans number old there c.args.self.now.apart new refl
+          (subst (λ (range : Span). range.place + range.len ≤ length free) (sym same) inside)));
     }

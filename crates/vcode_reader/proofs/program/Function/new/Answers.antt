@@ -8,7 +8,8 @@ use Rattle.vcode_reader.proofs.program.Function.new.Goals as goal
 pub invariant_of-result : goal.invariant_of-result
 invariant_of-result g c =
     let draft = c.into_vec-lines in
-    holds_function c.args.name c.args.line c.args.ret draft.result.items _ _ (c.from_vec-2.ensures ∙ c.in_ok-push.ensures.items)
+    holds_function c.args.name c.args.line c.args.ret draft.result.items _ _
+    (c.from_vec-2.ensures ∙ c.in_ok-push.ensures.items)
     (c.from_vec.ensures ∙ (c.in_ok-targets.ensures ∙ ap targets_of (c.as_slice.ensures.value ∙ sym c.from_vec-2.ensures)))
     (draft.ensures.body c.requires)
 
