@@ -28,7 +28,7 @@ fn longest_run(bits: u64) -> usize
 }
 
 /// The summary of the words of a bitmap.
-pub fn summary(bits: u64) -> Summary
+pub(crate) fn summary(bits: u64) -> Summary
     ensures { result ≡ summary (words_of_bits bits) }
 {
     Summary {
@@ -40,7 +40,7 @@ pub fn summary(bits: u64) -> Summary
 }
 
 /// Where the lowest hole of at least `len` words begins in a bitmap that has one.
-pub fn lowest_fit(bits: u64, len: usize) -> usize
+pub(crate) fn lowest_fit(bits: u64, len: usize) -> usize
     requires some { 1 ≤ len }
     requires fits { len ≤ widest (words_of_bits bits) }
     ensures value { result ≡ lowest_fit len (words_of_bits bits) }
@@ -66,7 +66,7 @@ pub fn lowest_fit(bits: u64, len: usize) -> usize
 }
 
 /// A bitmap with the words `from..to` free or not free, and the others as they were.
-pub fn with_range(bits: u64, from: usize, to: usize, value: bool) -> u64
+pub(crate) fn with_range(bits: u64, from: usize, to: usize, value: bool) -> u64
     requires some { from < to }
     requires within { to ≤ 64 }
     ensures inside { (word : ℕ) → from ≤ word → word < to → is_set result word ≡ value }
@@ -78,7 +78,7 @@ pub fn with_range(bits: u64, from: usize, to: usize, value: bool) -> u64
 }
 
 /// A bitmap of which all words are free or not free.
-pub fn whole(value: bool) -> u64
+pub(crate) fn whole(value: bool) -> u64
     ensures { (word : ℕ) → word < 64 → is_set result word ≡ value }
 {
     if value { u64::MAX } else { 0 }

@@ -26,7 +26,7 @@ impl Summary {
     };
 
     /// The summary of these words and, right behind them, those of `next`. Sums past the largest number stay there.
-    pub fn join(self, next: Summary) -> Summary
+    pub(crate) fn join(self, next: Summary) -> Summary
         ensures { result ≡ join self next }
     {
         Summary {

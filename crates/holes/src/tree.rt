@@ -210,7 +210,7 @@ fn with_more(nodes: &mut [Summary], changed: Changed, more: Changed) -> Changed
 
 /// Makes the words `place..place + len` free or not free, and answers which nodes changed then. The nodes above a long
 /// range are joined at once.
-pub fn fill(
+pub(crate) fn fill(
     bits: &mut [u64],
     nodes: &mut [Summary],
     changed: Changed,
@@ -244,7 +244,7 @@ pub fn fill(
 }
 
 /// Joins the nodes above those that changed.
-pub fn join_changed(bits: &[u64], nodes: &mut [Summary], changed: Changed)
+pub(crate) fn join_changed(bits: &[u64], nodes: &mut [Summary], changed: Changed)
     requires { IsTreeBeside bits.now nodes.old changed.first changed.last }
     ensures { IsTree bits.now nodes.new }
 {
@@ -253,7 +253,7 @@ pub fn join_changed(bits: &[u64], nodes: &mut [Summary], changed: Changed)
 }
 
 /// The number of words of the widest hole.
-pub fn widest(bits: &[u64], nodes: &[Summary], changed: Changed) -> usize
+pub(crate) fn widest(bits: &[u64], nodes: &[Summary], changed: Changed) -> usize
     requires { IsTreeBeside bits.now nodes.now changed.first changed.last }
     ensures { result ≡ widest (words_of bits.now) }
 {
@@ -268,7 +268,7 @@ pub fn widest(bits: &[u64], nodes: &[Summary], changed: Changed) -> usize
 }
 
 /// Where the lowest hole of at least `len` words begins, where a look at a few bitmaps from `low` on tells it.
-pub fn find_near(bits: &[u64], nodes: &[Summary], low: usize, len: usize) -> Option<usize>
+pub(crate) fn find_near(bits: &[u64], nodes: &[Summary], low: usize, len: usize) -> Option<usize>
     requires some { 1 ≤ len }
     requires leaves { AreLeaves bits.now nodes.now }
     requires count { length nodes.now ≡ 2 * length bits.now }
@@ -298,7 +298,7 @@ pub fn find_near(bits: &[u64], nodes: &[Summary], low: usize, len: usize) -> Opt
 }
 
 /// Where the lowest hole of at least `len` words begins.
-pub fn find(bits: &[u64], nodes: &[Summary], len: usize) -> Option<usize>
+pub(crate) fn find(bits: &[u64], nodes: &[Summary], len: usize) -> Option<usize>
     requires some { 1 ≤ len }
     requires tree { IsTree bits.now nodes.now }
     ensures none { IsNone result ↔ (widest (words_of bits.now) < len) }
@@ -328,7 +328,7 @@ pub fn find(bits: &[u64], nodes: &[Summary], len: usize) -> Option<usize>
 }
 
 /// The place of the lowest free word, or of the word behind the last bitmap where none is free.
-pub fn lowest_free(bits: &[u64], nodes: &[Summary]) -> usize
+pub(crate) fn lowest_free(bits: &[u64], nodes: &[Summary]) -> usize
     requires { IsTree bits.now nodes.now }
     ensures none_below { NoneBelow bits.now result }
     ensures free { result < 64 * length bits.now → word_at bits.now result ≡ true }
@@ -340,7 +340,7 @@ pub fn lowest_free(bits: &[u64], nodes: &[Summary]) -> usize
 }
 
 /// Whether a word is free. None is behind the last bitmap.
-pub fn is_free(bits: &[u64], word: usize) -> bool
+pub(crate) fn is_free(bits: &[u64], word: usize) -> bool
     ensures { result ≡ word_at bits.now word }
 {
     match bits.get(word / WORDS) {
@@ -350,7 +350,7 @@ pub fn is_free(bits: &[u64], word: usize) -> bool
 }
 
 /// Whether the word right before a place is free. None is before the first.
-pub fn is_free_before(bits: &[u64], place: usize) -> bool
+pub(crate) fn is_free_before(bits: &[u64], place: usize) -> bool
     ensures { result ≡ word_before (word_at bits.now) place }
 {
     if place == 0 {
@@ -360,7 +360,7 @@ pub fn is_free_before(bits: &[u64], place: usize) -> bool
 }
 
 /// The number of bitmaps below a list of nodes.
-pub fn leaf_count(nodes: &[Summary]) -> usize
+pub(crate) fn leaf_count(nodes: &[Summary]) -> usize
     ensures value { result ≡ length nodes.now / 2 }
     ensures small { 64 * result < 2 ^ 64 }
 {

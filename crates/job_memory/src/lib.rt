@@ -190,18 +190,4 @@ impl<A: Allocator> JobMemory<A> {
         let _granted = self.book.granted();
         self.memory.used()
     }
-
-    /// How many words the region has.
-    pub fn region(&self) -> usize
-        ensures { result ≡ self.now.memory.room }
-    {
-        self.memory.size()
-    }
-
-    /// How many jobs there are.
-    pub fn jobs(&self) -> usize
-        ensures { result ≡ length self.now.grants }
-    {
-        self.book.jobs()
-    }
 }

@@ -60,14 +60,14 @@ impl<A: Allocator> Filled<A> {
 
     /// How many operands were copied: for `CONST` one, its list, and none for a motion of the stack,
     /// `CALL` and `RET`.
-    pub fn operand_count(&self) -> usize
+    fn operand_count(&self) -> usize
         ensures { result ≡ length self.now.question.sources }
     {
         self.computed.buffers.operands.count()
     }
 
     /// The words of the operand at this place, counted from 0 and from the bottom of the stack up.
-    pub fn operand(&self, place: usize) -> &[i64]
+    fn operand(&self, place: usize) -> &[i64]
         requires { place < length self.now.question.sources }
         ensures { result.now ≡ operand self.now.question.sources place }
     {

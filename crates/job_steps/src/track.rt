@@ -1,6 +1,6 @@
 //! Where a job stands in its run.
 
-ghost use Rattle.std.specs.Prelude.{◌≡◌, ◌+◌, ◌<◌, ◌≤◌, List, [], ◌∷◌, length, max, reverse, slice_get, Some, IfOk};
+ghost use Rattle.std.specs.Prelude.{◌≡◌, ◌+◌, ◌<◌, ◌≤◌, List, [], ◌∷◌, length, max, reverse, IfOk};
 ghost use Rattle.vcode_base.specs.declared.limits.TheConstants.{MOST_BUDGET};
 ghost use Rattle.vcode_base.specs.Kinds.{result_kinds};
 ghost use Rattle.job_steps.specs.Frames.{AreActive, StandAll, instruction_of, next_line};
@@ -74,7 +74,7 @@ impl<C: Copy, A: Allocator> Track<C, A> {
     }
 
     /// How many entries the stack has.
-    pub fn depth(&self) -> usize
+    fn depth(&self) -> usize
         ensures depth { result ≡ length self.now.cells }
         ensures within { result ≤ self.now.limits.cells }
     {
@@ -101,14 +101,6 @@ impl<C: Copy, A: Allocator> Track<C, A> {
         ensures { result ≡ self.now.peak }
     {
         self.peak
-    }
-
-    /// The cell at a depth, 0 at the top.
-    pub fn cell(&self, depth: usize) -> C
-        requires { depth < length self.now.cells }
-        ensures { slice_get self.now.cells depth ≡ Some result }
-    {
-        self.cells.at(depth)
     }
 
     /// All cells, from the bottom up.

@@ -9,7 +9,7 @@ ghost use Rattle.vcode_base.specs.declared.op.Segmented.TheVariants.{MakeSegdes,
 use vcode_base::{DataFault, Kind};
 
 /// The total of a descriptor.
-pub fn total_of(descriptor: &[i64]) -> u64
+pub(crate) fn total_of(descriptor: &[i64]) -> u64
     requires lengths { AreLengths descriptor.now }
     requires small { total descriptor.now ≤ MOST_TOTAL }
     ensures { result ≡ total descriptor.now }
@@ -22,7 +22,7 @@ pub fn total_of(descriptor: &[i64]) -> u64
 }
 
 /// Where a segment ends that begins at `begin`: `segment` is its number.
-pub fn end_of(descriptor: &[i64], segment: usize, begin: usize) -> usize
+pub(crate) fn end_of(descriptor: &[i64], segment: usize, begin: usize) -> usize
     requires lengths { AreLengths descriptor.now }
     requires number { segment < length descriptor.now }
     requires within { begin + total (drop segment descriptor.now) < 2 ^ 64 }
@@ -37,7 +37,7 @@ pub fn end_of(descriptor: &[i64], segment: usize, begin: usize) -> usize
 ///
 /// [`BadLength`](DataFault::BadLength) where a length is negative or their total, found without
 /// wrapping, is above 4,294,967,295. Then `out` holds no result.
-pub fn make_descriptor(lengths: &[i64], out: &mut [i64]) -> Result<(), DataFault>
+pub(crate) fn make_descriptor(lengths: &[i64], out: &mut [i64]) -> Result<(), DataFault>
     requires room { length out.old ≡ length lengths.now }
     ensures { let operands = lengths.now ∷ []
         in MatchResult result
@@ -53,7 +53,7 @@ pub fn make_descriptor(lengths: &[i64], out: &mut [i64]) -> Result<(), DataFault
 }
 
 /// `LENGTHS`: writes the segment lengths of a descriptor, which are its words.
-pub fn lengths(descriptor: &[i64], out: &mut [i64])
+pub(crate) fn lengths(descriptor: &[i64], out: &mut [i64])
     requires room { length out.old ≡ length descriptor.now }
     ensures { out.new ≡ segmented_result Lengths (descriptor.now ∷ []) }
 {

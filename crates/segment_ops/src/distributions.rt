@@ -8,7 +8,7 @@ use crate::descriptors::end_of;
 ///
 /// `elements` has one element a segment of `descriptor`, and `out` is in its segments. INT and BOOL
 /// have one meaning.
-pub fn distribute(elements: &[i64], descriptor: &[i64], out: &mut [i64])
+pub(crate) fn distribute(elements: &[i64], descriptor: &[i64], out: &mut [i64])
     requires lengths { AreLengths descriptor.now }
     requires each { length elements.now ≡ length descriptor.now }
     requires room { length out.old ≡ total descriptor.now }
@@ -27,7 +27,7 @@ pub fn distribute(elements: &[i64], descriptor: &[i64], out: &mut [i64])
 /// of `strides`, modulo 2^64.
 ///
 /// `firsts` and `strides` have one element a segment of `descriptor`, and `out` is in its segments.
-pub fn index(firsts: &[i64], strides: &[i64], descriptor: &[i64], out: &mut [i64])
+pub(crate) fn index(firsts: &[i64], strides: &[i64], descriptor: &[i64], out: &mut [i64])
     requires lengths { AreLengths descriptor.now }
     requires each_first { length firsts.now ≡ length descriptor.now }
     requires each_stride { length strides.now ≡ length descriptor.now }

@@ -18,7 +18,7 @@ use vcode_base::DataFault;
 ///
 /// [`BadIndex`](DataFault::BadIndex) where an index is outside its segment, so always where a
 /// segment is empty. Then `out` holds no result.
-pub fn extract(
+pub(crate) fn extract(
     elements: &[i64],
     indices: &[i64],
     descriptor: &[i64],

@@ -20,7 +20,7 @@ use vcode_base::DataFault;
 ///
 /// [`BadIndex`](DataFault::BadIndex) where an index is outside that segment. Then `out` holds no
 /// result.
-pub fn back_permute(
+pub(crate) fn back_permute(
     elements: &[i64],
     indices: &[i64],
     source: &[i64],

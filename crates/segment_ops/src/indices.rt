@@ -7,7 +7,7 @@ ghost use Rattle.vcode_base.specs.Segments.{total, segments, sizes, any_outside}
 use crate::descriptors::end_of;
 
 /// Whether an index is none of the places `0..size` of a segment.
-pub fn is_outside(size: i64, index: i64) -> bool
+pub(crate) fn is_outside(size: i64, index: i64) -> bool
     requires { pos 0 ≤ℤ size }
     ensures { result ≡ is_outside (unsigned_abs size) index }
 {
@@ -18,7 +18,7 @@ pub fn is_outside(size: i64, index: i64) -> bool
 ///
 /// The indices are in the segments of `descriptor`, and those of a segment are indices of the
 /// segment of `bounds` with the same number.
-pub fn any_outside(indices: &[i64], descriptor: &[i64], bounds: &[i64]) -> bool
+pub(crate) fn any_outside(indices: &[i64], descriptor: &[i64], bounds: &[i64]) -> bool
     requires lengths { AreLengths descriptor.now }
     requires bound_lengths { AreLengths bounds.now }
     requires matched { length descriptor.now ≡ length bounds.now }

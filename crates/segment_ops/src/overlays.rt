@@ -22,7 +22,7 @@ use vcode_base::DataFault;
 /// [`BadIndex`](DataFault::BadIndex) where an index is outside that segment, and else
 /// [`IndexTwice`](DataFault::IndexTwice) where two of a segment are equal. Then `out` holds no
 /// result.
-pub fn default_permute(
+pub(crate) fn default_permute(
     elements: &[i64],
     indices: &[i64],
     default: &[i64],

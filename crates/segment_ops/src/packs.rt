@@ -13,7 +13,7 @@ use crate::descriptors::end_of;
 ///
 /// `elements` and `flags` are in the segments of `descriptor`; `out` has an element for each flag
 /// that is T, and `counts` one a segment. The clauses name INT, and BOOL means the same.
-pub fn pack(
+pub(crate) fn pack(
     elements: &[i64],
     flags: &[i64],
     descriptor: &[i64],
@@ -61,7 +61,7 @@ fn pack_segment(elements: &[i64], flags: &[i64], out: &mut [i64]) -> usize
 }
 
 /// How many flags are T.
-pub fn count_set(flags: &[i64]) -> u64
+pub(crate) fn count_set(flags: &[i64]) -> u64
     ensures counted { result ≡ count_by is_set flags.now }
     ensures at_most_all { result ≤ length flags.now }
 {

@@ -21,7 +21,7 @@ use vcode_base::DataFault;
 /// [`BadIndex`](DataFault::BadIndex) where an index is outside its segment, and else
 /// [`IndexTwice`](DataFault::IndexTwice) where two of a segment are equal. Then `out` holds no
 /// result.
-pub fn permute(
+pub(crate) fn permute(
     elements: &[i64],
     indices: &[i64],
     descriptor: &[i64],

@@ -12,7 +12,7 @@ use vcode_base::{Fold, Logic};
 /// the identity.
 ///
 /// `elements` are in the segments of `descriptor`; `out` has one element a segment.
-pub fn reduce(fold: Fold, elements: &[i64], descriptor: &[i64], out: &mut [i64])
+pub(crate) fn reduce(fold: Fold, elements: &[i64], descriptor: &[i64], out: &mut [i64])
     requires lengths { AreLengths descriptor.now }
     requires whole { length elements.now ≡ total descriptor.now }
     requires room { length out.old ≡ length descriptor.now }

@@ -18,7 +18,7 @@ use vcode_base::DataFault;
 ///
 /// [`BadIndex`](DataFault::BadIndex) where an index is outside its segment, so always where a
 /// segment is empty. Then `out` holds no result.
-pub fn replace(
+pub(crate) fn replace(
     elements: &[i64],
     indices: &[i64],
     replacements: &[i64],

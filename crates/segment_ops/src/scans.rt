@@ -12,7 +12,7 @@ use vcode_base::{Fold, Logic};
 /// the segment, and so the first one of each segment is the identity.
 ///
 /// `elements` and `out` are in the segments of `descriptor`.
-pub fn scan(fold: Fold, elements: &[i64], descriptor: &[i64], out: &mut [i64])
+pub(crate) fn scan(fold: Fold, elements: &[i64], descriptor: &[i64], out: &mut [i64])
     requires lengths { AreLengths descriptor.now }
     requires whole { length elements.now ≡ total descriptor.now }
     requires room { length out.old ≡ length elements.now }

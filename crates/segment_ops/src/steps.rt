@@ -6,7 +6,7 @@ use vcode_base::element::Combine;
 use vcode_base::{Fold, Logic, Scalar};
 
 /// The fold of no elements, from which every fold starts.
-pub fn identity_of(fold: Fold) -> i64
+pub(crate) fn identity_of(fold: Fold) -> i64
     ensures { result ≡ identity fold }
 {
     match fold {

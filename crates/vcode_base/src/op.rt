@@ -167,7 +167,7 @@ impl Elementwise {
 
     /// The kinds of its operands from the bottom of the stack up.
     #[inline(always)]
-    pub fn operand_kinds(self) -> &'static [Kind]
+    fn operand_kinds(self) -> &'static [Kind]
         ensures { result.now ≡ elementwise_operands self }
     {
         match self {
@@ -184,7 +184,7 @@ impl Elementwise {
 
     /// The kind of its result.
     #[inline(always)]
-    pub fn result_kinds(self) -> &'static [Kind]
+    fn result_kinds(self) -> &'static [Kind]
         ensures { result.now ≡ elementwise_results self }
     {
         match self {
@@ -203,7 +203,7 @@ impl Segmented {
 
     /// The kinds of its operands from the bottom of the stack up.
     #[inline(always)]
-    pub fn operand_kinds(self) -> &'static [Kind]
+    fn operand_kinds(self) -> &'static [Kind]
         ensures { result.now ≡ segmented_operands self }
     {
         match self {
@@ -246,7 +246,7 @@ impl Segmented {
 
     /// The kinds of its results, the top of the stack last.
     #[inline(always)]
-    pub fn result_kinds(self) -> &'static [Kind]
+    fn result_kinds(self) -> &'static [Kind]
         ensures { result.now ≡ segmented_results self }
     {
         match self {

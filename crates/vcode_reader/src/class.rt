@@ -24,7 +24,7 @@ pub enum Class {
 
 /// What a byte does.
 #[tactic(auto, unfolding(crate::specs::Classes::class_of))]
-pub fn class_of(byte: u8) -> Class
+pub(crate) fn class_of(byte: u8) -> Class
     ensures { result ≡ class_of byte }
 {
     match byte {

@@ -36,7 +36,7 @@ impl<A: Allocator> Model for Draft<A> {
 
 impl<A: Allocator + Clone> Draft<A> {
     /// No line.
-    pub fn new(alloc: A) -> Result<Draft<A>, AllocError>
+    pub(crate) fn new(alloc: A) -> Result<Draft<A>, AllocError>
         ensures { IfOk result (λ d. d ≡ no_lines) }
     {
         Ok(Draft {
@@ -48,7 +48,7 @@ impl<A: Allocator + Clone> Draft<A> {
 
 impl<A: Allocator> Draft<A> {
     /// One instruction more, which stands on this line.
-    pub fn push(&mut self, instruction: Instruction<A>, line: u64) -> Result<(), AllocError>
+    pub(crate) fn push(&mut self, instruction: Instruction<A>, line: u64) -> Result<(), AllocError>
         ensures { OnOk result (self.new ≡ with_item instruction line self.old) }
     {
         self.lines.push(Numbered {
@@ -59,7 +59,7 @@ impl<A: Allocator> Draft<A> {
     }
 
     /// An IF begins on this line.
-    pub fn begin_if(&mut self, line: u64) -> Result<(), AllocError>
+    pub(crate) fn begin_if(&mut self, line: u64) -> Result<(), AllocError>
         ensures { OnOk result (self.new ≡ with_if line self.old) }
     {
         let open = OpenIf {
@@ -71,7 +71,7 @@ impl<A: Allocator> Draft<A> {
     }
 
     /// Has the innermost IF no `ELSE` yet?
-    pub fn takes_else(&self) -> bool
+    pub(crate) fn takes_else(&self) -> bool
         ensures { result ≡ takes_else self.now.ifs }
     {
         match self.ifs.first() {
@@ -81,21 +81,21 @@ impl<A: Allocator> Draft<A> {
     }
 
     /// How many IFs are open.
-    pub fn depth(&self) -> usize
+    pub(crate) fn depth(&self) -> usize
         ensures { result ≡ length self.now.ifs }
     {
         self.ifs.len()
     }
 
     /// Is an IF open?
-    pub fn is_open(&self) -> bool
+    pub(crate) fn is_open(&self) -> bool
         ensures { result ≡ is_open self.now.ifs }
     {
         self.ifs.first().is_some()
     }
 
     /// The line of the innermost open IF, or else this one.
-    pub fn innermost_line(&self, line: u64) -> u64
+    pub(crate) fn innermost_line(&self, line: u64) -> u64
         ensures { result ≡ innermost_line self.now.ifs line }
     {
         match self.ifs.first() {
@@ -105,7 +105,7 @@ impl<A: Allocator> Draft<A> {
     }
 
     /// The `ELSE` of the innermost IF.
-    pub fn begin_else(&mut self) -> Result<(), AllocError>
+    pub(crate) fn begin_else(&mut self) -> Result<(), AllocError>
         requires { takes_else self.old.ifs ≡ true }
         ensures { OnOk result (self.new ≡ with_else self.old) }
     {
@@ -120,7 +120,7 @@ impl<A: Allocator> Draft<A> {
     }
 
     /// The `ENDIF` of the innermost IF stands on this line. An IF that has no `ELSE` gets one.
-    pub fn end_if(&mut self, line: u64) -> Result<(), AllocError>
+    pub(crate) fn end_if(&mut self, line: u64) -> Result<(), AllocError>
         ensures { OnOk result (self.new ≡ with_endif line self.old) }
     {
         if let Some(opened) = self.ifs.pop() {
@@ -130,7 +130,7 @@ impl<A: Allocator> Draft<A> {
     }
 
     /// The lines.
-    pub fn into_vec(self) -> Vec<CodeLine<A>, A>
+    pub(crate) fn into_vec(self) -> Vec<CodeLine<A>, A>
         ensures same { result.items ≡ self.lines }
         ensures body { is_open self.ifs ≡ false → AreBodyLines result.items }
     {
@@ -323,7 +323,7 @@ impl<A: Allocator> Finder<A> {
 
 /// Where each line goes on, where that isn't the next.
 #[tactic(auto, unfolding(crate::specs::Targets::targets_of))]
-pub fn targets_of<A: Allocator + Clone>(
+pub(crate) fn targets_of<A: Allocator + Clone>(
     alloc: A,
     lines: &[CodeLine<A>],
 ) -> Result<Vec<Option<usize>, A>, AllocError>

@@ -201,7 +201,7 @@ fn of_more(word: &[u8]) -> Head
 
 /// What a word begins.
 #[tactic(auto, using(crate::proofs::Spelling::no_word, crate::proofs::Spelling::among_length))]
-pub fn head_of(word: &[u8]) -> Head
+pub(crate) fn head_of(word: &[u8]) -> Head
     ensures { result ≡ head_of word.now }
 {
     match word.len() {

@@ -98,7 +98,7 @@ impl Folding {
 
 impl Keyword {
     /// What the words behind it must be.
-    pub fn slots(self) -> Slots
+    pub(crate) fn slots(self) -> Slots
         ensures { result ≡ keyword_slots self }
     {
         let left: &'static [Slot] = match self {
@@ -127,7 +127,7 @@ impl Keyword {
     }
 
     /// Does a word `INT` behind it mean nothing?
-    pub fn takes_int(self) -> bool
+    pub(crate) fn takes_int(self) -> bool
         ensures { result ≡ takes_int self }
     {
         matches!(
@@ -137,7 +137,7 @@ impl Keyword {
     }
 
     /// The instruction of this first word and of what the words behind it gave.
-    pub fn instruction<A: Allocator>(self, parts: InstructionParts<A>) -> Instruction<A>
+    pub(crate) fn instruction<A: Allocator>(self, parts: InstructionParts<A>) -> Instruction<A>
         ensures { result ≡ instruction_of self parts }
     {
         let kind = parts.kind;
@@ -188,14 +188,14 @@ impl Model for Slots {
 
 impl Slots {
     /// Nothing is left.
-    pub fn none() -> Slots
+    pub(crate) fn none() -> Slots
         ensures { result ≡ [] }
     {
         Slots { left: &[] }
     }
 
     /// Takes the next one off the front.
-    pub fn next(&mut self) -> Option<Slot>
+    pub(crate) fn next(&mut self) -> Option<Slot>
         ensures { TakesOff result self.old self.new }
     {
         let (next, left) = self.left.split_first()?;

@@ -76,7 +76,7 @@ impl<A: Allocator> Linker<'_, A> {
 
 /// The place of the function that each line of each function calls.
 #[tactic(auto, unfolding(crate::specs::Callees::callees_of))]
-pub fn callees_of<A: Allocator + Clone>(
+pub(crate) fn callees_of<A: Allocator + Clone>(
     alloc: A,
     functions: &[Function<A>],
 ) -> Result<Vec<Sequence<Option<usize>, A>, A>, AllocError>

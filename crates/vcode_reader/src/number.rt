@@ -28,7 +28,7 @@ fn decimal(digits: &[u8]) -> Option<u64>
 
 /// The number that a word is.
 #[tactic(auto, unfolding(crate::specs::Numbers::number_of))]
-pub fn number_of(word: &[u8]) -> Option<i64>
+pub(crate) fn number_of(word: &[u8]) -> Option<i64>
     ensures { result ≡ number_of word.now }
 {
     match word {
@@ -39,7 +39,7 @@ pub fn number_of(word: &[u8]) -> Option<i64>
 
 /// The number that a word is, where it isn't negative.
 #[tactic(auto, unfolding(crate::specs::Numbers::natural_of))]
-pub fn natural_of(word: &[u8]) -> Option<u64>
+pub(crate) fn natural_of(word: &[u8]) -> Option<u64>
     ensures { result ≡ natural_of word.now }
 {
     let number = number_of(word)?;
@@ -62,7 +62,7 @@ fn truth_of(word: &[u8]) -> Option<i64>
 }
 
 /// The value of this kind that a word is.
-pub fn value_of(kind: Scalar, word: &[u8]) -> Option<i64>
+pub(crate) fn value_of(kind: Scalar, word: &[u8]) -> Option<i64>
     ensures { result ≡ value_of kind word.now }
 {
     match kind {

@@ -94,7 +94,7 @@ fn name_of<A: Allocator>(alloc: A, word: &[u8]) -> Result<FunctionName<A>, Alloc
 
 impl<A: Allocator + Clone> Parser<A> {
     /// Before the first word of a text.
-    pub fn new(alloc: A) -> Result<Parser<A>, AllocError>
+    pub(crate) fn new(alloc: A) -> Result<Parser<A>, AllocError>
         ensures { IfOk result (λ p. p ≡ start) }
     {
         Ok(Parser {
@@ -392,7 +392,7 @@ impl<A: Allocator + Clone> Parser<A> {
 
     /// Takes the next word, which stands on this line.
     #[tactic(auto, unfolding(crate::specs::Parsing::take), using(crate::proofs::Spelling::slots_by_head))]
-    pub fn take(&mut self, word: &[u8], line: u64) -> Result<(), AllocError>
+    pub(crate) fn take(&mut self, word: &[u8], line: u64) -> Result<(), AllocError>
         ensures { OnOk result (self.new ≡ take word.now line self.old) }
     {
         if self.fault.is_some() {
@@ -436,7 +436,10 @@ impl<A: Allocator + Clone> Parser<A> {
     }
 
     /// What the text comes to, where it ends here: in a comment that begins at this line, or in none.
-    pub fn result_at_end(self, comment: Option<u64>) -> Result<Vec<Function<A>, A>, ReadFault>
+    pub(crate) fn result_at_end(
+        self,
+        comment: Option<u64>,
+    ) -> Result<Vec<Function<A>, A>, ReadFault>
         ensures { Gives result (result_at_end self.fault comment self) }
     {
         match self.refused_at_end(comment) {

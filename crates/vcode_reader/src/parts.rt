@@ -25,7 +25,7 @@ pub struct Parts<L, N> {
 pub type InstructionParts<A> = Parts<Words<A>, FunctionName<A>>;
 
 /// Before the first of the words.
-pub fn no_parts<A: Allocator + Clone>(alloc: &A) -> Result<InstructionParts<A>, AllocError>
+pub(crate) fn no_parts<A: Allocator + Clone>(alloc: &A) -> Result<InstructionParts<A>, AllocError>
     ensures { IfOk result (λ parts. parts ≡ no_parts) }
 {
     Ok(Parts {

@@ -32,7 +32,7 @@ fn is_parenthesis(word: &[u8]) -> bool
     word == b"(".as_slice() || word == b")".as_slice()
 }
 
-pub fn is_no_name(word: &[u8]) -> bool
+pub(crate) fn is_no_name(word: &[u8]) -> bool
     ensures { result ≡ is_no_name word.now }
 {
     is_parenthesis(word) || is_bad(word)
@@ -50,7 +50,7 @@ fn no_number(word: &[u8]) -> CodeFault
 }
 
 /// What is wrong with a word that is no value of this kind where one must stand.
-pub fn no_value(kind: Scalar, word: &[u8]) -> CodeFault
+pub(crate) fn no_value(kind: Scalar, word: &[u8]) -> CodeFault
     ensures { result ≡ no_value kind word.now }
 {
     match kind {
@@ -60,7 +60,7 @@ pub fn no_value(kind: Scalar, word: &[u8]) -> CodeFault
 }
 
 /// The kind `INT`, where the word is that.
-pub fn int_of(word: &[u8]) -> Option<Scalar>
+pub(crate) fn int_of(word: &[u8]) -> Option<Scalar>
     ensures { result ≡ int_of word.now }
 {
     if word == b"INT".as_slice() {
@@ -71,7 +71,7 @@ pub fn int_of(word: &[u8]) -> Option<Scalar>
 }
 
 /// The kind that a word is.
-pub fn kind_of(word: &[u8]) -> Option<Scalar>
+pub(crate) fn kind_of(word: &[u8]) -> Option<Scalar>
     ensures { result ≡ kind_of word.now }
 {
     match word {
@@ -82,7 +82,7 @@ pub fn kind_of(word: &[u8]) -> Option<Scalar>
 }
 
 /// The count of a motion of the stack that a word is, or what is wrong with it.
-pub fn count_in(word: &[u8]) -> Result<u16, CodeFault>
+pub(crate) fn count_in(word: &[u8]) -> Result<u16, CodeFault>
     ensures { result ≡ count_in (natural_of word.now) word.now }
 {
     match natural_of(word) {

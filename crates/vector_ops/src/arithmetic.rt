@@ -15,7 +15,12 @@ use vcode_base::{Arith, DataFault};
 ///
 /// The fault is `ZeroDivisor` for a quotient or a remainder where a right element is 0, and
 /// `BadShift` for a shift where one is outside 0..=63.
-pub fn fill_arith(op: Arith, left: &[i64], right: &[i64], out: &mut [i64]) -> Result<(), DataFault>
+pub(crate) fn fill_arith(
+    op: Arith,
+    left: &[i64],
+    right: &[i64],
+    out: &mut [i64],
+) -> Result<(), DataFault>
     requires same { length right.now ≡ length left.now }
     requires room { length out.old ≡ length left.now }
     ensures { MatchResult result

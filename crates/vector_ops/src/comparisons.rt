@@ -11,7 +11,7 @@ use vcode_base::Comparison;
 use vcode_base::element::Combine;
 
 /// Writes 1 where the comparison holds, and 0 where it doesn't.
-pub fn fill_comparison(op: Comparison, left: &[i64], right: &[i64], out: &mut [i64])
+pub(crate) fn fill_comparison(op: Comparison, left: &[i64], right: &[i64], out: &mut [i64])
     requires same { length right.now ≡ length left.now }
     requires room { length out.old ≡ length left.now }
     ensures { out.new ≡ two_by_two (comparison op) left.now right.now }

@@ -10,7 +10,7 @@ use vcode_base::element::{And, Or, Xor};
 use vcode_base::{Logic, Scalar};
 
 /// Writes the two elements joined bit by bit, which on flags is the connective.
-pub fn fill_logic(op: Logic, left: &[i64], right: &[i64], out: &mut [i64])
+pub(crate) fn fill_logic(op: Logic, left: &[i64], right: &[i64], out: &mut [i64])
     requires same { length right.now ≡ length left.now }
     requires room { length out.old ≡ length left.now }
     ensures { out.new ≡ two_by_two (logic op) left.now right.now }
@@ -23,7 +23,7 @@ pub fn fill_logic(op: Logic, left: &[i64], right: &[i64], out: &mut [i64])
 }
 
 /// Writes the complements of numbers, or the other truth values of flags.
-pub fn fill_not(elements: Scalar, operand: &[i64], out: &mut [i64])
+pub(crate) fn fill_not(elements: Scalar, operand: &[i64], out: &mut [i64])
     requires room { length out.old ≡ length operand.now }
     ensures { out.new ≡ map (negation elements) operand.now }
 {

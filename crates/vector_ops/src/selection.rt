@@ -5,7 +5,7 @@ ghost use Rattle.vcode_base.specs.Elements.{flag, is_set};
 use crate::steps::ElementStep;
 
 /// Writes the element of `chosen` where the flag is T, and that of `other` where it is F.
-pub fn select(flags: &[i64], chosen: &[i64], other: &[i64], out: &mut [i64])
+pub(crate) fn select(flags: &[i64], chosen: &[i64], other: &[i64], out: &mut [i64])
     requires chosen_same { length chosen.now ≡ length flags.now }
     requires other_same { length other.now ≡ length flags.now }
     requires room { length out.old ≡ length flags.now }

@@ -43,7 +43,7 @@ pub trait ElementTest {
 }
 
 /// Writes the step's element of each two elements at one place.
-pub fn fill_pairs<S: PairStep>(left: &[i64], right: &[i64], out: &mut [i64])
+pub(crate) fn fill_pairs<S: PairStep>(left: &[i64], right: &[i64], out: &mut [i64])
     requires same { length right.now ≡ length left.now }
     requires room { length out.old ≡ length left.now }
     requires allowed { list_any S.refuses right.now ≡ false }
@@ -55,7 +55,7 @@ pub fn fill_pairs<S: PairStep>(left: &[i64], right: &[i64], out: &mut [i64])
 }
 
 /// The same, but where the test holds at some right element: then there is the fault.
-pub fn fill_pairs_unless<T: ElementTest, S: PairStep>(
+pub(crate) fn fill_pairs_unless<T: ElementTest, S: PairStep>(
     fault: DataFault,
     left: &[i64],
     right: &[i64],
@@ -77,7 +77,7 @@ pub fn fill_pairs_unless<T: ElementTest, S: PairStep>(
 }
 
 /// Writes the step's element of each element.
-pub fn fill_each<S: ElementStep>(elements: &[i64], out: &mut [i64])
+pub(crate) fn fill_each<S: ElementStep>(elements: &[i64], out: &mut [i64])
     requires room { length out.old ≡ length elements.now }
     ensures { out.new ≡ map S.gives elements.now }
 {

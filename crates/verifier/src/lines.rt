@@ -193,7 +193,7 @@ fn check_line<A: Allocator + Clone>(
 }
 
 /// The entries after these lines, with which the function at this place of the program begins.
-pub fn check_lines<A: Allocator + Clone>(
+pub(crate) fn check_lines<A: Allocator + Clone>(
     stack: &mut KindStack<A>,
     scope: &Scope<A>,
     function: usize,

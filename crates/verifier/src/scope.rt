@@ -36,7 +36,7 @@ impl<'a, A: Allocator> Model for Scope<'a, A> {
 }
 
 impl<'a, A: Allocator> Scope<'a, A> {
-    pub fn new(program: &'a Program<A>, signatures: &'a Signatures<A>) -> Scope<'a, A>
+    pub(crate) fn new(program: &'a Program<A>, signatures: &'a Signatures<A>) -> Scope<'a, A>
         ensures { result ≡ scope_of signatures.now program.now }
     {
         Scope {
@@ -46,7 +46,7 @@ impl<'a, A: Allocator> Scope<'a, A> {
     }
 
     /// The functions in the order of the text.
-    pub fn functions(&self) -> &'a [Function<A>]
+    pub(crate) fn functions(&self) -> &'a [Function<A>]
         ensures { result.now ≡ self.now.functions }
     {
         self.program.functions()
@@ -54,14 +54,14 @@ impl<'a, A: Allocator> Scope<'a, A> {
 
     /// The place of the function that the line at this place of that function calls, where there is
     /// one.
-    pub fn callee(&self, function: usize, place: usize) -> Option<usize>
+    pub(crate) fn callee(&self, function: usize, place: usize) -> Option<usize>
         ensures { result ≡ callee_at self.now.functions function place }
     {
         self.program.callee(function, place)
     }
 
     /// What the function of this name takes and gives; `None` where it has no signature.
-    pub fn signature(&self, name: &[u8]) -> Option<(&'a [Kind], &'a [Kind])>
+    pub(crate) fn signature(&self, name: &[u8]) -> Option<(&'a [Kind], &'a [Kind])>
         ensures { MatchOption result
             (kinds_of self.now.signatures name.now ≡ None)
             (λ kinds. kinds_of self.now.signatures name.now ≡ Some (kinds.0.now, kinds.1.now)) }

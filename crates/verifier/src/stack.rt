@@ -11,7 +11,7 @@ use std::marker::Model;
 use vcode_base::Kind;
 
 /// Whether two lists of kinds are one.
-pub fn are_same_kinds(left: &[Kind], right: &[Kind]) -> bool
+pub(crate) fn are_same_kinds(left: &[Kind], right: &[Kind]) -> bool
     ensures { result ≡ are_same_kinds left.now right.now }
 {
     left == right
@@ -130,7 +130,7 @@ impl<A: Allocator> Model for KindStack<A> {
 
 impl<A: Allocator + Clone> KindStack<A> {
     /// These entries, and no open IF.
-    pub fn new(alloc: A, kinds: &[Kind]) -> Result<KindStack<A>, AllocError>
+    pub(crate) fn new(alloc: A, kinds: &[Kind]) -> Result<KindStack<A>, AllocError>
         ensures { IfOk result (λ s. s ≡ record { kinds = kinds.now; kept = [] }) }
     {
         Ok(KindStack {
@@ -140,21 +140,21 @@ impl<A: Allocator + Clone> KindStack<A> {
     }
 
     /// The entries.
-    pub fn as_slice(&self) -> &[Kind]
+    pub(crate) fn as_slice(&self) -> &[Kind]
         ensures { result.now ≡ self.now.kinds }
     {
         self.kinds.as_slice()
     }
 
     /// Copies of these entries.
-    pub fn copy(&self, kinds: &[Kind]) -> Result<Vec<Kind, A>, AllocError>
+    pub(crate) fn copy(&self, kinds: &[Kind]) -> Result<Vec<Kind, A>, AllocError>
         ensures { IfOk result (λ copy. copy.items ≡ kinds.now) }
     {
         kinds.to_vec(self.kinds.allocator().clone()?)
     }
 
     /// Takes off the entries above the first `len`.
-    pub fn truncate(&mut self, len: usize) -> Result<(), AllocError>
+    pub(crate) fn truncate(&mut self, len: usize) -> Result<(), AllocError>
         ensures { OnOk result (self.new ≡ record self.old { kinds = take len self.old.kinds }) }
     {
         take_over_all(self.kept.as_mut_slice(), len, self.kinds.as_slice())?;
@@ -163,7 +163,7 @@ impl<A: Allocator + Clone> KindStack<A> {
     }
 
     /// Puts entries on top.
-    pub fn extend(&mut self, kinds: &[Kind]) -> Result<(), AllocError>
+    pub(crate) fn extend(&mut self, kinds: &[Kind]) -> Result<(), AllocError>
         ensures { OnOk result (self.new ≡ record self.old { kinds = self.old.kinds ++ kinds.now }) }
     {
         self.kinds.extend_from_slice(kinds)?;
@@ -190,7 +190,7 @@ impl<A: Allocator + Clone> KindStack<A> {
     }
 
     /// Keeps the entries for an IF that begins.
-    pub fn keep(&mut self) -> Result<(), AllocError>
+    pub(crate) fn keep(&mut self) -> Result<(), AllocError>
         ensures { OnOk result (self.new ≡ record self.old { kept = self.old.kinds ∷ self.old.kept }) }
     {
         let above = Vec::new(self.kinds.allocator().clone()?);
@@ -199,7 +199,7 @@ impl<A: Allocator + Clone> KindStack<A> {
     }
 
     /// The entries, and those that were kept last, change places.
-    pub fn swap(&mut self) -> Result<(), AllocError>
+    pub(crate) fn swap(&mut self) -> Result<(), AllocError>
         ensures { OnOk result (self.new ≡ state_after_else self.old.kinds self.old.kept) }
     {
         let Some(kept) = self.pop_kept() else {
@@ -215,7 +215,7 @@ impl<A: Allocator + Clone> KindStack<A> {
     }
 
     /// Forgets the entries that were kept last, and tells whether they are those that there are.
-    pub fn forget(&mut self) -> bool
+    pub(crate) fn forget(&mut self) -> bool
         ensures same { result ≡ is_kept_last self.old.kinds self.old.kept }
         ensures rest { self.new ≡ record self.old { kept = others_of self.old.kept } }
     {

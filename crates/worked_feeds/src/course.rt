@@ -60,7 +60,7 @@ pub enum End {
 
 impl End {
     /// How a text ends with an answer that is a refusal, or that of the text in one piece.
-    pub fn of(is_refusal: bool, is_same: bool) -> End {
+    pub(crate) fn of(is_refusal: bool, is_same: bool) -> End {
         if is_refusal {
             End::Refused
         } else if is_same {
@@ -97,7 +97,7 @@ pub trait Reader<'h>: Drop {
 }
 
 /// What a text comes to in one piece, and then in pieces over a heap that runs short before one of the calls.
-pub fn read_in_pieces<'h, R: Reader<'h>>(
+pub(crate) fn read_in_pieces<'h, R: Reader<'h>>(
     heap: &'h LocalHeap,
     text: &[u8],
     cuts: Cuts,

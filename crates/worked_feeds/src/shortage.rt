@@ -23,7 +23,7 @@ pub struct Shortage<'h> {
 
 impl<'h> Shortage<'h> {
     /// None at all.
-    pub fn never(alloc: Global, heap: &'h LocalHeap) -> Shortage<'h> {
+    pub(crate) fn never(alloc: Global, heap: &'h LocalHeap) -> Shortage<'h> {
         Shortage {
             heap,
             calls: 0,
@@ -34,7 +34,12 @@ impl<'h> Shortage<'h> {
     }
 
     /// One before the call of this number, counted from 0, that leaves at most so many bytes.
-    pub fn before(alloc: Global, heap: &'h LocalHeap, call: usize, spare: usize) -> Shortage<'h> {
+    pub(crate) fn before(
+        alloc: Global,
+        heap: &'h LocalHeap,
+        call: usize,
+        spare: usize,
+    ) -> Shortage<'h> {
         Shortage {
             heap,
             calls: 0,
@@ -45,7 +50,7 @@ impl<'h> Shortage<'h> {
     }
 
     /// The next call comes.
-    pub fn next_call(&mut self) -> Result<(), AllocError> {
+    pub(crate) fn next_call(&mut self) -> Result<(), AllocError> {
         if self.before == Some(self.calls) {
             self.take_all()?;
         }
@@ -54,7 +59,7 @@ impl<'h> Shortage<'h> {
     }
 
     /// Gives back what was taken.
-    pub fn end(&mut self) {
+    pub(crate) fn end(&mut self) {
         self.taken.clear();
     }
 

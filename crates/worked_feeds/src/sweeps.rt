@@ -9,7 +9,7 @@ use std::process::Abort;
 const PIECES: [usize; 3] = [1, 7, 4_096];
 
 /// Cut into two at any place, and in pieces of three sizes, the text is answered as it is in one piece.
-pub fn is_read_however_cut<'h, R: Reader<'h>>(
+pub(crate) fn is_read_however_cut<'h, R: Reader<'h>>(
     rt: &impl Abort,
     alloc: Global,
     heap: &'h LocalHeap,
@@ -54,7 +54,7 @@ fn reads_right<'h, R: Reader<'h>>(
 
 /// Whichever growth is refused of the text in pieces of so many bytes, each later call tells it; without a refusal the
 /// answer is right.
-pub fn tells_each_refusal<'h, R: Reader<'h>>(
+pub(crate) fn tells_each_refusal<'h, R: Reader<'h>>(
     rt: &impl Abort,
     alloc: Global,
     heap: &'h LocalHeap,

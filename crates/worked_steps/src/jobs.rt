@@ -52,7 +52,7 @@ fn track(rt: &impl Abort, alloc: Global, name: &[u8]) -> Result<Track<usize, Glo
 #[test]
 fn a_track_begins_with_nothing_done(rt: HostRuntime) -> Result<(), Fail> {
     let track = track(&rt, rt.alloc(), b"t")?;
-    assert_eq!(rt; (track.depth(), track.calls()), (0, 1));
+    assert_eq!(rt; (track.cells().len(), track.calls()), (0, 1));
     assert_eq!(rt; (track.executed(), track.peak()), (0, 0));
     Ok(())
 }

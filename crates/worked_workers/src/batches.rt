@@ -17,7 +17,7 @@ pub const EXECUTED_BY_TWO: [u64; 2] = [2, 4];
 /// # Errors
 ///
 /// [`AllocError`] where memory for the text was refused.
-pub fn twelve_jobs(alloc: Global) -> Result<String, AllocError> {
+pub(crate) fn twelve_jobs(alloc: Global) -> Result<String, AllocError> {
     format!(in alloc;
         "JOB t 5 16 4 100\nSIGNATURES\nMAIN () -> (INT)\nCODE\nFUNC MAIN\n\
         CONST INT (1 2 3)\nCONST INT 3\nMAKE_SEGDES\n+_REDUCE INT\nRET\nEND\n\

@@ -49,7 +49,7 @@ fn jobs(alloc: Global, batch: &[u8], most: usize) -> Result<Vec<Job<Global>>, Fa
 pub const REGION: usize = 64;
 
 /// A machine over 64 words with the jobs of a batch.
-pub fn machine(alloc: Global, batch: &[u8]) -> Result<Machine<Global>, Fail> {
+pub(crate) fn machine(alloc: Global, batch: &[u8]) -> Result<Machine<Global>, Fail> {
     let jobs = jobs(alloc, batch, REGION)?;
     Ok(Machine::new(alloc, REGION, jobs)?)
 }

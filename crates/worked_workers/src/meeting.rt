@@ -21,7 +21,7 @@ pub struct Meeting<'a, R: Clock> {
 }
 
 impl<'a, R: Clock> Meeting<'a, R> {
-    pub fn new(rt: &'a R) -> Meeting<'a, R> {
+    pub(crate) fn new(rt: &'a R) -> Meeting<'a, R> {
         Meeting {
             rt,
             here: AtomicU64::new(0),
@@ -31,12 +31,12 @@ impl<'a, R: Clock> Meeting<'a, R> {
     }
 
     /// Whether both first steps met the other.
-    pub fn have_met(&self) -> bool {
+    pub(crate) fn have_met(&self) -> bool {
         self.met.load(Ordering::SeqCst) == 3
     }
 
     /// How many steps came.
-    pub fn calls(&self) -> u64 {
+    pub(crate) fn calls(&self) -> u64 {
         self.calls.load(Ordering::SeqCst)
     }
 }
