@@ -172,7 +172,7 @@ impl<A: Allocator> JobMemory<A> {
         self.book.held(job)
     }
 
-    /// The words of all grants together, at most `region()`.
+    /// The words of all grants together, at most those of the region.
     pub fn granted(&self) -> usize
         ensures value { result ≡ granted_words self.now }
         ensures within { granted_words self.now ≤ self.now.memory.room }
