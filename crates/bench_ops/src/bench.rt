@@ -203,6 +203,23 @@ fn part_rows<'a>(
     row(rt, load, "PACK INT", pack, &[values, truth, lengths])
 }
 
+/// The lines of the instructions that take elements or indices of the segments' own, or flags.
+fn part_and_move_rows<'a, R: Runtime>(
+    rt: &R,
+    load: Load,
+    values: &'a [i64],
+    each: &'a [i64],
+    lengths: &'a [i64],
+    size: u32,
+) -> io::Result<()>
+    requires { HasKind Segdes lengths.now }
+{
+    let places = &indices(rt.alloc(), lengths.len(), size)?;
+    move_rows(rt, load, values, places, lengths)?;
+    let truth = &flags(rt.alloc(), load.words)?;
+    part_rows(rt, load, values, each, truth, lengths)
+}
+
 /// A line for each family of the segment instructions, over `segments` segments of `size` words each.
 pub fn segment_rows<R: Runtime>(rt: &R, shown: Shown, segments: usize, size: u32) -> io::Result<()>
     requires { segments * size ≤ MOST_TOTAL }
@@ -213,11 +230,8 @@ pub fn segment_rows<R: Runtime>(rt: &R, shown: Shown, segments: usize, size: u32
     };
     let values = &numbers(rt.alloc(), load.words)?;
     let lengths = &descriptor(rt.alloc(), segments, size)?;
-    let each = &shifts(rt.alloc(), segments)?;
-    let places = &indices(rt.alloc(), segments, size)?;
-    let truth = &flags(rt.alloc(), load.words)?;
     fold_rows(rt, load, values, lengths)?;
+    let each = &shifts(rt.alloc(), segments)?;
     spread_rows(rt, load, each, lengths)?;
-    move_rows(rt, load, values, places, lengths)?;
-    part_rows(rt, load, values, each, truth, lengths)
+    part_and_move_rows(rt, load, values, each, lengths, size)
 }

@@ -25,22 +25,25 @@ mod fault;
 mod jobs;
 mod player;
 
-use call::answer;
+use crate::call::answer;
+use crate::player::Player;
 use std::io;
+
+/// Prints a line of the table, and behind it what it comes to.
+fn show(rt: &HostRuntime, player: &mut Option<Player>, line: &str) -> io::Result<()> {
+    if line.is_empty() || line.starts_with('#') {
+        return println!(rt; "{line}");
+    }
+    match answer(rt.alloc(), player, line) {
+        Ok(value) => println!(rt; "{line} = {value}"),
+        Err(fault) => println!(rt; "{line} = {fault}"),
+    }
+}
 
 fn main(rt: HostRuntime) -> io::Result<()> {
     let mut player = None;
     for line in rt.lines(rt.alloc()) {
-        let line = line?;
-        let line = line.as_str();
-        if line.is_empty() || line.starts_with('#') {
-            println!(rt; "{line}")?;
-            continue;
-        }
-        match answer(rt.alloc(), &mut player, line) {
-            Ok(value) => println!(rt; "{line} = {value}")?,
-            Err(fault) => println!(rt; "{line} = {fault}")?,
-        }
+        show(&rt, &mut player, line?.as_str())?;
     }
     Ok(())
 }

@@ -32,17 +32,19 @@ mod lines;
 use crate::answers::{Made, answer};
 use std::io;
 
+/// Prints a line of the table, and behind it what it comes to.
+fn show(rt: &HostRuntime, made: &mut Made, line: &str) -> io::Result<()> {
+    if line.is_empty() || line.starts_with('#') {
+        return println!(rt; "{line}");
+    }
+    let told = answer(rt.alloc(), made, line)?;
+    println!(rt; "{line} = {told}")
+}
+
 fn main(rt: HostRuntime) -> io::Result<()> {
     let mut made = Made::Nothing;
     for line in rt.lines(rt.alloc()) {
-        let line = line?;
-        let line = line.as_str();
-        if line.is_empty() || line.starts_with('#') {
-            println!(rt; "{line}")?;
-            continue;
-        }
-        let told = answer(rt.alloc(), &mut made, line)?;
-        println!(rt; "{line} = {told}")?;
+        show(&rt, &mut made, line?.as_str())?;
     }
     Ok(())
 }
