@@ -1,6 +1,6 @@
 -- What was read of a reader and fed.
 use Rattle.std.proofs.Common.{◌≡◌, ℕ, ◌+◌, ◌-◌, ◌≤◌, List, [], ◌++◌, length, take, None, Some, subst, arith}
-use Rattle.std.specs.Prelude.{IfSome, Result, Ok, Err}
+use Rattle.std.specs.Prelude.{Result, Ok, Err}
 use Rattle.batch_front.specs.declared.fault.FrontFault.{FrontFault}
 use Rattle.std.specs.declared.option.Option.{Option}
 use Rattle.std.specs.Io.KnownBytes.{Appends, Consumes, Keeps, IsAtEnd}
@@ -11,7 +11,7 @@ use Rattle.batch_reader.specs.Feeds.{FeedState, HasCome}
 use Rattle.batch_reader.specs.declared.entry.Batch.{Batch}
 use Rattle.batch_reader.specs.Fates.{JobEntry, IsBatch}
 use Rattle.batch_front.specs.declared.status.Status.{Status}
-use Rattle.batch_front.specs.Inputs.{first_bytes, AreFirstBytes, IsBatchIn, ReadsFirstBytes, ReadsNoFurther}
+use Rattle.batch_front.specs.Inputs.{AreFirstBytes, IsBatchIn, ReadsFirstBytes, ReadsNoFurther}
 use Rattle.batch_front.specs.Reports.{report_of, status_of}
 use Rattle.batch_front.specs.Runs.{WritesReport, WritesFront}
 use Rattle.batch_front.proofs.Bytes.{front_at_stop, front_when_full, reads_more, reads_none}

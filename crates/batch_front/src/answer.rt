@@ -51,8 +51,8 @@ fn jobs_of_caller<A: Allocator + Copy>(
     ensures report { IfOk result (λ r. r.0.items ≡ jobs_text entries) }
     ensures status { IfOk result (λ r. r.1 ≡ jobs_status entries) }
 {
-    let (machine, seats) = seat_jobs(alloc, entries, options)?;
-    let machine = run_on_caller(alloc, machine, &seats, options)?;
+    let (mut machine, seats) = seat_jobs(alloc, entries, options)?;
+    run_on_caller(alloc, &mut machine, &seats, options)?;
     told(alloc, &machine, &seats)
 }
 

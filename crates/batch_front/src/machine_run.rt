@@ -1,6 +1,6 @@
 //! A machine's jobs, run to their ends.
 
-ghost use Rattle.std.specs.Prelude.{◌≡◌, ◌≤◌, All, IfOk};
+ghost use Rattle.std.specs.Prelude.{◌≡◌, ◌≤◌, All, IfOk, OnOk};
 ghost use Rattle.job_steps.specs.Standings.{first_standings};
 ghost use Rattle.batch_front.specs.Seats.{HasRunOut};
 
@@ -13,57 +13,50 @@ use std::sync::Wait;
 use std::thread::Threads;
 use step_scheduler::{Gate, RunFault, run_workers};
 
-/// The machine when its jobs have taken their turns by the schedule, if there is one.
-fn machine_after_schedule<A: Allocator + Copy>(
+/// Lets the jobs of a machine, which all wait, take their turns by the schedule, if there is one.
+fn follow_schedule<A: Allocator + Copy>(
     alloc: A,
-    machine: Machine<A>,
+    machine: &mut Machine<A>,
     seats: &[Seat<A>],
     options: &Options,
-) -> Result<Machine<A>, AllocError>
-    requires { machine.standings ≡ first_standings machine.tasks }
-    ensures { IfOk result (λ m. m.tasks ≡ machine.tasks) }
+) -> Result<(), AllocError>
+    requires { machine.old.standings ≡ first_standings machine.old.tasks }
+    ensures { OnOk result (machine.new.tasks ≡ machine.old.tasks) }
 {
-    let mut machine = machine;
     match &options.schedule {
-        Some(schedule) => {
-            follow(alloc, &mut machine, seats, schedule)?;
-            Ok(machine)
-        }
-        None => Ok(machine),
+        Some(schedule) => follow(alloc, machine, seats, schedule),
+        None => Ok(()),
     }
 }
 
-/// The machine when all its jobs have run to their ends on a desk that serves each.
+/// Runs the jobs of a machine to their ends on a desk that serves each.
 fn run_on_desk<A: Allocator + Clone>(
-    machine: Machine<A>,
+    machine: &mut Machine<A>,
     desk: Desk<A>,
-) -> Result<Machine<A>, AllocError>
-    requires { All (λ task. task.limits.words ≤ desk) machine.tasks }
-    ensures tasks { IfOk result (λ m. m.tasks ≡ machine.tasks) }
-    ensures out { IfOk result HasRunOut }
+) -> Result<(), AllocError>
+    requires { All (λ task. task.limits.words ≤ desk) machine.old.tasks }
+    ensures tasks { OnOk result (machine.new.tasks ≡ machine.old.tasks) }
+    ensures out { OnOk result (HasRunOut machine.new) }
 {
-    let mut machine = machine;
     let (done, _) = machine.run_out(desk);
-    done?;
     let _jobs = machine.jobs();
-    Ok(machine)
+    done
 }
 
 /// Runs the jobs of a machine, which all wait, to their ends on the calling thread, first by the schedule, if there is
 /// one.
 pub(crate) fn run_on_caller<A: Allocator + Copy>(
     alloc: A,
-    machine: Machine<A>,
+    machine: &mut Machine<A>,
     seats: &[Seat<A>],
     options: &Options,
-) -> Result<Machine<A>, AllocError>
-    requires { machine.standings ≡ first_standings machine.tasks }
-    ensures tasks { IfOk result (λ m. m.tasks ≡ machine.tasks) }
-    ensures out { IfOk result HasRunOut }
+) -> Result<(), AllocError>
+    requires { machine.old.standings ≡ first_standings machine.old.tasks }
+    ensures tasks { OnOk result (machine.new.tasks ≡ machine.old.tasks) }
+    ensures out { OnOk result (HasRunOut machine.new) }
 {
-    let machine = machine_after_schedule(alloc, machine, seats, options)?;
-    let words = machine.most_words();
-    let desk = Desk::new(alloc, words)?;
+    follow_schedule(alloc, machine, seats, options)?;
+    let desk = Desk::new(alloc, machine.most_words())?;
     run_on_desk(machine, desk)
 }
 

@@ -1,14 +1,12 @@
 //! The bytes of a batch in, and those of its report out.
 
-ghost use Rattle.std.specs.Prelude.{◌≡◌, ◌⊎◌, ℕ, ◌+◌, ◌≤◌, false, List, [], take, IfOk, IfSome, OnOk, OnErr, IsErrOf};
+ghost use Rattle.std.specs.Prelude.{◌≡◌, ◌⊎◌, ℕ, ◌+◌, ◌≤◌, false, List, [], take, IfOk, OnOk, OnErr, IsErrOf};
 ghost use Rattle.std.specs.Io.KnownBytes.{Appends, Keeps};
 ghost use Rattle.batch_front.specs.declared.device.TheConstants.{MOST_INTERRUPTIONS};
 ghost use Rattle.batch_front.specs.Devices.{inner_of, has_failed, interrupts_of, IsFresh, HasWorked, IsAtFault};
-ghost use Rattle.batch_reader.specs.declared.entry.Batch.{Batch};
-ghost use Rattle.batch_reader.specs.Fates.{IsBatch, JobEntry};
 ghost use Rattle.batch_reader.specs.Feeds.{HasCome, HasFewJobs};
 ghost use Rattle.batch_front.specs.Seats.{BatchFits};
-ghost use Rattle.batch_front.specs.Inputs.{first_bytes, AreFirstBytes, IsBatchIn, ReadsFirstBytes, ReadsNoFurther};
+ghost use Rattle.batch_front.specs.Inputs.{AreFirstBytes, IsBatchIn, ReadsFirstBytes, ReadsNoFurther};
 
 use crate::device::{Device, MOST_INTERRUPTIONS, Trouble};
 use crate::fault::FrontFault;

@@ -7,18 +7,18 @@ use Rattle.batch_front.proofs.answer.jobs_of_caller.Goals as goal
 pub told-requires-clause-seated : goal.told-requires-clause-seated
 told-requires-clause-seated g c = (
   c.args.entries,
-  seated_after _ _ _ _ c.args.entries c.in_ok-machine-2.ensures.tasks c.deref-2.ensures.value
+  seated_after _ _ _ _ c.args.entries c.in_ok-run_on_caller.ensures.tasks c.deref-2.ensures.value
       c.in_ok-machine.ensures.seated,
 )
 
 pub returns-clause-report : goal.returns-clause-report
 returns-clause-report g c =
     IfOk-weaker c.told.result _ (λ r. r.0.items ≡ jobs_text c.args.entries)
-    (λ r h. h c.args.entries (seated_after _ _ _ _ c.args.entries c.in_ok-machine-2.ensures.tasks c.deref-2.ensures.value
+    (λ r h. h c.args.entries (seated_after _ _ _ _ c.args.entries c.in_ok-run_on_caller.ensures.tasks c.deref-2.ensures.value
     c.in_ok-machine.ensures.seated)) c.told.ensures.report
 
 pub returns-clause-status : goal.returns-clause-status
 returns-clause-status g c =
     IfOk-weaker c.told.result _ (λ r. r.1 ≡ jobs_status c.args.entries)
-    (λ r h. h c.args.entries (seated_after _ _ _ _ c.args.entries c.in_ok-machine-2.ensures.tasks c.deref-2.ensures.value
+    (λ r h. h c.args.entries (seated_after _ _ _ _ c.args.entries c.in_ok-run_on_caller.ensures.tasks c.deref-2.ensures.value
     c.in_ok-machine.ensures.seated)) c.told.ensures.status
