@@ -128,6 +128,17 @@ class Memory(Words):
         return f"owner {owner} words {words}"
 
 
+class Plain(Memory):
+    """Each block lies apart: room is all that counts, and none moves."""
+
+    def make_room(self, length):
+        self.pack()
+
+    def told(self):
+        self.moved = 0
+        return super().told()
+
+
 class Packed(Memory):
     def make_room(self, length):
         self.pack()
@@ -143,13 +154,13 @@ class Sliding(Memory):
             self.put(place, block + [None] * hole)
 
 
-MADE = {"holes": Holes, "packed": Packed, "sliding": Sliding}
+MADE = {"holes": Holes, "plain": Plain, "packed": Packed, "sliding": Sliding}
 CALLS = {
     Holes: {"take": Holes.take, "give": Holes.give, "reset": Holes.reset},
     Memory: {"place": Memory.place, "free": Memory.free_block, "pack": Memory.pack, "words": Memory.words_of},
 }
 # How many operands a word has, but `place`, which has an owner and any words.
-OPERANDS = {"holes": 2, "packed": 2, "sliding": 2, "take": 1, "give": 2, "reset": 1, "free": 1, "pack": 0, "words": 1}
+OPERANDS = {"holes": 2, "plain": 2, "packed": 2, "sliding": 2, "take": 1, "give": 2, "reset": 1, "free": 1, "pack": 0, "words": 1}
 
 
 def numbers_of(texts, least, greatest):
@@ -216,7 +227,7 @@ class RandomTable:
         pick, between = self.random.choice, self.random.randint
         if pick([True, False]):
             return f"holes {pick(SIZES)} {pick([0, 1, 1, 2, 2, 3, 3, 4, 8, 100])}"
-        return f"{pick(['packed', 'sliding'])} {between(12, 300)} {pick([0, 1, 4, 8, 8, 16, 16, 16, 40, 40, 40])}"
+        return f"{pick(['plain', 'packed', 'sliding'])} {between(12, 300)} {pick([0, 1, 4, 8, 8, 16, 16, 16, 40, 40, 40])}"
 
     def noise(self):
         return self.random.choice(["take", "take 1 2", "take -1", "take x", "take  1", "give 1", "give 1 ", "pack 1", "places 1", "place", "place x",
@@ -280,16 +291,39 @@ class RandomTable:
         return " ".join(map(str, ["place", self.random.randint(0, 9), *words]))
 
 
-# The first and the third of five blocks are freed, and two words of one block slide down for four words.
-SLIDES = ["sliding 12 6", "place 1 1 2", "place 2 3 4", "place 1 5 6", "place 2 7 8", "place 1 9 10", "free 0", "free 2", "place 3 -1 -2 -3 -4",
-          "words 1", "words 3", "words 4", "words 5", "place 1 11 12"]
-# The same in a memory that packs: three blocks move.
-PACKS = ["packed 12 6", *SLIDES[1:]]
+MEMORIES = ["plain", "packed", "sliding"]
+# The first and the third of five blocks are freed, and the words of the others move for four words, or none do.
+MOVES = ["place 1 1 2", "place 2 3 4", "place 1 5 6", "place 2 7 8", "place 1 9 10", "free 0", "free 2", "place 3 -1 -2 -3 -4",
+         "words 1", "words 3", "words 4", "words 5", "place 1 11 12"]
+# The lowest hole that is long enough is taken of, and what is given back joins the holes on both sides.
+TAKES = ["holes 10 4", "take 3", "take 4", "take 3", "take 1", "give 0 3", "give 7 3", "take 4", "give 3 4", "take 4"]
+# What is left of a hole joins the next one.
+JOINS = ["holes 8 3", "take 4", "give 1 1", "take 2", "give 2 4", "take 7"]
+RESETS = ["holes 10 1", "reset 4", "take 6", "reset 10", "take 1", "reset 0", "take 10"]
+# The first of three blocks is freed and another fills its words and the last one; then no word is left, only a block of none.
+FILLS = ["place 1 1 2 3", "place 2 4 5 6 7", "place 1 8 9", "free 0", "place 2 1 1 1 1", "words 1", "words 2", "words 3", "place 1 0", "place 1",
+         "words 4", "free 2", "free 4", "pack", "words 1", "words 3"]
+# Of ten blocks of seven words every other is freed, and one block takes the words of all five.
+WIDENS = [*(f"place {number}{7 * f' {number}'}" for number in range(10)), *(f"free {number}" for number in range(0, 10, 2)),
+          f"place 10{35 * ' -1'}", *(f"words {number}" for number in [10, 1, 3, 5, 7, 9])]
+# Blocks of no words in a memory of none.
+EMPTIES = ["place 3", "place 4", "words 0", "free 0", "place 5 0", "pack", "words 1"]
+
+
+def chosen_rows():
+    """The rows that were thought of, in their sections."""
+    yield from ["# Nothing is made yet.", "take 1", "pack"]
+    for told, rows in [("Taken of the lowest hole", TAKES), ("Given back between holes", JOINS), ("Made free from a place on", RESETS)]:
+        yield from ["", f"# {told}.", *rows]
+    for told, sizes, rows in [("Blocks move or not", "12 6", MOVES), ("A gap is filled", "10 4", FILLS),
+                              ("As wide as all holes together", "70 10", WIDENS), ("No words", "0 2", EMPTIES)]:
+        for memory in MEMORIES:
+            yield from ["", f"# {told}: {memory}.", f"{memory} {sizes}", *rows]
 
 
 def main(seed=1, count=2_000):
     table, cases = Table(), RandomTable(random.Random(int(seed)))
-    rows = ["# Nothing is made yet.", "take 1", "pack", "", "# Two words slide down.", *SLIDES, "", "# Six words move.", *PACKS, "", "# Random calls."]
+    rows = [*chosen_rows(), "", "# Random calls."]
     told = [line if line == "" or line.startswith("#") else f"{line} = {table.answer(line)}" for line in rows]
     random_rows = [cases.case() for _ in range(count)]
     (CRATE / "stdin").write_text("".join(f"{line}\n" for line in [*rows, *(line for line, _ in random_rows)]))

@@ -1,8 +1,9 @@
 //! A machine's jobs, run to their ends.
 
-ghost use Rattle.std.specs.Prelude.{◌≡◌, ◌≤◌, All, IfOk, OnOk};
+ghost use Rattle.std.specs.Prelude.{◌≡◌, ◌≤◌, All, IfOk, IfSome, IfNone, OnOk};
 ghost use Rattle.job_steps.specs.Standings.{first_standings};
 ghost use Rattle.batch_front.specs.Seats.{HasRunOut};
+ghost use Rattle.batch_front.specs.Turns.{after_schedule};
 
 use crate::follow::follow;
 use crate::options::Options;
@@ -21,7 +22,10 @@ fn follow_schedule<A: Allocator + Copy>(
     options: &Options,
 ) -> Result<(), AllocError>
     requires { machine.old.standings ≡ first_standings machine.old.tasks }
-    ensures { OnOk result (machine.new.tasks ≡ machine.old.tasks) }
+    ensures followed { OnOk result (IfSome options.now.schedule
+        (λ schedule. machine.new ≡ after_schedule seats.now schedule.items machine.old)) }
+    ensures unchanged { OnOk result (IfNone options.now.schedule (machine.new ≡ machine.old)) }
+    ensures tasks { OnOk result (machine.new.tasks ≡ machine.old.tasks) }
 {
     match &options.schedule {
         Some(schedule) => follow(alloc, machine, seats, schedule),

@@ -101,7 +101,7 @@ fn run_twice<A: Allocator + Clone>(
     Ok(start.elapsed(rt)?.as_nanos())
 }
 
-/// Runs the load over a memory that was just made.
+/// Runs a load over a memory of no blocks, and answers how long it took.
 fn run_new<A: Allocator + Clone>(
     rt: &impl Runtime,
     load: Load,
@@ -112,11 +112,21 @@ fn run_new<A: Allocator + Clone>(
     run_twice(rt, load, memory, &mut blocks, &words)
 }
 
+/// Runs a load over a memory of no blocks, and prints what came of it.
+fn run_load<A: Allocator + Clone>(
+    rt: &impl Runtime,
+    load: Load,
+    memory: &mut Memory<A>,
+    is_timed: bool,
+) -> io::Result<()> {
+    let took = run_new(rt, load, memory)?;
+    show(rt, load, memory, is_timed.then_some(took))
+}
+
 /// Runs the short load, or the long one and times it.
 pub fn run(rt: &impl Runtime, is_timed: bool) -> io::Result<()> {
     let load = if is_timed { LONG } else { SHORT };
     let region = RegionMemory::new(rt.alloc(), load.region, load.blocks)?;
     let mut memory = SharedMemory::new(rt.alloc(), region)?;
-    let took = run_new(rt, load, &mut memory)?;
-    show(rt, load, &memory, is_timed.then_some(took))
+    run_load(rt, load, &mut memory, is_timed)
 }

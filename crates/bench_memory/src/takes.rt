@@ -137,24 +137,41 @@ fn show<A: Allocator + Clone>(rt: &impl Runtime, load: Load, spans: &Spans<A>) -
 }
 
 /// Runs some turns first and then those that are timed.
-fn run_load(rt: &impl Runtime, load: Load, first: usize, turns: usize) -> io::Result<u128> {
-    let mut spans = Spans::new(rt.alloc(), MOST_WORDS, load.numbers)?;
-    churn(load, &mut spans, first);
+fn run_turns<A: Allocator + Clone>(
+    rt: &impl Runtime,
+    load: Load,
+    spans: &mut Spans<A>,
+    first: usize,
+    turns: usize,
+) -> io::Result<u128> {
+    churn(load, spans, first);
     let start = Instant::now(rt)?;
-    churn(load, &mut spans, turns);
+    churn(load, spans, turns);
     let took = start.elapsed(rt)?.as_nanos();
-    show(rt, load, &spans)?;
+    show(rt, load, spans)?;
     Ok(took)
 }
 
+/// Runs a load in a region of which no number has words yet.
+fn run_load(rt: &impl Runtime, load: Load, first: usize, turns: usize) -> io::Result<u128> {
+    let mut spans = Spans::new(rt.alloc(), MOST_WORDS, load.numbers)?;
+    run_turns(rt, load, &mut spans, first, turns)
+}
+
 /// Makes all words of the region free, again and again, and answers how long that took.
-fn run_resets(rt: &impl Runtime) -> io::Result<u128> {
-    let mut holes = Holes::new(rt.alloc(), MOST_WORDS, 1)?;
+fn time_resets<A: Allocator + Clone>(rt: &impl Runtime, holes: &mut Holes<A>) -> io::Result<u128> {
     let start = Instant::now(rt)?;
     for _ in 0..RESETS {
         holes.reset(0);
     }
     Ok(start.elapsed(rt)?.as_nanos())
+}
+
+/// Prints how long resets take.
+fn show_resets(rt: &impl Runtime) -> io::Result<()> {
+    let mut holes = Holes::new(rt.alloc(), MOST_WORDS, 1)?;
+    let took = time_resets(rt, &mut holes)?;
+    println!(rt; "{took} nanoseconds for {RESETS} resets")
 }
 
 /// Runs short loads; or long ones, after each number had about ten turns, and times them and resets.
@@ -168,7 +185,7 @@ pub fn run(rt: &impl Runtime, is_timed: bool) -> io::Result<()> {
         }
     }
     if is_timed {
-        println!(rt; "{} nanoseconds for {RESETS} resets", run_resets(rt)?)?;
+        show_resets(rt)?;
     }
     Ok(())
 }

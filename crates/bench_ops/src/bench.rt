@@ -203,8 +203,8 @@ fn part_rows<'a>(
     row(rt, load, "PACK INT", pack, &[values, truth, lengths])
 }
 
-/// The lines of the instructions that take elements or indices of the segments' own, or flags.
-fn part_and_move_rows<'a, R: Runtime>(
+/// The lines of the instructions that move elements by their indices, and of those that take some of them.
+fn move_and_part_rows<'a, R: Runtime>(
     rt: &R,
     load: Load,
     values: &'a [i64],
@@ -233,5 +233,5 @@ pub fn segment_rows<R: Runtime>(rt: &R, shown: Shown, segments: usize, size: u32
     fold_rows(rt, load, values, lengths)?;
     let each = &shifts(rt.alloc(), segments)?;
     spread_rows(rt, load, each, lengths)?;
-    part_and_move_rows(rt, load, values, each, lengths, size)
+    move_and_part_rows(rt, load, values, each, lengths, size)
 }

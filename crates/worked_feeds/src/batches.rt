@@ -7,7 +7,8 @@ use crate::sweeps::{is_read_however_cut, tells_each_refusal};
 use batch_reader::{Batch, BatchFault, Fate, Feed, JobEntries, JobEntry, JobFault};
 use linked_list_allocator::LocalHeap;
 use signatures::SignatureFault;
-use std::alloc::{AllocError, Allocator};
+use std::alloc::{AllocError, Allocator, Global};
+use std::process::Abort;
 use std::test::Fail;
 use vcode_reader::CodeFault;
 use verifier::KindFault;
@@ -87,12 +88,8 @@ fn is_told<A: Allocator>(
     entry.name.as_slice() == name.as_bytes() && told == refusal
 }
 
-#[test]
-fn five_jobs_have_these_fates(rt: HostRuntime) -> Result<(), Fail> {
-    let Batch::Jobs(entries) = read(rt.alloc(), FIVE_JOBS)? else {
-        return Err(Fail::from("the batch is refused"));
-    };
-    let entries = entries.as_slice();
+/// The five jobs have their names, and are refused or not.
+fn are_the_five(rt: &impl Abort, entries: &[JobEntry<Global>]) {
     assert_eq!(rt; entries.len(), 5);
     for (place, name, refusal) in [
         (0, "runs", None),
@@ -111,6 +108,14 @@ fn five_jobs_have_these_fates(rt: HostRuntime) -> Result<(), Fail> {
     ] {
         assert!(rt; is_told(entries.get(place), name, refusal), "{name}");
     }
+}
+
+#[test]
+fn five_jobs_have_these_fates(rt: HostRuntime) -> Result<(), Fail> {
+    let Batch::Jobs(entries) = read(rt.alloc(), FIVE_JOBS)? else {
+        return Err(Fail::from("the batch is refused"));
+    };
+    are_the_five(&rt, entries.as_slice());
     Ok(())
 }
 

@@ -107,16 +107,28 @@ pub(crate) fn read_in_pieces<'h, R: Reader<'h>>(
         return Ok(Course::Wrong);
     }
     let whole = R::at_once(heap, text);
+    read_beside::<R>(heap, text, cuts, shortage, &whole)
+}
+
+/// What a text comes to in pieces, beside what it comes to in one.
+fn read_beside<'h, R: Reader<'h>>(
+    heap: &'h LocalHeap,
+    text: &[u8],
+    cuts: Cuts,
+    shortage: &mut Shortage<'h>,
+    whole: &R::Reading,
+) -> Result<Course, AllocError>
+    requires { length text.now ≤ MOST_BYTES }
+{
     shortage.next_call()?;
     let Ok(mut reader) = R::begin(heap) else {
         return Ok(Course::Refused);
     };
     let course = feed_pieces(&mut reader, text, cuts, shortage)?;
-    shortage.next_call()?;
-    Ok(course.at_end(reader.end_beside(&whole)))
+    Ok(course.at_end(reader.end_beside(whole)))
 }
 
-/// Feeds a text in pieces.
+/// Feeds a text in pieces, up to the call that ends it.
 fn feed_pieces<'h, R: Reader<'h>>(
     reader: &mut R,
     text: &[u8],
@@ -142,5 +154,6 @@ fn feed_pieces<'h, R: Reader<'h>>(
             break;
         }
     }
+    shortage.next_call()?;
     Ok(course)
 }

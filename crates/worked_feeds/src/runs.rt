@@ -35,25 +35,29 @@ fn ending(heap: &LocalHeap, alloc: Global) -> (Result<Status, FrontFault>, Vec<u
     (outcome, writer.into_inner())
 }
 
-/// Whether a run over a heap of so many bytes writes the whole report. If it doesn't, it wants memory and writes nothing.
-fn is_whole(rt: &impl Abort, alloc: Global, size: usize) -> Result<bool, AllocError> {
+/// Whether a run over this heap writes the whole report. If it doesn't, it wants memory and writes nothing.
+fn is_whole(rt: &impl Abort, alloc: Global, heap: &LocalHeap) -> bool {
+    let (outcome, written) = ending(heap, alloc);
+    let is_whole = outcome == Ok(Status::SomeNot);
+    assert!(rt; is_whole || outcome == Err(FrontFault::Memory));
+    let report = if is_whole { REPORT } else { b"" };
+    assert_eq!(rt; written.as_slice(), report);
+    is_whole
+}
+
+/// The same of a heap of so many bytes, of which a run keeps none.
+fn is_whole_over(rt: &impl Abort, alloc: Global, size: usize) -> Result<bool, AllocError> {
     let heap = LocalHeap::new(alloc, size)?;
-    let (outcome, written) = ending(&heap, alloc);
-    assert_eq!(rt; heap.used(), 0);
-    if outcome == Ok(Status::SomeNot) {
-        assert_eq!(rt; written.as_slice(), REPORT);
-        return Ok(true);
-    }
-    assert_eq!(rt; outcome, Err(FrontFault::Memory), "{size}");
-    assert!(rt; written.is_empty());
-    Ok(false)
+    let is_whole = is_whole(rt, alloc, &heap);
+    assert_eq!(rt; heap.used(), 0, "{size}");
+    Ok(is_whole)
 }
 
 #[test]
 fn a_run_ends_whole_or_with_nothing(rt: HostRuntime) -> Result<(), Fail> {
-    assert!(rt; !is_whole(&rt, rt.alloc(), 0)?);
+    assert!(rt; !is_whole_over(&rt, rt.alloc(), 0)?);
     for size in (LEAST_BLOCK..MOST_BYTES).step_by(LEAST_BLOCK) {
-        if is_whole(&rt, rt.alloc(), size)? {
+        if is_whole_over(&rt, rt.alloc(), size)? {
             return Ok(());
         }
     }

@@ -74,6 +74,19 @@ pub(crate) fn tells_each_refusal<'h, R: Reader<'h>>(
     Ok(())
 }
 
+/// What a text comes to over a heap of which at most so many bytes are left before the call of this number.
+fn course_in_want<'h, R: Reader<'h>>(
+    alloc: Global,
+    heap: &'h LocalHeap,
+    text: &[u8],
+    cuts: Cuts,
+    call: usize,
+    spare: usize,
+) -> Result<Course, AllocError> {
+    let mut shortage = Shortage::before(alloc, heap, call, spare);
+    read_in_pieces::<R>(heap, text, cuts, &mut shortage)
+}
+
 /// How many refusals there are before the heap has room enough that is taken before the call of this number.
 fn refusals_from<'h, R: Reader<'h>>(
     rt: &impl Abort,
@@ -84,9 +97,7 @@ fn refusals_from<'h, R: Reader<'h>>(
     call: usize,
 ) -> Result<usize, AllocError> {
     for spare in (0..HEAP).step_by(LEAST_BLOCK) {
-        let mut shortage = Shortage::before(alloc, heap, call, spare);
-        let course = read_in_pieces::<R>(heap, text, cuts, &mut shortage)?;
-        shortage.end();
+        let course = course_in_want::<R>(alloc, heap, text, cuts, call, spare)?;
         assert_eq!(rt; heap.used(), 0);
         if course == Course::Right {
             return Ok(spare / LEAST_BLOCK);

@@ -40,10 +40,14 @@ fn show(rt: &HostRuntime, player: &mut Option<Player>, line: &str) -> io::Result
     }
 }
 
-fn main(rt: HostRuntime) -> io::Result<()> {
-    let mut player = None;
+/// Prints the lines of the table, each with what it comes to.
+fn show_all(rt: &HostRuntime, player: &mut Option<Player>) -> io::Result<()> {
     for line in rt.lines(rt.alloc()) {
-        show(&rt, &mut player, line?.as_str())?;
+        show(rt, player, line?.as_str())?;
     }
     Ok(())
+}
+
+fn main(rt: HostRuntime) -> io::Result<()> {
+    show_all(&rt, &mut None)
 }

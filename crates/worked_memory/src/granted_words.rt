@@ -2,10 +2,25 @@
 ghost use Rattle.std.specs.Prelude.{IsSome};
 ghost use Rattle.reservations.specs.BookState.{IsJob, grant_of};
 
-use reservations::{Book, Grant, NotNow, Spent};
+use crate::granted_words::Call::{Charge, Close, Grant, Has, Refund};
+use reservations::{self, Book, NotNow, Spent};
 use std::alloc::Global;
 use std::process::Abort;
 use std::test::Fail;
+
+/// A call of a book for a job, with the words and what it is to come to.
+#[derive(Clone, Copy)]
+enum Call {
+    /// For a job that has no grant.
+    Grant(usize, usize, Result<(), NotNow>),
+    Charge(usize, usize, Result<(), Spent>),
+    /// Of words that the job holds.
+    Refund(usize, usize),
+    /// For a job that holds nothing.
+    Close(usize),
+    /// The job has this grant, and so many words are granted in all.
+    Has(usize, Option<reservations::Grant>, usize),
+}
 
 /// The job is one of the book's.
 fn is_job(rt: &impl Abort, book: &Book<Global>, job: usize)
@@ -24,93 +39,133 @@ fn has_grant(rt: &impl Abort, book: &Book<Global>, job: usize)
     assert!(rt; book.grant_of(job).is_some());
 }
 
-/// Asks for words for a job that has no grant.
-fn grant(rt: &impl Abort, book: &mut Book<Global>, job: usize, words: usize) -> Result<(), NotNow> {
+fn grants(
+    rt: &impl Abort,
+    book: &mut Book<Global>,
+    job: usize,
+    words: usize,
+    answer: Result<(), NotNow>,
+) {
     is_job(rt, book, job);
     assert!(rt; book.grant_of(job).is_none());
-    book.grant(job, words)
+    assert_eq!(rt; book.grant(job, words), answer, "{job} and {words}");
 }
 
-/// Asks for `n` words of a job's grant.
-fn charge(rt: &impl Abort, book: &mut Book<Global>, job: usize, n: usize) -> Result<(), Spent> {
+fn charges(
+    rt: &impl Abort,
+    book: &mut Book<Global>,
+    job: usize,
+    words: usize,
+    answer: Result<(), Spent>,
+) {
     has_grant(rt, book, job);
-    book.charge(job, n)
+    assert_eq!(rt; book.charge(job, words), answer, "{job} and {words}");
 }
 
-/// Gives `n` words back to a job's grant.
-fn refund(rt: &impl Abort, book: &mut Book<Global>, job: usize, n: usize) {
+fn refunds(rt: &impl Abort, book: &mut Book<Global>, job: usize, words: usize) {
     has_grant(rt, book, job);
-    assert!(rt; n <= book.held(job));
-    book.refund(job, n);
+    assert!(rt; words <= book.held(job));
+    book.refund(job, words);
 }
 
-/// Ends a job's grant, of which it holds nothing.
-fn close(rt: &impl Abort, book: &mut Book<Global>, job: usize) {
+fn closes(rt: &impl Abort, book: &mut Book<Global>, job: usize) {
     has_grant(rt, book, job);
     assert!(rt; book.held(job) == 0);
     book.close(job);
 }
 
-/// The job has this grant, and so many words are granted in all.
-fn has(rt: &impl Abort, book: &Book<Global>, job: usize, expected: Option<Grant>, granted: usize) {
+fn has(
+    rt: &impl Abort,
+    book: &Book<Global>,
+    job: usize,
+    expected: Option<reservations::Grant>,
+    granted: usize,
+) {
     is_job(rt, book, job);
-    assert_eq!(rt; book.grant_of(job), expected);
-    assert_eq!(rt; book.held(job), expected.map_or(0, |grant| grant.held));
+    let held = expected.map_or(0, |grant| grant.held);
+    assert_eq!(rt; (book.grant_of(job), book.held(job)), (expected, held));
     assert_eq!(rt; book.granted(), granted);
+}
+
+/// Makes the calls, one after another.
+fn follows(rt: &impl Abort, book: &mut Book<Global>, calls: &[Call]) {
+    for call in calls {
+        match *call {
+            Grant(job, words, answer) => grants(rt, book, job, words, answer),
+            Charge(job, words, answer) => charges(rt, book, job, words, answer),
+            Refund(job, words) => refunds(rt, book, job, words),
+            Close(job) => closes(rt, book, job),
+            Has(job, grant, granted) => has(rt, book, job, grant, granted),
+        }
+    }
+}
+
+/// A grant of so many words, of which so many are held.
+fn grant(words: usize, held: usize) -> Option<reservations::Grant> {
+    Some(reservations::Grant { words, held })
 }
 
 #[test]
 fn grants_up_to_the_region(rt: HostRuntime) -> Result<(), Fail> {
     let mut book = Book::new(rt.alloc(), 10, 3)?;
     assert_eq!(rt; (book.region(), book.jobs(), book.granted()), (10, 3, 0));
-    assert_eq!(rt; grant(&rt, &mut book, 1, 11), Err(NotNow));
-    assert_eq!(rt; grant(&rt, &mut book, 1, 4), Ok(()));
-    assert_eq!(rt; grant(&rt, &mut book, 3, 7), Err(NotNow));
-    has(&rt, &book, 3, None, 4);
-    assert_eq!(rt; grant(&rt, &mut book, 3, 6), Ok(()));
-    has(&rt, &book, 1, Some(Grant { words: 4, held: 0 }), 10);
-    has(&rt, &book, 3, Some(Grant { words: 6, held: 0 }), 10);
-    assert_eq!(rt; grant(&rt, &mut book, 2, 1), Err(NotNow));
-    assert_eq!(rt; grant(&rt, &mut book, 2, 0), Ok(()));
-    has(&rt, &book, 2, Some(Grant { words: 0, held: 0 }), 10);
+    let calls = [
+        Grant(1, 11, Err(NotNow)),
+        Grant(1, 4, Ok(())),
+        Grant(3, 7, Err(NotNow)),
+        Has(3, None, 4),
+        Grant(3, 6, Ok(())),
+        Has(1, grant(4, 0), 10),
+        Has(3, grant(6, 0), 10),
+        Grant(2, 1, Err(NotNow)),
+        Grant(2, 0, Ok(())),
+        Has(2, grant(0, 0), 10),
+    ];
+    follows(&rt, &mut book, &calls);
     Ok(())
 }
 
 #[test]
 fn charges_up_to_the_grant(rt: HostRuntime) -> Result<(), Fail> {
     let mut book = Book::new(rt.alloc(), 10, 2)?;
-    assert_eq!(rt; grant(&rt, &mut book, 1, 5), Ok(()));
-    assert_eq!(rt; grant(&rt, &mut book, 2, 0), Ok(()));
-    assert_eq!(rt; charge(&rt, &mut book, 1, 6), Err(Spent));
-    assert_eq!(rt; charge(&rt, &mut book, 1, 3), Ok(()));
-    assert_eq!(rt; charge(&rt, &mut book, 1, 3), Err(Spent));
-    has(&rt, &book, 1, Some(Grant { words: 5, held: 3 }), 5);
-    assert_eq!(rt; charge(&rt, &mut book, 1, 2), Ok(()));
-    has(&rt, &book, 1, Some(Grant { words: 5, held: 5 }), 5);
-    assert_eq!(rt; charge(&rt, &mut book, 1, 1), Err(Spent));
-    assert_eq!(rt; charge(&rt, &mut book, 1, 0), Ok(()));
-    assert_eq!(rt; charge(&rt, &mut book, 2, 1), Err(Spent));
-    assert_eq!(rt; charge(&rt, &mut book, 2, 0), Ok(()));
-    refund(&rt, &mut book, 1, 4);
-    has(&rt, &book, 1, Some(Grant { words: 5, held: 1 }), 5);
-    assert_eq!(rt; charge(&rt, &mut book, 1, 4), Ok(()));
+    let calls = [
+        Grant(1, 5, Ok(())),
+        Grant(2, 0, Ok(())),
+        Charge(1, 6, Err(Spent)),
+        Charge(1, 3, Ok(())),
+        Charge(1, 3, Err(Spent)),
+        Has(1, grant(5, 3), 5),
+        Charge(1, 2, Ok(())),
+        Has(1, grant(5, 5), 5),
+        Charge(1, 1, Err(Spent)),
+        Charge(1, 0, Ok(())),
+        Charge(2, 1, Err(Spent)),
+        Charge(2, 0, Ok(())),
+        Refund(1, 4),
+        Has(1, grant(5, 1), 5),
+        Charge(1, 4, Ok(())),
+    ];
+    follows(&rt, &mut book, &calls);
     Ok(())
 }
 
 #[test]
 fn grants_anew_what_was_closed(rt: HostRuntime) -> Result<(), Fail> {
     let mut book = Book::new(rt.alloc(), 10, 2)?;
-    assert_eq!(rt; grant(&rt, &mut book, 1, 10), Ok(()));
-    assert_eq!(rt; grant(&rt, &mut book, 2, 10), Err(NotNow));
-    assert_eq!(rt; charge(&rt, &mut book, 1, 10), Ok(()));
-    refund(&rt, &mut book, 1, 10);
-    close(&rt, &mut book, 1);
-    has(&rt, &book, 1, None, 0);
-    assert_eq!(rt; grant(&rt, &mut book, 2, 10), Ok(()));
-    has(&rt, &book, 2, Some(Grant { words: 10, held: 0 }), 10);
-    close(&rt, &mut book, 2);
-    assert_eq!(rt; grant(&rt, &mut book, 1, 1), Ok(()));
-    has(&rt, &book, 1, Some(Grant { words: 1, held: 0 }), 1);
+    let calls = [
+        Grant(1, 10, Ok(())),
+        Grant(2, 10, Err(NotNow)),
+        Charge(1, 10, Ok(())),
+        Refund(1, 10),
+        Close(1),
+        Has(1, None, 0),
+        Grant(2, 10, Ok(())),
+        Has(2, grant(10, 0), 10),
+        Close(2),
+        Grant(1, 1, Ok(())),
+        Has(1, grant(1, 0), 1),
+    ];
+    follows(&rt, &mut book, &calls);
     Ok(())
 }
 
@@ -118,32 +173,17 @@ fn grants_anew_what_was_closed(rt: HostRuntime) -> Result<(), Fail> {
 fn counts_to_the_largest_size(rt: HostRuntime) -> Result<(), Fail> {
     let size = usize::MAX;
     let mut book = Book::new(rt.alloc(), size, 2)?;
-    assert_eq!(rt; grant(&rt, &mut book, 1, size), Ok(()));
-    assert_eq!(rt; grant(&rt, &mut book, 2, 1), Err(NotNow));
-    assert_eq!(rt; charge(&rt, &mut book, 1, 2), Ok(()));
-    assert_eq!(rt; charge(&rt, &mut book, 1, size), Err(Spent));
-    assert_eq!(rt; charge(&rt, &mut book, 1, size - 2), Ok(()));
-    has(
-        &rt,
-        &book,
-        1,
-        Some(Grant {
-            words: size,
-            held: size,
-        }),
-        size,
-    );
-    refund(&rt, &mut book, 1, size);
-    has(
-        &rt,
-        &book,
-        1,
-        Some(Grant {
-            words: size,
-            held: 0,
-        }),
-        size,
-    );
+    let calls = [
+        Grant(1, size, Ok(())),
+        Grant(2, 1, Err(NotNow)),
+        Charge(1, 2, Ok(())),
+        Charge(1, size, Err(Spent)),
+        Charge(1, size - 2, Ok(())),
+        Has(1, grant(size, size), size),
+        Refund(1, size),
+        Has(1, grant(size, 0), size),
+    ];
+    follows(&rt, &mut book, &calls);
     Ok(())
 }
 

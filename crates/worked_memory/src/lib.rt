@@ -1,13 +1,12 @@
-//! Worked runs over holes, vector memories, counted references and books of reservations.
+//! Worked runs over the largest regions, counted references and books of reservations.
 //!
-//! This crate has tests alone.
+//! This crate has tests alone. Calls on holes and on memories of a small region are rows of a table, which
+//! `worked_regions` reads.
 #![tactic(auto)]
 
 #[cfg(test)]
 mod counted_blocks;
 #[cfg(test)]
-mod free_words;
-#[cfg(test)]
 mod granted_words;
 #[cfg(test)]
-mod placed_blocks;
+mod largest_regions;

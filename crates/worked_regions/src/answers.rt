@@ -3,7 +3,7 @@
 use crate::blocks::{Blocks, Placing};
 use crate::free_words::FreeWords;
 use crate::lines::{Line, read_line};
-use block_memory::{NoRoom, RegionMemory, SlidingMemory, VectorMemory};
+use block_memory::{NoRoom, PlainMemory, RegionMemory, SlidingMemory, VectorMemory};
 use std::alloc::{AllocError, Global};
 
 /// What the last line made that makes something.
@@ -11,6 +11,7 @@ use std::alloc::{AllocError, Global};
 pub enum Made {
     Nothing,
     Holes(FreeWords),
+    Plain(Blocks<PlainMemory<Global>>),
     Packed(Blocks<RegionMemory<Global>>),
     Sliding(Blocks<SlidingMemory<Global>>),
 }
@@ -34,6 +35,10 @@ fn make(alloc: Global, line: &Line) -> Result<Option<Made>, AllocError> {
         Line::Holes { size, most } if *most >= 1 => {
             Ok(Some(Made::Holes(FreeWords::new(alloc, *size, *most)?)))
         }
+        Line::Plain { size, most } => {
+            let memory = PlainMemory::new(alloc, *size, *most)?;
+            Ok(Some(Made::Plain(Blocks::new(alloc, memory))))
+        }
         Line::Packed { size, most } => {
             let memory = RegionMemory::new(alloc, *size, *most)?;
             Ok(Some(Made::Packed(Blocks::new(alloc, memory))))
@@ -51,6 +56,7 @@ fn told(alloc: Global, what: &str, made: &Made) -> Result<String, AllocError> {
     match made {
         Made::Nothing => String::from_str(alloc, what),
         Made::Holes(words) => holes_told(alloc, what, words),
+        Made::Plain(blocks) => blocks_told(alloc, what, blocks, 0),
         Made::Packed(blocks) => blocks_told(alloc, what, blocks, blocks.memory().moved()),
         Made::Sliding(blocks) => blocks_told(alloc, what, blocks, blocks.memory().moved()),
     }
@@ -77,6 +83,7 @@ fn call(alloc: Global, made: &mut Made, line: &Line) -> Result<String, AllocErro
     match made {
         Made::Nothing => String::from_str(alloc, "refused"),
         Made::Holes(words) => call_holes(alloc, words, line),
+        Made::Plain(blocks) => call_blocks(alloc, blocks, line),
         Made::Packed(blocks) => call_blocks(alloc, blocks, line),
         Made::Sliding(blocks) => call_blocks(alloc, blocks, line),
     }

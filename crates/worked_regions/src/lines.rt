@@ -11,6 +11,7 @@ pub enum Line {
     Give { place: usize, len: usize },
     Reset { place: usize },
     /// A memory of so many words in at most so many blocks.
+    Plain { size: usize, most: usize },
     Packed { size: usize, most: usize },
     Sliding { size: usize, most: usize },
     Place { owner: usize, words: Vec<i64> },
@@ -54,6 +55,10 @@ fn line_of_two(word: &str, operands: &str) -> Option<Line> {
         "give" => Some(Line::Give {
             place: first,
             len: second,
+        }),
+        "plain" => Some(Line::Plain {
+            size: first,
+            most: second,
         }),
         "packed" => Some(Line::Packed {
             size: first,

@@ -10,6 +10,7 @@
 //! | `take LEN` | takes words, and tells their place, or `none` |
 //! | `give PLACE LEN` | gives words back |
 //! | `reset PLACE` | makes exactly the words from a place on free |
+//! | `plain WORDS BLOCKS` | makes a memory in which each block lies apart and none moves |
 //! | `packed WORDS BLOCKS` | makes a memory that moves all blocks together at once |
 //! | `sliding WORDS BLOCKS` | makes a memory that slides blocks down one after another |
 //! | `place OWNER WORD ..` | places a block, and tells its number, or `full` |
@@ -41,10 +42,14 @@ fn show(rt: &HostRuntime, made: &mut Made, line: &str) -> io::Result<()> {
     println!(rt; "{line} = {told}")
 }
 
-fn main(rt: HostRuntime) -> io::Result<()> {
-    let mut made = Made::Nothing;
+/// Prints the lines of the table, each with what it comes to.
+fn show_all(rt: &HostRuntime, made: &mut Made) -> io::Result<()> {
     for line in rt.lines(rt.alloc()) {
-        show(&rt, &mut made, line?.as_str())?;
+        show(rt, made, line?.as_str())?;
     }
     Ok(())
+}
+
+fn main(rt: HostRuntime) -> io::Result<()> {
+    show_all(&rt, &mut Made::Nothing)
 }

@@ -2,7 +2,7 @@
 use batch_front::{Device, FrontFault, Options, Status, run_alone};
 use std::alloc::Global;
 use std::io::{Error, ErrorKind, Read, Result as IoResult, Write, repeat};
-use std::test::Fail;
+use std::process::Abort;
 use vcode_base::limits::MOST_BATCH_BYTES;
 
 const BATCH: &[u8] =
@@ -86,17 +86,33 @@ impl Write for Writer {
     }
 }
 
-/// What a run over these devices came to, and what was written.
-fn run(alloc: Global, reader: Reader, writer: Writer) -> (Result<Status, FrontFault>, Vec<u8>) {
-    let mut reader = Device::new(reader);
-    let mut writer = Device::new(writer);
+/// What a run from this reader to this writer came to, and the writer.
+fn ending<R: Read + Drop, W: Write + Drop>(
+    alloc: Global,
+    reader: R,
+    writer: W,
+) -> (Result<Status, FrontFault>, W) {
     let options = Options {
         region: 64,
         workers: 1,
         schedule: None,
     };
-    let outcome = run_alone(alloc, &mut reader, &mut writer, &options);
-    (outcome, writer.into_inner().taken)
+    let mut writer = Device::new(writer);
+    let outcome = run_alone(alloc, &mut Device::new(reader), &mut writer, &options);
+    (outcome, writer.into_inner())
+}
+
+/// A run from this reader to this writer ends so, and has written this.
+fn ends(
+    rt: &impl Abort,
+    alloc: Global,
+    reader: Reader,
+    writer: Writer,
+    outcome: Result<Status, FrontFault>,
+    report: &[u8],
+) {
+    let (ended, writer) = ending(alloc, reader, writer);
+    assert_eq!(rt; (ended, writer.taken.as_slice()), (outcome, report));
 }
 
 /// A reader that is interrupted so often at first, and fails at this read.
@@ -122,10 +138,9 @@ fn writer_of(alloc: Global, interrupts: u32, failure: Failure) -> Writer {
 fn a_read_fails(rt: HostRuntime) {
     // The read behind the last byte would give the end.
     for fails_at in 1..BATCH.len() + 2 {
+        let reader = reader_of(0, fails_at);
         let writer = writer_of(rt.alloc(), 0, Failure::Never);
-        let (outcome, written) = run(rt.alloc(), reader_of(0, fails_at), writer);
-        assert_eq!(rt; outcome, Err(FrontFault::Read), "{fails_at}");
-        assert!(rt; written.is_empty());
+        ends(&rt, rt.alloc(), reader, writer, Err(FrontFault::Read), b"");
     }
 }
 
@@ -134,9 +149,8 @@ fn a_write_fails(rt: HostRuntime) {
     for taken in 0..REPORT.len() {
         for failure in [Failure::TakesNone(taken), Failure::Fails(taken)] {
             let writer = writer_of(rt.alloc(), 0, failure);
-            let (outcome, written) = run(rt.alloc(), reader_of(0, 0), writer);
-            assert_eq!(rt; outcome, Err(FrontFault::Write), "{taken}");
-            assert_eq!(rt; written.as_slice(), &REPORT[..taken]);
+            let (outcome, front) = (Err(FrontFault::Write), &REPORT[..taken]);
+            ends(&rt, rt.alloc(), reader_of(0, 0), writer, outcome, front);
         }
     }
 }
@@ -144,57 +158,49 @@ fn a_write_fails(rt: HostRuntime) {
 #[test]
 fn a_flush_fails(rt: HostRuntime) {
     let writer = writer_of(rt.alloc(), 0, Failure::AtFlush);
-    let (outcome, written) = run(rt.alloc(), reader_of(0, 0), writer);
-    assert_eq!(rt; outcome, Err(FrontFault::Write));
-    assert_eq!(rt; written.as_slice(), REPORT);
+    let outcome = Err(FrontFault::Write);
+    ends(&rt, rt.alloc(), reader_of(0, 0), writer, outcome, REPORT);
 }
 
 #[test]
 fn interruptions_add_up(rt: HostRuntime) {
-    for (reads, writes, outcome) in [
-        (64, 0, Ok(Status::AllReturned)),
-        (0, 64, Ok(Status::AllReturned)),
-        (30, 34, Ok(Status::AllReturned)),
-        (65, 0, Err(FrontFault::Read)),
-        (30, 35, Err(FrontFault::Write)),
+    for (reads, writes, outcome, report) in [
+        (64, 0, Ok(Status::AllReturned), REPORT),
+        (0, 64, Ok(Status::AllReturned), REPORT),
+        (30, 34, Ok(Status::AllReturned), REPORT),
+        (65, 0, Err(FrontFault::Read), b""),
+        (30, 35, Err(FrontFault::Write), b""),
     ] {
         let writer = writer_of(rt.alloc(), writes, Failure::Never);
-        let (answer, written) = run(rt.alloc(), reader_of(reads, 0), writer);
-        assert_eq!(rt; answer, outcome, "{reads} and {writes}");
-        assert_eq!(rt; written.is_empty(), answer.is_err());
+        ends(
+            &rt,
+            rt.alloc(),
+            reader_of(reads, 0),
+            writer,
+            outcome,
+            report,
+        );
     }
 }
 
 #[test]
 fn a_reader_has_no_end(rt: HostRuntime) {
-    let mut reader = Device::new(b"\n\n\n".as_slice().chain(repeat(b' ')));
-    let mut writer = Device::new(Vec::new(rt.alloc()));
-    let options = Options {
-        region: 64,
-        workers: 1,
-        schedule: None,
-    };
-    let outcome = run_alone(rt.alloc(), &mut reader, &mut writer, &options);
-    assert_eq!(rt; outcome, Ok(Status::BatchRefused));
+    let reader = b"\n\n\n".as_slice().chain(repeat(b' '));
+    let (outcome, written) = ending(rt.alloc(), reader, Vec::new(rt.alloc()));
+    let report: &[u8] = b"BATCH line 4 B4 TOO_LARGE\n";
     assert_eq!(rt;
-        writer.into_inner().as_slice(),
-        b"BATCH line 4 B4 TOO_LARGE\n".as_slice()
+        (outcome, written.as_slice()),
+        (Ok(Status::BatchRefused), report)
     );
 }
 
 #[test]
 fn a_batch_is_as_long_as_it_may_be(rt: HostRuntime) {
-    let mut reader = Device::new(repeat(b' ').take(MOST_BATCH_BYTES as u64));
-    let mut writer = Device::new(Vec::new(rt.alloc()));
-    let options = Options {
-        region: 64,
-        workers: 1,
-        schedule: None,
-    };
-    let outcome = run_alone(rt.alloc(), &mut reader, &mut writer, &options);
-    assert_eq!(rt; outcome, Ok(Status::AllReturned));
+    let reader = repeat(b' ').take(MOST_BATCH_BYTES as u64);
+    let (outcome, written) = ending(rt.alloc(), reader, Vec::new(rt.alloc()));
+    let report: &[u8] = b"END 0 jobs 0 refused\n";
     assert_eq!(rt;
-        writer.into_inner().as_slice(),
-        b"END 0 jobs 0 refused\n".as_slice()
+        (outcome, written.as_slice()),
+        (Ok(Status::AllReturned), report)
     );
 }

@@ -30,18 +30,20 @@ mod show;
 use case::answer;
 use std::io;
 
+/// Prints a line of the table, and behind it what it comes to.
+fn show_line(rt: &HostRuntime, line: &str) -> io::Result<()> {
+    if line.is_empty() || line.starts_with('#') {
+        return println!(rt; "{line}");
+    }
+    match answer(rt.alloc(), line) {
+        Ok(value) => println!(rt; "{line} = {value}"),
+        Err(fault) => println!(rt; "{line} = {fault}"),
+    }
+}
+
 fn main(rt: HostRuntime) -> io::Result<()> {
     for line in rt.lines(rt.alloc()) {
-        let line = line?;
-        let line = line.as_str();
-        if line.is_empty() || line.starts_with('#') {
-            println!(rt; "{line}")?;
-            continue;
-        }
-        match answer(rt.alloc(), line) {
-            Ok(value) => println!(rt; "{line} = {value}")?,
-            Err(fault) => println!(rt; "{line} = {fault}")?,
-        }
+        show_line(&rt, line?.as_str())?;
     }
     Ok(())
 }

@@ -17,19 +17,35 @@ const CODE_LINE: u64 = 5;
 /// The first line of a text of signatures.
 const SIGNATURES_LINE: u64 = 3;
 
+/// The bytes of the pieces in which each text comes as well.
+const PIECES: [usize; 2] = [1, 7];
+
 /// The program of a code. It must be the same however the text is cut.
 pub fn program_however_cut(alloc: Global, code: &[u8]) -> Result<Program<Global>, CaseFault>
     requires { length code.now ≤ MOST_BYTES }
 {
     line_feeds_are_few();
     let whole = read(alloc, code, CODE_LINE);
-    if !is_same_program(&whole, &program_in_pieces(alloc, code, 1)) {
-        return Err(CaseFault::OtherInPieces);
-    }
-    if !is_same_program(&whole, &program_in_pieces(alloc, code, 7)) {
+    if !is_read_in_pieces(alloc, code, &whole) {
         return Err(CaseFault::OtherInPieces);
     }
     Ok(whole?)
+}
+
+/// Whether a code in pieces is this program, or has the same fault.
+fn is_read_in_pieces(
+    alloc: Global,
+    code: &[u8],
+    whole: &Result<Program<Global>, ReadFault>,
+) -> bool
+    requires { length code.now ≤ MOST_BYTES }
+{
+    for size in PIECES {
+        if !is_same_program(whole, &program_in_pieces(alloc, code, size)) {
+            return false;
+        }
+    }
+    true
 }
 
 /// The program of a code that comes in pieces of so many bytes.
@@ -66,13 +82,26 @@ pub fn signatures_however_cut(alloc: Global, text: &[u8]) -> Result<Signatures<G
 {
     line_feeds_are_few();
     let whole = signatures::read(alloc, text, SIGNATURES_LINE);
-    if !are_same_signatures(alloc, &whole, &signatures_in_pieces(alloc, text, 1))? {
-        return Err(CaseFault::OtherInPieces);
-    }
-    if !are_same_signatures(alloc, &whole, &signatures_in_pieces(alloc, text, 7))? {
+    if !are_read_in_pieces(alloc, text, &whole)? {
         return Err(CaseFault::OtherInPieces);
     }
     Ok(whole?)
+}
+
+/// Whether a text in pieces is these signatures, or has the same fault.
+fn are_read_in_pieces(
+    alloc: Global,
+    text: &[u8],
+    whole: &Result<Signatures<Global>, SigFault>,
+) -> Result<bool, CaseFault>
+    requires { length text.now ≤ MOST_BYTES }
+{
+    for size in PIECES {
+        if !are_same_signatures(alloc, whole, &signatures_in_pieces(alloc, text, size))? {
+            return Ok(false);
+        }
+    }
+    Ok(true)
 }
 
 /// The signatures of a text that comes in pieces of so many bytes.

@@ -12,7 +12,26 @@ use std::process::Abort;
 use std::sync::Wait;
 use std::test::Fail;
 use std::thread::Threads;
-use step_scheduler::{NoGate, Tally, run_workers};
+use step_scheduler::{Gate, NoGate, Tally, run_workers};
+
+/// What so many workers, which pass this gate, make of a machine.
+fn ran<R, G>(
+    rt: &R,
+    alloc: Global,
+    machine: Machine<Global>,
+    workers: usize,
+    gate: &G,
+) -> Result<(Machine<Global>, Tally<Global>), Fail>
+where
+    R: Threads + Wait + Sync,
+    G: Gate + Sync,
+    requires { (1 ≤ workers) × (workers ≤ MOST_WORKERS) }
+{
+    match run_workers(rt, alloc, machine, workers, gate) {
+        Ok(ran) => Ok(ran),
+        Err(_) => Err(Fail::from("the run gave up")),
+    }
+}
 
 /// Each of the two workers has executed some of the instructions of the two jobs, and the calling thread none.
 fn have_shared_two(rt: &impl Abort, machine: &Machine<Global>, tally: &Tally<Global>) {
@@ -24,14 +43,21 @@ fn have_shared_two(rt: &impl Abort, machine: &Machine<Global>, tally: &Tally<Glo
     assert_eq!(rt; (by_workers(tally), tally.caller), (6, 0));
 }
 
+/// Two workers run the two jobs and pass this gate.
+fn two_workers_run<R, G>(rt: &R, alloc: Global, gate: &G) -> Result<(), Fail>
+where
+    R: Abort + Threads + Wait + Sync,
+    G: Gate + Sync,
+{
+    let (machine, tally) = ran(rt, alloc, machine(alloc, TWO_JOBS)?, 2, gate)?;
+    have_shared_two(rt, &machine, &tally);
+    Ok(())
+}
+
 #[test]
 fn two_workers_compute_at_once(rt: HostRuntime) -> Result<(), Fail> {
     let gate = Meeting::new(&rt);
-    let machine = machine(rt.alloc(), TWO_JOBS)?;
-    let Ok((machine, tally)) = run_workers(&rt, rt.alloc(), machine, 2, &gate) else {
-        return Err(Fail::from("the run gave up"));
-    };
-    have_shared_two(&rt, &machine, &tally);
+    two_workers_run(&rt, rt.alloc(), &gate)?;
     assert!(rt; gate.have_met());
     assert_eq!(rt; gate.calls(), 6);
     Ok(())
@@ -47,10 +73,7 @@ fn run_of_twelve<R: Threads + Wait + Sync>(
 {
     let batch = twelve_jobs(alloc)?;
     let machine = machine(alloc, batch.as_bytes())?;
-    match run_workers(rt, alloc, machine, workers, &NoGate) {
-        Ok(ran) => Ok(ran),
-        Err(_) => Err(Fail::from("the run gave up")),
-    }
+    ran(rt, alloc, machine, workers, &NoGate)
 }
 
 /// Whether each of the twelve jobs is collected and has executed what it executes.
@@ -110,15 +133,26 @@ fn first_step(
     }
 }
 
+/// A worker runs the jobs of a machine, the first of which has begun its first step.
+fn a_worker_runs_two<R>(
+    rt: &R,
+    alloc: Global,
+    machine: Machine<Global>,
+) -> Result<Machine<Global>, Fail>
+where
+    R: Abort + Threads + Wait + Sync,
+{
+    let (machine, tally) = ran(rt, alloc, machine, 1, &NoGate)?;
+    assert_eq!(rt; machine.executed(1), Some(EXECUTED_BY_TWO[0]));
+    assert_eq!(rt; (by_workers(&tally), tally.caller), (6, 0));
+    Ok(machine)
+}
+
 #[test]
 fn a_step_that_has_begun_is_given_up(rt: HostRuntime) -> Result<(), Fail> {
     let mut machine = machine(rt.alloc(), TWO_JOBS)?;
     let filled = first_step(&rt, rt.alloc(), &mut machine)?;
-    let Ok((mut machine, tally)) = run_workers(&rt, rt.alloc(), machine, 1, &NoGate) else {
-        return Err(Fail::from("the run gave up"));
-    };
-    assert_eq!(rt; machine.executed(1), Some(2));
-    assert_eq!(rt; (by_workers(&tally), tally.caller), (6, 0));
+    let mut machine = a_worker_runs_two(&rt, rt.alloc(), machine)?;
     let (finished, _) = machine.finish(filled);
     assert_eq!(rt; finished, Finished::Stale);
     Ok(())
