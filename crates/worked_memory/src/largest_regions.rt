@@ -122,5 +122,8 @@ fn the_largest_sliding_region_is_filled(rt: HostRuntime) -> Result<(), Fail> {
 
 #[test]
 fn no_memory_is_as_large_as_the_largest_size(rt: HostRuntime) {
-    assert_eq!(rt; Holes::new(rt.alloc(), usize::MAX, 1).err(), Some(AllocError));
+    assert_eq!(rt;
+        Holes::new(rt.alloc(), usize::MAX, 1).err(),
+        Some(AllocError)
+    );
 }

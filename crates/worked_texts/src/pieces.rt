@@ -33,11 +33,7 @@ pub fn program_however_cut(alloc: Global, code: &[u8]) -> Result<Program<Global>
 }
 
 /// Whether a code in pieces is this program, or has the same fault.
-fn is_read_in_pieces(
-    alloc: Global,
-    code: &[u8],
-    whole: &Result<Program<Global>, ReadFault>,
-) -> bool
+fn is_read_in_pieces(alloc: Global, code: &[u8], whole: &Result<Program<Global>, ReadFault>) -> bool
     requires { length code.now ≤ MOST_BYTES }
 {
     for size in PIECES {
