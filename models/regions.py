@@ -1,5 +1,5 @@
 #!/usr/bin/env python3
-"""Free words and memories of one region, word by word, and random tables of calls on them.
+"""Free words and memories, word by word, and tables of calls on them, most of them random.
 
     python3 models/regions.py [SEED]
 
