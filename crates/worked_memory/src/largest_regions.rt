@@ -29,7 +29,7 @@ fn put<M: VectorMemory>(
     memory.place(owner, words)
 }
 
-/// A block has this owner and these words, however they are read.
+/// A block has this owner and these words, both lent and copied out.
 fn reads<M: VectorMemory>(
     rt: &impl Abort,
     memory: &M,
