@@ -1,12 +1,14 @@
 #!/usr/bin/env python3
 """Times the verifier on code that copies many entries and drops them again, over stacks of several depths.
 
-Run it at the top of the repository. It builds crates/bench_kinds (proving it and what it stands on, unless that was done). Each
-code brings the stack to its depth and then does `COPY n 0` and `POP n 0` again and again. The time should grow with n, and not
-with the depth.
+Run it at the top of the repository, after `make`. Each code brings the stack to its depth and then does `COPY n 0` and
+`POP n 0` again and again. Its job has a budget of 0, so it is read and verified and does nothing; and where its function
+isn't called `MAIN` it is read alone. The difference is the verifier's time, which should grow with n, and not with the
+depth.
 """
 import pathlib
 import subprocess
+import time
 
 TOP = pathlib.Path(__file__).resolve().parent.parent
 ROUNDS = 10_000
@@ -14,35 +16,35 @@ ROUNDS = 10_000
 MOST = 4_096
 
 
-def code(depth, moved, rounds):
-    """The code of a MAIN that leaves nothing; the depth is a multiple of MOST."""
-    lines = ["FUNC MAIN", "CONST INT 1"]
+def batch(function, depth, moved):
+    """A job of this function alone, which leaves nothing; the depth is a multiple of MOST."""
+    lines = ["JOB kinds 0 1 1 0", "SIGNATURES", "MAIN () -> ()", "CODE", f"FUNC {function}", "CONST INT 1"]
     lines += [f"COPY {2 ** power} 0" for power in range(12)]
     lines += [f"COPY {MOST} 0"] * (depth // MOST - 1)
-    lines += [f"COPY {moved} 0", f"POP {moved} 0"] * rounds
+    lines += [f"COPY {moved} 0", f"POP {moved} 0"] * ROUNDS
     lines += [f"POP {MOST} 0"] * (depth // MOST)
-    return "\n".join([*lines, "RET", ""])
+    return "\n".join([*lines, "RET", "END", ""])
 
 
-def nanoseconds(text):
-    program = TOP / "crates" / "bench_kinds" / "out" / "bench_kinds"
-    run = subprocess.run([program, "time"], input=text, check=True, capture_output=True, text=True)
-    end, time = run.stdout.splitlines()
-    if end != "well kinded":
-        raise SystemExit(f"the verifier ends with {end}")
-    return int(time.split()[0])
+def seconds(text, end):
+    """The least of five times that a run takes, which has to end the job so."""
+    least = float("inf")
+    for _ in range(5):
+        begin = time.perf_counter()
+        run = subprocess.run([TOP / "bin" / "vjobs", "-"], input=text, capture_output=True, text=True)
+        least = min(least, time.perf_counter() - begin)
+        if not run.stdout.startswith(f"JOB 1 kinds {end}"):
+            raise SystemExit(f"another end than {end}: {run.stdout}")
+    return least
 
 
 def row(depth, moved):
-    """The best of three times, without that of the same code with no rounds."""
-    whole, bare = (min(nanoseconds(code(depth, moved, rounds)) for _ in range(3)) for rounds in (ROUNDS, 0))
-    time = whole - bare
-    print(f"{depth:9} {moved:9} {time / 1e9:9.4f} {time / ROUNDS / moved:9.3f}")
+    whole = seconds(batch("MAIN", depth, moved), "BUDGET")
+    took = whole - seconds(batch("main", depth, moved), "REFUSED line 5 V7 NO_MAIN")
+    print(f"{depth:9} {moved:9} {took:9.4f} {took / ROUNDS / moved * 1e9:9.3f}")
 
 
 def main():
-    crate = TOP / "crates" / "bench_kinds"
-    subprocess.run(["rt", "run"], cwd=crate, check=True, stdin=subprocess.DEVNULL, stdout=subprocess.DEVNULL)
     print(f"{ROUNDS} times COPY n 0 and POP n 0")
     print(f"{'depth':>9} {'n':>9} {'seconds':>9} {'ns a kind':>9}")
     for depth in (4_096, 8_192, 40_960, 409_600):

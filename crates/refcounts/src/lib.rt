@@ -151,13 +151,6 @@ impl<M: VectorMemory, A: Allocator> SharedMemory<M, A> {
         self.memory.read_into(id, buf);
     }
 
-    /// Moves blocks together where the memory keeps them in one region. No block and no count changes.
-    pub fn pack(&mut self)
-        ensures { self.new ≡ self.old }
-    {
-        self.memory.pack();
-    }
-
     /// The number of words of all blocks, at most `size()`. A block counts once, however many references name it.
     pub fn used(&self) -> usize
         ensures value { result ≡ used_words self.now }

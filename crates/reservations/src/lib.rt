@@ -148,19 +148,12 @@ impl<A: Allocator> Book<A> {
         self.grants[job - 1]
     }
 
-    /// The words of all grants together, at most `region()`.
+    /// The words of all grants together, at most the region's.
     pub fn granted(&self) -> usize
         ensures value { result ≡ granted_words self.now }
         ensures covered { IsCovered self.now }
     {
         self.granted
-    }
-
-    /// The number of words that there are to grant.
-    pub fn region(&self) -> usize
-        ensures { result ≡ self.now.region }
-    {
-        self.region
     }
 
     /// The number of jobs.

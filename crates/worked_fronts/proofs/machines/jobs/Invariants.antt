@@ -1,7 +1,7 @@
 use Rattle.std.proofs.Common.{◌≤◌, length}
 use Rattle.std.specs.Prelude.{All}
 use Rattle.vcode_base.specs.declared.limits.TheConstants.{MOST_JOBS}
-use Rattle.worked_workers.proofs.machines.jobs.Given as goal
+use Rattle.worked_fronts.proofs.machines.jobs.Given as goal
 
 abbrev pub invariant-loop-entry : goal.invariant-loop-entry
 invariant-loop-entry l = record {

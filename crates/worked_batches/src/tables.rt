@@ -1,6 +1,6 @@
-//! Runs the jobs of tables, and compares each report byte by byte with the one that the table has.
+//! Tables of cases, each of them a batch with its report.
 //!
-//! Each line of standard input names a table. A table has cases, and this is one:
+//! This is a case:
 //!
 //! ```text
 //! === job NAME, region WORDS
@@ -14,18 +14,12 @@
 //!
 //! - lines between `=== N times` and `=== once` stand there N times, and `#` in them is the number of the time, from 1;
 //! - `=== open` takes the LF off the line above it.
-//!
-//! For each table it is printed how many of its jobs give their reports and exits, however the batch is cut into
-//! pieces. A job that doesn't is named above that, with what it comes to.
-#![tactic(auto)]
 
-mod case;
-
-use case::{Case, case_of, written_out};
+use crate::case::{Case, case_of, written_out};
+use crate::cuts::{Ending, ending_however_cut};
 use std::alloc::{AllocError, Global};
 use std::io::Write;
 use std::{fs, io};
-use worked_runs::{Ending, ending_however_cut};
 
 /// Whether a batch comes to what its case says.
 fn is_wanted(alloc: Global, case: Case<'_>, ending: &Ending) -> Result<bool, AllocError> {
@@ -72,8 +66,9 @@ fn gives_reports(rt: &HostRuntime, case: Case<'_>) -> io::Result<bool> {
 }
 
 /// Runs the table of this name, and prints how many of its cases come to what they say.
-fn show(rt: &HostRuntime, name: &str) -> io::Result<()> {
-    let table = fs::read_to_string(rt, name)?;
+pub fn show_table(rt: &HostRuntime, name: &str) -> io::Result<()> {
+    let table = format!(in rt.alloc(); "tables/{name}")?;
+    let table = fs::read_to_string(rt, table.as_str())?;
     let mut good: usize = 0;
     for text in table.split("=== job ").skip(1) {
         match case_of(text) {
@@ -86,11 +81,4 @@ fn show(rt: &HostRuntime, name: &str) -> io::Result<()> {
         }
     }
     println!(rt; "{name}: {good} jobs give their reports")
-}
-
-fn main(rt: HostRuntime) -> io::Result<()> {
-    for name in rt.lines(rt.alloc()) {
-        show(&rt, name?.as_str())?;
-    }
-    Ok(())
 }

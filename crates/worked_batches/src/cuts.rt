@@ -1,5 +1,4 @@
-//! Runs a batch several times, and each time its bytes come in pieces of another size.
-#![tactic(auto)]
+//! A batch, run several times: each time its bytes come in pieces of another size.
 
 use batch_front::{Device, Options, exit_status, run_alone};
 use std::alloc::Global;

@@ -1,0 +1,26 @@
+//! What no table of batches can say: readers and writers that fail, command lines, schedules as texts, the texts of
+//! faults, and batches whose jobs worker threads run.
+//!
+//! This crate has tests alone. Reports were worked out by hand from docs/FORMATS.md. That two workers compute at once no
+//! contract says: a gate sees it, which holds the first steps of two jobs until both are between their begin and their
+//! finish.
+#![tactic(auto)]
+
+#[cfg(test)]
+mod batches;
+#[cfg(test)]
+mod command_lines;
+#[cfg(test)]
+mod devices;
+#[cfg(test)]
+mod faults;
+#[cfg(test)]
+mod machines;
+#[cfg(test)]
+mod meeting;
+#[cfg(test)]
+mod reports;
+#[cfg(test)]
+mod runs;
+#[cfg(test)]
+mod schedules;
