@@ -25,7 +25,7 @@ jumps_before code_item.Else place j =
     record { list = first_of j.waits ∷ j.list; waits = (place + 1) ∷ others_of j.waits }
 jumps_before code_item.Endif place j = record { list = None ∷ j.list; waits = (place + 1) ∷ j.waits }
 
--- the lines from this place on
+-- the targets of the lines from this place on, and the places that an IF or ELSE in front of them goes on at
 unfoldable pub jumps_from : ℕ → List CodeLine → Jumps
 jumps_from place [] = record { list = []; waits = [] }
 jumps_from place (x ∷ xs) = jumps_before x.item place (jumps_from (place + 1) xs)
