@@ -135,24 +135,19 @@ fn call_blocks<M: VectorMemory>(
     line: &Line,
 ) -> Result<String, AllocError> {
     match line {
-        Line::Place { owner, words } => place(alloc, blocks, *owner, words),
-        Line::Free { number } => free(alloc, blocks, *number),
+        Line::Place { owner, words } => placing_told(alloc, blocks.place(*owner, words)?),
+        Line::Free { number } => freed_told(alloc, blocks.free(*number)),
         Line::Pack => {
             blocks.pack();
             String::from_str(alloc, "packed")
         }
-        Line::Words { number } => words_told(alloc, blocks, *number),
+        Line::Words { number } => block_told(alloc, blocks.block(*number)),
         _ => String::from_str(alloc, "refused"),
     }
 }
 
-fn place<M: VectorMemory>(
-    alloc: Global,
-    blocks: &mut Blocks<M>,
-    owner: usize,
-    words: &[i64],
-) -> Result<String, AllocError> {
-    match blocks.place(owner, words)? {
+fn placing_told(alloc: Global, placing: Placing) -> Result<String, AllocError> {
+    match placing {
         Placing::Placed(number) => format!(in alloc; "block {number}"),
         Placing::NotPlaced(NoRoom::Full) => String::from_str(alloc, "full"),
         Placing::NotPlaced(NoRoom::Memory) => String::from_str(alloc, "no memory"),
@@ -160,21 +155,12 @@ fn place<M: VectorMemory>(
     }
 }
 
-fn free<M: VectorMemory>(
-    alloc: Global,
-    blocks: &mut Blocks<M>,
-    number: usize,
-) -> Result<String, AllocError> {
-    let was_there = blocks.free(number);
+fn freed_told(alloc: Global, was_there: bool) -> Result<String, AllocError> {
     String::from_str(alloc, if was_there { "freed" } else { "refused" })
 }
 
-fn words_told<M: VectorMemory>(
-    alloc: Global,
-    blocks: &Blocks<M>,
-    number: usize,
-) -> Result<String, AllocError> {
-    match blocks.block(number) {
+fn block_told(alloc: Global, block: Option<(usize, &[i64])>) -> Result<String, AllocError> {
+    match block {
         Some((owner, words)) => format!(in alloc; "owner {owner} words {words:?}"),
         None => String::from_str(alloc, "refused"),
     }
