@@ -7,7 +7,7 @@
 //! doesn't fit it. Before one of the calls, each in turn, all of the heap is taken but a few bytes: none at first, and
 //! then 16 more each time, until a run meets no refusal. So in each call the first growth is refused, and each other
 //! that needs more than those before it. Once one was, the heap is free again: what a reader answers then it owes to
-//! its own memory of the refusal. A whole run has a heap of so few bytes from its begin to its end.
+//! its own memory of the refusal.
 #![tactic(auto)]
 
 #[cfg(test)]
@@ -18,8 +18,6 @@ mod codes;
 mod course;
 #[cfg(test)]
 mod limits;
-#[cfg(test)]
-mod runs;
 #[cfg(test)]
 mod shortage;
 #[cfg(test)]

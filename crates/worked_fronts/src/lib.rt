@@ -1,5 +1,5 @@
 //! What no table of batches can say: readers and writers that fail, command lines, schedules as texts, the texts of
-//! faults, and batches whose jobs worker threads run.
+//! faults, batches whose jobs worker threads run, and whole runs over a heap that holds few bytes.
 //!
 //! This crate has tests alone. Reports were worked out by hand from docs/FORMATS.md. That two workers compute at once no
 //! contract says: a gate sees it, which holds the first steps of two jobs until both are between their begin and their
@@ -14,6 +14,8 @@ mod command_lines;
 mod devices;
 #[cfg(test)]
 mod faults;
+#[cfg(test)]
+mod heaps;
 #[cfg(test)]
 mod machines;
 #[cfg(test)]

@@ -27,14 +27,14 @@ fn put_job(entry: JobEntry<Global>, jobs: &mut Vec<Job<Global>>, most: usize) ->
     Ok(())
 }
 
-/// The jobs of a batch, each of at most so many words.
+/// The jobs of a batch, each of at most so many words. What `feed` refuses `end` tells again.
 fn jobs(alloc: Global, batch: &[u8], most: usize) -> Result<Vec<Job<Global>>, Fail>
     requires { most ≤ MOST_WORDS }
     ensures few { IfOk result (λ jobs. length jobs.items ≤ MOST_JOBS) }
     ensures words { IfOk result (λ jobs. All (λ job. job.limits.words ≤ most) jobs.items) }
 {
     let mut feed = Feed::new(alloc, most)?;
-    feed.feed(batch)?;
+    let _ = feed.feed(batch);
     let Batch::Jobs(entries) = feed.end()? else {
         return Err(Fail::from("the batch is refused"));
     };

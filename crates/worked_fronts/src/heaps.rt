@@ -1,10 +1,12 @@
 //! The whole program over a heap of few bytes.
-use crate::shortage::LEAST_BLOCK;
 use batch_front::{Device, FrontFault, Options, Status, run_alone};
 use linked_list_allocator::LocalHeap;
 use std::alloc::{AllocError, Global};
 use std::process::Abort;
 use std::test::Fail;
+
+/// The bytes of the shortest block of a heap, of which the length of each other is a multiple.
+const LEAST_BLOCK: usize = 16;
 
 /// The most bytes of a heap.
 const MOST_BYTES: usize = 1_048_576;
