@@ -1,14 +1,23 @@
-/* The plain loops that bench/ops compares the vector and segment instructions with: the same vectors, the same rounds,
- * and for each instruction a line with its name, a tab and picoseconds an element, the best of the rounds. */
+/* The plain loops that bench/ops.py compares the vector and segment instructions with: the same vectors, the same rounds,
+ * and for each instruction of a round a line with its name, a tab and picoseconds an element. */
 #include <stdint.h>
 #include <stdio.h>
 #include <stdlib.h>
 #include <time.h>
 
-enum { ROUNDS = 15 };
+enum { ROUNDS = 41, REPEATS = 1000, MOST_WORDS = 30000 };
 
-static int64_t *left, *right, *third, *flags, *reversed, *each, *descriptor, *out, *counts;
-static int64_t words, segments, size;
+static int64_t left[MOST_WORDS], bits[MOST_WORDS], alike[MOST_WORDS], flags[MOST_WORDS], indices[MOST_WORDS],
+    descriptor[MOST_WORDS], out[MOST_WORDS], counts[MOST_WORDS];
+/* The divisors, which the compiler is not to know for the dividends. */
+static int64_t *volatile divisors = left;
+static int64_t words, segments;
+static uint64_t state = 1;
+
+static uint64_t below(uint64_t bound) {
+    state = state * 6364136223846793005u + 1442695040888963407u;
+    return (state >> 33) % bound;
+}
 
 static double now(void) {
     struct timespec t;
@@ -18,40 +27,41 @@ static double now(void) {
 
 #define ROW(name, ...)                                                            \
     do {                                                                           \
-        double best = 1e18;                                                        \
-        for (int round = 0; round < ROUNDS; round++) {                             \
-            double start = now();                                                  \
+        int repeats = words == 1 ? REPEATS : 1;                                    \
+        double start = now();                                                      \
+        for (int repeat = 0; repeat < repeats; repeat++) {                         \
             __VA_ARGS__                                                            \
-            double took = now() - start;                                           \
-            if (took < best) best = took;                                          \
+            __asm__ volatile("" : : : "memory");                                   \
         }                                                                          \
-        __asm__ volatile("" : : "r"(out), "r"(counts) : "memory");                 \
-        printf("%s\t%.0f\n", name, 1000.0 * best / (double)words);                 \
+        printf("%s\t%.0f\n", name, 1000.0 * (now() - start) / (double)(words * repeats)); \
     } while (0)
 
 #define EACH(...) for (int64_t i = 0; i < words; i++) out[i] = (__VA_ARGS__);
 
-static int any_zero(void) {
+static int any_zero(const int64_t *by) {
     int any = 0;
-    for (int64_t i = 0; i < words; i++) any |= right[i] == 0;
+    for (int64_t i = 0; i < words; i++) any |= by[i] == 0;
     return any;
 }
 
-static int any_bad_shift(void) {
+static int any_bad_shift(const int64_t *by) {
     int any = 0;
-    for (int64_t i = 0; i < words; i++) any |= (uint64_t)each[i] > 63;
+    for (int64_t i = 0; i < words; i++) any |= (uint64_t)by[i] > 63;
     return any;
 }
 
 static void elementwise_rows(void) {
-    ROW("+ INT", EACH((int64_t)((uint64_t)left[i] + (uint64_t)right[i])));
-    ROW("* INT", EACH((int64_t)((uint64_t)left[i] * (uint64_t)right[i])));
-    ROW("/ INT", if (!any_zero()) EACH(right[i] == -1 ? (int64_t)(0 - (uint64_t)left[i]) : left[i] / right[i]));
-    ROW("LSHIFT INT", if (!any_bad_shift()) EACH((int64_t)((uint64_t)left[i] << each[i])));
-    ROW("< INT", EACH(left[i] < each[i]));
-    ROW("XOR INT", EACH(left[i] ^ each[i]));
+    ROW("+ INT", EACH((int64_t)((uint64_t)left[i] + (uint64_t)left[i])));
+    ROW("* INT", EACH((int64_t)((uint64_t)left[i] * (uint64_t)left[i])));
+    ROW("/ INT", const int64_t *by = divisors;
+        if (!any_zero(by)) EACH(by[i] == -1 ? (int64_t)(0 - (uint64_t)left[i]) : left[i] / by[i]));
+    ROW("LSHIFT INT", if (!any_bad_shift(bits)) EACH((int64_t)((uint64_t)left[i] << bits[i])));
+    ROW("LSHIFT INT by one number", if (!any_bad_shift(alike)) EACH((int64_t)((uint64_t)left[i] << alike[i])));
+    for (int64_t i = 0; i < words; i++) flags[i] = below(2) != 0;
+    ROW("< INT", EACH(left[i] < bits[i]));
+    ROW("XOR INT", EACH(left[i] ^ bits[i]));
     ROW("NOT BOOL", EACH(flags[i] == 0));
-    ROW("SELECT INT", EACH(flags[i] != 0 ? left[i] : each[i]));
+    ROW("SELECT INT", EACH(flags[i] != 0 ? left[i] : bits[i]));
     ROW("I_TO_B", EACH(left[i] != 0));
 }
 
@@ -62,9 +72,21 @@ static void elementwise_rows(void) {
         begin = end;                                                               \
     }
 
+static int64_t total(void) {
+    int64_t sum = 0;
+    for (int64_t s = 0; s < segments; s++) sum += descriptor[s];
+    return sum;
+}
+
+static int64_t count_set(void) {
+    int64_t count = 0;
+    for (int64_t i = 0; i < words; i++) count += flags[i] != 0;
+    return count;
+}
+
 static int indices_fit(void) {
     int outside = 0;
-    SEGMENTS(for (int64_t i = begin; i < end; i++) outside |= (uint64_t)reversed[i] >= (uint64_t)length;)
+    SEGMENTS(for (int64_t i = begin; i < end; i++) outside |= (uint64_t)indices[i] >= (uint64_t)length;)
     return !outside;
 }
 
@@ -73,77 +95,101 @@ static int marks_twice(void) {
     int twice = 0;
     SEGMENTS(for (int64_t i = begin; i < end; i++) out[i] = 0;
              for (int64_t i = begin; i < end; i++) {
-                 twice |= out[begin + reversed[i]] == 1;
-                 out[begin + reversed[i]] = 1;
+                 twice |= out[begin + indices[i]] == 1;
+                 out[begin + indices[i]] = 1;
              })
     return twice;
 }
 
-static void segment_rows(const char *shape) {
-    char name[80];
-#define SEGMENT_ROW(word, ...)                                                    \
-    snprintf(name, sizeof name, "%s, %s", word, shape);                            \
-    ROW(name, __VA_ARGS__)
-    SEGMENT_ROW("+_SCAN INT", SEGMENTS(uint64_t sum = 0; for (int64_t i = begin; i < end; i++) {
+static void permute(void) {
+    if (indices_fit() && !marks_twice()) SEGMENTS(for (int64_t i = begin; i < end; i++) out[begin + indices[i]] = left[i];)
+}
+
+static void permute_over(void) {
+    if (total() == words && indices_fit() && !marks_twice()) {
+        for (int64_t i = 0; i < words; i++) out[i] = left[i];
+        SEGMENTS(for (int64_t i = begin; i < end; i++) out[begin + indices[i]] = left[i];)
+    }
+}
+
+static void make_indices(int mixed) {
+    SEGMENTS(int64_t *part = indices + begin; for (int64_t i = 0; i < length; i++) part[i] = i;
+             for (int64_t i = 0; mixed && i < length; i++) {
+                 int64_t other = (int64_t)below((uint64_t)i + 1), kept = part[i];
+                 part[i] = part[other];
+                 part[other] = kept;
+             })
+}
+
+static void segment_rows(void) {
+    ROW("+_SCAN INT", SEGMENTS(uint64_t sum = 0; for (int64_t i = begin; i < end; i++) {
         out[i] = (int64_t)sum;
         sum += (uint64_t)left[i];
     }));
-    SEGMENT_ROW("MAX_SCAN INT", SEGMENTS(int64_t most = INT64_MIN; for (int64_t i = begin; i < end; i++) {
+    ROW("MAX_SCAN INT", SEGMENTS(int64_t most = INT64_MIN; for (int64_t i = begin; i < end; i++) {
         out[i] = most;
         most = left[i] > most ? left[i] : most;
     }));
-    SEGMENT_ROW("+_REDUCE INT", SEGMENTS(uint64_t sum = 0; for (int64_t i = begin; i < end; i++) sum += (uint64_t)left[i];
-                                         out[s] = (int64_t)sum;));
-    SEGMENT_ROW("MAX_REDUCE INT", SEGMENTS(int64_t most = INT64_MIN;
-                                           for (int64_t i = begin; i < end; i++) most = left[i] > most ? left[i] : most;
-                                           out[s] = most;));
-    SEGMENT_ROW("DIST INT", SEGMENTS(for (int64_t i = begin; i < end; i++) out[i] = third[s];));
-    SEGMENT_ROW("INDEX", SEGMENTS(uint64_t at = (uint64_t)third[s]; for (int64_t i = begin; i < end; i++) {
+    ROW("+_REDUCE INT", SEGMENTS(uint64_t sum = 0; for (int64_t i = begin; i < end; i++) sum += (uint64_t)left[i];
+                                 out[s] = (int64_t)sum;));
+    ROW("MAX_REDUCE INT",
+        SEGMENTS(int64_t most = INT64_MIN; for (int64_t i = begin; i < end; i++) most = left[i] > most ? left[i] : most;
+                 out[s] = most;));
+    ROW("DIST INT", if (total() == words) SEGMENTS(for (int64_t i = begin; i < end; i++) out[i] = bits[s];));
+    ROW("INDEX", if (total() == words) SEGMENTS(uint64_t at = (uint64_t)bits[s]; for (int64_t i = begin; i < end; i++) {
         out[i] = (int64_t)at;
-        at += (uint64_t)each[s];
+        at += (uint64_t)bits[s];
     }));
-    SEGMENT_ROW("PERMUTE INT", if (indices_fit() && !marks_twice())
-                                   SEGMENTS(for (int64_t i = begin; i < end; i++) out[begin + reversed[i]] = left[i];));
-    SEGMENT_ROW("BPERMUTE INT",
-                if (indices_fit()) SEGMENTS(for (int64_t i = begin; i < end; i++) out[i] = left[begin + reversed[i]];));
-    SEGMENT_ROW("DPERMUTE INT", if (indices_fit() && !marks_twice()) {
-        for (int64_t i = 0; i < words; i++) out[i] = right[i];
-        SEGMENTS(for (int64_t i = begin; i < end; i++) out[begin + reversed[i]] = left[i];)
-    });
-    SEGMENT_ROW("EXTRACT INT", SEGMENTS(if ((uint64_t)each[s] >= (uint64_t)length) break; out[s] = left[begin + each[s]];));
-    SEGMENT_ROW("PACK INT", int64_t kept = 0; SEGMENTS(int64_t first = kept; for (int64_t i = begin; i < end; i++) {
-        if (flags[i] != 0) out[kept++] = left[i];
-    } counts[s] = kept - first;));
+    make_indices(1);
+    ROW("PERMUTE INT", permute(););
+    ROW("BPERMUTE INT", if (total() == words && indices_fit())
+                            SEGMENTS(for (int64_t i = begin; i < end; i++) out[i] = left[begin + indices[i]];));
+    ROW("DPERMUTE INT", permute_over(););
+    make_indices(0);
+    ROW("PERMUTE INT rising", permute(););
+    ROW("DPERMUTE INT rising", permute_over(););
+    for (int64_t i = 0; i < words; i++) flags[i] = below(2) != 0;
+    ROW("EXTRACT INT", SEGMENTS(if ((uint64_t)bits[s] >= (uint64_t)length) break; out[s] = left[begin + bits[s]];));
+    ROW("PACK INT", int64_t most = count_set(), kept = 0; SEGMENTS(int64_t first = kept;
+                                                                   for (int64_t i = begin; i < end; i++) {
+                                                                       if (flags[i] != 0) out[kept++] = left[i];
+                                                                   } counts[s] = kept - first;) if (kept != most) exit(1););
 }
 
-static int64_t *vector(int64_t n) {
-    int64_t *it = malloc((size_t)n * sizeof *it);
-    if (it == NULL) exit(3);
-    return it;
+static void make_segments(int tens) {
+    segments = 0;
+    for (int64_t some = words; some > 0;) {
+        int64_t length = 6 + (int64_t)below(9);
+        if (!tens || length + 6 > some) length = some;
+        descriptor[segments++] = length;
+        some -= length;
+    }
 }
 
-static void segments_of(int64_t how_many, int64_t how_long) {
-    segments = how_many;
-    size = how_long;
-    for (int64_t s = 0; s < segments; s++) descriptor[s] = size;
-    for (int64_t i = 0; i < words; i++) reversed[i] = size - 1 - i % size;
+static void rows(int64_t count) {
+    words = count;
+    printf("of %ld\n", (long)words);
+    elementwise_rows();
+    printf("of %ld, in segments of ten\n", (long)words);
+    make_segments(1);
+    segment_rows();
+    printf("of %ld, in one segment\n", (long)words);
+    make_segments(0);
+    segment_rows();
 }
 
 int main(void) {
-    words = 1000000;
-    left = vector(words), right = left, third = vector(words), flags = vector(words), reversed = vector(words);
-    each = vector(words), descriptor = vector(words), out = vector(words), counts = vector(words);
-    for (int64_t i = 0; i < words; i++) {
+    for (int64_t i = 0; i < MOST_WORDS; i++) {
         int64_t small = i % 1000;
         left[i] = i % 2 == 0 ? small + 1 : -small;
-        third[i] = left[i];
-        flags[i] = i % 3 != 0;
-        each[i] = i % 7;
+        bits[i] = i % 6;
+        alike[i] = 3;
     }
-    elementwise_rows();
-    segments_of(100000, 10);
-    segment_rows("segments of ten");
-    segments_of(1, 1000000);
-    segment_rows("one segment");
+    for (int round = 0; round < ROUNDS; round++) {
+        rows(1);
+        rows(100);
+        rows(1000);
+        rows(MOST_WORDS);
+    }
     return 0;
 }

@@ -10,6 +10,8 @@ NAMES = ["MAIN", "f", "g", "h", "RET", "1", "->", "IF", "a" * 64]
 SPELLED = {kind: word for word, kind in [*SCALARS.items(), ("SEGDES", SEGDES)]}
 # How to make a value of a kind.
 MADE = {INT: ["CONST", "INT", "5"], BOOL: ["CONST", "BOOL", "F"], SEGDES: ["CONST", "INT", "1", "MAKE_SEGDES"]}
+# Lengths of segments at which the instructions change how they go over one.
+SEAMS = [1, 3, 4, 5, 15, 16, 17, 63, 64, 65, 66]
 NOTABLE = [0, 1, -1, 2, 3, -7, 62, 63, 64, 10, LEAST, LEAST + 1, GREATEST]
 
 
@@ -178,7 +180,7 @@ class Random:
         kinds = kinds_of(word, k).operands
         if word in ELEMENTWISE or word == "MAKE_SEGDES":
             return self.elements(word, kinds)
-        s = [self.pick([0, 0, 1, 2, 3, 4]) for _ in self.up_to(4)]
+        s = [self.length() for _ in self.up_to(4)]
         values, one_each = self.vector(kinds[0], sum(s)), lambda kind: self.vector(kind, len(s))
         match word:
             case "DIST":
@@ -188,7 +190,7 @@ class Random:
             case "PERMUTE":
                 return [values, self.places(s, s), s]
             case "BPERMUTE":
-                r = [self.pick([0, 1, 2, 3]) if length else 0 for length in s]
+                r = [self.length() if length else 0 for length in s]
                 return [values, [self.index(length) for length, count in zip(s, r) for _ in range(count)], s, r[: self.near(len(r))]]
             case "DPERMUTE":
                 r = [length + self.pick([0, 1, 2]) for length in s]
@@ -198,10 +200,22 @@ class Random:
             case "REPLACE":
                 return [values, [self.index(length) for length in s], one_each(k), s]
             case "PACK":
-                return [values, self.vector(BOOL, sum(s)), s]
+                return [values, self.flags(sum(s)), s]
             case "LENGTHS":
                 return [s]
         return [values, s]
+
+    def length(self):
+        return self.pick(SEAMS) if self.chance(0.15) else self.pick([0, 0, 1, 2, 3, 4])
+
+    def flags(self, count):
+        """Flags, at times all alike or all but one or two."""
+        flags = self.vector(BOOL, count)
+        if flags and self.chance(0.4):
+            flags = [self.pick([0, 1])] * len(flags)
+            for _ in self.up_to(2):
+                flags[self.pick([0, -1, self.random.randrange(len(flags))])] = self.pick([0, 1])
+        return flags
 
     def elements(self, word, kinds):
         count = self.pick([0, 1, 2, 3, 6])
@@ -219,8 +233,11 @@ class Random:
         return [self.pick([1_048_577, 2**32 - 3]), *s[1:]] if s and self.slips() else s
 
     def places(self, s, r):
-        """Indices that differ, one for each element of the segments s, in segments of lengths r."""
-        found = [index for count, length in zip(s, r) for index in self.random.sample(range(length), count)]
-        if found and self.chance(0.2):
-            found[self.random.randrange(len(found))] = self.pick([-1, 0, 1, 5])
+        """Indices that differ, one for each element of the segments s, in segments of lengths r; at times they rise, or nearly."""
+        ordered = sorted if self.chance(0.5) else list
+        found = [index for count, length in zip(s, r) for index in ordered(self.random.sample(range(length), count))]
+        if found and self.chance(0.3):
+            found[self.pick([-1, self.random.randrange(len(found))])] = self.pick([-1, 0, 1, 5, found[0], found[-1], max(r)])
+        if len(found) > 1 and self.chance(0.1):
+            found[-2:] = reversed(found[-2:])
         return found

@@ -1,19 +1,18 @@
-ghost use Rattle.std.specs.Prelude.{◌≡◌, ◌≤◌, ◌*◌, None, [], ◌∷◌, length};
+ghost use Rattle.std.specs.Prelude.{◌≡◌, None, [], ◌∷◌, length};
 ghost use Rattle.vcode_base.specs.Kinds.{HasKind, HaveKinds, source_kinds};
-ghost use Rattle.vcode_base.specs.declared.limits.TheConstants.{MOST_TOTAL};
 ghost use Rattle.vcode_base.specs.declared.kind.Kind.TheVariants.{Bool, Segdes};
 ghost use Rattle.vcode_base.specs.Meaning.{shape, need};
 ghost use Rattle.vcode_base.specs.Operands.{contents};
 
-use crate::loads::{descriptor, flags, indices, numbers, shifts};
+use crate::loads::{Order, Random, Segments, descriptor, flags, indices, numbers, shifts};
 use job_steps::{fill, need, shape};
 use std::io;
 use std::rt::Runtime;
 use std::time::Instant;
 use vcode_base::{Arith, Comparison, Elementwise, Fold, Logic, Op, Scalar, Segmented};
 
-/// How often an instruction is timed.
-const ROUNDS: usize = 15;
+/// How often an instruction over one word is filled in a row, since the clock does not show one time.
+const REPEATS: u64 = 1_000;
 
 /// What a run prints: the time of each instruction, or the ends of its result.
 #[derive(Clone, Copy, PartialEq, Eq, Debug)]
@@ -39,7 +38,8 @@ fn print_row(
 ) -> io::Result<()> {
     match (load.shown, out) {
         (Shown::Time, _) => {
-            let picoseconds = nanoseconds.saturating_mul(1000) / (load.words.max(1) as u128);
+            let elements = u128::from(repeats(load)).saturating_mul(load.words.max(1) as u128);
+            let picoseconds = nanoseconds.saturating_mul(1000) / elements.max(1);
             println!(rt; "{name}\t{picoseconds}")
         }
         (Shown::Ends, [first, .., last]) => println!(rt; "{name}\t{first} .. {last}"),
@@ -48,9 +48,18 @@ fn print_row(
     }
 }
 
-/// The least nanoseconds that filling an instruction took.
-fn least_time(
+/// How often an instruction is filled in a row: once, where its words are new to the processor.
+fn repeats(load: Load) -> u64 {
+    match load.words {
+        1 => REPEATS,
+        _ => 1,
+    }
+}
+
+/// The nanoseconds that an instruction took, its lengths of results found and its results filled.
+fn time_of(
     rt: &impl Runtime,
+    load: Load,
     op: Op,
     ops: &[&[i64]],
     first: &mut [i64],
@@ -60,16 +69,17 @@ fn least_time(
     requires shape { shape op (contents ops.now) ≡ None }
     requires room { need op (contents ops.now) ≡ (length first.old, length second.old) }
 {
-    let mut best = u128::MAX;
-    for _ in 0..ROUNDS {
-        let start = Instant::now(rt)?;
-        let _ = fill(op, ops, first, second);
-        best = best.min(start.elapsed(rt)?.as_nanos());
+    let start = Instant::now(rt)?;
+    for _ in 0..repeats(load) {
+        let (first_len, _) = need(op, ops);
+        if first_len == first.len() as u64 {
+            let _ = fill(op, ops, first, second);
+        }
     }
-    Ok(best)
+    Ok(start.elapsed(rt)?.as_nanos())
 }
 
-/// Fills an instruction over and over, and prints its line.
+/// Times an instruction, and prints its line.
 fn row(rt: &impl Runtime, load: Load, name: &str, op: Op, ops: &[&[i64]]) -> io::Result<()>
     requires kinds { HaveKinds (source_kinds op) (contents ops.now) }
 {
@@ -79,8 +89,8 @@ fn row(rt: &impl Runtime, load: Load, name: &str, op: Op, ops: &[&[i64]]) -> io:
     let (first_len, second_len) = need(op, ops);
     let mut first = vec![in rt.alloc(); 0i64; first_len as usize]?;
     let mut second = vec![in rt.alloc(); 0i64; second_len as usize]?;
-    let best = least_time(rt, op, ops, &mut first, &mut second)?;
-    print_row(rt, load, name, &first, best)
+    let nanoseconds = time_of(rt, load, op, ops, &mut first, &mut second)?;
+    print_row(rt, load, name, &first, nanoseconds)
 }
 
 /// The lines of arithmetic: sums, products, quotients and shifts.
@@ -89,6 +99,7 @@ fn arithmetic_rows<'a>(
     load: Load,
     left: &'a [i64],
     bits: &'a [i64],
+    alike: &'a [i64],
 ) -> io::Result<()> {
     let add = Op::Elementwise(Elementwise::Arith(Arith::Add));
     let multiply = Op::Elementwise(Elementwise::Arith(Arith::Multiply));
@@ -97,7 +108,8 @@ fn arithmetic_rows<'a>(
     row(rt, load, "+ INT", add, &[left, left])?;
     row(rt, load, "* INT", multiply, &[left, left])?;
     row(rt, load, "/ INT", divide, &[left, left])?;
-    row(rt, load, "LSHIFT INT", shift, &[left, bits])
+    row(rt, load, "LSHIFT INT", shift, &[left, bits])?;
+    row(rt, load, "LSHIFT INT by one number", shift, &[left, alike])
 }
 
 /// The lines of the instructions that compare, connect, choose and turn.
@@ -123,11 +135,12 @@ fn choice_rows<'a>(
 }
 
 /// A line for each family of the elementwise instructions.
-pub fn elementwise_rows<R: Runtime>(rt: &R, load: Load) -> io::Result<()> {
+pub fn elementwise_rows<R: Runtime>(rt: &R, load: Load, random: &mut Random) -> io::Result<()> {
     let left = &numbers(rt.alloc(), load.words)?;
-    let bits = &shifts(rt.alloc(), load.words)?;
-    let truth = &flags(rt.alloc(), load.words)?;
-    arithmetic_rows(rt, load, left, bits)?;
+    let bits = &shifts(rt.alloc(), load.words, false)?;
+    let alike = &shifts(rt.alloc(), load.words, true)?;
+    arithmetic_rows(rt, load, left, bits, alike)?;
+    let truth = &flags(rt.alloc(), random, load.words)?;
     choice_rows(rt, load, left, bits, truth)
 }
 
@@ -165,7 +178,7 @@ fn spread_rows<'a>(
     row(rt, load, "INDEX", index, &[each, each, lengths])
 }
 
-/// The lines of the instructions that move elements by their indices.
+/// The lines of the instructions that move elements by their indices, which are new to the processor.
 fn move_rows<'a>(
     rt: &impl Runtime,
     load: Load,
@@ -183,6 +196,29 @@ fn move_rows<'a>(
     row(rt, load, "PERMUTE INT", permute, &[values, places, lengths])?;
     row(rt, load, "BPERMUTE INT", back, &back_operands)?;
     row(rt, load, "DPERMUTE INT", default, &default_operands)
+}
+
+/// The lines of the same instructions, where the indices of a segment rise.
+fn rising_rows<'a>(
+    rt: &impl Runtime,
+    load: Load,
+    values: &'a [i64],
+    places: &'a [i64],
+    lengths: &'a [i64],
+) -> io::Result<()>
+    requires { HasKind Segdes lengths.now }
+{
+    let permute = Op::Segmented(Segmented::Permute(Scalar::Int));
+    let default = Op::Segmented(Segmented::DefaultPermute(Scalar::Int));
+    let operands = [values, places, values, lengths, lengths];
+    row(
+        rt,
+        load,
+        "PERMUTE INT rising",
+        permute,
+        &[values, places, lengths],
+    )?;
+    row(rt, load, "DPERMUTE INT rising", default, &operands)
 }
 
 /// The lines of the instructions that take some of the elements.
@@ -210,28 +246,34 @@ fn move_and_part_rows<'a, R: Runtime>(
     values: &'a [i64],
     each: &'a [i64],
     lengths: &'a [i64],
-    size: u32,
+    random: &mut Random,
 ) -> io::Result<()>
     requires { HasKind Segdes lengths.now }
 {
-    let places = &indices(rt.alloc(), lengths.len(), size)?;
-    move_rows(rt, load, values, places, lengths)?;
-    let truth = &flags(rt.alloc(), load.words)?;
+    let mixed = &indices(rt.alloc(), random, Order::Mixed, lengths)?;
+    move_rows(rt, load, values, mixed, lengths)?;
+    let rising = &indices(rt.alloc(), random, Order::Rising, lengths)?;
+    rising_rows(rt, load, values, rising, lengths)?;
+    let truth = &flags(rt.alloc(), random, load.words)?;
     part_rows(rt, load, values, each, truth, lengths)
 }
 
-/// A line for each family of the segment instructions, over `segments` segments of `size` words each.
-pub fn segment_rows<R: Runtime>(rt: &R, shown: Shown, segments: usize, size: u32) -> io::Result<()>
-    requires { segments * size ≤ MOST_TOTAL }
-{
+/// A line for each family of the segment instructions, over vectors of `words` words in these segments.
+pub fn segment_rows<R: Runtime>(
+    rt: &R,
+    shown: Shown,
+    words: u32,
+    segments: Segments,
+    random: &mut Random,
+) -> io::Result<()> {
     let load = Load {
         shown,
-        words: segments * size as usize,
+        words: words as usize,
     };
     let values = &numbers(rt.alloc(), load.words)?;
-    let lengths = &descriptor(rt.alloc(), segments, size)?;
+    let lengths = &descriptor(rt.alloc(), random, segments, words)?;
     fold_rows(rt, load, values, lengths)?;
-    let each = &shifts(rt.alloc(), segments)?;
+    let each = &shifts(rt.alloc(), lengths.len(), false)?;
     spread_rows(rt, load, each, lengths)?;
-    move_and_part_rows(rt, load, values, each, lengths, size)
+    move_and_part_rows(rt, load, values, each, lengths, random)
 }

@@ -1,6 +1,7 @@
+pub mod ClaimLemmas
 pub mod FoldLemmas
-pub mod MarkLemmas
 pub mod MoveLemmas
+pub mod NameLemmas
 pub mod PackLemmas
 pub mod PieceLemmas
 pub mod ProgressionLemmas

@@ -1,22 +1,19 @@
 -- Elements that go to their indices.
 use Rattle.std.proofs.Common.{◌≡◌, ℕ, ◌+◌, ◌<◌, ℤ, pos, true, false, ◌||◌, List, [], ◌∷◌, length, take, set}
 use Rattle.std.proofs.Common.{get_or, zip, refl, ap, sym, ◌∙◌, arith, unsigned_abs, length-set, zero-add}
-use Rattle.std.proofs.Common.{replicate, if◌then◌else◌, get_or-set_same, get_or-set_other}
+use Rattle.std.proofs.Common.{if◌then◌else◌, get_or-set_same, get_or-set_other}
 use Rattle.std.specs.List.{list_any, enumerate_from}
-use Rattle.std.proofs.lemmas.List.{ext_get_or, length-map, get_or-map, get_or-replicate, length-replicate}
+use Rattle.std.proofs.lemmas.List.{ext_get_or, length-map, get_or-map}
 use Rattle.std.proofs.lemmas.List.FromFn.{length-enumerate_from, get_or-enumerate_from}
-use Rattle.std.proofs.lemmas.List.FromFn.{length-map-range_with_len, get_or-map-range_with_len}
 use Rattle.std.proofs.lemmas.List.Sums.{fold_more}
 use Rattle.std.proofs.lemmas.Slice.Zip.{length-zip, get_or-zip}
-use Rattle.vcode_base.specs.Elements.{flag}
 use Rattle.vcode_base.specs.Segments.{names, arrival, scatter_of}
-use Rattle.segment_ops.specs.Indices.{marks_of}
 
-length-moved : (xs is there : List ℤ) → length (scatter_of xs is there) ≡ length there
+pub length-moved : (xs is there : List ℤ) → length (scatter_of xs is there) ≡ length there
 length-moved xs is there = length-map (enumerate_from 0 there) (λ (q, d). arrival (zip is xs) q d)
     ∙ length-enumerate_from 0 there
 
-moved_at : (xs is there : List ℤ) (q : ℕ) → q < length there
+pub moved_at : (xs is there : List ℤ) (q : ℕ) → q < length there
     → get_or (scatter_of xs is there) q (pos 0) ≡ arrival (zip is xs) q (get_or there q (pos 0))
 moved_at xs is there q inside =
     let listed : q < length (enumerate_from 0 there) = omega (arith, length-enumerate_from 0 there) in
@@ -32,7 +29,7 @@ moved_all xs is there out long each =
     ext_get_or (pos 0) out (scatter_of xs is there) (long ∙ sym (length-moved xs is there))
     (λ q h. let inside : q < length there = omega arith in each q inside ∙ sym (moved_at xs is there q inside))
 
-arrival_more : (is xs : List ℤ) (k q : ℕ) (d : ℤ) → length is ≡ length xs → k < length xs
+pub arrival_more : (is xs : List ℤ) (k q : ℕ) (d : ℤ) → length is ≡ length xs → k < length xs
     → arrival (take (k + 1) (zip is xs)) q d
     ≡ (if names q (get_or is k (pos 0)) then get_or xs k (pos 0) else arrival (take k (zip is xs)) q d)
 arrival_more is xs k q d same here =
@@ -55,7 +52,7 @@ move_step is xs there out k same here within so_far q h =
     grind (arith, more, before, get_or-set_same {A = ℤ}, get_or-set_other {A = ℤ})
 
 -- where an index names the place, what stood there does not matter
-arrival_named : (is xs : List ℤ) (q : ℕ) (d e : ℤ) → length is ≡ length xs → list_any (names q) is ≡ true
+pub arrival_named : (is xs : List ℤ) (q : ℕ) (d e : ℤ) → length is ≡ length xs → list_any (names q) is ≡ true
     → arrival (zip is xs) q d ≡ arrival (zip is xs) q e
 arrival_named [] xs q d e same named = cc
 arrival_named (i ∷ is) [] q d e same named = absurd (omega arith)
@@ -63,25 +60,3 @@ arrival_named (i ∷ is) (x ∷ xs) q d e same named =
     (elim (names q i) as (λ b. (b || list_any (names q) is) ≡ true
     → arrival (zip is xs) q (if b then x else d) ≡ arrival (zip is xs) q (if b then x else e))
     [ true ↦ λ h. refl | false ↦ λ h. arrival_named is xs q d e (omega arith) h ]) named
-
-arrival_marked : (is xs : List ℤ) (q : ℕ) → length is ≡ length xs
-    → arrival (zip is xs) q (flag (list_any (names q) is)) ≡ arrival (zip is xs) q (pos 0)
-arrival_marked is xs q same =
-    (elim (list_any (names q) is) as (λ b. list_any (names q) is ≡ b
-    → arrival (zip is xs) q (flag b) ≡ arrival (zip is xs) q (pos 0))
-    [ true ↦ λ named. arrival_named is xs q (pos 1) (pos 0) same named | false ↦ λ named. refl ]) refl
-
--- to move onto the marks is to move onto zeros
-pub moved_over_marks : (xs is : List ℤ) (n : ℕ) → length is ≡ length xs
-    → scatter_of xs is (marks_of is n) ≡ scatter_of xs is (replicate n (pos 0))
-moved_over_marks xs is n same =
-    let long : length (marks_of is n) ≡ n = length-map-range_with_len (λ q. flag (list_any (names q) is)) 0 n in
-    let zeros : length (replicate n (pos 0)) ≡ n = length-replicate n (pos 0) in
-    moved_all xs is (replicate n (pos 0)) (scatter_of xs is (marks_of is n))
-    (length-moved xs is (marks_of is n) ∙ long ∙ sym zeros)
-    (λ q h. let inside : q < n = omega arith in
-    moved_at xs is (marks_of is n) q (omega arith)
-    ∙ ap (arrival (zip is xs) q) (get_or-map-range_with_len (λ q. flag (list_any (names q) is)) 0 n q q
-    (pos 0) inside (omega arith))
-    ∙ arrival_marked is xs q same
-    ∙ ap (arrival (zip is xs) q) (sym (get_or-replicate n q (pos 0) (pos 0) inside)))

@@ -1,14 +1,14 @@
 -- A vector that is packed part by part.
 use Rattle.std.proofs.Common.{◌≡◌, ℕ, ◌+◌, ◌<◌, ◌≤◌, ℤ, pos, Bool, true, false, List, [], ◌∷◌, ◌++◌, length}
-use Rattle.std.proofs.Common.{take, drop, get_or, refl, ap, sym, ◌∙◌, arith, zero, suc, negsuc, of_z, w64}
-use Rattle.std.proofs.Common.{FitsSigned, length-take, count_by, if◌then◌else◌}
+use Rattle.std.proofs.Common.{take, drop, set, get_or, refl, ap, sym, ◌∙◌, arith, length-take, count_by}
+use Rattle.std.proofs.Common.{if◌then◌else◌, unsigned_abs, inl, inr}
 use Rattle.std.proofs.Math.Seq.{take-add, take-append-add}
-use Rattle.std.proofs.lemmas.List.{take_more, take-take}
+use Rattle.std.proofs.lemmas.List.{take_more, take-take, take-set, take_more_set, take-append-drop, append-nil}
 use Rattle.std.proofs.lemmas.Slice.{take-put_mid}
-use Rattle.std.proofs.lemmas.List.Sums.{sum_by_more, sum_by_more_le, sum_by-append, sum_by-take-le}
-use Rattle.std.proofs.lemmas.Int.{ints}
+use Rattle.std.proofs.lemmas.List.Sums.{sum_by_more, sum_by-append, sum_by-take-le, sum_by-take-drop}
 use borrow.Rule.Slice.PartMut.{put_mid}
 use Rattle.vcode_base.specs.Elements.{is_set}
+use Rattle.vcode_base.specs.Kinds.{IsFlag}
 use Rattle.vcode_base.specs.Meaning.{flagged_elements}
 
 abbrev pub one_or_none : Bool → ℕ
@@ -62,30 +62,58 @@ front_put out ys k w m inside room =
     ∙ ap (λ n. take (n + m) (take k out ++ ys)) (sym front)
     ∙ take-append-add (take k out) ys m
 
--- the code's test of a flag
-pub set_from_bits : (b : ℤ) → (of_z w64 b ≡ 0 → ⊥) → is_set b ≡ true
-set_from_bits (pos zero) h = absurd (h refl)
-set_from_bits (pos (suc n)) h = grind (arith, ints)
-set_from_bits (negsuc n) h = grind (arith, ints)
-
-pub clear_from_bits : (b : ℤ) → FitsSigned w64 b → of_z w64 b ≡ 0 → is_set b ≡ false
-clear_from_bits (pos zero) f h = refl
-clear_from_bits (pos (suc n)) f h = absurd (omega arith)
-clear_from_bits (negsuc n) f h = absurd (omega (arith, f.sfits))
-
-pub one_if : (t : Bool) → t ≡ true → one_or_none t ≡ 1
-one_if t e = ap one_or_none e
-
-pub none_if : (t : Bool) → t ≡ false → one_or_none t ≡ 0
-none_if t e = ap one_or_none e
+-- a flag is its own count
+pub flag_value : (b : ℤ) → IsFlag b → unsigned_abs b ≡ one_or_none (is_set b)
+flag_value b is = elim is [ inl e ↦ rw e refl | inr e ↦ rw e refl ]
 
 pub count_more : (bs : List ℤ) (k : ℕ) → k < length bs
     → count_by is_set (take (k + 1) bs) ≡ count_by is_set (take k bs) + one_or_none (is_set (get_or bs k (pos 0)))
 count_more bs k h = sum_by_more (λ b. one_or_none (is_set b)) bs k (pos 0) h
 
-pub count_room : (bs : List ℤ) (k : ℕ) → k < length bs → is_set (get_or bs k (pos 0)) ≡ true
-    → count_by is_set (take k bs) < count_by is_set bs
-count_room bs k h set =
-    let le = sum_by_more_le (λ b. one_or_none (is_set b)) bs k (pos 0) h in
-    let one = one_if (is_set (get_or bs k (pos 0))) set in
-    omega (arith, le, one)
+-- one more element is written, and stays if its flag is T
+pub packed_put : (xs bs out : List ℤ) (k kept n : ℕ) (t : Bool) → length bs ≡ length xs → k < length xs
+    → kept < length out → is_set (get_or bs k (pos 0)) ≡ t → n ≡ one_or_none t
+    → take kept out ≡ flagged_elements (take k xs) (take k bs)
+    → take (kept + n) (set out kept (get_or xs k (pos 0))) ≡ flagged_elements (take (k + 1) xs) (take (k + 1) bs)
+packed_put xs bs out k kept n true same here room is one so_far =
+    let x = get_or xs k (pos 0) in
+    let next : kept + n ≡ kept + 1 = omega arith in
+    ap (λ m. take m (set out kept x)) next
+    ∙ take_more_set out kept x room
+    ∙ ap (λ front. front ++ x ∷ []) so_far
+    ∙ sym (packed_more xs bs k same here
+    ∙ ap (λ s. flagged_elements (take k xs) (take k bs) ++ (if s then x ∷ [] else [])) is)
+packed_put xs bs out k kept n false same here room is none so_far =
+    let x = get_or xs k (pos 0) in
+    let next : kept + n ≡ kept = omega arith in
+    ap (λ m. take m (set out kept x)) next
+    ∙ take-set out kept x
+    ∙ so_far
+    ∙ sym (packed_more xs bs k same here
+    ∙ ap (λ s. flagged_elements (take k xs) (take k bs) ++ (if s then x ∷ [] else [])) is
+    ∙ append-nil (flagged_elements (take k xs) (take k bs)))
+
+none_packed : (xs bs : List ℤ) → count_by is_set bs ≡ 0 → flagged_elements xs bs ≡ []
+none_packed [] bs none = refl
+none_packed (x ∷ xs) [] none = refl
+none_packed (x ∷ xs) (b ∷ bs) none =
+    let count = sum_by-append (λ b. one_or_none (is_set b)) (b ∷ []) bs in
+    (elim (is_set b) as (λ t. is_set b ≡ t → flagged_elements (x ∷ xs) (b ∷ bs) ≡ []) [
+      | true ↦ λ is. absurd (let one = ap one_or_none is in omega arith)
+      | false ↦ λ is. (let zero = ap one_or_none is in
+          let later = none_packed xs bs (omega arith) in grind (arith, later, is))
+    ]) refl
+
+-- no flag from k on is T
+pub packed_rest : (xs bs : List ℤ) (k : ℕ) → length bs ≡ length xs
+    → count_by is_set (take k bs) ≡ count_by is_set bs
+    → flagged_elements (take k xs) (take k bs) ≡ flagged_elements xs bs
+packed_rest xs bs k same all =
+    let none : count_by is_set (drop k bs) ≡ 0 =
+    omega (arith, sum_by-take-drop (λ b. one_or_none (is_set b)) bs k) in
+    let front = flagged_elements (take k xs) (take k bs) in
+    sym (append-nil front)
+    ∙ ap (λ back. front ++ back) (sym (none_packed (drop k xs) (drop k bs) none))
+    ∙ sym (packed-append (take k xs) (drop k xs) (take k bs) (drop k bs) (simp length-take (omega arith)))
+    ∙ ap (λ ys. flagged_elements ys (take k bs ++ drop k bs)) (take-append-drop k xs)
+    ∙ ap (flagged_elements xs) (take-append-drop k bs)

@@ -1,16 +1,23 @@
 -- The pieces that a walk over one or two descriptors goes through, and what stands at an index of a piece.
-use Rattle.std.proofs.Common.{◌≡◌, ℕ, ◌+◌, ◌-◌, ◌<◌, ◌≤◌, ℤ, pos, Bool, true, false, ◌||◌, List, [], ◌∷◌}
+use Rattle.std.proofs.Common.{◌≡◌, ℕ, ◌+◌, ◌-◌, ◌<◌, ◌≤◌, ℤ, pos, Bool, false, ◌||◌, List, [], ◌∷◌}
 use Rattle.std.proofs.Common.{◌++◌, length, take, drop, set, get_or, zip, refl, ap, sym, ◌∙◌, arith, zero}
 use Rattle.std.proofs.Common.{suc, unsigned_abs, ◌≤ℤ◌, ◌<ℤ◌, length-take, length-drop, append_assoc}
-use Rattle.std.proofs.Common.{slice_set}
+use Rattle.std.proofs.Common.{slice_set, replicate, inl, inr}
 use Rattle.std.specs.List.{list_any, flat_map}
+use Rattle.std.proofs.Math.Bool.{or_assoc}
 use Rattle.std.proofs.Math.Nat.{add-sub_cancel_left}
 use Rattle.std.proofs.Math.Seq.{take-add, take-set-lt}
 use Rattle.std.proofs.lemmas.Int.{ints}
+use Rattle.std.proofs.lemmas.Bool.{or_parts, cases_lt}
 use Rattle.std.proofs.lemmas.List.{drop_more, drop-drop, drop-set-lt, set-append_right, get_or-take, get_or-drop}
+use Rattle.std.proofs.lemmas.List.{take-replicate, drop-replicate, length-replicate, take_all, take-append-le, append-nil}
+use Rattle.std.proofs.lemmas.Slice.{drop-put_mid}
+use borrow.Rule.Slice.PartMut.{put_mid}
 use Rattle.vcode_base.specs.Elements.{is_outside}
-use Rattle.vcode_base.specs.Segments.{segments, sizes, any_outside, element, has_twice}
-use Rattle.segment_ops.specs.Indices.{AreWithin}
+use Rattle.vcode_base.specs.Segments.{pieces_of, total, segments, sizes, any_outside, element, has_twice, scatter_of}
+use Rattle.vcode_base.specs.Segments.{permutation_of}
+use Rattle.segment_ops.specs.Indices.{AreWithin, some_outside}
+use Rattle.segment_ops.proofs.PackLemmas.{front_put}
 use Rattle.segment_ops.proofs.SegmentLemmas.{LiesFrom, size_at, parts_more, zip_more}
 
 -- ---- a segment and an element for it
@@ -92,6 +99,42 @@ replaced_more {s} {i} {b} {e} {n} xs is rs out whole p k l room inside kept so_f
     ∙ ap (λ front. front ++ replaced_from s xs is rs (i + 1) e)
     (sym written ∙ ap (λ m. take m (set out (b + spot) (get_or rs i (pos 0)))) ends)
 
+-- one step of a walk that writes for each piece what F makes of it: it wrote ys from b on, and only their front stays
+pub flat_front : {P : Type 0} (F : P → List ℤ) (piece : P) (pieces rest : List P) (out ys whole : List ℤ)
+    (b k e m : ℕ) → b ≤ length out → m ≤ length ys → e ≡ b + m → pieces ≡ piece ∷ rest → take m ys ≡ F piece
+    → whole ≡ take b out ++ flat_map F pieces → whole ≡ take e (put_mid b k out ys) ++ flat_map F rest
+flat_front F piece pieces rest out ys whole b k e m inside room ends next made h =
+    h ∙ ap (λ ps. take b out ++ flat_map F ps) next
+    ∙ ap (λ zs. take b out ++ (zs ++ flat_map F rest)) (sym made)
+    ∙ sym (append_assoc (take b out) (take m ys) (flat_map F rest))
+    ∙ ap (λ front. front ++ flat_map F rest) (sym (front_put out ys b k m inside room))
+    ∙ ap (λ n. take n (put_mid b k out ys) ++ flat_map F rest) (sym ends)
+
+-- the front of a part that was filled
+pub filled_front : (ys rest : List ℤ) (n count : ℕ) (x y : ℤ) → ys ≡ replicate n y → y ≡ x → count ≤ n
+    → take count (ys ++ rest) ≡ replicate count x
+filled_front ys rest n count x y made same fits =
+    ap (λ front. take count (front ++ rest)) (made ∙ ap (replicate n) same)
+    ∙ take-append-le count (replicate n x) rest (omega (arith, length-replicate n x))
+    ∙ take-replicate count n x fits
+
+-- one segment is all of a vector
+pub distributed_one : (s xs : List ℤ) (n : ℕ) (x : ℤ) → length s ≡ 1 → length xs ≡ length s → n ≡ total s
+    → x ≡ get_or xs 0 (pos 0) → replicate n x ≡ flat_map (λ (n, x). replicate n x) (zip (sizes s) xs)
+distributed_one [] xs n x one each all same = absurd (omega arith)
+distributed_one (k ∷ s) [] n x one each all same = absurd (omega arith)
+distributed_one (k ∷ j ∷ s) (y ∷ xs) n x one each all same = absurd (omega arith)
+distributed_one (k ∷ []) (y ∷ z ∷ xs) n x one each all same = absurd (omega arith)
+distributed_one (k ∷ []) (y ∷ []) n x one each all same =
+    let size : n ≡ unsigned_abs k = omega arith in
+    ap (λ m. replicate m x) size ∙ ap (replicate (unsigned_abs k)) same
+    ∙ sym (append-nil (replicate (unsigned_abs k) y))
+
+-- the list in the segments of r, with each element of those of s gone to its index
+abbrev pub moved_between : List ℤ → List ℤ → List ℤ → List ℤ → List ℤ → List ℤ
+moved_between s r xs is there = flat_map (λ (v, p). scatter_of v p.0 p.1)
+    (zip (segments s xs) (zip (segments s is) (segments r there)))
+
 -- ---- segments of two descriptors
 
 pub pairs_more : {s r : List ℤ} {i b e n c d m : ℕ} (xs ys : List ℤ) → LiesFrom s i b e n → LiesFrom r i c d m
@@ -113,57 +156,84 @@ triples_more {s} {r} {i} {b} {e} {n} {c} {d} {m} xs ys zs p q =
 
 -- ---- indices of one descriptor into the segments of another
 
-pub last_false : (a b : Bool) → (a || b) ≡ false → b ≡ false
-last_false true b h = cc
-last_false false b h = h
-
-pub first_false : (a b : Bool) → (a || b) ≡ false → a ≡ false
-first_false true b h = cc
-first_false false b h = refl
-
 -- the indices from c on into the segments from the one at i on
 abbrev pub outside_from : List ℤ → List ℤ → List ℤ → ℕ → ℕ → Bool
 outside_from s r is i c = any_outside (sizes (drop i s)) (segments (drop i r) (drop c is))
 
-outside_more : {r : List ℤ} {i c d m : ℕ} (s is : List ℤ) → i < length s → LiesFrom r i c d m
-    → outside_from s r is i c ≡ (list_any (is_outside (size_at s i)) (take (d - c) (drop c is))
+-- those of the next segment, into the part of xs that is its segment, and the later ones
+pub outside_more : {s r : List ℤ} {i b e n c d m : ℕ} (xs is : List ℤ) → LiesFrom s i b e n → LiesFrom r i c d m
+    → n ≡ length xs
+    → outside_from s r is i c ≡ (some_outside (length (take (e - b) (drop b xs))) (take (d - c) (drop c is))
     || outside_from s r is (i + 1) d)
-outside_more {r} {i} {c} {d} {m} s is h q =
+outside_more {s} {r} {i} {b} {e} {n} {c} {d} {m} xs is p q whole =
+    let part : size_at s i ≡ length (take (e - b) (drop b xs)) =
+    simp (length-take, length-drop) (omega (arith, p.size, p.inside, whole)) in
     ap (any_outside (sizes (drop i s))) (parts_more is q)
     ∙ ap (λ t. any_outside (sizes t) (take (d - c) (drop c is) ∷ segments (drop (i + 1) r) (drop d is)))
-    (drop_more s i (pos 0) h)
+    (drop_more s i (pos 0) p.here)
+    ∙ ap (λ size. some_outside size (take (d - c) (drop c is)) || outside_from s r is (i + 1) d) part
 
 inside_of : (n : ℕ) (i : ℤ) (others : Bool) → (is_outside n i || others) ≡ false → (pos 0 ≤ℤ i) × (i <ℤ pos n)
 inside_of n i others h = (grind (arith, ints), grind (arith, ints))
 
-within_of : (n : ℕ) (is : List ℤ) → list_any (is_outside n) is ≡ false → AreWithin n is
+pub within_of : (n : ℕ) (is : List ℤ) → some_outside n is ≡ false → AreWithin n is
 within_of n [] none k h = absurd (omega arith)
-within_of n (i ∷ is) none zero h = inside_of n i (list_any (is_outside n) is) none
+within_of n (i ∷ is) none zero h = inside_of n i (some_outside n is) none
 within_of n (i ∷ is) none (suc k) h =
-    within_of n is (last_false (is_outside n i) (list_any (is_outside n) is) none) k (omega arith)
+    within_of n is (or_parts (is_outside n i) (some_outside n is) none).1 k (omega arith)
 
--- of indices that are all inside, those of the next segment, and the later ones
-pub record AreInside (s r xs is : List ℤ) (i b e c d : ℕ) : Type 0 where
-  pub next : AreWithin (length (take (e - b) (drop b xs))) (take (d - c) (drop c is))
-  pub later : outside_from s r is (i + 1) d ≡ false
+-- whether two indices of a segment are equal: in one so far, in the next, or in a later one
+pub twice_more : {s : List ℤ} {i b e n : ℕ} (is : List ℤ) (whole twice here : Bool) → LiesFrom s i b e n
+    → here ≡ has_twice (take (e - b) (drop b is))
+    → whole ≡ (twice || list_any has_twice (segments (drop i s) (drop b is)))
+    → whole ≡ ((twice || here) || list_any has_twice (segments (drop (i + 1) s) (drop e is)))
+twice_more {s} {i} {b} {e} {n} is whole twice here p found so_far =
+    let later = list_any has_twice (segments (drop (i + 1) s) (drop e is)) in
+    so_far
+    ∙ ap (λ ps. twice || list_any has_twice ps) (parts_more is p)
+    ∙ ap (λ t. twice || (t || later)) (sym found)
+    ∙ sym (or_assoc twice here later)
 
-pub are_inside : {s r : List ℤ} {i b e n c d m : ℕ} (xs is : List ℤ) → LiesFrom s i b e n → LiesFrom r i c d m
-    → n ≡ length xs
-    → outside_from s r is i c ≡ false → AreInside s r xs is i b e c d
-are_inside {s} {r} {i} {b} {e} {n} {c} {d} {m} xs is p q whole none =
-    let split = sym (outside_more s is p.here q) ∙ none in
-    let part : length (take (e - b) (drop b xs)) ≡ size_at s i =
-    simp (length-take, length-drop) (omega (arith, p.size, p.inside, whole)) in
-    record {
-      next = rw part (within_of (size_at s i) (take (d - c) (drop c is)) (first_false _ _ split));
-      later = last_false _ _ split;
-    }
+-- what lies after the segment that was written
+pub kept_beyond : {s : List ℤ} {i b e n : ℕ} (there out ys : List ℤ) → LiesFrom s i b e n → e ≤ length out
+    → length ys ≡ e - b → drop b out ≡ drop b there → drop e (put_mid b (e - b) out ys) ≡ drop e there
+kept_beyond {s} {i} {b} {e} {n} there out ys p room long kept =
+    let ends : b + (e - b) ≡ e = omega (arith, p.ends) in
+    drop-put_mid b (e - b) out ys e (omega arith) (omega arith) long
+    ∙ ap (λ m. drop m out) (sym ends)
+    ∙ sym (drop-drop (e - b) b out) ∙ ap (drop (e - b)) kept ∙ drop-drop (e - b) b there
+    ∙ ap (λ m. drop m there) ends
 
--- no index of a segment comes twice, so two that are equal stand further on
-pub once_more : {s : List ℤ} {i b e n : ℕ} (is : List ℤ) → LiesFrom s i b e n
-    → has_twice (take (e - b) (drop b is)) ≡ false
-    → list_any has_twice (segments (drop i s) (drop b is))
-    ≡ list_any has_twice (segments (drop (i + 1) s) (drop e is))
-once_more {s} {i} {b} {e} {n} is p once =
-    ap (list_any has_twice) (parts_more is p)
-    ∙ ap (λ t. t || list_any has_twice (segments (drop (i + 1) s) (drop e is))) once
+front_zeros : (n : ℕ) (xs : List ℤ) → take n (replicate (length xs) (pos 0)) ≡ replicate (length (take n xs)) (pos 0)
+front_zeros n xs = elim (cases_lt n (length xs)) [
+  | inl fits ↦
+      (take-replicate n (length xs) (pos 0) (omega arith)
+      ∙ ap (λ m. replicate m (pos 0)) (simp length-take (omega arith)))
+  | inr all ↦
+      (take_all n (replicate (length xs) (pos 0)) (omega (arith, length-replicate (length xs) (pos 0)))
+      ∙ ap (λ m. replicate m (pos 0)) (simp length-take (omega arith)))
+]
+
+back_zeros : (n : ℕ) (xs : List ℤ) → drop n (replicate (length xs) (pos 0)) ≡ replicate (length (drop n xs)) (pos 0)
+back_zeros n xs =
+    drop-replicate n (length xs) (pos 0) ∙ ap (λ m. replicate m (pos 0)) (sym (length-drop n xs))
+
+permuted_pieces : (ns : List ℕ) (xs is : List ℤ)
+    → flat_map (λ (v, p). scatter_of v p.0 p.1)
+    (zip (pieces_of ns xs) (zip (pieces_of ns is) (pieces_of ns (replicate (length xs) (pos 0)))))
+    ≡ flat_map (λ (v, is). permutation_of v is) (zip (pieces_of ns xs) (pieces_of ns is))
+permuted_pieces [] xs is = refl
+permuted_pieces (n ∷ ns) xs is =
+    let zeros = replicate (length xs) (pos 0) in
+    let rest = flat_map (λ (piece : List ℤ × (List ℤ × List ℤ)). scatter_of piece.0 piece.1.0 piece.1.1)
+    (zip (pieces_of ns (drop n xs)) (zip (pieces_of ns (drop n is)) (pieces_of ns (drop n zeros)))) in
+    ap (λ front. scatter_of (take n xs) (take n is) front ++ rest) (front_zeros n xs)
+    ∙ ap (λ back. permutation_of (take n xs) (take n is)
+    ++ flat_map (λ (piece : List ℤ × (List ℤ × List ℤ)). scatter_of piece.0 piece.1.0 piece.1.1)
+    (zip (pieces_of ns (drop n xs)) (zip (pieces_of ns (drop n is)) (pieces_of ns back)))) (back_zeros n xs)
+    ∙ ap (λ later. permutation_of (take n xs) (take n is) ++ later) (permuted_pieces ns (drop n xs) (drop n is))
+
+-- to move the elements of each segment over zeros is to permute it
+pub permuted_is : (s xs is : List ℤ) → moved_between s s xs is (replicate (length xs) (pos 0))
+    ≡ flat_map (λ (v, is). permutation_of v is) (zip (segments s xs) (segments s is))
+permuted_is s xs is = permuted_pieces (sizes s) xs is

@@ -1,8 +1,13 @@
-ghost use Rattle.std.specs.Prelude.{◌≡◌, length, flat_map, replicate, zip};
+ghost use Rattle.std.specs.Prelude.{◌≡◌, ◌≤◌, length, take, flat_map, replicate, zip};
 ghost use Rattle.vcode_base.specs.Kinds.{AreLengths};
 ghost use Rattle.vcode_base.specs.Segments.{total, sizes, progression};
 
 use crate::descriptors::end_of;
+
+/// A segment of this many places up to [`SHORT`] is written together with what follows it.
+const FEWEST: usize = 4;
+
+const SHORT: usize = 16;
 
 /// `DIST`: writes at each position the element of its segment.
 ///
@@ -15,12 +20,40 @@ pub(crate) fn distribute(elements: &[i64], descriptor: &[i64], out: &mut [i64])
     ensures { out.new
         ≡ flat_map (λ (n, x). replicate n x) (zip (sizes descriptor.now) elements.now) }
 {
+    if descriptor.len() == 1 {
+        fill_with(elements[0], out);
+        return;
+    }
     let mut begin = 0;
     for segment in 0..descriptor.len() {
         let end = end_of(descriptor, segment, begin);
-        out[begin..end].fill(elements[segment]);
+        spread(elements[segment], end - begin, &mut out[begin..]);
         begin = end;
     }
+}
+
+/// Writes the element to the first `count` places of `out`, and to those after them as it likes.
+fn spread(element: i64, count: usize, out: &mut [i64])
+    requires room { count ≤ length out.old }
+    ensures { take count out.new ≡ replicate count element }
+{
+    if FEWEST <= count && count <= SHORT && SHORT <= out.len() {
+        // To write a number of places that is known takes no loop.
+        out[..SHORT].fill(element);
+        return;
+    }
+    fill_with(element, &mut out[..count]);
+}
+
+/// Fills `out` with the element. To fill many places with a constant is faster.
+fn fill_with(element: i64, out: &mut [i64])
+    ensures { out.new ≡ replicate (length out.old) element }
+{
+    if element == 0 && SHORT < out.len() {
+        out.fill(0);
+        return;
+    }
+    out.fill(element);
 }
 
 /// `INDEX`: writes at index `i` of each segment the segment's number of `firsts` and `i` times that

@@ -1,13 +1,15 @@
-ghost use Rattle.std.specs.Prelude.{◌≡◌, length, [], ◌∷◌, map, MatchResult, None, Some};
-ghost use Rattle.segment_ops.specs.Indices.{AreWithin};
+ghost use Rattle.std.specs.Prelude.{◌≡◌, ◌≤◌, length, [], ◌∷◌, map, true, false, MatchResult, None, Some};
+ghost use Rattle.segment_ops.specs.Indices.{some_outside};
 ghost use Rattle.vcode_base.specs.Kinds.{AreLengths};
 ghost use Rattle.vcode_base.specs.Meaning.{segmented_result, segmented_fault};
 ghost use Rattle.vcode_base.specs.Segments.{total, element};
+ghost use Rattle.vcode_base.specs.declared.fault.DataFault.TheVariants.{BadIndex};
 ghost use Rattle.vcode_base.specs.declared.kind.Scalar.TheVariants.{Int};
 ghost use Rattle.vcode_base.specs.declared.op.Segmented.TheVariants.{BackPermute};
+ghost use Rattle.vcode_base.specs.declared.limits.TheConstants.{MOST_TOTAL};
 
 use crate::descriptors::end_of;
-use crate::indices::any_outside;
+use crate::indices::is_outside;
 use vcode_base::DataFault;
 
 /// `BPERMUTE`: writes at each position the element that its index names.
@@ -28,6 +30,7 @@ pub(crate) fn back_permute(
     out: &mut [i64],
 ) -> Result<(), DataFault>
     requires source_lengths { AreLengths source.now }
+    requires source_small { total source.now ≤ MOST_TOTAL }
     requires target_lengths { AreLengths target.now }
     requires matched { length source.now ≡ length target.now }
     requires whole { length elements.now ≡ total source.now }
@@ -39,9 +42,6 @@ pub(crate) fn back_permute(
         × (out.new ≡ segmented_result (BackPermute Int) operands))
         (λ fault. segmented_fault (BackPermute Int) operands ≡ Some fault) }
 {
-    if any_outside(indices, target, source) {
-        return Err(DataFault::BadIndex);
-    }
     let mut begin = 0;
     let mut target_begin = 0;
     for segment in 0..source.len() {
@@ -51,7 +51,7 @@ pub(crate) fn back_permute(
             &elements[begin..end],
             &indices[target_begin..target_end],
             &mut out[target_begin..target_end],
-        );
+        )?;
         begin = end;
         target_begin = target_end;
     }
@@ -59,12 +59,25 @@ pub(crate) fn back_permute(
 }
 
 /// Writes the element that each index names.
-fn gather(elements: &[i64], indices: &[i64], out: &mut [i64])
-    requires within { AreWithin (length elements.now) indices.now }
+///
+/// # Errors
+///
+/// [`BadIndex`](DataFault::BadIndex) where an index is outside `elements`. Then `out` holds no result.
+fn gather(elements: &[i64], indices: &[i64], out: &mut [i64]) -> Result<(), DataFault>
+    requires small { length elements.now ≤ MOST_TOTAL }
     requires room { length out.old ≡ length indices.now }
-    ensures { out.new ≡ map (element elements.now) indices.now }
+    ensures { MatchResult result
+        (λ _. (some_outside (length elements.now) indices.now ≡ false)
+        × (out.new ≡ map (element elements.now) indices.now))
+        (λ fault. (some_outside (length elements.now) indices.now ≡ true) × (fault ≡ BadIndex)) }
 {
+    let size = elements.len() as i64;
     for place in 0..indices.len() {
-        out[place] = elements[indices[place] as usize];
+        let index = indices[place];
+        if is_outside(size, index) {
+            return Err(DataFault::BadIndex);
+        }
+        out[place] = elements[index as usize];
     }
+    Ok(())
 }

@@ -8,6 +8,8 @@
 //! [`need`] how many words its results have, and [`fill`] writes them. None of them takes memory,
 //! and each goes a fixed number of times over the operands and the results.
 //!
+//! [`overlay`] writes `DPERMUTE` into the words of its default, for a caller that needs those no more.
+//!
 //! What the instructions mean is defined in `vcode_base`. One function a row of its table stands in
 //! the module of the row's family, and what it ensures is that row.
 #![tactic(auto)]
@@ -31,4 +33,5 @@ mod steps;
 
 pub use fills::fill;
 pub use needs::need;
+pub use overlays::overlay;
 pub use shapes::shape;

@@ -1,6 +1,7 @@
 ghost use Rattle.std.specs.Prelude.{◌≡◌, ◌≤◌, pos, length, take, count_by, [], ◌∷◌};
+ghost use Rattle.std.specs.List.{All};
 ghost use Rattle.vcode_base.specs.Elements.{is_set};
-ghost use Rattle.vcode_base.specs.Kinds.{AreLengths};
+ghost use Rattle.vcode_base.specs.Kinds.{AreLengths, IsFlag};
 ghost use Rattle.vcode_base.specs.declared.limits.TheConstants.{MOST_TOTAL};
 ghost use Rattle.vcode_base.specs.Meaning.{flagged_elements, segmented_result, segmented_second};
 ghost use Rattle.vcode_base.specs.Segments.{total};
@@ -24,6 +25,7 @@ pub(crate) fn pack(
     requires bounded { total descriptor.now ≤ MOST_TOTAL }
     requires whole { length elements.now ≡ total descriptor.now }
     requires flag_whole { length flags.now ≡ total descriptor.now }
+    requires kind { All IsFlag flags.now }
     requires room { length out.old ≡ count_by is_set flags.now }
     requires count_room { length counts.old ≡ length descriptor.now }
     ensures packed { let operands = elements.now ∷ flags.now ∷ descriptor.now ∷ []
@@ -44,26 +46,37 @@ pub(crate) fn pack(
 
 /// Writes the elements of a segment whose flag is T to the front of `out`, in order, and answers how
 /// many they are.
+///
+/// Each element is written where the next one that is kept belongs, so that a step has no branch on a
+/// flag.
 fn pack_segment(elements: &[i64], flags: &[i64], out: &mut [i64]) -> usize
     requires same { length flags.now ≡ length elements.now }
+    requires kind { All IsFlag flags.now }
     requires room { count_by is_set flags.now ≤ length out.old }
     ensures counted { result ≡ count_by is_set flags.now }
     ensures packed { take result out.new ≡ flagged_elements elements.now flags.now }
 {
     let mut kept = 0;
     for place in 0..elements.len() {
-        if flags[place] != 0 {
-            out[kept] = elements[place];
-            kept += 1;
+        if kept == out.len() {
+            // None of the flags that are left is T.
+            return kept;
         }
+        out[kept] = elements[place];
+        kept += flags[place] as usize;
     }
     kept
 }
 
-/// How many flags are T.
+/// How many flags are T, which is their sum.
 pub(crate) fn count_set(flags: &[i64]) -> u64
+    requires kind { All IsFlag flags.now }
     ensures counted { result ≡ count_by is_set flags.now }
     ensures at_most_all { result ≤ length flags.now }
 {
-    flags.iter().filter(|flag| **flag != 0).count() as u64
+    let mut sum: u64 = 0;
+    for flag in flags {
+        sum += *flag as u64;
+    }
+    sum
 }

@@ -1,14 +1,12 @@
-ghost use Rattle.std.specs.Prelude.{◌≡◌, length, [], ◌∷◌, false, MatchResult, None, Some};
-ghost use Rattle.segment_ops.specs.Indices.{AreWithin};
+ghost use Rattle.std.specs.Prelude.{◌≡◌, ◌≤◌, length, [], ◌∷◌, MatchResult, None, Some};
 ghost use Rattle.vcode_base.specs.Kinds.{AreLengths};
 ghost use Rattle.vcode_base.specs.Meaning.{segmented_result, segmented_fault};
-ghost use Rattle.vcode_base.specs.Segments.{total, permutation_of, has_twice};
+ghost use Rattle.vcode_base.specs.Segments.{total};
 ghost use Rattle.vcode_base.specs.declared.kind.Scalar.TheVariants.{Int};
 ghost use Rattle.vcode_base.specs.declared.op.Segmented.TheVariants.{Permute};
+ghost use Rattle.vcode_base.specs.declared.limits.TheConstants.{MOST_TOTAL};
 
-use crate::descriptors::end_of;
-use crate::indices::any_outside;
-use crate::scatters::{mark, scatter};
+use crate::overlays::overlay;
 use vcode_base::DataFault;
 
 /// `PERMUTE`: writes each element at its index of the same segment.
@@ -28,6 +26,7 @@ pub(crate) fn permute(
     out: &mut [i64],
 ) -> Result<(), DataFault>
     requires lengths { AreLengths descriptor.now }
+    requires small { total descriptor.now ≤ MOST_TOTAL }
     requires whole { length elements.now ≡ total descriptor.now }
     requires index_whole { length indices.now ≡ total descriptor.now }
     requires room { length out.old ≡ length elements.now }
@@ -37,36 +36,7 @@ pub(crate) fn permute(
         × (out.new ≡ segmented_result (Permute Int) operands))
         (λ fault. segmented_fault (Permute Int) operands ≡ Some fault) }
 {
-    if any_outside(indices, descriptor, descriptor) {
-        return Err(DataFault::BadIndex);
-    }
-    let mut begin = 0;
-    for segment in 0..descriptor.len() {
-        let end = end_of(descriptor, segment, begin);
-        if permute_segment(
-            &elements[begin..end],
-            &indices[begin..end],
-            &mut out[begin..end],
-        ) {
-            return Err(DataFault::IndexTwice);
-        }
-        begin = end;
-    }
-    Ok(())
-}
-
-/// Says whether two of the indices are equal, and else writes each element at its index.
-fn permute_segment(elements: &[i64], indices: &[i64], out: &mut [i64]) -> bool
-    requires same { length indices.now ≡ length elements.now }
-    requires room { length out.old ≡ length elements.now }
-    requires within { AreWithin (length elements.now) indices.now }
-    ensures twice { result ≡ has_twice indices.now }
-    ensures moved { result ≡ false → out.new ≡ permutation_of elements.now indices.now }
-{
-    // Each place that no index names keeps its mark, which is 0.
-    let twice = mark(indices, out);
-    if !twice {
-        scatter(elements, indices, out);
-    }
-    twice
+    // Where there is a result, each place is named, and so none of these zeros is in it.
+    out.fill(0);
+    overlay(elements, indices, descriptor, descriptor, out)
 }

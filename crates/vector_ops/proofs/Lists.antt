@@ -1,10 +1,13 @@
 -- A list written place by place is the one that the definitions name.
 use Rattle.std.proofs.Common.{◌≡◌, ℕ, ◌<◌, ℤ, pos, Bool, false, ◌||◌, List, [], ◌∷◌, length, map, get_or}
-use Rattle.std.proofs.Common.{refl, ap, ◌∙◌, arith, zero, suc, if◌then◌else◌}
+use Rattle.std.proofs.Common.{refl, ap, sym, ◌∙◌, arith, zero, suc, if◌then◌else◌}
 use Rattle.std.specs.List.{list_any}
+use Rattle.std.proofs.lemmas.Bool.{or_from, false_from_ne_true, both_ways}
 use Rattle.std.proofs.lemmas.List.{ext_get_or, get_or-map, length-map}
+use Rattle.std.proofs.lemmas.List.Folds.{list_any_at}
 use Rattle.vcode_base.specs.Elements.{is_set}
 use Rattle.vcode_base.specs.Meaning.{two_by_two, selection_of}
+use Rattle.vector_ops.specs.Alike.{AreAll}
 
 length-two_by_two : (f : ℤ → ℤ → ℤ) (xs ys : List ℤ) → length ys ≡ length xs → length (two_by_two f xs ys) ≡ length xs
 length-two_by_two f [] ys e = refl
@@ -71,3 +74,28 @@ pub list_any-map : {X Y : Type 0} (p : Y → Bool) (f : X → Y) (xs : List X)
     → list_any p (map f xs) ≡ list_any (λ x. p (f x)) xs
 list_any-map p f [] = refl
 list_any-map p f (x ∷ xs) = ap (λ rest. p (f x) || rest) (list_any-map p f xs)
+
+-- a test that fails at the one number of a list
+pub none_alike : (p : ℤ → Bool) (xs : List ℤ) (n : ℤ) → p n ≡ false → AreAll n xs → list_any p xs ≡ false
+none_alike p [] n fails all = refl
+none_alike p (x ∷ xs) n fails all =
+    or_from (p x) (list_any p xs) (ap p (all 0 (omega arith)) ∙ fails)
+    (none_alike p xs n fails (λ k h. all (suc k) (omega arith)))
+
+-- a list made with one right element for all
+pub made_alike : (f : ℤ → ℤ → ℤ) (out xs ys : List ℤ) (n : ℤ) → length ys ≡ length xs → AreAll n ys
+    → out ≡ map (λ x. f x n) xs → out ≡ two_by_two f xs ys
+made_alike f out xs ys n same all made =
+    let long = length-map xs (λ x. f x n) in
+    let size = ap length made in
+    two_by_two_made f out xs ys (omega arith) same
+    (λ k h. ap (λ zs. get_or zs k (pos 0)) made
+    ∙ get_or-map (λ x. f x n) xs k (pos 0) (pos 0) h
+    ∙ ap (f (get_or xs k (pos 0))) (sym (all k (omega arith))))
+
+-- where the test holds nowhere it does not hold at an element
+pub allowed_at : (p : ℤ → Bool) (xs : List ℤ) (k : ℕ) → k < length xs → list_any p xs ≡ false
+    → p (get_or xs k (pos 0)) ≡ false
+allowed_at p xs k here none =
+    false_from_ne_true (p (get_or xs k (pos 0)))
+    (λ holds. both_ways (list_any p xs) none (list_any_at p xs k (pos 0) here holds))

@@ -1,15 +1,24 @@
 #![tactic(auto, using(std::proofs::lemmas::Int::wraps, crate::proofs::Lists::none_refused))]
 
-ghost use Rattle.std.specs.Prelude.{◌≡◌, length, MatchResult, None, Some};
+ghost use Rattle.std.specs.Prelude.{◌≡◌, ◌<◌, length, pos, slice_index_or, true, false, MatchResult, None, Some};
+ghost use Rattle.std.specs.List.{list_any};
+ghost use Rattle.vector_ops.specs.Alike.{AreAll};
+ghost use Rattle.vcode_base.specs.declared.fault.DataFault.TheVariants.{BadShift};
 ghost use Rattle.vcode_base.specs.Meaning.{two_by_two};
 ghost use Rattle.vcode_base.specs.Elements.{arithmetic, arithmetic_fault, is_outside, is_zero};
 ghost use Rattle.vcode_base.specs.declared.op.Arith.TheVariants.{Subtract, Divide};
 ghost use Rattle.vcode_base.specs.declared.op.Arith.TheVariants.{Remainder as ArithRemainder, ShiftLeft};
 ghost use Rattle.vcode_base.specs.declared.op.Arith.TheVariants.{ShiftRight};
 
-use crate::steps::{ElementTest, PairStep, fill_pairs, fill_pairs_unless};
+use crate::steps::{ElementTest, PairStep, are_all, fill_by, fill_pairs, fill_pairs_unless};
 use vcode_base::element::{Combine, Product, Sum};
 use vcode_base::{Arith, DataFault};
+
+/// Of fewer shifts it is not tested whether they are all one number.
+const MANY: usize = 128;
+
+/// Shifts that differ mostly do so among this many.
+const FIRST: usize = 8;
 
 /// Writes the elements of an arithmetic instruction.
 ///
@@ -28,17 +37,54 @@ pub(crate) fn fill_arith(
         × (out.new ≡ two_by_two (arithmetic op) left.now right.now))
         (λ fault. arithmetic_fault op right.now ≡ Some fault) }
 {
-    let (zero, shift) = (DataFault::ZeroDivisor, DataFault::BadShift);
+    let zero = DataFault::ZeroDivisor;
     match op {
         Arith::Add => fill_pairs::<Sum>(left, right, out),
         Arith::Subtract => fill_pairs::<Difference>(left, right, out),
         Arith::Multiply => fill_pairs::<Product>(left, right, out),
         Arith::Divide => fill_pairs_unless::<IsZero, Quotient>(zero, left, right, out)?,
         Arith::Remainder => fill_pairs_unless::<IsZero, Remainder>(zero, left, right, out)?,
-        Arith::ShiftLeft => fill_pairs_unless::<IsBadShift, LeftShift>(shift, left, right, out)?,
-        Arith::ShiftRight => fill_pairs_unless::<IsBadShift, RightShift>(shift, left, right, out)?,
+        Arith::ShiftLeft => fill_shifts::<LeftShift>(left, right, out)?,
+        Arith::ShiftRight => fill_shifts::<RightShift>(left, right, out)?,
     }
     Ok(())
+}
+
+/// Writes the shifted elements. Where all shifts are one number, a loop reads it once.
+///
+/// The fault is `BadShift`, where a shift is outside 0..=63.
+fn fill_shifts<S: PairStep>(left: &[i64], right: &[i64], out: &mut [i64]) -> Result<(), DataFault>
+    requires same { length right.now ≡ length left.now }
+    requires room { length out.old ≡ length left.now }
+    requires tested { list_any S.refuses right.now ≡ list_any (is_outside 64) right.now }
+    ensures { MatchResult result
+        (λ _. (list_any (is_outside 64) right.now ≡ false)
+        × (out.new ≡ two_by_two S.gives left.now right.now))
+        (λ fault. (list_any (is_outside 64) right.now ≡ true) × (fault ≡ BadShift)) }
+{
+    if !is_one_shift(right) {
+        return fill_pairs_unless::<IsBadShift, S>(DataFault::BadShift, left, right, out);
+    }
+    fill_by::<S>(left, right[0], out);
+    Ok(())
+}
+
+/// Whether these are many numbers, all of them are one, and it is a shift.
+fn is_one_shift(shifts: &[i64]) -> bool
+    ensures many { result ≡ true → 0 < length shifts.now }
+    ensures shift { result ≡ true → is_outside 64 (slice_index_or shifts.now 0 (pos 0)) ≡ false }
+    ensures alike { result ≡ true → AreAll (slice_index_or shifts.now 0 (pos 0)) shifts.now }
+{
+    if shifts.len() < MANY {
+        return false;
+    }
+    if IsBadShift::test(shifts[0]) {
+        return false;
+    }
+    if !are_all(&shifts[..FIRST], shifts[0]) {
+        return false;
+    }
+    are_all(shifts, shifts[0])
 }
 
 /// The difference, modulo 2^64.

@@ -1,4 +1,6 @@
-ghost use Rattle.std.specs.Prelude.{◌≡◌, length};
+ghost use Rattle.std.specs.Prelude.{◌≡◌, length, if◌then◌else◌};
+ghost use Rattle.std.specs.List.{All};
+ghost use Rattle.vcode_base.specs.Kinds.{IsFlag};
 ghost use Rattle.vcode_base.specs.Meaning.{selection_of};
 ghost use Rattle.vcode_base.specs.Elements.{flag, is_set};
 
@@ -6,16 +8,25 @@ use crate::steps::ElementStep;
 
 /// Writes the element of `chosen` where the flag is T, and that of `other` where it is F.
 pub(crate) fn select(flags: &[i64], chosen: &[i64], other: &[i64], out: &mut [i64])
+    requires kind { All IsFlag flags.now }
     requires chosen_same { length chosen.now ≡ length flags.now }
     requires other_same { length other.now ≡ length flags.now }
     requires room { length out.old ≡ length flags.now }
     ensures { out.new ≡ selection_of flags.now chosen.now other.now }
 {
     for i in 0..out.len() {
-        // Both are read before the choice, so that a step has no branch.
-        let (on_true, on_false) = (chosen[i], other[i]);
-        out[i] = if flags[i] != 0 { on_true } else { on_false };
+        out[i] = choose(flags[i], chosen[i], other[i]);
     }
+}
+
+/// The first of two elements where the flag is T, and else the second.
+fn choose(flag: i64, on_true: i64, on_false: i64) -> i64
+    requires { IsFlag flag }
+    ensures { result ≡ (if is_set flag then on_true else on_false) }
+{
+    // The mask is all ones for T and 0 for F, so that a choice has no branch.
+    let mask = -flag;
+    on_false ^ ((on_true ^ on_false) & mask)
 }
 
 /// T where the number is not 0, else F.

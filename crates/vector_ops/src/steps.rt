@@ -1,6 +1,7 @@
 ghost use Rattle.std.specs.Prelude.{◌≡◌, ℤ, length, map, Bool, true, false, MatchResult};
 ghost use Rattle.std.specs.List.{list_any};
 ghost use Rattle.vcode_base.specs.Meaning.{two_by_two};
+ghost use Rattle.vector_ops.specs.Alike.{AreAll};
 
 use vcode_base::DataFault;
 use vcode_base::element::Combine;
@@ -74,6 +75,28 @@ pub(crate) fn fill_pairs_unless<T: ElementTest, S: PairStep>(
     }
     fill_pairs::<S>(left, right, out);
     Ok(())
+}
+
+/// Writes the step's element of each left element and one right element.
+pub(crate) fn fill_by<S: PairStep>(left: &[i64], right: i64, out: &mut [i64])
+    requires room { length out.old ≡ length left.now }
+    requires allowed { S.refuses right ≡ false }
+    ensures { out.new ≡ map (λ x. S.gives x right) left.now }
+{
+    for i in 0..out.len() {
+        out[i] = S::apply(left[i], right);
+    }
+}
+
+/// Whether each element is this number. It goes over all of them, without leaving early.
+pub(crate) fn are_all(elements: &[i64], number: i64) -> bool
+    ensures { result ≡ true → AreAll number elements.now }
+{
+    let mut alike = true;
+    for element in elements {
+        alike &= *element == number;
+    }
+    alike
 }
 
 /// Writes the step's element of each element.
