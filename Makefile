@@ -1,23 +1,32 @@
+# make try     builds the program without proving anything, and runs the example sum_of_two on it
 # make         the program, proved, at bin/vjobs
 # make run     runs the example sum_of_two
 # make test    the gate: every proof from nothing, the wrong bodies to be refused, all tests, tables and examples
+# make names   checks that every name exists which a page, a comment or a wrong body uses
 # make check CRATE=name   proves one crate and runs its tests
 # make bench   times reading, the steps of jobs, workers, the instructions beside plain C, the memory, and the verifier; no test
 # make soak    runs batches on 1 to 16 workers for an hour, and stops at the first report that differs; not in the gate
 # make models  compares the programs with a second writing of the rules, in Python, on random cases; not in the gate
 
-.PHONY: all run test check bench soak models clean
+.PHONY: all try run test names check bench soak models clean
 
 all:
 	cd crates/vjobs && rt run -- --help > /dev/null
 	mkdir -p bin
 	cp crates/vjobs/out/vjobs bin/vjobs
 
+try:
+	@echo "Built without proofs: nothing that this program does is proved."
+	cd crates/vjobs && rt try -- - < ../../examples/sum_of_two.vcode
+
 run: all
 	bin/vjobs examples/sum_of_two.vcode
 
 test:
 	rt ci
+
+names:
+	.ci/names
 
 check:
 	.ci/check $(CRATE)

@@ -29,10 +29,13 @@ def heading(words):
 
 
 def jobs_of(data):
-    """Each job's JOB line, name, limits, and its signatures and code, each with the number of its first line."""
+    """Whether the second rule holds, and each job's JOB line, name, limits, and its signatures and code, each with the number of its
+    first line."""
     lines = data.split(b"\n")
     lines = lines if lines[-1] else lines[:-1]
-    jobs, place = [], 0
+    first = next((place for place, line in enumerate(lines) if words_of(line)), len(lines))
+    is_second = first < len(lines) and words_of(lines[first]) == [b"BATCH", b"2"]
+    jobs, place = [], first + is_second
 
     def until(word, begun, other=None):
         nonlocal place
@@ -58,7 +61,7 @@ def jobs_of(data):
             raise BatchRefused(place + 1, "B1 BAD_JOB_LINE")
         until(b"SIGNATURES", begun)
         jobs.append((begun, *head, until(b"CODE", begun, b"END"), until(b"END", begun)))
-    return jobs
+    return is_second, jobs
 
 
 def verified(signatures_line, signatures, code_line, code):
@@ -69,24 +72,24 @@ def verified(signatures_line, signatures, code_line, code):
     return functions
 
 
-def job_lines(job, region):
+def job_lines(job, region, is_second):
     begun, _, numbers, signatures, code = job
     limits = Limits(*numbers)
     if limits.words > region:
         raise Fault(begun, "B3 WORDS_PAST_REGION")
-    return run(verified(*signatures, *code), limits)
+    return run(verified(*signatures, *code), limits, is_second)
 
 
 def report(data, region):
     """The report of a batch over a region of so many words, and the exit status."""
     try:
-        jobs = jobs_of(data)
+        is_second, jobs = jobs_of(data)
     except BatchRefused as refusal:
         return f"{refusal}\n", 2
     lines, refused = [], 0
     for number, job in enumerate(jobs, 1):
         try:
-            lines.append(f"JOB {number} {job[1]} {job_lines(job, region)}")
+            lines.append(f"JOB {number} {job[1]} {job_lines(job, region, is_second)}")
         except Fault as fault:
             refused += 1
             lines.append(f"JOB {number} {job[1]} REFUSED {fault}")

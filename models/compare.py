@@ -5,8 +5,9 @@
 
 Run it at the top of the repository, once `make models` has built the programs. The modules of this folder say in plain Python what
 docs/LANGUAGE.md and docs/FORMATS.md say of reading, kinds, vectors, runs and batches, and share nothing with the crates. Each of COUNT texts of code and signatures goes to `worked_texts`, each of COUNT instructions to `worked_vectors`, each of
-a hundredth as many batches to `bin/vjobs`, once without a schedule and once with one, and COUNT calls on free words and memories, one after another, to
-`worked_regions`; their answers, reports and exit statuses must be those of the modules, which know of no schedule.
+a hundredth as many batches, of either rule, to `bin/vjobs`, once on 1, 2 or 16 workers and once with a schedule, and COUNT calls on free words
+and memories, one after another, to `worked_regions`; their answers, reports and exit statuses must be those of the modules, which know of
+no schedule.
 
 Where a PROGRAM of the same behaviour is named, only COUNT batches are compared, with it.
 """
@@ -110,7 +111,7 @@ def differing_batches(program, cases, count):
     for _ in range(count):
         batch, region = cases.whole_batch()
         want = batches.report(batch, region)
-        for options in ([], ["--schedule", cases.schedule()]):
+        for options in (["--workers", cases.pick(["1", "2", "16"])], ["--schedule", cases.schedule()]):
             words = ["--region", str(region), *options, "-"]
             run = subprocess.run([*program, *words], input=batch, capture_output=True)
             answer = run.stdout.decode("latin1"), run.returncode

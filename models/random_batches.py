@@ -134,14 +134,14 @@ class RandomBatches(Random):
         lines = [self.signature_line(name, *arrow) for name, arrow in self.random.sample([*signatures.items()], len(signatures))]
         return "\n".join(lines).encode() + b"\n", self.text([word for code in codes for word in code], 0.04) + b"\n"
 
-    def uses(self, signatures, code):
+    def uses(self, signatures, code, is_second):
         """What a job needs of each limit, as far as it is tried."""
         try:
             functions = reader.read(code, 1)
             kinds.verify(functions, kinds.read_signatures(signatures, 1), 1)
         except Fault:
             return 9, 9, 4, 9
-        run, cells, calls = Run(functions, Limits(MOST_WORDS, MOST_CELLS, MOST_CALLS, MOST_TRIED)), 1, 1
+        run, cells, calls = Run(functions, Limits(MOST_WORDS, MOST_CELLS, MOST_CALLS, MOST_TRIED), is_second), 1, 1
         try:
             while run.calls:
                 run.step()
@@ -158,9 +158,9 @@ class RandomBatches(Random):
             found = self.pick([needed, needed - 1, needed - 1, needed + 1, self.random.randint(0, needed)])
         return min(max(found, least), most)
 
-    def whole_job(self):
+    def whole_job(self, is_second):
         signatures, code = self.whole_code()
-        words, cells, calls, executed = self.uses(signatures, code)
+        words, cells, calls, executed = self.uses(signatures, code, is_second)
         limits = [self.limit(words, 0, MOST_WORDS), self.limit(cells, 1, MOST_CELLS), self.limit(calls, 1, MOST_CALLS)]
         budget = self.limit(executed, 0, 1_000_000_000)
         name = self.pick(["t"] * 8 + ["wide", "a" * 64, "JOB", "{", "("])
@@ -169,13 +169,22 @@ class RandomBatches(Random):
 
     # ---- batches
 
+    def rule_line(self, is_second):
+        """A line that says the second rule, mostly spelled well; seldom one where it isn't meant."""
+        if not is_second:
+            return b"" if self.chance(0.98) else b"BATCH 1\n"
+        spelled = self.pick([b"BATCH 2"] * 20 + [b" BATCH\t2 \r", b"BATCH 02", b"BATCH 2 2", b"BATCH 2\nBATCH 2", b"BATCH", b"batch 2"])
+        return self.pick([b""] * 9 + [b"\n", b" \t\r\n\n"]) + spelled + b"\n"
+
     def whole_batch(self):
         """The bytes of a batch, and the words of a region."""
-        made = [self.whole_job() for _ in range(self.pick([0, 1, 1, 1, 1, 2, 2, 3, 4, 6, 9]))]
+        is_second = self.chance(0.4)
+        made = [self.whole_job(is_second) for _ in range(self.pick([0, 1, 1, 1, 1, 2, 2, 3, 4, 6, 9]))]
         if made and self.chance(0.02):
             made = [self.pick(made) for _ in range(self.pick([63, 64, 65]))]
         gaps = [self.pick([b""] * 9 + [b"\n", b" \t\r\n\n"]) for _ in range(len(made) + 1)]
         text = b"".join(gap + job for gap, (job, _) in zip(gaps, made)) + gaps[-1]
+        text = self.rule_line(is_second) + text
         text = text[:-1] if self.chance(0.05) else text
         while self.chance(0.03):
             text = self.changed_bytes(text)

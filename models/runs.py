@@ -76,34 +76,38 @@ class Ended(Exception):
 
 
 class Run:
-    def __init__(self, functions, limits):
+    def __init__(self, functions, limits, is_second=False):
         # The first function of a name counts.
         self.functions = {f.name: tree(f.items) for f in reversed(functions)}
-        self.limits = limits
+        self.limits, self.is_second = limits, is_second
         self.stack, self.calls, self.executed, self.peak, self.next_tag = [], [self.functions["MAIN"]], 0, 0, 0
 
-    def checked(self, item, fault, need_words, depth):
+    def words(self, operands, need_words):
+        """What is held and needed by an instruction of so many operands, which the second rule leaves out."""
+        return held(self.stack[: len(self.stack) - operands] if self.is_second else self.stack) + need_words
+
+    def checked(self, item, fault, operands, need_words, depth):
         """What comes before the values are looked at."""
         if fault:
             raise Ended(f"FAULT line {item.line} {fault}")
-        if held(self.stack) + need_words > self.limits.words:
+        if self.words(operands, need_words) > self.limits.words:
             raise Ended(f"MEMORY line {item.line} M1 WORDS")
         if depth > self.limits.cells:
             raise Ended(f"MEMORY line {item.line} M2 CELLS")
         if item.what == "Call" and len(self.calls) == self.limits.calls:
             raise Ended(f"MEMORY line {item.line} M3 CALLS")
 
-    def executes(self, need_words=0):
+    def executes(self, operands=0, need_words=0):
         self.executed += 1
-        self.peak = max(self.peak, held(self.stack) + need_words)
+        self.peak = max(self.peak, self.words(operands, need_words))
 
     def push(self, kind, words):
         self.stack.append(Entry(self.next_tag, kind, words))
         self.next_tag += 1
 
     def constant(self, item):
-        self.checked(item, None, len(item.numbers), len(self.stack) + 1)
-        self.executes(len(item.numbers))
+        self.checked(item, None, 0, len(item.numbers), len(self.stack) + 1)
+        self.executes(0, len(item.numbers))
         self.push(item.kind, item.numbers)
 
     def vector(self, item):
@@ -116,10 +120,10 @@ class Run:
             found, fault = [], str(end)
         misfit = fault if fault and fault not in VALUE_FAULTS and not fault.startswith("needs") else None
         needed = 0 if misfit else need(item.word, operands)
-        self.checked(item, misfit, needed, below + len(kinds.results))
+        self.checked(item, misfit, len(operands), needed, below + len(kinds.results))
         if fault:
             raise Ended(f"FAULT line {item.line} {fault}")
-        self.executes(needed)
+        self.executes(len(operands), needed)
         del self.stack[below:]
         for kind, words in zip(kinds.results, found):
             self.push(kind, words)
@@ -129,19 +133,19 @@ class Run:
         below = len(self.stack) - i - j
         lower, upper = self.stack[below : below + i], self.stack[below + i :]
         moved = {"COPY": lower + upper + lower, "POP": upper, "CPOP": upper + lower}[item.word]
-        self.checked(item, None, 0, below + len(moved))
-        self.executes()
+        self.checked(item, None, i + j, 0, below + len(moved))
+        self.executes(i + j)
         self.stack[below:] = moved
 
     def choice(self, item):
         flag = self.stack[-1].words
-        self.checked(item, None if len(flag) == 1 else NOT_SINGLE, 0, len(self.stack) - 1)
-        self.executes()
+        self.checked(item, None if len(flag) == 1 else NOT_SINGLE, 1, 0, len(self.stack) - 1)
+        self.executes(1)
         self.stack.pop()
         self.calls[-1] = (item.first if flag[0] else item.second) + self.calls[-1]
 
     def call(self, item):
-        self.checked(item, None, 0, len(self.stack))
+        self.checked(item, None, 0, 0, len(self.stack))
         self.executes()
         self.calls.append(self.functions[item.word])
 
@@ -151,7 +155,7 @@ class Run:
             raise Ended("BUDGET")
         item, *self.calls[-1] = self.calls[-1]
         if item.what == "Return":
-            self.checked(item, None, 0, len(self.stack))
+            self.checked(item, None, 0, 0, len(self.stack))
             self.executes()
             self.calls.pop()
         else:
@@ -163,9 +167,9 @@ def shown(entry):
     return f"{entry.kind.upper()} ({' '.join(words)})"
 
 
-def run(functions, limits):
+def run(functions, limits, is_second=False):
     """How a verified program ends within these limits, and what it used, as the report has it."""
-    job = Run(functions, limits)
+    job = Run(functions, limits, is_second)
     try:
         while job.calls:
             job.step()

@@ -1,5 +1,6 @@
 pub mod Bytes
 pub mod FeedLemmas
+pub mod LineLemmas
 pub mod ReportLemmas
 pub mod RunLemmas
 pub mod ScheduleLemmas

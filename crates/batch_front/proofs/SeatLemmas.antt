@@ -1,15 +1,18 @@
 -- The jobs of a batch on a machine: their numbers, and what is told of them.
 use Rattle.std.proofs.Common.{◌≡◌, ℕ, zero, suc, ◌+◌, ◌-◌, ◌≤◌, ◌<◌, take, get_or, Bool, true, false, ◌&&◌}
 use Rattle.std.proofs.Common.{List, [], ◌∷◌, ◌++◌, length}
-use Rattle.std.proofs.Common.{cond, refl, sym, ap, subst, ◌∙◌, arith, Some}
+use Rattle.std.proofs.Common.{cond, map, refl, sym, ap, subst, ◌∙◌, arith, Some}
 use Rattle.std.specs.Prelude.{All, slice_get, if◌then◌else◌}
 use Rattle.std.specs.List.{list_all}
-use Rattle.std.proofs.lemmas.List.{append-nil, append_assoc, length-append}
+use Rattle.std.proofs.lemmas.List.{append-nil, append_assoc, length-append, map-append}
 use Rattle.std.proofs.lemmas.List.Elements.{All-cons, All-nil, All-append}
 use Rattle.std.proofs.lemmas.Grind.{common_steps}
 use Rattle.std.proofs.lemmas.List.Recursion.{is_count_by}
+use Rattle.std.proofs.lemmas.Option.{none-some, same_Some}
+use Rattle.vcode_base.specs.declared.rule.Rule.{Rule}
 use Rattle.job_steps.specs.Standings.{of_job}
-use Rattle.job_steps.specs.States.{Task}
+use Rattle.job_steps.specs.States.{JobValue, Task, ruled}
+use Rattle.batch_reader.specs.declared.entry.Entry.{Entry}
 use Rattle.batch_reader.specs.declared.entry.Fate.{Fate}
 use Rattle.batch_reader.specs.declared.entry.Fate.TheVariants.{Ready, Refused}
 use Rattle.batch_reader.specs.Fates.{JobEntry, IsFate, AreEntries, IsBatch}
@@ -17,6 +20,7 @@ use Rattle.batch_reader.specs.Batches.{JobText}
 use Rattle.batch_reader.specs.declared.entry.Batch.{Batch}
 use Rattle.batch_reader.specs.declared.entry.Batch.TheVariants.{Refused as BatchRefused, Jobs}
 use Rattle.batch_front.specs.declared.status.Status.TheVariants.{AllReturned, SomeNot}
+use Rattle.batch_front.specs.Reports.{TaskEntry, ruled_entries, ruled_fate}
 use Rattle.batch_front.specs.Reports.{end_text, entries_text, entry_text, fate_text, has_returned, is_refused}
 use Rattle.batch_front.specs.Reports.{job_text, jobs_status, jobs_text, refused_count}
 use Rattle.batch_front.specs.Seats.{AreAmong, AreSeated, AreSeatsOf, BatchFits, EntriesFit, FateFits, IsAmong}
@@ -25,38 +29,42 @@ use Rattle.batch_front.specs.Seats.{fate_tasks, fate_text_on, has_returned_on, h
 use Rattle.batch_front.specs.Seats.{seat_text, seats_status}
 use Rattle.batch_front.specs.Seats.{seats_text, tasks_of, told_return, told_text}
 
+-- a job's name with its fate
+abbrev EntryOf : Type 0 → Type 0
+EntryOf T = Entry (List ℕ) (Fate T)
+
 -- ---- numbers
 
-at_front : (xs ys : List Task) (place : ℕ) (task : Task) → slice_get xs place ≡ Some task
+at_front : {T : Type 0} (xs ys : List T) (place : ℕ) (task : T) → slice_get xs place ≡ Some task
     → slice_get (xs ++ ys) place ≡ Some task
 at_front [] ys place task e = cc
 at_front (x ∷ xs) ys zero task e = e
 at_front (x ∷ xs) ys (suc place) task e = at_front xs ys place task e
 
 -- where tasks go behind others, these keep their numbers
-number_kept : (xs ys : List Task) (number : ℕ) (task : Task) → of_job number xs ≡ Some task
+number_kept : {T : Type 0} (xs ys : List T) (number : ℕ) (task : T) → of_job number xs ≡ Some task
     → of_job number (xs ++ ys) ≡ Some task
 number_kept xs ys zero task e = cc
 number_kept xs ys (suc place) task e = at_front xs ys place task e
 
-at_end : (xs : List Task) (task : Task) → slice_get (xs ++ task ∷ []) (length xs) ≡ Some task
+at_end : {T : Type 0} (xs : List T) (task : T) → slice_get (xs ++ task ∷ []) (length xs) ≡ Some task
 at_end [] task = refl
 at_end (x ∷ xs) task = at_end xs task
 
 -- the last task has their count as its number
-pub last_number : (xs : List Task) (task : Task) → of_job (length (xs ++ task ∷ [])) (xs ++ task ∷ []) ≡ Some task
+pub last_number : {T : Type 0} (xs : List T) (task : T) → of_job (length (xs ++ task ∷ [])) (xs ++ task ∷ []) ≡ Some task
 last_number xs task =
     let count : length (xs ++ task ∷ []) ≡ suc (length xs) = grind (arith, common_steps) in rw count (at_end xs task)
 
-fate_kept : (xs ys : List Task) (seat : Fate ℕ) (fate : Fate Task) → IsFateOn xs seat fate → IsFateOn (xs ++ ys) seat fate
+fate_kept : {T : Type 0} (xs ys : List T) (seat : Fate ℕ) (fate : Fate T) → IsFateOn xs seat fate → IsFateOn (xs ++ ys) seat fate
 fate_kept xs ys (Ready number) (Ready task) h = number_kept xs ys number task h
 fate_kept xs ys (Ready number) (Refused line fault) h = h
 fate_kept xs ys (Refused line fault) fate h = h
 
-seat_kept : (xs ys : List Task) (seat : Seat) (entry : JobEntry) → IsSeatOf xs seat entry → IsSeatOf (xs ++ ys) seat entry
+seat_kept : {T : Type 0} (xs ys : List T) (seat : Seat) (entry : EntryOf T) → IsSeatOf xs seat entry → IsSeatOf (xs ++ ys) seat entry
 seat_kept xs ys seat entry h = record { name = h.name; fate = fate_kept xs ys seat.fate entry.fate h.fate }
 
-seats_kept : (xs ys : List Task) (seats : List Seat) (entries : List JobEntry) → AreSeatsOf xs seats entries
+seats_kept : {T : Type 0} (xs ys : List T) (seats : List Seat) (entries : List (EntryOf T)) → AreSeatsOf xs seats entries
     → AreSeatsOf (xs ++ ys) seats entries
 seats_kept xs ys [] [] h = h
 seats_kept xs ys [] (entry ∷ entries) h = h
@@ -64,7 +72,8 @@ seats_kept xs ys (seat ∷ seats) [] h = h
 seats_kept xs ys (seat ∷ seats) (entry ∷ entries) h =
     (seat_kept xs ys seat entry h.0, seats_kept xs ys seats entries h.1)
 
-seats_with : (tasks : List Task) (seats : List Seat) (entries : List JobEntry) (seat : Seat) (entry : JobEntry)
+seats_with : {T : Type 0} (tasks : List T) (seats : List Seat) (entries : List (EntryOf T)) (seat : Seat)
+    (entry : EntryOf T)
     → AreSeatsOf tasks seats entries → IsSeatOf tasks seat entry
     → AreSeatsOf tasks (seats ++ seat ∷ []) (entries ++ entry ∷ [])
 seats_with tasks [] [] seat entry h last = (last, tt)
@@ -73,13 +82,14 @@ seats_with tasks (s ∷ ss) [] seat entry h last = absurd h
 seats_with tasks (s ∷ ss) (e ∷ es) seat entry h last = (h.0, seats_with tasks ss es seat entry h.1 last)
 
 -- one job more
-pub seats_pushed : (old new more : List Task) (seats : List Seat) (entries : List JobEntry) (seat : Seat) (entry : JobEntry)
+pub seats_pushed : {T : Type 0} (old new more : List T) (seats : List Seat) (entries : List (EntryOf T)) (seat : Seat)
+    (entry : EntryOf T)
     → new ≡ old ++ more → AreSeatsOf old seats entries → IsSeatOf new seat entry
     → AreSeatsOf new (seats ++ seat ∷ []) (entries ++ entry ∷ [])
 seats_pushed old new more seats entries seat entry e h last =
     seats_with new seats entries seat entry (rw e (seats_kept old more seats entries h)) last
 
-pub tasks_pushed : (entries : List JobEntry) (entry : JobEntry)
+pub tasks_pushed : {T : Type 0} (entries : List (EntryOf T)) (entry : EntryOf T)
     → tasks_of (entries ++ entry ∷ []) ≡ tasks_of entries ++ fate_tasks entry.fate
 tasks_pushed [] entry = append-nil (fate_tasks entry.fate)
 tasks_pushed (e ∷ es) entry =
@@ -88,12 +98,12 @@ tasks_pushed (e ∷ es) entry =
 
 -- ---- what the tasks are
 
-fate_counted : (fate : Fate Task) → length (fate_tasks fate) + (if is_refused fate then 1 else 0) ≡ 1
+fate_counted : {T : Type 0} (fate : Fate T) → length (fate_tasks fate) + (if is_refused fate then 1 else 0) ≡ 1
 fate_counted (Ready task) = refl
 fate_counted (Refused line fault) = refl
 
 -- the refused ones, counted by cases
-abbrev refused_in : List JobEntry → ℕ
+abbrev refused_in : {T : Type 0} → List (EntryOf T) → ℕ
 refused_in [] = 0
 refused_in (e ∷ es) = cond (is_refused e.fate) (1 + refused_in es) (refused_in es)
 
@@ -101,7 +111,7 @@ count_more : (refused : Bool) (rest : ℕ) → (if refused then 1 else 0) + rest
 count_more true rest = refl
 count_more false rest = omega arith
 
-counted_in : (entries : List JobEntry) → length (tasks_of entries) + refused_in entries ≡ length entries
+counted_in : {T : Type 0} (entries : List (EntryOf T)) → length (tasks_of entries) + refused_in entries ≡ length entries
 counted_in [] = refl
 counted_in (e ∷ es) =
     let one = fate_counted e.fate in
@@ -112,34 +122,34 @@ counted_in (e ∷ es) =
     omega (arith, one, joined, refused, later)
 
 -- there are no more tasks than jobs, and the others are refused
-pub counted : (entries : List JobEntry) → length (tasks_of entries) + refused_count entries ≡ length entries
-counted entries =
+pub counted : {T : Type 0} (entries : List (EntryOf T)) → length (tasks_of entries) + refused_count entries ≡ length entries
+counted {T = T} entries =
     ap (λ n. length (tasks_of entries) + n)
-    (sym (is_count_by refused_in (λ (e : JobEntry). is_refused e.fate) refl (λ _ _. refl)
+    (sym (is_count_by refused_in (λ (e : EntryOf T). is_refused e.fate) refl (λ _ _. refl)
     entries))
     ∙ counted_in entries
 
-pub tasks_few : (entries : List JobEntry) (tasks : List Task) (most : ℕ) → tasks ≡ tasks_of entries
+pub tasks_few : {T : Type 0} (entries : List (EntryOf T)) (tasks : List T) (most : ℕ) → tasks ≡ tasks_of entries
     → length entries ≤ most → length tasks ≤ most
 tasks_few entries tasks most e h =
     let same : length tasks ≡ length (tasks_of entries) = ap length e in
     let all = counted entries in omega (arith, same, all, h)
 
-fate_tasks_fit : (region : ℕ) (fate : Fate Task) → FateFits region fate
-    → All (λ task. task.limits.words ≤ region) (fate_tasks fate)
-fate_tasks_fit region (Ready task) h =
-    All-cons (λ task. task.limits.words ≤ region) task [] h (All-nil (λ task. task.limits.words ≤ region))
-fate_tasks_fit region (Refused line fault) h = All-nil (λ task. task.limits.words ≤ region)
+fate_tasks_fit : (region : ℕ) (fate : Fate JobValue) → FateFits region fate
+    → All (λ job. job.limits.words ≤ region) (fate_tasks fate)
+fate_tasks_fit region (Ready job) h =
+    All-cons (λ (job : JobValue). job.limits.words ≤ region) job [] h (All-nil (λ (job : JobValue). job.limits.words ≤ region))
+fate_tasks_fit region (Refused line fault) h = All-nil (λ (job : JobValue). job.limits.words ≤ region)
 
 pub tasks_fit : (region : ℕ) (entries : List JobEntry) → EntriesFit region entries
-    → All (λ task. task.limits.words ≤ region) (tasks_of entries)
-tasks_fit region [] h = All-nil (λ task. task.limits.words ≤ region)
+    → All (λ job. job.limits.words ≤ region) (tasks_of entries)
+tasks_fit region [] h = All-nil (λ (job : JobValue). job.limits.words ≤ region)
 tasks_fit region (e ∷ es) h =
-    All-append (λ task. task.limits.words ≤ region) (fate_tasks e.fate) (tasks_of es) (fate_tasks_fit region e.fate h.0)
+    All-append (λ (job : JobValue). job.limits.words ≤ region) (fate_tasks e.fate) (tasks_of es) (fate_tasks_fit region e.fate h.0)
     (tasks_fit region es h.1)
 
-fate_fits : (region : ℕ) (job : JobText) (fate : Fate Task) → IsFate region job fate → FateFits region fate
-fate_fits region job (Ready task) h = h.words
+fate_fits : (region : ℕ) (job : JobText) (fate : Fate JobValue) → IsFate region job fate → FateFits region fate
+fate_fits region job (Ready value) h = h.words
 fate_fits region job (Refused line fault) h = tt
 
 entries_fit : (region : ℕ) (jobs : List JobText) (entries : List JobEntry) → AreEntries region jobs entries
@@ -152,7 +162,7 @@ entries_fit region (j ∷ js) (e ∷ es) h = (fate_fits region j e.fate h.0.fate
 pub batch_fits : (region : ℕ) (bytes : List ℕ) (batch : Batch (List JobEntry)) → IsBatch region bytes batch
     → BatchFits region batch
 batch_fits region bytes (BatchRefused line fault) h = tt
-batch_fits region bytes (Jobs entries) h = entries_fit region h.0 entries h.2
+batch_fits region bytes (Jobs rule entries) h = entries_fit region h.0 entries h.2
 
 -- ---- what is told of them
 
@@ -161,7 +171,7 @@ fate_among tasks (Ready number) (Ready task) h = rw h tt
 fate_among tasks (Ready number) (Refused line fault) h = absurd h
 fate_among tasks (Refused line fault) fate h = tt
 
-among : (tasks : List Task) (seats : List Seat) (entries : List JobEntry) → AreSeatsOf tasks seats entries
+among : (tasks : List Task) (seats : List Seat) (entries : List TaskEntry) → AreSeatsOf tasks seats entries
     → AreAmong tasks seats
 among tasks [] entries h = All-nil (λ (seat : Seat). IsAmong tasks seat.fate)
 among tasks (s ∷ ss) [] h = absurd h
@@ -175,7 +185,7 @@ fate_told tasks (Ready number) (Ready task) h = ap told_text h
 fate_told tasks (Ready number) (Refused line fault) h = absurd h
 fate_told tasks (Refused line fault) fate h = ap fate_text (sym h)
 
-seats_told : (tasks : List Task) (number : ℕ) (seats : List Seat) (entries : List JobEntry)
+seats_told : (tasks : List Task) (number : ℕ) (seats : List Seat) (entries : List TaskEntry)
     → AreSeatsOf tasks seats entries → seats_text tasks number seats ≡ entries_text number entries
 seats_told tasks number [] [] h = refl
 seats_told tasks number [] (e ∷ es) h = absurd h
@@ -217,7 +227,7 @@ report_with tasks seats place seat old before new l e f h =
     ∙ ap (λ (s : Seat). old ++ (seats_text tasks 1 (take place seats) ++ seat_text tasks (1 + place) s)) e
     ∙ ap (λ t. old ++ t) (sym (one_told_more tasks 1 seats place seat l))
 
-same_count : (tasks : List Task) (seats : List Seat) (entries : List JobEntry) → AreSeatsOf tasks seats entries
+same_count : (tasks : List Task) (seats : List Seat) (entries : List TaskEntry) → AreSeatsOf tasks seats entries
     → length seats ≡ length entries
 same_count tasks [] [] h = refl
 same_count tasks [] (e ∷ es) h = absurd h
@@ -230,8 +240,8 @@ fate_returned tasks (Ready number) (Ready task) h = ap told_return h
 fate_returned tasks (Ready number) (Refused line fault) h = absurd h
 fate_returned tasks (Refused line fault) fate h = ap has_returned (sym h)
 
-have_returned : (tasks : List Task) (seats : List Seat) (entries : List JobEntry) → AreSeatsOf tasks seats entries
-    → have_returned_on tasks seats ≡ list_all (λ (entry : JobEntry). has_returned entry.fate) entries
+have_returned : (tasks : List Task) (seats : List Seat) (entries : List TaskEntry) → AreSeatsOf tasks seats entries
+    → have_returned_on tasks seats ≡ list_all (λ (entry : TaskEntry). has_returned entry.fate) entries
 have_returned tasks [] [] h = refl
 have_returned tasks [] (e ∷ es) h = absurd h
 have_returned tasks (s ∷ ss) [] h = absurd h
@@ -240,13 +250,13 @@ have_returned tasks (s ∷ ss) (e ∷ es) h =
     ∙ ap (λ b. has_returned e.fate && b) (have_returned tasks ss es h.1)
 
 -- what is told of the seats is told of the jobs
-pub record IsTold (tasks : List Task) (seats : List Seat) (entries : List JobEntry) : Type 0 where
+pub record IsTold (tasks : List Task) (seats : List Seat) (entries : List TaskEntry) : Type 0 where
   pub among : AreAmong tasks seats
   pub fewer : length tasks ≤ length seats
   pub report : report_text tasks seats ≡ jobs_text entries
   pub status : seats_status tasks seats ≡ jobs_status entries
 
-told : (tasks : List Task) (seats : List Seat) (entries : List JobEntry) → AreSeatsOf tasks seats entries
+told : (tasks : List Task) (seats : List Seat) (entries : List TaskEntry) → AreSeatsOf tasks seats entries
     → tasks ≡ tasks_of entries → IsTold tasks seats entries
 told tasks seats entries h e =
     let count = same_count tasks seats entries h in
@@ -262,18 +272,61 @@ told tasks seats entries h e =
       status = ap (λ b. if b then AllReturned else SomeNot) (have_returned tasks seats entries h);
     }
 
-pub told_of : (tasks : List Task) (seats : List Seat) (entries : List JobEntry) → AreSeated tasks seats entries
+pub told_of : (tasks : List Task) (seats : List Seat) (entries : List TaskEntry) → AreSeated tasks seats entries
     → IsTold tasks seats entries
 told_of tasks seats entries h = told tasks seats entries h.seats_are h.tasks_are
 
--- the seats of jobs that a machine took over
-pub seated_by : (tasks jobs : List Task) (seats : List Seat) (all entries : List JobEntry) → tasks ≡ jobs
-    → all ≡ entries → AreSeatsOf jobs seats all → jobs ≡ tasks_of all → AreSeated tasks seats entries
-seated_by tasks jobs seats all entries e f h k =
-    subst (AreSeated tasks seats) f (record { tasks_are = e ∙ k; seats_are = rw e h })
+-- ---- under the rule of the batch
+
+number_ruled : (rule : Rule) (jobs : List JobValue) (place : ℕ) (job : JobValue) → slice_get jobs place ≡ Some job
+    → slice_get (map (ruled rule) jobs) place ≡ Some (ruled rule job)
+number_ruled rule [] place job e = absurd (none-some job e)
+number_ruled rule (j ∷ jobs) zero job e = ap (λ k. Some (ruled rule k)) (same_Some j job e)
+number_ruled rule (j ∷ jobs) (suc place) job e = number_ruled rule jobs place job e
+
+fate_ruled : (rule : Rule) (jobs : List JobValue) (seat : Fate ℕ) (fate : Fate JobValue) → IsFateOn jobs seat fate
+    → IsFateOn (map (ruled rule) jobs) seat (ruled_fate rule fate)
+fate_ruled rule jobs (Ready zero) (Ready job) h = absurd (none-some job h)
+fate_ruled rule jobs (Ready (suc place)) (Ready job) h = number_ruled rule jobs place job h
+fate_ruled rule jobs (Ready number) (Refused line fault) h = h
+fate_ruled rule jobs (Refused line fault) fate h = ap (ruled_fate rule) h
+
+seats_ruled : (rule : Rule) (jobs : List JobValue) (seats : List Seat) (entries : List JobEntry)
+    → AreSeatsOf jobs seats entries → AreSeatsOf (map (ruled rule) jobs) seats (ruled_entries rule entries)
+seats_ruled rule jobs [] [] h = tt
+seats_ruled rule jobs [] (e ∷ es) h = absurd h
+seats_ruled rule jobs (s ∷ ss) [] h = absurd h
+seats_ruled rule jobs (s ∷ ss) (e ∷ es) h = (
+  record { name = h.0.name; fate = fate_ruled rule jobs s.fate e.fate h.0.fate },
+  seats_ruled rule jobs ss es h.1,
+)
+
+fate_tasks_ruled : (rule : Rule) (fate : Fate JobValue)
+    → map (ruled rule) (fate_tasks fate) ≡ fate_tasks (ruled_fate rule fate)
+fate_tasks_ruled rule (Ready job) = refl
+fate_tasks_ruled rule (Refused line fault) = refl
+
+tasks_ruled : (rule : Rule) (entries : List JobEntry)
+    → map (ruled rule) (tasks_of entries) ≡ tasks_of (ruled_entries rule entries)
+tasks_ruled rule [] = refl
+tasks_ruled rule (e ∷ es) =
+    map-append (ruled rule) (fate_tasks e.fate) (tasks_of es)
+    ∙ ap (λ ts. ts ++ map (ruled rule) (tasks_of es)) (fate_tasks_ruled rule e.fate)
+    ∙ ap (λ ts. fate_tasks (ruled_fate rule e.fate) ++ ts) (tasks_ruled rule es)
+
+-- the seats of jobs that a machine took over, which has this rule
+pub seated_by : (rule : Rule) (tasks : List Task) (jobs : List JobValue) (seats : List Seat) (all entries : List JobEntry)
+    → tasks ≡ map (ruled rule) jobs → all ≡ entries → AreSeatsOf jobs seats all → jobs ≡ tasks_of all
+    → AreSeated tasks seats (ruled_entries rule entries)
+seated_by rule tasks jobs seats all entries e f h k =
+    subst (λ (es : List JobEntry). AreSeated tasks seats (ruled_entries rule es)) f
+    (record {
+      tasks_are = e ∙ ap (map (ruled rule)) k ∙ tasks_ruled rule all;
+      seats_are = rw e (seats_ruled rule jobs seats all h);
+    })
 
 -- the same of a machine with the same jobs
-pub seated_after : (tasks jobs : List Task) (shown seats : List Seat) (entries : List JobEntry) → tasks ≡ jobs
+pub seated_after : (tasks jobs : List Task) (shown seats : List Seat) (entries : List TaskEntry) → tasks ≡ jobs
     → shown ≡ seats → AreSeated jobs seats entries → AreSeated tasks shown entries
 seated_after tasks jobs shown seats entries e f h =
     subst (λ (ts : List Task). AreSeated ts shown entries) (sym e)

@@ -1,14 +1,16 @@
 -- The turns of jobs, one after another.
-use Rattle.std.proofs.Common.{◌≡◌, ℕ, suc, ◌+◌, ◌<◌, List, [], ◌∷◌, ◌++◌, length, take, get_or}
+use Rattle.std.proofs.Common.{◌≡◌, ℕ, suc, ◌+◌, ◌<◌, List, [], ◌∷◌, ◌++◌, length, take, get_or, Option, Some, None}
 use Rattle.std.proofs.Common.{refl, sym, ap, subst, ◌∙◌, arith}
+use Rattle.std.specs.Prelude.{IfSome}
 use Rattle.std.proofs.lemmas.List.{take_more}
+use Rattle.vcode_base.specs.declared.rule.Rule.{Rule}
 use Rattle.job_steps.specs.declared.event.Event.TheVariants as event
 use Rattle.job_steps.specs.Events.{recalled_standings}
 use Rattle.job_steps.specs.Standings.{Waiting, first_standings}
 use Rattle.job_steps.specs.States.{Task}
 use Rattle.job_machine.specs.declared.hands.Hand.{Hand}
 use Rattle.job_machine.specs.Hands.{HandsFit}
-use Rattle.job_machine.specs.Machines.{MachineState, HasNoStep, machine_after, recalled, with_standings}
+use Rattle.job_machine.specs.Machines.{MachineState, HasNoStep, Leads, machine_after, recalled, with_standings}
 use Rattle.batch_front.specs.declared.schedule.Item.{Item}
 use Rattle.batch_front.specs.Seats.{Seat}
 use Rattle.batch_front.specs.Turns.{after_admissions, after_item, after_items}
@@ -19,10 +21,10 @@ waiting : (tasks : List Task) → recalled_standings (first_standings tasks) ≡
 waiting [] = refl
 waiting (task ∷ tasks) = ap (λ standings. Waiting ∷ standings) (waiting tasks)
 
-pub all_wait : (m : MachineState) (region : ℕ) (tasks : List Task)
-    → m ≡ record { region = region; tasks = tasks; standings = first_standings tasks }
+pub all_wait : (m : MachineState) (rule : Rule) (region : ℕ) (tasks : List Task)
+    → m ≡ record { rule = rule; region = region; tasks = tasks; standings = first_standings tasks }
     → m.standings ≡ first_standings m.tasks
-all_wait m region tasks e = ap (λ k. k.standings) e ∙ ap (λ k. first_standings k.tasks) (sym e)
+all_wait m rule region tasks e = ap (λ k. k.standings) e ∙ ap (λ k. first_standings k.tasks) (sym e)
 
 no_step_first : (m : MachineState) → m.standings ≡ first_standings m.tasks → HasNoStep m
 no_step_first m e = ap recalled_standings e ∙ waiting m.tasks ∙ sym e
@@ -31,6 +33,12 @@ no_step_first m e = ap recalled_standings e ∙ waiting m.tasks ∙ sym e
 pub hands_fit : {A : Type 0} (m : MachineState) (hands : List (Hand A)) → m.standings ≡ first_standings m.tasks
     → HandsFit (recalled m) hands → HandsFit m hands
 hands_fit m hands wait h = subst (λ standings. HandsFit (with_standings m standings) hands) (no_step_first m wait) h
+
+-- what leads from a machine leads from the same one, if it is known
+pub led_from : {V : Type 0} (o : Option V) (from_v : V → MachineState) (mid new : MachineState)
+    → IfSome o (λ v. mid ≡ from_v v) → Leads mid new → IfSome o (λ v. Leads (from_v v) new)
+led_from None from_v mid new is leads = tt
+led_from (Some v) from_v mid new is leads = subst (λ (m : MachineState). Leads m new) is leads
 
 -- ---- one more
 

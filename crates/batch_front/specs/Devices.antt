@@ -17,6 +17,10 @@ has_failed device = device.failed
 abbrev pub interrupts_of : {D : Type 0} → Device D → ℕ
 interrupts_of device = device.interrupts
 
+-- whether a device was flushed, and nothing was written since
+abbrev pub is_flushed : {D : Type 0} → Device D → Bool
+is_flushed device = device.flushed
+
 -- a device that was not used
 pub record IsFresh {D : Type 0} (device : Device D) : Type 0 where
   pub not_failed : has_failed device ≡ false

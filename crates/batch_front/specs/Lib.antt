@@ -2,6 +2,7 @@ pub mod CommandLines
 pub mod Devices
 pub mod Exits
 pub mod Inputs
+pub mod Laws
 pub mod Reports
 pub mod Runs
 pub mod Schedules

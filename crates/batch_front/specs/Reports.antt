@@ -8,11 +8,13 @@ use Rattle.vcode_base.specs.declared.kind.Kind.{Kind}
 use Rattle.vcode_base.specs.declared.kind.Kind.TheVariants.{Int, Bool as Flags, Segdes}
 use Rattle.vcode_base.specs.declared.outcome.Outcome.{Outcome}
 use Rattle.vcode_base.specs.declared.outcome.Outcome.TheVariants.{Returned, Fault, Memory, Budget}
+use Rattle.vcode_base.specs.declared.rule.Rule.{Rule}
 use Rattle.vcode_base.specs.Texts.{data_fault_text, memory_fault_text}
 use Rattle.job_steps.specs.Runs.{outcome, executed_count, peak}
-use Rattle.job_steps.specs.States.{Vector, Task}
+use Rattle.job_steps.specs.States.{Vector, JobValue, Task, ruled}
 use Rattle.batch_reader.specs.declared.entry.Batch.{Batch}
 use Rattle.batch_reader.specs.declared.entry.Batch.TheVariants.{Refused as BatchRefusal, Jobs}
+use Rattle.batch_reader.specs.declared.entry.Entry.{Entry}
 use Rattle.batch_reader.specs.declared.entry.Fate.{Fate}
 use Rattle.batch_reader.specs.declared.entry.Fate.TheVariants.{Ready, Refused}
 use Rattle.batch_reader.specs.declared.fault.JobFault.{JobFault}
@@ -43,6 +45,23 @@ next_word_text kind word = 32 ∷ word_text kind word
 -- a result, as in INT (1 -2)
 abbrev pub value_text : Vector → List ℕ
 value_text v = kind_text v.kind ++ codes " (" ++ join_with_byte 32 (map (word_text v.kind) v.words) ++ codes ")\n"
+
+-- ---- the rule of a batch
+
+-- what becomes of a job, which runs by this rule if it may run
+abbrev pub ruled_fate : Rule → Fate JobValue → Fate Task
+ruled_fate rule (Ready job) = Ready (ruled rule job)
+ruled_fate rule (Refused line fault) = Refused line fault
+
+-- a job's name with its fate, under the rule of its batch
+abbrev pub TaskEntry : Type 0
+TaskEntry = Entry (List ℕ) (Fate Task)
+
+abbrev pub ruled_entry : Rule → JobEntry → TaskEntry
+ruled_entry rule entry = record { name = entry.name; fate = ruled_fate rule entry.fate }
+
+abbrev pub ruled_entries : Rule → List JobEntry → List TaskEntry
+ruled_entries rule entries = map (ruled_entry rule) entries
 
 -- ---- jobs
 
@@ -79,32 +98,32 @@ fate_text (Refused line fault) = refusal_text line fault
 abbrev pub job_text : ℕ → List ℕ → List ℕ
 job_text number name = codes "JOB " ++ decimal number ++ codes " " ++ name ++ codes " "
 
-abbrev pub entry_text : ℕ → JobEntry → List ℕ
+abbrev pub entry_text : ℕ → TaskEntry → List ℕ
 entry_text number entry = job_text number entry.name ++ fate_text entry.fate
 
-abbrev pub entries_text : ℕ → List JobEntry → List ℕ
+abbrev pub entries_text : ℕ → List TaskEntry → List ℕ
 entries_text number [] = []
 entries_text number (entry ∷ entries) = entry_text number entry ++ entries_text (number + 1) entries
 
 -- ---- the whole
 
-abbrev pub is_refused : Fate Task → Bool
+abbrev pub is_refused : {T : Type 0} → Fate T → Bool
 is_refused (Ready task) = false
 is_refused (Refused line fault) = true
 
-abbrev pub refused_count : List JobEntry → ℕ
-refused_count entries = count_by (λ (entry : JobEntry). is_refused entry.fate) entries
+abbrev pub refused_count : {T : Type 0} → List (Entry (List ℕ) (Fate T)) → ℕ
+refused_count {T = T} entries = count_by (λ (entry : Entry (List ℕ) (Fate T)). is_refused entry.fate) entries
 
 abbrev pub end_text : ℕ → ℕ → List ℕ
 end_text jobs refused =
     codes "END" ++ count_text jobs (codes "jobs") ++ count_text refused (codes "refused") ++ codes "\n"
 
-abbrev pub jobs_text : List JobEntry → List ℕ
+abbrev pub jobs_text : List TaskEntry → List ℕ
 jobs_text entries = entries_text 1 entries ++ end_text (length entries) (refused_count entries)
 
 unfoldable pub report_of : Batch (List JobEntry) → List ℕ
 report_of (BatchRefusal line fault) = fault_text (codes "BATCH ") line (batch_fault_text fault)
-report_of (Jobs entries) = jobs_text entries
+report_of (Jobs rule entries) = jobs_text (ruled_entries rule entries)
 
 abbrev pub is_return : Outcome (List Vector) → Bool
 is_return (Returned results) = true
@@ -117,10 +136,10 @@ abbrev pub has_returned : Fate Task → Bool
 has_returned (Ready task) = has_task_returned task
 has_returned (Refused line fault) = false
 
-abbrev pub jobs_status : List JobEntry → Status
+abbrev pub jobs_status : List TaskEntry → Status
 jobs_status entries =
-    if list_all (λ (entry : JobEntry). has_returned entry.fate) entries then AllReturned else SomeNot
+    if list_all (λ (entry : TaskEntry). has_returned entry.fate) entries then AllReturned else SomeNot
 
 unfoldable pub status_of : Batch (List JobEntry) → Status
 status_of (BatchRefusal line fault) = BatchRefused
-status_of (Jobs entries) = jobs_status entries
+status_of (Jobs rule entries) = jobs_status (ruled_entries rule entries)

@@ -3,7 +3,7 @@ use Rattle.std.specs.Prelude.{◌≡◌, ◌+◌, ◌-◌, ◌≤◌, ℕ, Bool,
 use Rattle.std.specs.Prelude.{Option, Some, None}
 use Rattle.std.specs.List.{list_all}
 use Rattle.job_steps.specs.Standings.{Collected, of_job}
-use Rattle.job_steps.specs.States.{Task}
+use Rattle.job_steps.specs.States.{JobValue, Task}
 use Rattle.job_machine.specs.Machines.{MachineState}
 use Rattle.batch_reader.specs.declared.entry.Batch.{Batch}
 use Rattle.batch_reader.specs.declared.entry.Batch.TheVariants.{Refused as BatchRefused, Jobs}
@@ -13,23 +13,23 @@ use Rattle.batch_reader.specs.declared.entry.Fate.TheVariants.{Ready, Refused}
 use Rattle.batch_reader.specs.Fates.{JobEntry}
 use Rattle.batch_front.specs.declared.status.Status.{Status}
 use Rattle.batch_front.specs.declared.status.Status.TheVariants.{AllReturned, SomeNot}
-use Rattle.batch_front.specs.Reports.{end_text, has_task_returned, job_text, refusal_text, task_text}
+use Rattle.batch_front.specs.Reports.{TaskEntry, end_text, has_task_returned, job_text, refusal_text, task_text}
 
 -- ---- what is run
 
--- the task of a job that may run
-abbrev pub fate_tasks : Fate Task → List Task
+-- the task of a job that may run, or its job without the rule
+abbrev pub fate_tasks : {T : Type 0} → Fate T → List T
 fate_tasks (Ready task) = task ∷ []
 fate_tasks (Refused line fault) = []
 
 -- the tasks of the jobs that may run, in their order
-abbrev pub tasks_of : List JobEntry → List Task
+abbrev pub tasks_of : {T : Type 0} → List (Entry (List ℕ) (Fate T)) → List T
 tasks_of [] = []
 tasks_of (entry ∷ entries) = fate_tasks entry.fate ++ tasks_of entries
 
 -- a job that may run has no more words than the region
-abbrev pub FateFits : ℕ → Fate Task → Type 0
-FateFits region (Ready task) = task.limits.words ≤ region
+abbrev pub FateFits : ℕ → Fate JobValue → Type 0
+FateFits region (Ready job) = job.limits.words ≤ region
 FateFits region (Refused line fault) = Unit {0}
 
 abbrev pub EntriesFit : ℕ → List JobEntry → Type 0
@@ -38,7 +38,7 @@ EntriesFit region (entry ∷ entries) = FateFits region entry.fate × EntriesFit
 
 abbrev pub BatchFits : ℕ → Batch (List JobEntry) → Type 0
 BatchFits region (BatchRefused line fault) = Unit {0}
-BatchFits region (Jobs entries) = EntriesFit region entries
+BatchFits region (Jobs rule entries) = EntriesFit region entries
 
 -- ---- where the jobs stand
 
@@ -47,24 +47,24 @@ abbrev pub Seat : Type 0
 Seat = Entry (List ℕ) (Fate ℕ)
 
 -- the number is that of the job's task
-abbrev pub IsFateOn : List Task → Fate ℕ → Fate Task → Type 0
+abbrev pub IsFateOn : {T : Type 0} → List T → Fate ℕ → Fate T → Type 0
 IsFateOn tasks (Ready number) (Ready task) = of_job number tasks ≡ Some task
 IsFateOn tasks (Refused line fault) fate = fate ≡ Refused line fault
 IsFateOn tasks (Ready number) (Refused line fault) = ⊥
 
-pub record IsSeatOf (tasks : List Task) (seat : Seat) (entry : JobEntry) : Type 0 where
+pub record IsSeatOf {T : Type 0} (tasks : List T) (seat : Seat) (entry : Entry (List ℕ) (Fate T)) : Type 0 where
   pub name : seat.name ≡ entry.name
   pub fate : IsFateOn tasks seat.fate entry.fate
 
 -- one for each job, in order
-abbrev pub AreSeatsOf : List Task → List Seat → List JobEntry → Type 0
+abbrev pub AreSeatsOf : {T : Type 0} → List T → List Seat → List (Entry (List ℕ) (Fate T)) → Type 0
 AreSeatsOf tasks [] [] = Unit {0}
 AreSeatsOf tasks [] (entry ∷ entries) = ⊥
 AreSeatsOf tasks (seat ∷ seats) [] = ⊥
 AreSeatsOf tasks (seat ∷ seats) (entry ∷ entries) = IsSeatOf tasks seat entry × AreSeatsOf tasks seats entries
 
 -- these are the tasks that may run, and those the seats of all jobs
-pub record AreSeated (tasks : List Task) (seats : List Seat) (entries : List JobEntry) : Type 0 where
+pub record AreSeated (tasks : List Task) (seats : List Seat) (entries : List TaskEntry) : Type 0 where
   pub tasks_are : tasks ≡ tasks_of entries
   pub seats_are : AreSeatsOf tasks seats entries
 

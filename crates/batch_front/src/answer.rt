@@ -4,9 +4,8 @@ ghost use Rattle.std.specs.Prelude.{◌≡◌, ◌++◌, ◌≤◌, List, codes,
 ghost use Rattle.vcode_base.specs.declared.limits.TheConstants.{MOST_JOBS};
 ghost use Rattle.job_steps.specs.Standings.{first_standings};
 ghost use Rattle.batch_reader.specs.BatchTexts.{batch_fault_text};
-ghost use Rattle.batch_reader.specs.Fates.{JobEntry};
 ghost use Rattle.batch_reader.specs.Feeds.{HasFewJobs};
-ghost use Rattle.batch_front.specs.Reports.{fault_text, jobs_status, jobs_text, report_of, status_of};
+ghost use Rattle.batch_front.specs.Reports.{TaskEntry, fault_text, jobs_status, jobs_text, report_of, ruled_entries, status_of};
 ghost use Rattle.batch_front.specs.Seats.{AreAmong, AreSeated, BatchFits, EntriesFit, HasRunOut, report_text};
 ghost use Rattle.batch_front.specs.Seats.{seats_status};
 
@@ -21,6 +20,7 @@ use std::alloc::{AllocError, Allocator};
 use std::sync::Wait;
 use std::thread::Threads;
 use step_scheduler::{Gate, RunFault};
+use vcode_base::Rule;
 
 /// The whole report of a batch whose jobs the calling thread runs, and what the batch came to.
 #[tactic(auto, unfolding(crate::specs::Reports::report_of, crate::specs::Reports::status_of))]
@@ -36,22 +36,23 @@ pub(crate) fn answer_of_caller<A: Allocator + Copy>(
 {
     match batch {
         Batch::Refused(line, fault) => refusal(alloc, line, fault),
-        Batch::Jobs(entries) => jobs_of_caller(alloc, entries, options),
+        Batch::Jobs(rule, entries) => jobs_of_caller(alloc, rule, entries, options),
     }
 }
 
 /// The report on jobs that the calling thread runs, and what they came to.
 fn jobs_of_caller<A: Allocator + Copy>(
     alloc: A,
+    rule: Rule,
     entries: JobEntries<A>,
     options: &Options,
 ) -> Result<(Vec<u8, A>, Status), AllocError>
     requires few { length entries ≤ MOST_JOBS }
     requires fits { EntriesFit options.now.region entries }
-    ensures report { IfOk result (λ r. r.0.items ≡ jobs_text entries) }
-    ensures status { IfOk result (λ r. r.1 ≡ jobs_status entries) }
+    ensures report { IfOk result (λ r. r.0.items ≡ jobs_text (ruled_entries rule entries)) }
+    ensures status { IfOk result (λ r. r.1 ≡ jobs_status (ruled_entries rule entries)) }
 {
-    let (mut machine, seats) = seat_jobs(alloc, entries, options)?;
+    let (mut machine, seats) = seat_jobs(alloc, rule, entries, options)?;
     run_on_caller(alloc, &mut machine, &seats, options)?;
     told(alloc, &machine, &seats)
 }
@@ -76,7 +77,7 @@ where
 {
     match batch {
         Batch::Refused(line, fault) => Ok(refusal(alloc, line, fault)?),
-        Batch::Jobs(entries) => jobs_of_workers(rt, alloc, entries, options, gate),
+        Batch::Jobs(rule, entries) => jobs_of_workers(rt, alloc, rule, entries, options, gate),
     }
 }
 
@@ -84,6 +85,7 @@ where
 fn jobs_of_workers<A, H, G>(
     rt: &H,
     alloc: A,
+    rule: Rule,
     entries: JobEntries<A>,
     options: &Options,
     gate: &G,
@@ -94,10 +96,10 @@ where
     G: Gate + Sync,
     requires few { length entries ≤ MOST_JOBS }
     requires fits { EntriesFit options.now.region entries }
-    ensures report { IfOk result (λ r. r.0.items ≡ jobs_text entries) }
-    ensures status { IfOk result (λ r. r.1 ≡ jobs_status entries) }
+    ensures report { IfOk result (λ r. r.0.items ≡ jobs_text (ruled_entries rule entries)) }
+    ensures status { IfOk result (λ r. r.1 ≡ jobs_status (ruled_entries rule entries)) }
 {
-    let (machine, seats) = seat_jobs(alloc, entries, options)?;
+    let (machine, seats) = seat_jobs(alloc, rule, entries, options)?;
     let machine = run_on_workers(rt, alloc, machine, options, gate)?;
     Ok(told(alloc, &machine, &seats)?)
 }
@@ -116,20 +118,21 @@ fn refusal<A: Allocator>(
     Ok((report, Status::BatchRefused))
 }
 
-/// The jobs of a batch that may run on a machine, where they all wait, and the seats of all jobs.
+/// The jobs of a batch that may run on a machine of its rule, where they all wait, and the seats of all jobs.
 fn seat_jobs<A: Allocator + Copy>(
     alloc: A,
+    rule: Rule,
     entries: JobEntries<A>,
     options: &Options,
 ) -> Result<(Machine<A>, Vec<Seat<A>, A>), AllocError>
     requires few { length entries ≤ MOST_JOBS }
     requires fits { EntriesFit options.now.region entries }
-    ensures seated { IfOk result (λ seated. AreSeated seated.0.tasks seated.1.items entries) }
+    ensures seated { IfOk result (λ seated. AreSeated seated.0.tasks seated.1.items (ruled_entries rule entries)) }
     ensures all_wait { IfOk result (λ seated. seated.0.standings ≡ first_standings seated.0.tasks) }
 {
     let mut jobs = Vec::new(alloc);
     let seats = seats(alloc, entries.into_vec(), &mut jobs)?;
-    let machine = Machine::new(alloc, options.region as usize, jobs)?;
+    let machine = Machine::new(alloc, options.region as usize, jobs, rule)?;
     Ok((machine, seats))
 }
 
@@ -140,11 +143,11 @@ fn told<A: Allocator>(
     seats: &[Seat<A>],
 ) -> Result<(Vec<u8, A>, Status), AllocError>
     requires out { HasRunOut machine.now }
-    requires seated { (entries : List JobEntry) × AreSeated machine.now.tasks seats.now entries }
+    requires seated { (entries : List TaskEntry) × AreSeated machine.now.tasks seats.now entries }
     ensures report { IfOk result
-        (λ r. (entries : List JobEntry) → AreSeated machine.now.tasks seats.now entries → r.0.items ≡ jobs_text entries) }
+        (λ r. (entries : List TaskEntry) → AreSeated machine.now.tasks seats.now entries → r.0.items ≡ jobs_text entries) }
     ensures status { IfOk result
-        (λ r. (entries : List JobEntry) → AreSeated machine.now.tasks seats.now entries → r.1 ≡ jobs_status entries) }
+        (λ r. (entries : List TaskEntry) → AreSeated machine.now.tasks seats.now entries → r.1 ≡ jobs_status entries) }
 {
     let mut report = Vec::new(alloc);
     put_report(&mut report, machine, seats)?;

@@ -1,8 +1,8 @@
 //! A whole run, from a batch's bytes to its report's.
 
-ghost use Rattle.std.specs.Prelude.{◌⊎◌, ◌+◌, IfOk, OnOk, IsErrOf};
+ghost use Rattle.std.specs.Prelude.{◌≡◌, ◌⊎◌, ◌+◌, true, IfOk, OnOk, IsErrOf, IsSome};
 ghost use Rattle.std.specs.Io.KnownBytes.{Keeps};
-ghost use Rattle.batch_front.specs.Devices.{inner_of, interrupts_of, IsFresh, HasWorked, IsAtFault};
+ghost use Rattle.batch_front.specs.Devices.{inner_of, interrupts_of, is_flushed, IsFresh, HasWorked, IsAtFault};
 ghost use Rattle.batch_front.specs.Inputs.{ReadsFirstBytes, ReadsNoFurther};
 ghost use Rattle.batch_front.specs.Runs.{WritesReport, WritesFront};
 
@@ -42,6 +42,7 @@ pub fn run_alone<A: Allocator + Copy, R: Read, W: Write>(
     // The report is written and nothing else, and the status is the batch's.
     ensures report { IfOk result (WritesReport options.now.region (R.remaining (inner_of reader.old))
         (W.contents (inner_of writer.old)) (W.contents (inner_of writer.new))) }
+    ensures flushed { OnOk result (is_flushed writer.new ≡ true) }
     // No fault of a device is passed over, nor one interruption too many.
     ensures reader_worked { OnOk result (HasWorked reader.new (interrupts_of reader.new + interrupts_of writer.new)) }
     ensures writer_worked { OnOk result (HasWorked writer.new (interrupts_of reader.new + interrupts_of writer.new)) }
@@ -103,6 +104,7 @@ where
     // The report is written and nothing else, and the status is the batch's.
     ensures report { IfOk result (WritesReport options.now.region (I.remaining (inner_of reader.old))
         (O.contents (inner_of writer.old)) (O.contents (inner_of writer.new))) }
+    ensures flushed { OnOk result (is_flushed writer.new ≡ true) }
     // No fault of a device is passed over, nor one interruption too many.
     ensures reader_worked { OnOk result (HasWorked reader.new (interrupts_of reader.new + interrupts_of writer.new)) }
     ensures writer_worked { OnOk result (HasWorked writer.new (interrupts_of reader.new + interrupts_of writer.new)) }
@@ -119,6 +121,8 @@ where
         (O.contents (inner_of writer.old)) (O.contents (inner_of writer.new)) }
     ensures nothing_written { IsErrOf result FrontFault.Read ⊎ IsErrOf result FrontFault.Memory ⊎ IsErrOf result FrontFault.Mixed →
         Keeps (O.contents (inner_of writer.old)) (O.contents (inner_of writer.new)) }
+    // Only workers can hand back other jobs, and none is started beside a schedule.
+    ensures never_mixed { IsSome options.now.schedule → IsErrOf result FrontFault.Mixed → ⊥ }
 
     // The side that failed, or the first interruption of the run that is too many.
     ensures read_fault { IsErrOf result FrontFault.Read

@@ -1,5 +1,5 @@
 //! A reader or a writer of std that keeps count of its interruptions.
-ghost use Rattle.std.specs.Prelude.{◌≡◌, ◌<◌, ◌≤◌, length, IfOk, MatchResult};
+ghost use Rattle.std.specs.Prelude.{◌≡◌, ◌<◌, ◌≤◌, ◌↔◌, true, length, IfOk, OnOk, MatchResult};
 ghost use Rattle.std.specs.Io.KnownBytes.{Keeps, ReadConsumes, WriteAppends};
 
 use std::io::{ErrorKind, Read, Write};
@@ -16,16 +16,17 @@ pub(crate) enum Trouble {
     Failed,
 }
 
-/// A reader or a writer, whether it has failed, and how often it was interrupted.
+/// A reader or a writer, whether it has failed, how often it was interrupted, and whether it was flushed at last.
 #[derive(Drop)]
 pub struct Device<D> {
     inner: D,
     failed: bool,
     interrupts: u64,
+    flushed: bool,
 }
 
 impl<D> Device<D> {
-    ghost use Rattle.batch_front.specs.Devices.{inner_of, has_failed, interrupts_of, IsFresh, IsTroubled};
+    ghost use Rattle.batch_front.specs.Devices.{inner_of, has_failed, interrupts_of, is_flushed, IsFresh, IsTroubled};
 
     /// A device that was not used, over a reader or a writer.
     pub fn new(inner: D) -> Device<D>
@@ -36,6 +37,7 @@ impl<D> Device<D> {
             inner,
             failed: false,
             interrupts: 0,
+            flushed: false,
         }
     }
 
@@ -53,6 +55,13 @@ impl<D> Device<D> {
         self.interrupts
     }
 
+    /// Whether it was flushed, and nothing was written since.
+    pub fn flushed(&self) -> bool
+        ensures { result ≡ is_flushed self.now }
+    {
+        self.flushed
+    }
+
     /// The reader or the writer.
     pub fn into_inner(self) -> D
         ensures { result ≡ inner_of self }
@@ -61,6 +70,7 @@ impl<D> Device<D> {
             inner,
             failed: _,
             interrupts: _,
+            flushed: _,
         } = self;
         inner
     }
@@ -68,6 +78,7 @@ impl<D> Device<D> {
     /// Keeps in mind that it failed.
     fn fail(&mut self) -> Trouble
         ensures inner { inner_of self.new ≡ inner_of self.old }
+        ensures trouble { result ≡ Trouble.Failed }
         ensures state { IsTroubled self.old self.new result }
     {
         self.failed = true;
@@ -78,6 +89,7 @@ impl<D> Device<D> {
     fn note(&mut self, kind: ErrorKind) -> Trouble
         ensures inner { inner_of self.new ≡ inner_of self.old }
         ensures state { IsTroubled self.old self.new result }
+        ensures trouble { (result ≡ Trouble.Interrupted) ↔ (kind ≡ ErrorKind.Interrupted) }
     {
         if kind == ErrorKind::Interrupted {
             self.interrupts = self.interrupts.saturating_add(1);
@@ -105,7 +117,7 @@ impl<R: Read> Device<R> {
 }
 
 impl<W: Write> Device<W> {
-    ghost use Rattle.batch_front.specs.Devices.{inner_of, IsSteady, IsTroubled};
+    ghost use Rattle.batch_front.specs.Devices.{inner_of, is_flushed, IsSteady, IsTroubled};
 
     /// One write of some bytes.
     pub(crate) fn write(&mut self, buf: &[u8]) -> Result<usize, Trouble>
@@ -114,6 +126,7 @@ impl<W: Write> Device<W> {
         ensures within { IfOk result (λ n. (0 < n) × (n ≤ length buf.now)) }
         ensures state { MatchResult result (λ _. IsSteady self.old self.new) (λ t. IsTroubled self.old self.new t) }
     {
+        self.flushed = false;
         match self.inner.write(buf) {
             Ok(0) => Err(self.fail()),
             Ok(n) => Ok(n),
@@ -125,9 +138,13 @@ impl<W: Write> Device<W> {
     pub(crate) fn flush(&mut self) -> Result<(), Trouble>
         ensures bytes { Keeps (W.contents (inner_of self.old)) (W.contents (inner_of self.new)) }
         ensures state { MatchResult result (λ _. IsSteady self.old self.new) (λ t. IsTroubled self.old self.new t) }
+        ensures flushed { OnOk result (is_flushed self.new ≡ true) }
     {
         match self.inner.flush() {
-            Ok(()) => Ok(()),
+            Ok(()) => {
+                self.flushed = true;
+                Ok(())
+            }
             Err(error) => Err(self.note(error.kind())),
         }
     }

@@ -3,9 +3,10 @@
 //! [`run_alone`] reads a batch, runs its jobs on the calling thread and writes the report; [`run`] has worker threads run
 //! the jobs. [`read_line`] reads the command line of the program, and [`arguments_fault`] says why there is none.
 //! [`parse_schedule`] reads in which order the jobs are to take their turns on the calling thread; what they come to
-//! depends neither on it nor on the workers. What a batch comes to is defined below,
-//! by `batch_reader`, one answer for each text and region; `Reports` in `specs/` says what is printed of it, and the
-//! status. `Seats` has the jobs of a batch as they stand on a machine, `Schedules` the items that a text has.
+//! depends neither on it nor on the workers. What a batch comes to is defined below, by `batch_reader`, one answer for
+//! each text and region; `Reports` in `specs/` says what is printed of it, and the status. What a job's lines of the
+//! report depend on stands in [`laws`]. `Seats` has the jobs of a batch as they stand on a machine, `Schedules` the items
+//! that a text has.
 #![tactic(auto)]
 
 mod answer;
@@ -15,6 +16,7 @@ mod device;
 mod exit;
 mod fault;
 mod follow;
+pub mod laws;
 mod machine_run;
 mod options;
 mod report;
@@ -23,6 +25,7 @@ mod seats;
 mod status;
 mod transfer;
 
+pub use batch_reader::{Batch, BatchFault, Entry, Fate, Feed, JobEntries, JobEntry, JobFault};
 pub use batch_run::{run, run_alone};
 pub use command_line::{Line, arguments_fault, read_line};
 pub use device::{Device, MOST_INTERRUPTIONS};

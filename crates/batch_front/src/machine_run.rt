@@ -2,6 +2,7 @@
 
 ghost use Rattle.std.specs.Prelude.{◌≡◌, ◌≤◌, All, IfOk, IfSome, IfNone, OnOk};
 ghost use Rattle.job_steps.specs.Standings.{first_standings};
+ghost use Rattle.job_machine.specs.Machines.{Leads};
 ghost use Rattle.batch_front.specs.Seats.{HasRunOut};
 ghost use Rattle.batch_front.specs.Turns.{after_schedule};
 
@@ -41,6 +42,7 @@ fn run_on_desk<A: Allocator + Clone>(
     requires { All (λ task. task.limits.words ≤ desk) machine.old.tasks }
     ensures tasks { OnOk result (machine.new.tasks ≡ machine.old.tasks) }
     ensures out { OnOk result (HasRunOut machine.new) }
+    ensures leads { Leads machine.old machine.new }
 {
     let (done, _) = machine.run_out(desk);
     let _jobs = machine.jobs();
@@ -58,6 +60,9 @@ pub(crate) fn run_on_caller<A: Allocator + Copy>(
     requires { machine.old.standings ≡ first_standings machine.old.tasks }
     ensures tasks { OnOk result (machine.new.tasks ≡ machine.old.tasks) }
     ensures out { OnOk result (HasRunOut machine.new) }
+    // Events lead to it from where the schedule has left the jobs.
+    ensures followed { OnOk result (IfSome options.now.schedule
+        (λ schedule. Leads (after_schedule seats.now schedule.items machine.old) machine.new)) }
 {
     follow_schedule(alloc, machine, seats, options)?;
     let desk = Desk::new(alloc, machine.most_words())?;

@@ -1,9 +1,9 @@
 //! The bytes of a batch in, and those of its report out.
 
-ghost use Rattle.std.specs.Prelude.{◌≡◌, ◌⊎◌, ℕ, ◌+◌, ◌≤◌, false, List, [], take, IfOk, OnOk, OnErr, IsErrOf};
+ghost use Rattle.std.specs.Prelude.{◌≡◌, ◌⊎◌, ℕ, ◌+◌, ◌≤◌, true, false, List, [], take, IfOk, OnOk, OnErr, IsErrOf};
 ghost use Rattle.std.specs.Io.KnownBytes.{Appends, Keeps};
 ghost use Rattle.batch_front.specs.declared.device.TheConstants.{MOST_INTERRUPTIONS};
-ghost use Rattle.batch_front.specs.Devices.{inner_of, has_failed, interrupts_of, IsFresh, HasWorked, IsAtFault};
+ghost use Rattle.batch_front.specs.Devices.{inner_of, has_failed, interrupts_of, is_flushed, IsFresh, HasWorked, IsAtFault};
 ghost use Rattle.batch_reader.specs.Feeds.{HasCome, HasFewJobs};
 ghost use Rattle.batch_front.specs.Seats.{BatchFits};
 ghost use Rattle.batch_front.specs.Inputs.{AreFirstBytes, IsBatchIn, ReadsFirstBytes, ReadsNoFurther};
@@ -111,6 +111,7 @@ fn flush<W: Write>(writer: &mut Device<W>, spent: u64) -> Result<(), FrontFault>
     requires not_failed { has_failed writer.old ≡ false }
     requires spent { interrupts_of writer.old + spent ≤ MOST_INTERRUPTIONS }
     ensures nothing_written { Keeps (W.contents (inner_of writer.old)) (W.contents (inner_of writer.new)) }
+    ensures flushed { OnOk result (is_flushed writer.new ≡ true) }
     ensures writer_worked { OnOk result (HasWorked writer.new (interrupts_of writer.new + spent)) }
     ensures write_fault { OnErr result (IsAtFault writer.new (interrupts_of writer.new + spent)) }
     ensures write_alone { OnErr result (IsErrOf result FrontFault.Write) }
@@ -137,6 +138,7 @@ pub(crate) fn write_all<W: Write>(
     requires fresh { IsFresh writer.old }
     requires spent { spent ≤ MOST_INTERRUPTIONS }
     ensures all_written { OnOk result (Appends (W.contents (inner_of writer.old)) (W.contents (inner_of writer.new)) bytes.now) }
+    ensures flushed { OnOk result (is_flushed writer.new ≡ true) }
     ensures front_written { (n : ℕ) × Appends (W.contents (inner_of writer.old)) (W.contents (inner_of writer.new)) (take n bytes.now) }
     ensures writer_worked { OnOk result (HasWorked writer.new (interrupts_of writer.new + spent)) }
     ensures write_fault { OnErr result (IsAtFault writer.new (interrupts_of writer.new + spent)) }

@@ -14,7 +14,7 @@ use Rattle.verifier.specs.declared.fault.KindFault.{KindFault}
 use Rattle.verifier.specs.First.{kind_fault}
 use Rattle.verifier.specs.Laws.{NoFaultWhereWellKinded}
 use Rattle.verifier.specs.Typed.{IsVerifiedBy}
-use Rattle.job_steps.specs.States.{Task}
+use Rattle.job_steps.specs.States.{JobValue}
 use Rattle.batch_reader.specs.declared.fault.JobFault.TheVariants.{WordsPastRegion, Sig, Read, Kind}
 use Rattle.batch_reader.specs.declared.head.Head.{Head}
 use Rattle.batch_reader.specs.Batches.{JobText}
@@ -103,14 +103,14 @@ code_comes_to region known r job x read answers =
 
 -- what is run is well kinded by the signatures of the text
 pub is_ready : (region : ℕ) (job : JobText) (known : List Signature) (program : Program) (kept : Head (List ℕ))
-    (task : Task)
+    (ready : JobValue)
     → NoFaultWhereWellKinded → ShowsHead kept job.head job.line → signatures_of region job ≡ Ok known
-    → code_reading job.code_line job.code ≡ Ok program → task.verified.program ≡ program
-    → IsVerifiedBy known task.verified → task.name ≡ kept.name → task.limits ≡ kept.limits → IsReady region job task
-is_ready region job known program kept task law head e f same verified name limits =
+    → code_reading job.code_line job.code ≡ Ok program → ready.verified.program ≡ program
+    → IsVerifiedBy known ready.verified → ready.name ≡ kept.name → ready.limits ≡ kept.limits → IsReady region job ready
+is_ready region job known program kept ready law head e f same verified name limits =
     let fits = words_within region job known e in
-    let whole : signed_program_of region job ≡ Ok (known, task.verified.program) = program_is region job known
-    task.verified.program e (f ∙ ap Ok (sym same)) ((law known task.verified.program).1 verified.well_kinded) in
+    let whole : signed_program_of region job ≡ Ok (known, ready.verified.program) = program_is region job known
+    ready.verified.program e (f ∙ ap Ok (sym same)) ((law known ready.verified.program).1 verified.well_kinded) in
     record {
       signatures = known;
       program = whole;

@@ -8,14 +8,14 @@ use Rattle.std.proofs.lemmas.List.{append-nil}
 use Rattle.vcode_base.specs.declared.limits.TheConstants.{MOST_BATCH_BYTES, MOST_JOBS}
 use Rattle.batch_reader.specs.declared.entry.Batch.{Batch}
 use Rattle.batch_reader.specs.declared.entry.Batch.TheVariants.{Refused as BatchRefused, Jobs}
-use Rattle.batch_reader.specs.Batches.{JobText, Refusal, jobs_in, jobs_of}
+use Rattle.batch_reader.specs.Batches.{Refusal, RuledJobs, batch_in, jobs_of}
 use Rattle.batch_reader.specs.Fates.{JobEntry, AreEntries, IsBatch}
 use Rattle.batch_reader.specs.Feeds.{AnswersLines, ByLines, FeedState, HasCome, HasEnded, HoldsNoLineFeed}
 use Rattle.batch_reader.specs.Feeds.{IsFirstLine, IsOpenLine, IsWholeLine}
 use Rattle.batch_reader.specs.Feeds.{LinesState, RefusesLongLine, Stands}
 use Rattle.batch_reader.specs.Headings.{line_of, numbered_lines}
 use Rattle.batch_reader.specs.Lines.{lines}
-use Rattle.batch_reader.specs.Standings.{Between, JobStage, Shows}
+use Rattle.batch_reader.specs.Standings.{Fresh, JobStage, Shows}
 use Rattle.batch_reader.proofs.LineLemmas.{BeginsLine, begins_line, lines_nil, lines_of_last, lines_of_whole}
 use Rattle.batch_reader.proofs.LineLemmas.{numbered_next}
 use Rattle.batch_reader.proofs.LineLemmas.{no_feed_append, numbered_none, numbered_past, whole_begins_line, whole_with}
@@ -27,27 +27,27 @@ feed_with held s = record { held = held; lines = s }
 -- ---- before the first byte
 
 jobs_by : (number left : ℕ) (rest : List ℕ) → number ≡ 1 → left ≡ MOST_BATCH_BYTES
-    → jobs_of rest ≡ jobs_in MOST_JOBS (numbered_lines number left (lines rest))
+    → jobs_of rest ≡ batch_in MOST_JOBS (numbered_lines number left (lines rest))
 unfolding jobs_of
 jobs_by number left rest n l =
-    ap (λ k. jobs_in MOST_JOBS (numbered_lines k MOST_BATCH_BYTES (lines rest))) (sym n)
-    ∙ ap (λ k. jobs_in MOST_JOBS (numbered_lines number k (lines rest))) (sym l)
+    ap (λ k. batch_in MOST_JOBS (numbered_lines k MOST_BATCH_BYTES (lines rest))) (sym n)
+    ∙ ap (λ k. batch_in MOST_JOBS (numbered_lines number k (lines rest))) (sym l)
 
 pub nothing_has_come : (region : ℕ) (held : List ℕ) (s : LinesState) → held ≡ [] → IsFirstLine region s
     → HasCome (feed_with held s) []
 nothing_has_come region held s none first = record {
   whole = [];
-  come = jobs_in MOST_JOBS;
+  come = batch_in MOST_JOBS;
   bytes = sym none;
   batch = λ rest. jobs_by s.number s.left rest first.number first.left;
   stands = record {
     jobs = [];
     room = MOST_JOBS;
-    standing = Between;
+    standing = Fresh;
     entries = subst (λ (es : List JobEntry). AreEntries s.region [] es) (sym first.entries) tt;
-    shown = subst (λ (k : JobStage). Shows s.region k Between) (sym first.stage) tt;
+    shown = subst (λ (k : JobStage). Shows s.region k Fresh) (sym first.stage) tt;
     has_room = ap (λ es. length es + MOST_JOBS) first.entries;
-    comes = λ ls. sym (behind_none (jobs_in MOST_JOBS ls));
+    comes = λ ls. sym (behind_none (batch_in MOST_JOBS ls));
   };
 }
 
@@ -161,11 +161,11 @@ ended_at_line f bytes none h = record {
   stands = h.stands;
 }
 
-pub answers_batch : (region size : ℕ) (bytes : List ℕ) (batch : Batch (List JobEntry)) (come : Result (List JobText)
+pub answers_batch : (region size : ℕ) (bytes : List ℕ) (batch : Batch (List JobEntry)) (come : Result RuledJobs
     Refusal)
     → region ≡ size → jobs_of bytes ≡ come → AnswersLines region batch come → IsBatch size bytes batch
 answers_batch region size bytes (BatchRefused line fault) come same e answers = e ∙ answers
-answers_batch region size bytes (Jobs entries) come same e answers =
+answers_batch region size bytes (Jobs rule entries) come same e answers =
     (answers.0, e ∙ answers.1, subst (λ (n : ℕ). AreEntries n answers.0 entries) same answers.2)
 
 -- ---- bytes that are held

@@ -5,14 +5,14 @@ use Rattle.vcode_base.specs.declared.limits.Limits.{Limits}
 use Rattle.signatures.specs.Signatures.{Signature}
 use Rattle.vcode_reader.specs.Trees.{Program}
 use Rattle.verifier.specs.Typed.{TypedProgram, IsVerifiedBy, AreArrows}
-use Rattle.job_steps.specs.States.{Task}
+use Rattle.job_steps.specs.States.{JobValue}
 use Rattle.batch_reader.specs.declared.entry.Batch.TheVariants.{Refused as BatchRefused, Jobs}
 use Rattle.batch_reader.specs.declared.entry.Fate.{Fate}
 use Rattle.batch_reader.specs.declared.entry.Fate.TheVariants.{Ready, Refused}
 use Rattle.batch_reader.specs.declared.fault.BatchFault.{BatchFault}
-use Rattle.batch_reader.specs.Batches.{JobText}
+use Rattle.batch_reader.specs.Batches.{JobText, RuledJobs}
 use Rattle.batch_reader.specs.Fates.{AreEntries, IsEntry, IsFate, IsReady, JobEntry, JobRefusal, SignedProgram}
-use Rattle.batch_reader.specs.Laws.{OneBatch}
+use Rattle.batch_reader.specs.Laws.{OneBatch, OneEntry}
 
 one_ok : {A E : Type 0} (x y : A) → (let r : Result A E = Ok x in r) ≡ Ok y → x ≡ y
 one_ok x y e = cc
@@ -54,12 +54,12 @@ one_typed known x y h k same =
     ap (λ p. typed p x.arrows x.results) same ∙ ap (λ a. typed y.program a x.results) arrows
     ∙ ap (typed y.program y.arrows) results
 
-task : List ℕ → TypedProgram → Limits → Task
-task name verified limits = record { name = name; verified = verified; limits = limits }
+job_value : List ℕ → TypedProgram → Limits → JobValue
+job_value name verified limits = record { name = name; verified = verified; limits = limits }
 
-one_task : (region : ℕ) (job : JobText) (x y : Task) → IsReady region job x → IsReady region job y → x ≡ y
-unfolding task
-one_task region job x y h k =
+one_value : (region : ℕ) (job : JobText) (x y : JobValue) → IsReady region job x → IsReady region job y → x ≡ y
+unfolding job_value
+one_value region job x y h k =
     let both = one_ok {A = SignedProgram} {E = JobRefusal} (h.signatures, x.verified.program) (
       k.signatures,
       y.verified.program,
@@ -67,11 +67,11 @@ one_task region job x y h k =
     let verified = one_typed k.signatures x.verified y.verified
     (subst (λ (s : List Signature). IsVerifiedBy s x.verified) (ap (λ (s : SignedProgram). s.0) both) h.verified)
     k.verified (ap (λ (s : SignedProgram). s.1) both) in
-    ap (λ n. task n x.verified x.limits) (h.name ∙ sym k.name) ∙ ap (λ v. task y.name v x.limits) verified
-    ∙ ap (task y.name y.verified) (h.limits ∙ sym k.limits)
+    ap (λ n. job_value n x.verified x.limits) (h.name ∙ sym k.name) ∙ ap (λ v. job_value y.name v x.limits) verified
+    ∙ ap (job_value y.name y.verified) (h.limits ∙ sym k.limits)
 
-one_fate : (region : ℕ) (job : JobText) (x y : Fate Task) → IsFate region job x → IsFate region job y → x ≡ y
-one_fate region job (Ready x) (Ready y) h k = ap Ready (one_task region job x y h k)
+one_fate : (region : ℕ) (job : JobText) (x y : Fate JobValue) → IsFate region job x → IsFate region job y → x ≡ y
+one_fate region job (Ready x) (Ready y) h k = ap Ready (one_value region job x y h k)
 one_fate region job (Ready x) (Refused line fault) h k = absurd (no_both _ _ (sym h.program ∙ k))
 one_fate region job (Refused line fault) (Ready y) h k = absurd (no_both _ _ (sym k.program ∙ h))
 one_fate region job (Refused line fault) (Refused other again) h k =
@@ -79,10 +79,11 @@ one_fate region job (Refused line fault) (Refused other again) h k =
     ap (λ n. Refused n fault) (ap (λ (r : JobRefusal). r.1) same)
     ∙ ap (Refused other) (ap (λ (r : JobRefusal). r.0) same)
 
-entry : List ℕ → Fate Task → JobEntry
+entry : List ℕ → Fate JobValue → JobEntry
 entry name fate = record { name = name; fate = fate }
 
-one_entry : (region : ℕ) (job : JobText) (x y : JobEntry) → IsEntry region job x → IsEntry region job y → x ≡ y
+-- a job's text comes to one entry
+pub one_entry : OneEntry
 unfolding entry
 one_entry region job x y h k =
     ap (λ n. entry n x.fate) (h.name ∙ sym k.name) ∙ ap (entry y.name) (one_fate region job x.fate y.fate h.fate k.fate)
@@ -102,8 +103,10 @@ one_batch region input (BatchRefused line fault) (BatchRefused other again) h k 
     let same = one_err (fault, line) (again, other) (sym h ∙ k) in
     ap (λ n. BatchRefused n fault) (ap (λ (r : BatchFault × ℕ). r.1) same)
     ∙ ap (BatchRefused other) (ap (λ (r : BatchFault × ℕ). r.0) same)
-one_batch region input (BatchRefused line fault) (Jobs entries) h k = absurd (no_both _ _ (sym k.1 ∙ h))
-one_batch region input (Jobs entries) (BatchRefused line fault) h k = absurd (no_both _ _ (sym h.1 ∙ k))
-one_batch region input (Jobs xs) (Jobs ys) h k =
-    let jobs = one_ok h.0 k.0 (sym h.1 ∙ k.1) in
-    ap Jobs (one_list region k.0 xs ys (subst (λ (js : List JobText). AreEntries region js xs) jobs h.2) k.2)
+one_batch region input (BatchRefused line fault) (Jobs rule entries) h k = absurd (no_both _ _ (sym k.1 ∙ h))
+one_batch region input (Jobs rule entries) (BatchRefused line fault) h k = absurd (no_both _ _ (sym h.1 ∙ k))
+one_batch region input (Jobs rule xs) (Jobs other ys) h k =
+    let both = one_ok (rule, h.0) (other, k.0) (sym h.1 ∙ k.1) in
+    ap (λ r. Jobs r xs) (ap (λ (b : RuledJobs). b.0) both)
+    ∙ ap (Jobs other) (one_list region k.0 xs ys (subst (λ (js : List JobText). AreEntries region js xs) (ap (λ (b :
+    RuledJobs). b.1) both) h.2) k.2)

@@ -5,23 +5,27 @@ use Rattle.std.proofs.Common.{◌∙◌, Some, None, arith, append_assoc}
 use Rattle.std.proofs.lemmas.List.{append-nil}
 use Rattle.std.specs.Prelude.{if◌then◌else◌, Result}
 use Rattle.vcode_base.specs.declared.limits.TheConstants.{MOST_JOBS}
+use Rattle.vcode_base.specs.declared.rule.Rule.{Rule}
+use Rattle.vcode_base.specs.declared.rule.Rule.TheVariants.{First, Second}
 use Rattle.batch_reader.specs.declared.heading.Heading.{Heading}
-use Rattle.batch_reader.specs.declared.heading.Heading.TheVariants.{Blank, Signatures, Code, End, Other}
+use Rattle.batch_reader.specs.declared.heading.Heading.TheVariants.{Blank, SecondRule, Signatures, Code, End, Other}
 use Rattle.batch_reader.specs.declared.fault.BatchFault.TheVariants.{BadJobLine, UnfinishedJob, TooLarge}
 use Rattle.batch_reader.specs.declared.head.Head.{Head}
 use Rattle.batch_reader.specs.declared.stage.Stage.TheVariants as stage
-use Rattle.batch_reader.specs.declared.stage.Step.TheVariants.{To}
+use Rattle.batch_reader.specs.declared.stage.Step.TheVariants.{To, Ends, Begins}
 use Rattle.batch_reader.specs.Batches.{JobText, JobAndRest, PartText, Refusal, lines_behind_blanks, jobs_in}
-use Rattle.batch_reader.specs.Batches.{job_and_later}
+use Rattle.batch_reader.specs.Batches.{batch_in, job_and_later, under}
 use Rattle.batch_reader.specs.Batches.{job_from_code, job_from_signatures, job_without_parts, whole_job, part_in}
 use Rattle.batch_reader.specs.Blocks.{Block, block_of, longer_block, ends_signatures, is_code, is_end}
 use Rattle.batch_reader.specs.Chains.{result_and_then}
-use Rattle.batch_reader.specs.Headings.{BatchLine, is_blank, is_signatures}
+use Rattle.batch_reader.specs.Fates.{JobEntry, IsEntry}
+use Rattle.batch_reader.specs.Headings.{BatchLine, is_blank, is_second_rule, is_signatures}
 use Rattle.batch_reader.specs.JobLines.{JobLine, job_line_of}
 use Rattle.batch_reader.specs.Lines.{batch_words}
-use Rattle.batch_reader.specs.Standings.{Standing, Between, Headed, InSignatures, InCode, Ended, Refused, HasRoom}
+use Rattle.batch_reader.specs.Standings.{Standing, Fresh, Between, Headed, InSignatures, InCode, Ended, Refused}
+use Rattle.batch_reader.specs.Standings.{HasRoom}
 use Rattle.batch_reader.specs.Standings.{JobStage, CodePart}
-use Rattle.batch_reader.specs.Standings.{JobStep, Shows, ShowsStep, SaysJob, Turns, jobs_from, with_signatures}
+use Rattle.batch_reader.specs.Standings.{JobStep, Shows, SaysJob, Turns, jobs_from, with_signatures}
 use Rattle.batch_reader.specs.Standings.{with_code, with_code_line}
 
 -- ---- between jobs
@@ -63,7 +67,7 @@ turns_at_blank region ended room l blank has = record {
   next = Between;
   shown = tt;
   has_room = has;
-  comes = λ ls. jobs_behind_blank room l ls blank;
+  comes = λ rule ls. ap (under rule) (jobs_behind_blank room l ls blank);
 }
 
 pub turns_at_no_job : (region ended room : ℕ) (l : BatchLine) → l.is_past ≡ false → is_blank l.heading ≡ false
@@ -74,7 +78,7 @@ turns_at_no_job region ended room l past blank none has = record {
   next = Refused (BadJobLine, l.number);
   shown = refl;
   has_room = omega (arith, has);
-  comes = λ ls. no_jobs room l ls past blank none;
+  comes = λ rule ls. ap (under rule) (no_jobs room l ls past blank none);
 }
 
 -- a JOB line behind as many jobs as a batch may have
@@ -86,7 +90,8 @@ turns_at_last_job region ended zero line l head has says full = record {
   next = Refused (TooLarge, line);
   shown = refl;
   has_room = omega (arith, has);
-  comes = λ ls. one_job_too_many l ls head says.within says.other says.job ∙ ap (λ n. Err (TooLarge, n)) says.number;
+  comes = λ rule ls. ap (under rule) (one_job_too_many l ls head says.within says.other says.job)
+      ∙ ap (λ n. Err (TooLarge, n)) says.number;
 }
 turns_at_last_job region ended (suc room) line l head has says full = absurd (omega (arith, has))
 
@@ -100,21 +105,85 @@ turns_at_job region ended (suc room) line l head s has says few shown = record {
   next = Headed head line;
   shown = shown;
   has_room = omega (arith, has);
-  comes = λ ls. one_job_more room l ls head says.within says.other says.job
-      ∙ ap (λ n. job_and_later (jobs_in room) (whole_job head n ls)) says.number;
+  comes = λ rule ls. ap (under rule) (one_job_more room l ls head says.within says.other says.job)
+      ∙ ap (λ n. under rule (job_and_later (jobs_in room) (whole_job head n ls))) says.number;
+}
+
+-- ---- before the first line that isn't blank
+
+batch_behind_blank : (room : ℕ) (l : BatchLine) (ls : List BatchLine) → is_blank l.heading ≡ true
+    → batch_in room (l ∷ ls) ≡ batch_in room ls
+unfolding batch_in lines_behind_blanks
+batch_behind_blank room l ls e = rw e refl
+
+batch_behind_rule : (room : ℕ) (l : BatchLine) (ls : List BatchLine) → is_blank l.heading ≡ false
+    → is_second_rule l.heading ≡ true → batch_in room (l ∷ ls) ≡ under Second (jobs_in room ls)
+unfolding batch_in lines_behind_blanks
+batch_behind_rule room l ls blank is = rw (blank, is) refl
+
+batch_without_rule : (room : ℕ) (l : BatchLine) (ls : List BatchLine) → is_blank l.heading ≡ false
+    → is_second_rule l.heading ≡ false → batch_in room (l ∷ ls) ≡ under First (jobs_in room (l ∷ ls))
+unfolding batch_in lines_behind_blanks
+batch_without_rule room l ls blank isnt = rw (blank, isnt) refl
+
+batch_past : (room : ℕ) (l : BatchLine) (ls : List BatchLine) → l.is_past ≡ true → is_blank l.heading ≡ false
+    → is_second_rule l.heading ≡ false → batch_in room (l ∷ ls) ≡ Err (TooLarge, l.number)
+batch_past room l ls past blank isnt =
+    batch_without_rule room l ls blank isnt ∙ ap (under First) (no_jobs_past room l ls past blank)
+
+pub turns_at_first_blank : (region ended room : ℕ) (l : BatchLine) → is_blank l.heading ≡ true
+    → HasRoom ended room Fresh → Turns region ended room Fresh l (To stage.Fresh)
+turns_at_first_blank region ended room l blank has = record {
+  room_behind = room;
+  next = Fresh;
+  shown = tt;
+  has_room = has;
+  comes = λ rule ls. batch_behind_blank room l ls blank;
+}
+
+pub turns_at_rule : (region ended room : ℕ) (l : BatchLine) → l.heading ≡ SecondRule → HasRoom ended room Fresh
+    → Turns region ended room Fresh l (Begins Second stage.Between)
+turns_at_rule region ended room l is has = record {
+  room_behind = room;
+  next = Between;
+  shown = tt;
+  has_room = has;
+  comes = λ rule ls. batch_behind_rule room l ls (ap is_blank is) (ap is_second_rule is);
+}
+
+-- a line that is neither blank nor the rule line is as between jobs
+pub turns_without_rule : (region ended room : ℕ) (l : BatchLine) (s : JobStage) → is_blank l.heading ≡ false
+    → is_second_rule l.heading ≡ false → Turns region ended room Between l (To s)
+    → Turns region ended room Fresh l (Begins First s)
+turns_without_rule region ended room l s blank isnt turns = record {
+  room_behind = turns.room_behind;
+  next = turns.next;
+  shown = turns.shown;
+  has_room = turns.has_room;
+  comes = λ rule ls. batch_without_rule room l ls blank isnt ∙ turns.comes First ls;
 }
 
 -- ---- behind a JOB line
 
 pub isnt_blank : (h : Heading) → (h ≡ Blank → ⊥) → is_blank h ≡ false
 isnt_blank Blank n = absurd (n refl)
+isnt_blank SecondRule n = refl
 isnt_blank Signatures n = refl
 isnt_blank Code n = refl
 isnt_blank End n = refl
 isnt_blank Other n = refl
 
+pub isnt_second_rule : (h : Heading) → (h ≡ SecondRule → ⊥) → is_second_rule h ≡ false
+isnt_second_rule Blank n = refl
+isnt_second_rule SecondRule n = absurd (n refl)
+isnt_second_rule Signatures n = refl
+isnt_second_rule Code n = refl
+isnt_second_rule End n = refl
+isnt_second_rule Other n = refl
+
 pub isnt_signatures : (h : Heading) → (h ≡ Signatures → ⊥) → is_signatures h ≡ false
 isnt_signatures Blank n = refl
+isnt_signatures SecondRule n = refl
 isnt_signatures Signatures n = absurd (n refl)
 isnt_signatures Code n = refl
 isnt_signatures End n = refl
@@ -122,6 +191,7 @@ isnt_signatures Other n = refl
 
 pub isnt_end : (h : Heading) → (h ≡ End → ⊥) → is_end h ≡ false
 isnt_end Blank n = refl
+isnt_end SecondRule n = refl
 isnt_end Signatures n = refl
 isnt_end Code n = refl
 isnt_end End n = absurd (n refl)
@@ -129,6 +199,7 @@ isnt_end Other n = refl
 
 pub ends_no_signatures : (h : Heading) → (h ≡ Code → ⊥) → (h ≡ End → ⊥) → ends_signatures h ≡ false
 ends_no_signatures Blank n m = refl
+ends_no_signatures SecondRule n m = refl
 ends_no_signatures Signatures n m = refl
 ends_no_signatures Code n m = absurd (n refl)
 ends_no_signatures End n m = absurd (m refl)
@@ -159,7 +230,7 @@ turns_at_signatures region ended room head job l s past is has shown = record {
   next = InSignatures (job_without_parts head job (l.number + 1));
   shown = shown;
   has_room = has;
-  comes = λ ls. ap (job_and_later (jobs_in room)) (job_at_signatures head job l ls past is);
+  comes = λ rule ls. ap (λ r. under rule (job_and_later (jobs_in room) r)) (job_at_signatures head job l ls past is);
 }
 
 pub turns_at_no_signatures : (region ended room : ℕ) (head : JobLine) (job : ℕ) (l : BatchLine) → l.is_past ≡ false
@@ -170,7 +241,7 @@ turns_at_no_signatures region ended room head job l past isnt has = record {
   next = Refused (BadJobLine, l.number);
   shown = refl;
   has_room = omega (arith, has);
-  comes = λ ls. ap (job_and_later (jobs_in room)) (job_at_other head job l ls past isnt);
+  comes = λ rule ls. ap (λ r. under rule (job_and_later (jobs_in room) r)) (job_at_other head job l ls past isnt);
 }
 
 -- ---- blocks
@@ -266,7 +337,7 @@ turns_in_signatures region ended room job l s past isnt has shown = record {
   next = InSignatures (with_signatures job l.text);
   shown = shown;
   has_room = has;
-  comes = λ ls. ap (job_and_later (jobs_in room)) (signatures_go_on job l ls past isnt);
+  comes = λ rule ls. ap (λ r. under rule (job_and_later (jobs_in room) r)) (signatures_go_on job l ls past isnt);
 }
 
 pub turns_at_code : (region ended room : ℕ) (job : JobText) (l : BatchLine) (s : JobStage) → l.is_past ≡ false
@@ -278,7 +349,7 @@ turns_at_code region ended room job l s past is has shown = record {
   next = InCode (with_code_line job (l.number + 1));
   shown = shown;
   has_room = has;
-  comes = λ ls. ap (job_and_later (jobs_in room)) (signatures_close job l ls past is);
+  comes = λ rule ls. ap (λ r. under rule (job_and_later (jobs_in room) r)) (signatures_close job l ls past is);
 }
 
 pub turns_at_early_end : (region ended room line : ℕ) (job : JobText) (l : BatchLine) → l.is_past ≡ false
@@ -289,7 +360,7 @@ turns_at_early_end region ended room line job l past is same has = record {
   next = Refused (UnfinishedJob, line);
   shown = refl;
   has_room = omega (arith, has);
-  comes = λ ls. ap (job_and_later (jobs_in room)) (signatures_unfinished job l ls past is)
+  comes = λ rule ls. ap (λ r. under rule (job_and_later (jobs_in room) r)) (signatures_unfinished job l ls past is)
       ∙ ap (λ n. Err (UnfinishedJob, n)) (sym same);
 }
 
@@ -353,18 +424,18 @@ turns_in_code region ended room job l s past isnt has shown = record {
   next = InCode (with_code job l.text);
   shown = shown;
   has_room = has;
-  comes = λ ls. ap (job_and_later (jobs_in room)) (code_goes_on job l ls past isnt);
+  comes = λ rule ls. ap (λ r. under rule (job_and_later (jobs_in room) r)) (code_goes_on job l ls past isnt);
 }
 
-pub turns_at_end : (region ended room : ℕ) (job : JobText) (l : BatchLine) (s : JobStep) → l.is_past ≡ false
-    → l.heading ≡ End → HasRoom ended room (InCode job) → ShowsStep region s (Ended job)
-    → Turns region ended room (InCode job) l s
-turns_at_end region ended room job l s past is has shown = record {
+pub turns_at_end : (region ended room : ℕ) (job : JobText) (l : BatchLine) (entry : JobEntry) → l.is_past ≡ false
+    → l.heading ≡ End → HasRoom ended room (InCode job) → IsEntry region job entry
+    → Turns region ended room (InCode job) l (Ends entry)
+turns_at_end region ended room job l entry past is has shown = record {
   room_behind = room;
   next = Ended job;
   shown = shown;
   has_room = has;
-  comes = λ ls. ap (job_and_later (jobs_in room)) (code_closes job l ls past is);
+  comes = λ rule ls. ap (λ r. under rule (job_and_later (jobs_in room) r)) (code_closes job l ls past is);
 }
 
 -- ---- behind a refusal
@@ -377,21 +448,25 @@ turns_behind_refusal region ended room refusal l s has shown = record {
   next = Refused refusal;
   shown = shown;
   has_room = has;
-  comes = λ ls. refl;
+  comes = λ rule ls. refl;
 }
 
 -- ---- past the limit
 
 -- a line past the limit refuses what isn't refused
-pub past_limit : (room : ℕ) (standing : Standing) (l : BatchLine) → l.is_past ≡ true → is_blank l.heading ≡ false
+pub past_limit : (rule : Rule) (room : ℕ) (standing : Standing) (l : BatchLine) → l.is_past ≡ true → l.heading ≡ Other
     → ((job : JobText) → standing ≡ Ended job → ⊥) → ((refusal : Refusal) → standing ≡ Refused refusal → ⊥)
-    → jobs_from room standing (l ∷ []) ≡ Err (TooLarge, l.number)
-past_limit room Between l past blank e r = no_jobs_past room l [] past blank
-past_limit room (Headed head job) l past blank e r = ap (job_and_later (jobs_in room)) (job_past head job l [] past)
-past_limit room (InSignatures job) l past blank e r = ap (job_and_later (jobs_in room)) (signatures_past job l [] past)
-past_limit room (InCode job) l past blank e r = ap (job_and_later (jobs_in room)) (code_past job l [] past)
-past_limit room (Ended job) l past blank e r = absurd (e job refl)
-past_limit room (Refused refusal) l past blank e r = absurd (r refusal refl)
+    → jobs_from rule room standing (l ∷ []) ≡ Err (TooLarge, l.number)
+past_limit rule room Fresh l past other e r = batch_past room l [] past (ap is_blank other) (ap is_second_rule other)
+past_limit rule room Between l past other e r = ap (under rule) (no_jobs_past room l [] past (ap is_blank other))
+past_limit rule room (Headed head job) l past other e r =
+    ap (λ r. under rule (job_and_later (jobs_in room) r)) (job_past head job l [] past)
+past_limit rule room (InSignatures job) l past other e r =
+    ap (λ r. under rule (job_and_later (jobs_in room) r)) (signatures_past job l [] past)
+past_limit rule room (InCode job) l past other e r =
+    ap (λ r. under rule (job_and_later (jobs_in room) r)) (code_past job l [] past)
+past_limit rule room (Ended job) l past other e r = absurd (e job refl)
+past_limit rule room (Refused refusal) l past other e r = absurd (r refusal refl)
 
 -- ---- stages
 
@@ -401,9 +476,23 @@ pub turns_of_code : (region ended : ℕ) (kept : Head (List ℕ)) (part : CodePa
     → Turns region ended room (InCode job) l s)
     → (room : ℕ) (standing : Standing) → Shows region (stage.Code kept part) standing → HasRoom ended room standing
     → Turns region ended room standing l s
+turns_of_code region ended kept part l s turns room Fresh shown has = absurd shown
 turns_of_code region ended kept part l s turns room Between shown has = absurd shown
 turns_of_code region ended kept part l s turns room (Headed head line) shown has = absurd shown
 turns_of_code region ended kept part l s turns room (InSignatures job) shown has = absurd shown
 turns_of_code region ended kept part l s turns room (InCode job) shown has = turns room job shown has
 turns_of_code region ended kept part l s turns room (Ended job) shown has = absurd shown
 turns_of_code region ended kept part l s turns room (Refused refusal) shown has = absurd shown
+
+-- and of a step before the first line that isn't blank
+pub turns_of_fresh : (region ended : ℕ) (l : BatchLine) (s : JobStep)
+    → ((room : ℕ) → HasRoom ended room Fresh → Turns region ended room Fresh l s)
+    → (room : ℕ) (standing : Standing) → Shows region stage.Fresh standing → HasRoom ended room standing
+    → Turns region ended room standing l s
+turns_of_fresh region ended l s turns room Fresh shown has = turns room has
+turns_of_fresh region ended l s turns room Between shown has = absurd shown
+turns_of_fresh region ended l s turns room (Headed head line) shown has = absurd shown
+turns_of_fresh region ended l s turns room (InSignatures job) shown has = absurd shown
+turns_of_fresh region ended l s turns room (InCode job) shown has = absurd shown
+turns_of_fresh region ended l s turns room (Ended job) shown has = absurd shown
+turns_of_fresh region ended l s turns room (Refused refusal) shown has = absurd shown

@@ -1,13 +1,15 @@
--- The jobs of a batch as texts, or the refusal of the batch that is met first.
+-- The rule of a batch and its jobs as texts, or the refusal of the batch that is met first.
 use Rattle.std.specs.Prelude.{ℕ, zero, suc, ◌+◌, Bool, if◌then◌else◌, List, [], ◌∷◌, ◌++◌, Option, Some, None}
 use Rattle.std.specs.Prelude.{Result, Ok, Err}
 use Rattle.vcode_base.specs.declared.limits.TheConstants.{MOST_JOBS}
+use Rattle.vcode_base.specs.declared.rule.Rule.{Rule}
+use Rattle.vcode_base.specs.declared.rule.Rule.TheVariants.{First, Second}
 use Rattle.batch_reader.specs.declared.heading.Heading.{Heading}
 use Rattle.batch_reader.specs.declared.fault.BatchFault.{BatchFault}
 use Rattle.batch_reader.specs.declared.fault.BatchFault.TheVariants.{BadJobLine, UnfinishedJob, TooLarge}
 use Rattle.batch_reader.specs.Blocks.{Block, block_of, ends_signatures, is_code, is_end}
 use Rattle.batch_reader.specs.Chains.{result_and_then}
-use Rattle.batch_reader.specs.Headings.{BatchLine, is_blank, is_signatures, lines_of}
+use Rattle.batch_reader.specs.Headings.{BatchLine, is_blank, is_second_rule, is_signatures, lines_of}
 use Rattle.batch_reader.specs.JobLines.{JobLine, job_line_of}
 use Rattle.batch_reader.specs.Lines.{batch_words}
 
@@ -123,6 +125,24 @@ unfoldable pub jobs_in : ℕ → List BatchLine → Result (List JobText) Refusa
 jobs_in zero ls = no_job (lines_behind_blanks ls)
 jobs_in (suc room) ls = one_job (jobs_in room) (lines_behind_blanks ls)
 
--- the jobs of a batch, or its refusal
-unfoldable pub jobs_of : List ℕ → Result (List JobText) Refusal
-jobs_of input = jobs_in MOST_JOBS (lines_of input)
+-- the rule of a batch, and its jobs
+abbrev pub RuledJobs : Type 0
+RuledJobs = Rule × List JobText
+
+abbrev pub under : Rule → Result (List JobText) Refusal → Result RuledJobs Refusal
+under rule (Ok jobs) = Ok (rule, jobs)
+under rule (Err refusal) = Err refusal
+
+-- the first line that isn't blank may give the second rule; jobs begin after it then, and else with it
+abbrev pub batch_at : ℕ → List BatchLine → Result RuledJobs Refusal
+batch_at room [] = Ok (First, [])
+batch_at room (l ∷ ls) =
+    if is_second_rule l.heading then under Second (jobs_in room ls) else under First (jobs_in room (l ∷ ls))
+
+-- what all lines of a batch come to, where so many jobs may stand
+unfoldable pub batch_in : ℕ → List BatchLine → Result RuledJobs Refusal
+batch_in room ls = batch_at room (lines_behind_blanks ls)
+
+-- the rule of a batch and its jobs, or its refusal
+unfoldable pub jobs_of : List ℕ → Result RuledJobs Refusal
+jobs_of input = batch_in MOST_JOBS (lines_of input)

@@ -8,7 +8,7 @@ use Rattle.signatures.specs.Signatures.{Signature}
 use Rattle.verifier.specs.First.{kind_fault}
 use Rattle.verifier.specs.Faults.{Fault}
 use Rattle.verifier.specs.Typed.{IsVerifiedBy}
-use Rattle.job_steps.specs.States.{Task}
+use Rattle.job_steps.specs.States.{JobValue}
 use Rattle.batch_reader.specs.declared.fault.JobFault.{JobFault}
 use Rattle.batch_reader.specs.declared.fault.JobFault.TheVariants.{WordsPastRegion, Sig, Read, Kind}
 use Rattle.batch_reader.specs.declared.entry.Batch.{Batch}
@@ -61,21 +61,21 @@ signed_program_of region job =
 -- ---- fates
 
 -- the job runs the program of its text, which its signatures make well kinded, within its limits and the region
-pub record IsReady (region : ℕ) (job : JobText) (task : Task) : Type 0 where
+pub record IsReady (region : ℕ) (job : JobText) (ready : JobValue) : Type 0 where
   pub signatures : List Signature
-  pub program : signed_program_of region job ≡ Ok (signatures, task.verified.program)
-  pub verified : IsVerifiedBy signatures task.verified
-  pub name : task.name ≡ job.head.name
-  pub limits : task.limits ≡ job.head.limits
-  pub words : task.limits.words ≤ region
+  pub program : signed_program_of region job ≡ Ok (signatures, ready.verified.program)
+  pub verified : IsVerifiedBy signatures ready.verified
+  pub name : ready.name ≡ job.head.name
+  pub limits : ready.limits ≡ job.head.limits
+  pub words : ready.limits.words ≤ region
 
-abbrev pub IsFate : ℕ → JobText → Fate Task → Type 0
-IsFate region job (Ready task) = IsReady region job task
+abbrev pub IsFate : ℕ → JobText → Fate JobValue → Type 0
+IsFate region job (Ready ready) = IsReady region job ready
 IsFate region job (Refused line fault) = signed_program_of region job ≡ Err (fault, line)
 
 -- a job's name with its fate
 abbrev pub JobEntry : Type 0
-JobEntry = Entry (List ℕ) (Fate Task)
+JobEntry = Entry (List ℕ) (Fate JobValue)
 
 pub record IsEntry (region : ℕ) (job : JobText) (entry : JobEntry) : Type 0 where
   pub name : entry.name ≡ job.head.name
@@ -91,5 +91,5 @@ AreEntries region (job ∷ jobs) (entry ∷ entries) = IsEntry region job entry 
 -- what a batch comes to over a region of so many words
 abbrev pub IsBatch : ℕ → List ℕ → Batch (List JobEntry) → Type 0
 IsBatch region input (BatchRefused line fault) = jobs_of input ≡ Err (fault, line)
-IsBatch region input (Jobs entries) =
-    (jobs : List JobText) × (jobs_of input ≡ Ok jobs) × AreEntries region jobs entries
+IsBatch region input (Jobs rule entries) =
+    (jobs : List JobText) × (jobs_of input ≡ Ok (rule, jobs)) × AreEntries region jobs entries

@@ -3,22 +3,24 @@ use Rattle.std.specs.Prelude.{◌≡◌, ◌+◌, ◌≤◌, ℕ, Bool, true, fa
 use Rattle.std.specs.Coded.{Coded, code_by, coded_ℕ, coded×, coded_list}
 use Rattle.vcode_base.specs.declared.limits.TheConstants.{MOST_BATCH_BYTES, MOST_JOBS}
 use Rattle.vcode_base.specs.Lines.{is_line_feed}
+use Rattle.vcode_base.specs.declared.rule.Rule.{Rule}
 use Rattle.batch_reader.specs.declared.stage.Stage.TheVariants as stage
-use Rattle.batch_reader.specs.declared.stage.Step.TheVariants.{To, Ends}
+use Rattle.batch_reader.specs.declared.stage.Step.TheVariants.{To, Ends, Begins}
 use Rattle.batch_reader.specs.declared.entry.Batch.{Batch}
 use Rattle.batch_reader.specs.declared.entry.Batch.TheVariants.{Refused, Jobs}
-use Rattle.batch_reader.specs.Batches.{JobText, Refusal, jobs_of}
+use Rattle.batch_reader.specs.Batches.{JobText, Refusal, RuledJobs, jobs_of}
 use Rattle.batch_reader.specs.Fates.{JobEntry, AreEntries}
 use Rattle.batch_reader.specs.Headings.{BatchLine, line_past_limit, numbered_lines}
 use Rattle.batch_reader.specs.Lines.{lines}
 use Rattle.batch_reader.specs.Standings.{JobStage, JobStep, Standing, Shows, HasRoom, StageFits, jobs_behind, jobs_from}
 
--- a batch between two lines: the number of the next, how many bytes there may be from there on, where the batch stands,
--- and the jobs that have ended
+-- a batch between two lines: the number of the next, how many bytes there may be from there on, the rule of the batch
+-- (which counts once a line that isn't blank has come), where the batch stands, and the jobs that have ended
 pub record LinesState : Type 0 where
   pub region : ℕ
   pub number : ℕ
   pub left : ℕ
+  pub rule : Rule
   pub stage : JobStage
   pub entries : List JobEntry
 
@@ -27,12 +29,20 @@ pub record FeedState : Type 0 where
   pub held : List ℕ
   pub lines : LinesState
 
-abbrev pub lines_code : Coded JobStage → Coded JobEntry → Coded LinesState
-lines_code stage entry =
-    code_by (ℕ × (ℕ × (ℕ × (JobStage × List JobEntry))))
-    (coded× coded_ℕ (coded× coded_ℕ (coded× coded_ℕ (coded× stage (coded_list entry)))))
-    (λ s. (s.region, (s.number, (s.left, (s.stage, s.entries)))))
-    (λ t. record { region = t.0; number = t.1.0; left = t.1.1.0; stage = t.1.1.1.0; entries = t.1.1.1.1 }) (λ _. refl)
+abbrev pub lines_code : Coded Rule → Coded JobStage → Coded JobEntry → Coded LinesState
+lines_code rule stage entry =
+    code_by (ℕ × (ℕ × (ℕ × (Rule × (JobStage × List JobEntry)))))
+    (coded× coded_ℕ (coded× coded_ℕ (coded× coded_ℕ (coded× rule (coded× stage (coded_list entry))))))
+    (λ s. (s.region, (s.number, (s.left, (s.rule, (s.stage, s.entries))))))
+    (λ t. record {
+      region = t.0;
+      number = t.1.0;
+      left = t.1.1.0;
+      rule = t.1.1.1.0;
+      stage = t.1.1.1.1.0;
+      entries = t.1.1.1.1.1;
+    })
+    (λ _. refl)
 
 abbrev pub feed_code : Coded LinesState → Coded FeedState
 feed_code lines =
@@ -55,7 +65,7 @@ pub record IsOpenLine (line : List ℕ) (left : ℕ) : Type 0 where
 
 -- what is to come of a batch, by the lines that are still to come
 abbrev pub ByLines : Type 0
-ByLines = List BatchLine → Result (List JobText) Refusal
+ByLines = List BatchLine → Result RuledJobs Refusal
 
 -- what is to come is that of a standing, which the stage shows, behind the jobs that have ended
 pub record Stands (s : LinesState) (come : ByLines) : Type 0 where
@@ -65,7 +75,7 @@ pub record Stands (s : LinesState) (come : ByLines) : Type 0 where
   pub entries : AreEntries s.region jobs s.entries
   pub shown : Shows s.region s.stage standing
   pub has_room : HasRoom (length s.entries) room standing
-  pub comes : (ls : List BatchLine) → come ls ≡ jobs_behind jobs (jobs_from room standing ls)
+  pub comes : (ls : List BatchLine) → come ls ≡ jobs_behind jobs (jobs_from s.rule room standing ls)
 
 -- a line that holds the first byte past the limit refuses the batch, whatever its text, unless it is refused already
 pub record RefusesLongLine (old new : LinesState) (come : ByLines) : Type 0 where
@@ -98,6 +108,13 @@ HasFailed s = s.stage ≡ stage.Failed
 abbrev pub Keeps : JobStep → List JobEntry → List JobEntry → JobStage → Type 0
 Keeps (To next) old new behind = (behind ≡ next) × (new ≡ old)
 Keeps (Ends entry) old new behind = (behind ≡ stage.Between) × (new ≡ old ++ entry ∷ [])
+Keeps (Begins rule next) old new behind = (behind ≡ next) × (new ≡ old)
+
+-- a stage before the first job or between jobs
+abbrev pub IsOutside : JobStage → Type 0
+IsOutside stage.Fresh = Unit {0}
+IsOutside stage.Between = Unit {0}
+IsOutside _ = ⊥
 
 -- a stage that no line changes
 abbrev pub is_settled : JobStage → Bool
@@ -116,12 +133,13 @@ pub record HasEnded (s : LinesState) (text : List ℕ) : Type 0 where
 -- no more jobs than a batch may have
 abbrev pub HasFewJobs : Batch (List JobEntry) → Type 0
 HasFewJobs (Refused line fault) = Unit {0}
-HasFewJobs (Jobs entries) = length entries ≤ MOST_JOBS
+HasFewJobs (Jobs rule entries) = length entries ≤ MOST_JOBS
 
 -- what lines come to over a region
-abbrev pub AnswersLines : ℕ → Batch (List JobEntry) → Result (List JobText) Refusal → Type 0
+abbrev pub AnswersLines : ℕ → Batch (List JobEntry) → Result RuledJobs Refusal → Type 0
 AnswersLines region (Refused line fault) come = come ≡ Err (fault, line)
-AnswersLines region (Jobs entries) come = (jobs : List JobText) × (come ≡ Ok jobs) × AreEntries region jobs entries
+AnswersLines region (Jobs rule entries) come =
+    (jobs : List JobText) × (come ≡ Ok (rule, jobs)) × AreEntries region jobs entries
 
 -- the front of a piece has come, up to this rest
 abbrev pub HasComeIn : FeedState → FeedState → List ℕ → List ℕ → Type 0
@@ -134,5 +152,5 @@ pub record IsFirstLine (size : ℕ) (s : LinesState) : Type 0 where
   pub region : s.region ≡ size
   pub number : s.number ≡ 1
   pub left : s.left ≡ MOST_BATCH_BYTES
-  pub stage : s.stage ≡ stage.Between
+  pub stage : s.stage ≡ stage.Fresh
   pub entries : s.entries ≡ []

@@ -1,9 +1,10 @@
 -- What a line of a batch is by itself, and the lines of a batch in order.
-use Rattle.std.specs.Prelude.{ℕ, ◌+◌, ◌-◌, nat_lt, Bool, true, false, if◌then◌else◌, List, [], ◌∷◌, codes, length}
+use Rattle.std.specs.Prelude.{ℕ, ◌+◌, ◌-◌, nat_lt, Bool, true, false, ◌&&◌, if◌then◌else◌, List, [], ◌∷◌, codes}
+use Rattle.std.specs.Prelude.{length}
 use Rattle.std.specs.Str.{bytes_eq}
 use Rattle.vcode_base.specs.declared.limits.TheConstants.{MOST_BATCH_BYTES}
 use Rattle.batch_reader.specs.declared.heading.Heading.{Heading}
-use Rattle.batch_reader.specs.declared.heading.Heading.TheVariants.{Blank, Signatures, Code, End, Other}
+use Rattle.batch_reader.specs.declared.heading.Heading.TheVariants.{Blank, SecondRule, Signatures, Code, End, Other}
 use Rattle.batch_reader.specs.Lines.{batch_words, lines}
 
 -- a line whose only word is this
@@ -14,15 +15,24 @@ marker_of w =
     else if bytes_eq w (codes "END") then End
     else Other
 
+-- a line of these two words
+abbrev pub pair_of : List ℕ → List ℕ → Heading
+pair_of w v = if bytes_eq w (codes "BATCH") && bytes_eq v (codes "2") then SecondRule else Other
+
 -- a line of these words
 abbrev pub heading_of : List (List ℕ) → Heading
 heading_of [] = Blank
 heading_of (w ∷ []) = marker_of w
-heading_of (w ∷ v ∷ ws) = Other
+heading_of (w ∷ v ∷ []) = pair_of w v
+heading_of (w ∷ v ∷ u ∷ ws) = Other
 
 abbrev pub is_blank : Heading → Bool
 is_blank Blank = true
 is_blank _ = false
+
+abbrev pub is_second_rule : Heading → Bool
+is_second_rule SecondRule = true
+is_second_rule _ = false
 
 abbrev pub is_signatures : Heading → Bool
 is_signatures Signatures = true

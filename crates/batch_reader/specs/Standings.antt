@@ -1,6 +1,7 @@
 -- Where a batch stands between two of its lines: the jobs that have ended, and what is known of an open one.
 use Rattle.std.specs.Prelude.{◌≡◌, ◌≤◌, ◌+◌, ℕ, false, List, [], ◌∷◌, ◌++◌, Some, Result, Ok, Err}
 use Rattle.vcode_base.specs.declared.limits.TheConstants.{MOST_JOBS}
+use Rattle.vcode_base.specs.declared.rule.Rule.{Rule}
 use Rattle.vcode_reader.specs.Reading.{ReaderState as CodeState, HasCome as CodeHasCome}
 use Rattle.signatures.specs.Scan.{ReaderState as SignatureState, HasCome as SignaturesHaveCome}
 use Rattle.signatures.specs.Signatures.{Signature}
@@ -11,10 +12,10 @@ use Rattle.batch_reader.specs.declared.part.Part.TheVariants.{Reading, Refused a
 use Rattle.batch_reader.specs.declared.stage.Stage.{Stage}
 use Rattle.batch_reader.specs.declared.stage.Stage.TheVariants as stage
 use Rattle.batch_reader.specs.declared.stage.Step.{Step}
-use Rattle.batch_reader.specs.declared.stage.Step.TheVariants.{To, Ends}
+use Rattle.batch_reader.specs.declared.stage.Step.TheVariants.{To, Ends, Begins}
 use Rattle.batch_reader.specs.declared.batch_line.BatchLine.{BatchLine as CodeLine}
 use Rattle.batch_reader.specs.Batches.{Refusal, JobText, job_from_code, job_from_signatures, whole_job, jobs_after}
-use Rattle.batch_reader.specs.Batches.{job_and_later, jobs_in}
+use Rattle.batch_reader.specs.Batches.{RuledJobs, batch_in, job_and_later, jobs_in, under}
 use Rattle.batch_reader.specs.Fates.{JobEntry, IsEntry, limits_within, signatures_of}
 use Rattle.batch_reader.specs.Headings.{BatchLine, is_blank}
 use Rattle.batch_reader.specs.JobLines.{JobLine, job_line_of}
@@ -22,9 +23,10 @@ use Rattle.batch_reader.specs.Lines.{batch_words}
 
 -- ---- in texts
 
--- between jobs; behind a JOB line; in a part of a job, whose text is known so far; behind a job's END; behind what
--- refuses the batch
+-- before the first line that isn't blank; between jobs; behind a JOB line; in a part of a job, whose text is known so
+-- far; behind a job's END; behind what refuses the batch
 pub data Standing : Type 0 where
+  Fresh : Standing
   Between : Standing
   Headed : (head : JobLine) (line : ℕ) → Standing
   InSignatures : (job : JobText) → Standing
@@ -32,22 +34,25 @@ pub data Standing : Type 0 where
   Ended : (job : JobText) → Standing
   Refused : (refusal : Refusal) → Standing
 
--- what the lines from there on come to, where so many jobs more may begin
-abbrev pub jobs_from : ℕ → Standing → List BatchLine → Result (List JobText) Refusal
-jobs_from room Between ls = jobs_in room ls
-jobs_from room (Headed head line) ls = job_and_later (jobs_in room) (whole_job head line ls)
-jobs_from room (InSignatures job) ls = job_and_later (jobs_in room) (job_from_signatures job ls)
-jobs_from room (InCode job) ls = job_and_later (jobs_in room) (job_from_code job ls)
-jobs_from room (Ended job) ls = jobs_after job (jobs_in room ls)
-jobs_from room (Refused refusal) ls = Err refusal
+-- what the lines from there on come to under this rule, where so many jobs more may begin; the rule counts once a line
+-- that isn't blank has come
+abbrev pub jobs_from : Rule → ℕ → Standing → List BatchLine → Result RuledJobs Refusal
+jobs_from rule room Fresh ls = batch_in room ls
+jobs_from rule room Between ls = under rule (jobs_in room ls)
+jobs_from rule room (Headed head line) ls = under rule (job_and_later (jobs_in room) (whole_job head line ls))
+jobs_from rule room (InSignatures job) ls = under rule (job_and_later (jobs_in room) (job_from_signatures job ls))
+jobs_from rule room (InCode job) ls = under rule (job_and_later (jobs_in room) (job_from_code job ls))
+jobs_from rule room (Ended job) ls = under rule (jobs_after job (jobs_in room ls))
+jobs_from rule room (Refused refusal) ls = Err refusal
 
 -- these jobs before others
-abbrev pub jobs_behind : List JobText → Result (List JobText) Refusal → Result (List JobText) Refusal
-jobs_behind jobs (Ok more) = Ok (jobs ++ more)
+abbrev pub jobs_behind : List JobText → Result RuledJobs Refusal → Result RuledJobs Refusal
+jobs_behind jobs (Ok more) = Ok (more.0, jobs ++ more.1)
 jobs_behind jobs (Err refusal) = Err refusal
 
 -- so many jobs have ended and so many more may begin, besides the open one
 abbrev pub HasRoom : ℕ → ℕ → Standing → Type 0
+HasRoom ended room Fresh = ended + room ≡ MOST_JOBS
 HasRoom ended room Between = ended + room ≡ MOST_JOBS
 HasRoom ended room (Refused refusal) = ended ≤ MOST_JOBS
 HasRoom ended room standing = (ended + 1) + room ≡ MOST_JOBS
@@ -89,6 +94,7 @@ ShowsCode region (PartRefused line fault) job = signatures_of region job ≡ Err
 
 -- what is kept is that of a standing
 abbrev pub Shows : ℕ → JobStage → Standing → Type 0
+Shows region stage.Fresh Fresh = Unit {0}
 Shows region stage.Between Between = Unit {0}
 Shows region (stage.Headed kept) (Headed head line) = ShowsHead kept head line
 Shows region (stage.Signatures kept part) (InSignatures job) =
@@ -121,6 +127,12 @@ abbrev pub ShowsStep : ℕ → JobStep → Standing → Type 0
 ShowsStep region (To s) standing = Shows region s standing
 ShowsStep region (Ends entry) (Ended job) = IsEntry region job entry
 ShowsStep region (Ends entry) _ = ⊥
+ShowsStep region (Begins rule s) standing = Shows region s standing
+
+-- the rule of a batch after a step
+abbrev pub rule_by : JobStep → Rule → Rule
+rule_by (Begins rule s) old = rule
+rule_by _ old = old
 
 abbrev pub shown_line : CodeLine → BatchLine
 shown_line l = record { number = l.number; text = l.text.now; heading = l.heading; is_past = false }
@@ -131,7 +143,8 @@ pub record Turns (region ended room : ℕ) (standing : Standing) (l : BatchLine)
   pub next : Standing
   pub shown : ShowsStep region s next
   pub has_room : HasRoom ended room_behind next
-  pub comes : (ls : List BatchLine) → jobs_from room standing (l ∷ ls) ≡ jobs_from room_behind next ls
+  pub comes : (rule : Rule) (ls : List BatchLine)
+      → jobs_from rule room standing (l ∷ ls) ≡ jobs_from (rule_by s rule) room_behind next ls
 
 -- ---- what each stage may be
 
@@ -153,3 +166,4 @@ StageFits number _ = Unit {0}
 abbrev pub StepFits : ℕ → JobStep → Type 0
 StepFits number (To s) = StageFits number s
 StepFits number (Ends entry) = Unit {0}
+StepFits number (Begins rule s) = StageFits number s

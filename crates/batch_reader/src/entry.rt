@@ -2,7 +2,7 @@
 
 use crate::fault::{BatchFault, JobFault};
 use job_steps::{Job, JobName};
-use vcode_base::Sequence;
+use vcode_base::{Rule, Sequence};
 
 /// What becomes of a job, over the type of jobs.
 #[derive(PartialEq, Eq, Debug, Drop)]
@@ -27,8 +27,8 @@ pub struct Entry<N, F> {
 pub enum Batch<L> {
     /// It is refused as a whole, at this line, for this fault: the first from the front.
     Refused(u64, BatchFault),
-    /// Its jobs in the order of their lines.
-    Jobs(L),
+    /// The rule by which its words are counted, and its jobs in the order of their lines.
+    Jobs(Rule, L),
 }
 
 /// A job that owns its name, and its program where it may run.

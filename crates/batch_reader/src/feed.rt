@@ -27,18 +27,18 @@ pub struct Feed<A: Allocator> {
 impl<A: Allocator> Model for Feed<A> {
     ghost use Rattle.std.specs.Coded.{codes};
     ghost use Rattle.vcode_reader.specs.ParseCode.{fed_code, parse_code, scan_code};
-    ghost use Rattle.job_steps.specs.Jobs.{task_code};
+    ghost use Rattle.job_steps.specs.Jobs.{job_code};
     ghost use Rattle.batch_reader.specs.Feeds.{FeedState, IsOpenLine, feed_code, lines_code};
 
     ghost Value = { FeedState };
 
-    ghost coded = { feed_code (lines_code (Prim.hlevel (
+    ghost coded = { feed_code (lines_code (Prim.hlevel codes) (Prim.hlevel (
       codes,
       fed_code (scan_code
           (parse_code (Prim.hlevel codes) (Prim.hlevel codes) (Prim.hlevel codes) (Prim.hlevel codes) (Prim.hlevel codes)
           (Prim.hlevel codes)) (Prim.hlevel codes)),
     ))
-        (Prim.hlevel (codes, task_code (Prim.hlevel codes) (Prim.hlevel codes) (Prim.hlevel codes)))) };
+        (Prim.hlevel (codes, job_code (Prim.hlevel codes) (Prim.hlevel codes) (Prim.hlevel codes)))) };
 
     ghost view = { λ f. record { held = f.held.items; lines = f.lines } };
 

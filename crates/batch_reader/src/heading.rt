@@ -1,7 +1,7 @@
 //! What a line of a batch is by itself.
 
 ghost use Rattle.std.specs.Prelude.{◌≡◌};
-ghost use Rattle.batch_reader.specs.Headings.{heading_of, marker_of};
+ghost use Rattle.batch_reader.specs.Headings.{heading_of, marker_of, pair_of};
 ghost use Rattle.batch_reader.specs.Lines.{batch_words};
 
 use vcode_base::{LineWords, Parentheses};
@@ -11,6 +11,8 @@ use vcode_base::{LineWords, Parentheses};
 pub(crate) enum Heading {
     /// It has no word.
     Blank,
+    /// Its words are `BATCH` and `2`.
+    SecondRule,
     /// Its only word is `SIGNATURES`.
     Signatures,
     /// Its only word is `CODE`.
@@ -29,8 +31,11 @@ pub(crate) fn heading_of(line: &[u8]) -> Heading
     let Some(word) = words.next() else {
         return Heading::Blank;
     };
+    let Some(second) = words.next() else {
+        return marker(word);
+    };
     match words.next() {
-        None => marker(word),
+        None => pair(word, second),
         Some(_) => Heading::Other,
     }
 }
@@ -45,6 +50,17 @@ fn marker(word: &[u8]) -> Heading
         Heading::Code
     } else if word == b"END".as_slice() {
         Heading::End
+    } else {
+        Heading::Other
+    }
+}
+
+/// What a line of these two words is.
+fn pair(first: &[u8], second: &[u8]) -> Heading
+    ensures { result ≡ pair_of first.now second.now }
+{
+    if first == b"BATCH".as_slice() && second == b"2".as_slice() {
+        Heading::SecondRule
     } else {
         Heading::Other
     }

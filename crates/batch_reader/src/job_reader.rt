@@ -3,11 +3,11 @@
 ghost use Rattle.std.specs.Prelude.{◌≡◌, ◌+◌, ◌≤◌, ◌↔◌, ℕ, List, [], ◌∷◌, length, IsErr, IsTrue, OnOk, OnErr, IfOk};
 ghost use Rattle.vcode_base.specs.Lines.{line_feeds};
 ghost use Rattle.vcode_base.specs.declared.limits.TheConstants.{MOST_BATCH_BYTES};
-ghost use Rattle.batch_reader.specs.Feeds.{AnswersLines, ByLines, HasFailed, HasFewJobs, IsFirstLine, Keeps};
+ghost use Rattle.batch_reader.specs.Feeds.{AnswersLines, ByLines, HasFailed, HasFewJobs, IsFirstLine, IsOutside, Keeps};
 ghost use Rattle.batch_reader.specs.Feeds.{RefusesLongLine, Stands, is_settled};
 ghost use Rattle.batch_reader.specs.Headings.{line_of};
+ghost use Rattle.batch_reader.specs.Standings.{rule_by};
 ghost use Rattle.batch_reader.specs.declared.heading.Heading.TheVariants as headings;
-ghost use Rattle.batch_reader.specs.declared.stage.Stage.TheVariants as stages;
 
 use crate::batch_line::BatchLine;
 use crate::entry::{Batch, JobEntries};
@@ -18,8 +18,8 @@ use crate::step::step;
 use std::alloc::{AllocError, Allocator};
 use std::marker::Model;
 use std::mem;
-use vcode_base::Sequence;
 use vcode_base::limits::{MOST_BATCH_BYTES, MOST_JOBS};
+use vcode_base::{Rule, Sequence};
 
 /// Reads the jobs of a batch whose lines come one after another.
 #[derive(Drop)]
@@ -28,6 +28,7 @@ pub(crate) struct JobReader<A: Allocator> {
     region: usize,
     number: u64,
     left: usize,
+    rule: Rule,
     stage: JobStage<A>,
     entries: JobEntries<A>,
 }
@@ -35,20 +36,27 @@ pub(crate) struct JobReader<A: Allocator> {
 impl<A: Allocator> Model for JobReader<A> {
     ghost use Rattle.std.specs.Coded.{codes};
     ghost use Rattle.vcode_reader.specs.ParseCode.{fed_code, parse_code, scan_code};
-    ghost use Rattle.job_steps.specs.Jobs.{task_code};
+    ghost use Rattle.job_steps.specs.Jobs.{job_code};
     ghost use Rattle.batch_reader.specs.Feeds.{AreLinesWithin, LinesState, lines_code};
 
     ghost Value = { LinesState };
 
-    ghost coded = { lines_code (Prim.hlevel (
+    ghost coded = { lines_code (Prim.hlevel codes) (Prim.hlevel (
       codes,
       fed_code (scan_code
           (parse_code (Prim.hlevel codes) (Prim.hlevel codes) (Prim.hlevel codes) (Prim.hlevel codes) (Prim.hlevel codes)
           (Prim.hlevel codes)) (Prim.hlevel codes)),
     ))
-        (Prim.hlevel (codes, task_code (Prim.hlevel codes) (Prim.hlevel codes) (Prim.hlevel codes))) };
+        (Prim.hlevel (codes, job_code (Prim.hlevel codes) (Prim.hlevel codes) (Prim.hlevel codes))) };
 
-    ghost view = { λ r. record { region = r.region; number = r.number; left = r.left; stage = r.stage; entries = r.entries } };
+    ghost view = { λ r. record {
+      region = r.region;
+      number = r.number;
+      left = r.left;
+      rule = r.rule;
+      stage = r.stage;
+      entries = r.entries;
+    } };
 
     ghost invariant = { λ r. AreLinesWithin r.number r.left r.stage };
 }
@@ -64,7 +72,8 @@ impl<A: Allocator + Copy> JobReader<A> {
             region,
             number: 1,
             left: MOST_BATCH_BYTES,
-            stage: Stage::Between,
+            rule: Rule::First,
+            stage: Stage::Fresh,
             entries: Sequence::from_vec(entries),
         })
     }
@@ -123,7 +132,7 @@ impl<A: Allocator + Copy> JobReader<A> {
         };
         let stage = mem::replace(&mut self.stage, Stage::Failed);
         let step = step(self.alloc, self.region, self.entries.len(), stage, line)?;
-        let next = stage_behind(step, &mut self.entries)?;
+        let next = stage_behind(step, &mut self.entries, &mut self.rule)?;
         set_stage(&mut self.stage, next);
         self.number += 1;
         self.left -= text.len();
@@ -154,9 +163,15 @@ impl<A: Allocator + Copy> JobReader<A> {
         ensures few { IfOk result (λ batch. (come : ByLines) → Stands self come → HasFewJobs batch) }
         ensures failed { HasFailed self → IsErr result }
     {
-        let JobReader { stage, entries, .. } = self;
+        let JobReader {
+            rule,
+            stage,
+            entries,
+            ..
+        } = self;
         match stage {
-            Stage::Between => Ok(Batch::Jobs(entries)),
+            Stage::Fresh => Ok(Batch::Jobs(Rule::First, entries)),
+            Stage::Between => Ok(Batch::Jobs(rule, entries)),
             Stage::Headed(head) => Ok(Batch::Refused(head.line, BatchFault::UnfinishedJob)),
             Stage::Signatures(head, _) => Ok(Batch::Refused(head.line, BatchFault::UnfinishedJob)),
             Stage::Code(head, _) => Ok(Batch::Refused(head.line, BatchFault::UnfinishedJob)),
@@ -180,25 +195,34 @@ fn is_settled<A: Allocator>(stage: &JobStage<A>) -> bool
     matches!(stage, Stage::Refused(..) | Stage::Failed)
 }
 
-/// Whether a line of this heading is blank and stands between jobs.
+/// Whether a line of this heading is blank and stands before the first job or between jobs.
 fn passes_over<A: Allocator>(stage: &JobStage<A>, heading: Heading) -> bool
-    ensures { IsTrue result → (stage.now ≡ stages.Between) × (heading ≡ headings.Blank) }
+    ensures { IsTrue result → IsOutside stage.now × (heading ≡ headings.Blank) }
 {
-    matches!((stage, heading), (Stage::Between, Heading::Blank))
+    matches!(
+        (stage, heading),
+        (Stage::Fresh | Stage::Between, Heading::Blank)
+    )
 }
 
-/// The stage behind a step; a job that ends goes behind the others.
+/// The stage after a step, with the rule that it gives; a job that ends goes after the others.
 fn stage_behind<A: Allocator>(
     step: JobStep<A>,
     entries: &mut JobEntries<A>,
+    rule: &mut Rule,
 ) -> Result<JobStage<A>, AllocError>
-    ensures { IfOk result (Keeps step entries.old entries.new) }
+    ensures kept { IfOk result (Keeps step entries.old entries.new) }
+    ensures rule { rule.new ≡ rule_by step rule.old }
 {
     match step {
         Step::To(next) => Ok(next),
         Step::Ends(entry) => {
             entries.push(entry)?;
             Ok(Stage::Between)
+        }
+        Step::Begins(given, next) => {
+            *rule = given;
+            Ok(next)
         }
     }
 }

@@ -1,9 +1,14 @@
-//! A law of the definitions that the contracts cite: it is the contract of a function.
+//! Laws of the definitions that the contracts cite. Each is the contract of a function that does nothing.
 
-ghost use Rattle.batch_reader.specs.Laws.{OneBatch};
+ghost use Rattle.batch_reader.specs.Laws.{OneBatch, OneEntry};
 
 /// Whatever the bytes and the region, the batch comes to one answer: to one refusal, or to one list of jobs with one
 /// fate each.
 pub fn one_batch()
     ensures { OneBatch }
+{}
+
+/// Whatever else a batch holds, the text of a job comes to one entry over a region.
+pub fn one_entry()
+    ensures { OneEntry }
 {}

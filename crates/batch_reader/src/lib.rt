@@ -4,6 +4,9 @@
 //! tabs and CRs stand between the words of a line. A heading is a line with one word, which is `SIGNATURES`, `CODE`
 //! or `END`.
 //!
+//! **The rule.** If the words of the first line that isn't blank are `BATCH` and `2`, the batch has the second
+//! [rule](vcode_base::Rule), and its jobs come after that line. Every other batch has the first.
+//!
 //! **Jobs.** First comes `JOB name words cells calls budget`, and directly behind it the heading `SIGNATURES`. The
 //! lines from there to the next `CODE` are the job's signatures, and those from `CODE` to the next `END` its code,
 //! whatever comments they hold. Nothing but blank lines may be between two jobs. A name is at most
@@ -21,9 +24,9 @@
 //! the region's, told at its JOB line; else the first fault of its signatures; else the first of its code; else the
 //! first of its kinds.
 //!
-//! [`Feed`] takes the pieces. That a batch comes to one answer stands in [`laws`]. `specs/Batches` has the jobs of
-//! a batch as texts, or what refuses it; `specs/Fates` what becomes of each job, and what a batch comes to;
-//! `specs/Standings` and `specs/Feeds` what is kept of a batch whose end hasn't come.
+//! [`Feed`] takes the pieces. That a batch comes to one answer stands in [`laws`]. `specs/Batches` has the rule of a
+//! batch and its jobs as texts, or what refuses it; `specs/Fates` what becomes of each job, and what a batch comes
+//! to; `specs/Standings` and `specs/Feeds` what is kept of a batch whose end hasn't come.
 #![tactic(auto)]
 
 mod batch_line;

@@ -6,12 +6,15 @@ use crate::head::Head;
 use crate::part::Part;
 use job_steps::JobName;
 use signatures::{SigReader, Signatures};
+use vcode_base::Rule;
 use vcode_reader::CodeReader;
 
 /// Where a batch stands between two lines, over the types of names, of what reads signatures and of what
 /// reads code.
 #[derive(Drop)]
 pub enum Stage<N, S, C> {
+    /// Before the first line that isn't blank.
+    Fresh,
     /// Between jobs.
     Between,
     /// Behind a JOB line.
@@ -33,6 +36,8 @@ pub enum Step<S, E> {
     To(S),
     /// The job ends, and the batch stands between jobs.
     Ends(E),
+    /// The batch has this rule, and stands here then.
+    Begins(Rule, S),
 }
 
 /// The signatures of a job, and what reads its code.

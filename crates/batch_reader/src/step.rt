@@ -7,7 +7,7 @@ ghost use Rattle.batch_reader.specs.declared.stage.Step.TheVariants.{To};
 ghost use Rattle.batch_reader.specs.Batches.{JobText, job_without_parts};
 ghost use Rattle.batch_reader.specs.Headings.{BatchLine as SpecLine};
 ghost use Rattle.batch_reader.specs.JobLines.{JobLine as JobLineOf};
-ghost use Rattle.batch_reader.specs.Standings.{Between, Headed, InSignatures, InCode, Standing};
+ghost use Rattle.batch_reader.specs.Standings.{Fresh, Between, Headed, InSignatures, InCode, Standing};
 ghost use Rattle.batch_reader.specs.Standings.{HasRoom, Shows, ShowsHead};
 ghost use Rattle.batch_reader.specs.Standings.{ShowsSignatures, ShowsCode, SaysJob, SignaturesFit, CodeFits, StageFits};
 ghost use Rattle.batch_reader.specs.Standings.{StepFits, Turns, shown_line, with_signatures, with_code_line, with_code};
@@ -23,6 +23,7 @@ use crate::stage::{CodeReading, JobStage, JobStep, Stage, Step};
 use job_steps::JobName;
 use signatures::{SigFault, SigReader};
 use std::alloc::{AllocError, Allocator};
+use vcode_base::Rule;
 use vcode_base::limits::MOST_JOBS;
 use vcode_reader::CodeReader;
 
@@ -41,12 +42,30 @@ pub(crate) fn step<A: Allocator + Copy>(
     ensures failed { stage ≡ stages.Failed → IsErr result }
 {
     match stage {
+        Stage::Fresh => step_at_front(alloc, ended, line),
         Stage::Between => Ok(Step::To(step_between(alloc, ended, line)?)),
         Stage::Headed(head) => Ok(Step::To(step_behind_head(alloc, region, head, line))),
         Stage::Signatures(head, part) => Ok(Step::To(step_in_signatures(alloc, head, part, line)?)),
         Stage::Code(head, part) => step_in_code(alloc, head, part, line),
         Stage::Refused(number, fault) => Ok(Step::To(Stage::Refused(number, fault))),
         Stage::Failed => Err(AllocError),
+    }
+}
+
+/// A line before which nothing but blank lines stands.
+fn step_at_front<A: Allocator + Copy>(
+    alloc: A,
+    ended: usize,
+    line: BatchLine<'_>,
+) -> Result<JobStep<A>, AllocError>
+    ensures fits { IfOk result (StepFits (line.entry.number + 1)) }
+    ensures turns { IfOk result (λ s. (region room : ℕ) → HasRoom ended room Fresh
+        → Turns region ended room Fresh (shown_line line.entry) s) }
+{
+    match line.heading {
+        Heading::Blank => Ok(Step::To(Stage::Fresh)),
+        Heading::SecondRule => Ok(Step::Begins(Rule::Second, Stage::Between)),
+        _ => Ok(Step::Begins(Rule::First, step_between(alloc, ended, line)?)),
     }
 }
 

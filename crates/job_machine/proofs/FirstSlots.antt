@@ -5,18 +5,20 @@ use Rattle.std.proofs.Common.{replicate, get_or, slice_get, All, Option, Some, N
 use Rattle.std.specs.Prelude.{sum_by, nat_lt}
 use Rattle.std.proofs.lemmas.List.Folds.{sum_by-replicate}
 use Rattle.std.proofs.lemmas.Option.{none-some, same_Some, slice_get_within}
-use Rattle.std.proofs.lemmas.List.{length-replicate}
+use Rattle.std.proofs.lemmas.List.{length-map, length-replicate}
+use Rattle.std.proofs.lemmas.List.Elements.{All-map}
+use Rattle.std.proofs.lemmas.List.Sums.{sum_by-cons}
 use Rattle.vcode_base.specs.declared.limits.TheConstants.{MOST_JOBS, MOST_WORDS}
+use Rattle.vcode_base.specs.declared.rule.Rule.{Rule}
 use Rattle.refcounts.specs.SharedState.{Slot, empty_slot, words_in, blocks_in}
 use Rattle.refcounts.specs.Owners.{slot_seen_by}
 use Rattle.job_memory.specs.JobBlocks.{JobBlocks, own_slots}
 use Rattle.job_steps.specs.Standings.{Waiting, first_standings}
-use Rattle.job_steps.specs.States.{Task}
+use Rattle.job_steps.specs.States.{JobValue, Task, ruled}
 use Rattle.job_slots.specs.declared.status.Status.{Status}
 use Rattle.job_slots.specs.Laws.{NewIsShown}
-use Rattle.job_slots.specs.Slots.{SlotState, IsNewSlot, standing_of, standing_by}
+use Rattle.job_slots.specs.Slots.{SlotState, IsNewSlot, Shows, standing_of, standing_by}
 use Rattle.job_machine.specs.Sound.{IsSound, sum_to, standings_of}
-use Rattle.job_machine.proofs.SoundLemmas.{AtEach}
 
 get_replicate : {X : Type 0} (n k : ℕ) (x : X) → get_or (replicate n x) k x ≡ x
 get_replicate zero k x = refl
@@ -51,78 +53,113 @@ first_blocks region most jobs = record {
   grants = replicate jobs None;
 }
 
-sound_at_first : NewIsShown → (region most : ℕ) (tasks : List Task) (slots : List SlotState) →
-    most ≡ sum_by (λ (task : Task). task.limits.cells) tasks + 2 → length slots ≡ length tasks →
-    length tasks ≤ MOST_JOBS → 1 ≤ region → region ≤ MOST_WORDS →
-    All (λ (task : Task). task.limits.words ≤ region) tasks →
-    AtEach tasks slots (λ place task slot. IsNewSlot task slot) →
-    IsSound (first_blocks region most (length tasks)) tasks slots
-sound_at_first shown region most tasks slots most_is same few least greatest fitting new = record {
-  jobs = length-replicate (length tasks) None;
-  slots_are = same;
-  few = few;
-  least = least;
-  most = greatest;
-  fitting = fitting;
-  each =
-      (λ place task slot t s.
-      shown (suc place) (first_blocks region most (length tasks)) task slot (new place task slot t s) (
-        omega arith,
-        omega (arith, slice_get_within tasks place task t, length-replicate {A = Option ℕ} (length tasks) None),
-      )
-      (get_replicate (length tasks) (suc place - 1) None)
-      (λ id.
-      ap (λ (ss : List Slot). get_or ss id empty_slot) (none_seen (suc place) most)
-      ∙ get_replicate most id empty_slot));
-  numbers = length-replicate most empty_slot ∙ most_is;
-  counted =
-      no_blocks most
-      ∙ sym (sum_to_none (length tasks) (λ job. blocks_in (own_slots job (first_blocks region most (length tasks))))
-      (λ job. ap blocks_in (none_seen job most) ∙ no_blocks most));
-  used =
-      no_words most
-      ∙ sym (sum_to_none (length tasks) (λ job. words_in (own_slots job (first_blocks region most (length tasks))))
-      (λ job. ap words_in (none_seen job most) ∙ no_words most));
-}
+-- each slot is new, and that of the job at its place
+abbrev pub AreNewSlots : List JobValue → List SlotState → Type 0
+AreNewSlots jobs slots =
+    (place : ℕ) (job : JobValue) (slot : SlotState) → slice_get jobs place ≡ Some job →
+    slice_get slots place ≡ Some slot → IsNewSlot job slot
 
-pub first_is_sound : NewIsShown → (blocks : JobBlocks) (region most jobs : ℕ) (tasks : List Task)
+-- the job of a task at a place
+job_at : (rule : Rule) (jobs : List JobValue) (place : ℕ) (task : Task) →
+    slice_get (map (ruled rule) jobs) place ≡ Some task →
+    (job : JobValue) × (slice_get jobs place ≡ Some job) × (ruled rule job ≡ task)
+job_at rule [] place task e = absurd (none-some task e)
+job_at rule (j ∷ jobs) zero task e = (j, refl, same_Some (ruled rule j) task e)
+job_at rule (j ∷ jobs) (suc place) task e = job_at rule jobs place task e
+
+sound_at_first : NewIsShown → (rule : Rule) (region most : ℕ) (jobs : List JobValue) (slots : List SlotState) →
+    most ≡ sum_by (λ (task : Task). task.limits.cells) (map (ruled rule) jobs) + 2 →
+    length slots ≡ length (map (ruled rule) jobs) → length (map (ruled rule) jobs) ≤ MOST_JOBS → 1 ≤ region →
+    region ≤ MOST_WORDS → All (λ (task : Task). task.limits.words ≤ region) (map (ruled rule) jobs) →
+    AreNewSlots jobs slots →
+    IsSound (first_blocks region most (length (map (ruled rule) jobs))) (map (ruled rule) jobs) slots
+sound_at_first shown rule region most jobs slots most_is same few least greatest fitting new =
+    let tasks : List Task = map (ruled rule) jobs in
+    record {
+      jobs = length-replicate (length tasks) None;
+      slots_are = same;
+      few = few;
+      least = least;
+      most = greatest;
+      fitting = fitting;
+      each =
+          (λ place task slot t s.
+          let job = job_at rule jobs place task t in
+          subst (λ (k : Task). Shows (suc place) (first_blocks region most (length tasks)) k slot) job.2
+          (shown rule (suc place) (first_blocks region most (length tasks)) job.0 slot (new place job.0 slot job.1 s) (
+            omega arith,
+            omega (arith, slice_get_within tasks place task t, length-replicate {A = Option ℕ} (length tasks) None),
+          )
+          (get_replicate (length tasks) (suc place - 1) None)
+          (λ id.
+          ap (λ (ss : List Slot). get_or ss id empty_slot) (none_seen (suc place) most)
+          ∙ get_replicate most id empty_slot)));
+      numbers = length-replicate most empty_slot ∙ most_is;
+      counted =
+          no_blocks most
+          ∙ sym (sum_to_none (length tasks) (λ job. blocks_in (own_slots job (first_blocks region most (length tasks))))
+          (λ job. ap blocks_in (none_seen job most) ∙ no_blocks most));
+      used =
+          no_words most
+          ∙ sym (sum_to_none (length tasks) (λ job. words_in (own_slots job (first_blocks region most (length tasks))))
+          (λ job. ap words_in (none_seen job most) ∙ no_words most));
+    }
+
+-- the cells of all jobs
+sum_cells : (rule : Rule) (jobs : List JobValue) →
+    sum_by (λ (job : JobValue). job.limits.cells) jobs
+    ≡ sum_by (λ (task : Task). task.limits.cells) (map (ruled rule) jobs)
+sum_cells rule [] = refl
+sum_cells rule (j ∷ jobs) =
+    omega (
+      arith,
+      sum_cells rule jobs,
+      sum_by-cons (λ (job : JobValue). job.limits.cells) j jobs,
+      sum_by-cons (λ (task : Task). task.limits.cells) (ruled rule j) (map (ruled rule) jobs),
+    )
+
+pub first_is_sound : NewIsShown → (rule : Rule) (blocks : JobBlocks) (region most count : ℕ) (jobs : List JobValue)
     (slots : List SlotState) → blocks.memory ≡ record { room = region; slots = replicate most empty_slot } →
-    blocks.grants ≡ replicate jobs None → jobs ≡ length tasks →
-    most ≡ sum_by (λ (task : Task). task.limits.cells) tasks + 2 → length slots ≡ length tasks →
-    length tasks ≤ MOST_JOBS → 1 ≤ region → region ≤ MOST_WORDS →
-    All (λ (task : Task). task.limits.words ≤ region) tasks →
-    AtEach tasks slots (λ place task slot. IsNewSlot task slot) → IsSound blocks tasks slots
-first_is_sound shown blocks region most jobs tasks slots memory grants jobs_are most_is same few least greatest fitting
-    new =
+    blocks.grants ≡ replicate count None → count ≡ length jobs →
+    most ≡ sum_by (λ (job : JobValue). job.limits.cells) jobs + 2 → length slots ≡ length jobs →
+    length jobs ≤ MOST_JOBS → 1 ≤ region → region ≤ MOST_WORDS →
+    All (λ (job : JobValue). job.limits.words ≤ region) jobs → AreNewSlots jobs slots →
+    IsSound blocks (map (ruled rule) jobs) slots
+first_is_sound shown rule blocks region most count jobs slots memory grants count_is most_is same few least greatest
+    fitting new =
+    let tasks : List Task = map (ruled rule) jobs in
+    let long : length tasks ≡ length jobs = length-map jobs (ruled rule) in
     let grants_are : blocks.grants ≡ replicate (length tasks) None =
-    grants ∙ ap (λ (n : ℕ). replicate n None) jobs_are in
+    grants ∙ ap (λ (n : ℕ). replicate n None) (count_is ∙ sym long) in
     let are : first_blocks region most (length tasks) ≡ blocks =
     λ i. record { memory = sym memory i; grants = sym grants_are i } in
     subst (λ (bs : JobBlocks). IsSound bs tasks slots) are
-    (sound_at_first shown region most tasks slots most_is same few least greatest fitting new)
+    (sound_at_first shown rule region most jobs slots (most_is ∙ ap (λ n. n + 2) (sum_cells rule jobs))
+    (same ∙ sym long)
+    (omega (arith, few, long)) least greatest
+    (All-map (λ (task : Task). task.limits.words ≤ region) (ruled rule) jobs fitting) new)
 
 -- jobs whose slots are new wait
-pub all_wait : (tasks : List Task) (slots : List SlotState) → length slots ≡ length tasks →
-    AtEach tasks slots (λ place task slot. IsNewSlot task slot) → standings_of slots ≡ first_standings tasks
-all_wait [] [] same new = refl
-all_wait [] (s ∷ ss) same new = absurd (omega (arith, same))
-all_wait (t ∷ ts) [] same new = absurd (omega (arith, same))
-all_wait (t ∷ ts) (s ∷ ss) same new =
+pub all_wait : (rule : Rule) (jobs : List JobValue) (slots : List SlotState) → length slots ≡ length jobs →
+    AreNewSlots jobs slots → standings_of slots ≡ first_standings (map (ruled rule) jobs)
+all_wait rule [] [] same new = refl
+all_wait rule [] (s ∷ ss) same new = absurd (omega (arith, same))
+all_wait rule (j ∷ js) [] same new = absurd (omega (arith, same))
+all_wait rule (j ∷ js) (s ∷ ss) same new =
     let here : standing_of s ≡ Waiting =
-    ap (λ (k : Status). standing_by k s.trace.executed) (new 0 t s refl refl).status_is in
-    let rest = all_wait ts ss (omega (arith, same)) (λ place task slot. new (suc place) task slot) in
+    ap (λ (k : Status). standing_by k s.trace.executed) (new 0 j s refl refl).status_is in
+    let rest = all_wait rule js ss (omega (arith, same)) (λ place job slot. new (suc place) job slot) in
     λ i. here i ∷ rest i
 
 -- one slot more, of the job at its place
-pub new_more : (tasks : List Task) (slots : List SlotState) (task : Task) (slot : SlotState) →
-    slice_get tasks (length slots) ≡ Some task → IsNewSlot task slot →
-    AtEach tasks slots (λ place task slot. IsNewSlot task slot) →
-    AtEach tasks (slots ++ slot ∷ []) (λ place task slot. IsNewSlot task slot)
-new_more [] slots task slot at new each place t s t_at s_at = absurd (none-some t t_at)
-new_more (k ∷ ts) [] task slot at new each zero t s t_at s_at =
-    subst (λ (x : SlotState). IsNewSlot t x) (same_Some slot s s_at)
-    (subst (λ (x : Task). IsNewSlot x slot) (same_Some task t (sym at ∙ t_at)) new)
-new_more (k ∷ ts) [] task slot at new each (suc place) t s t_at s_at = absurd (none-some s s_at)
-new_more (k ∷ ts) (z ∷ ss) task slot at new each zero t s t_at s_at = each 0 t s t_at s_at
-new_more (k ∷ ts) (z ∷ ss) task slot at new each (suc place) t s t_at s_at =
-    new_more ts ss task slot at new (λ place t s. each (suc place) t s) place t s t_at s_at
+pub new_more : (jobs : List JobValue) (slots : List SlotState) (job : JobValue) (slot : SlotState) →
+    slice_get jobs (length slots) ≡ Some job → IsNewSlot job slot → AreNewSlots jobs slots →
+    AreNewSlots jobs (slots ++ slot ∷ [])
+new_more [] slots job slot at new each place j s j_at s_at = absurd (none-some j j_at)
+new_more (k ∷ js) [] job slot at new each zero j s j_at s_at =
+    subst (λ (x : SlotState). IsNewSlot j x) (same_Some slot s s_at)
+    (subst (λ (x : JobValue). IsNewSlot x slot) (same_Some job j (sym at ∙ j_at)) new)
+new_more (k ∷ js) [] job slot at new each (suc place) j s j_at s_at = absurd (none-some s s_at)
+new_more (k ∷ js) (z ∷ ss) job slot at new each zero j s j_at s_at = each 0 j s j_at s_at
+new_more (k ∷ js) (z ∷ ss) job slot at new each (suc place) j s j_at s_at =
+    new_more js ss job slot at new (λ place j s. each (suc place) j s) place j s j_at s_at

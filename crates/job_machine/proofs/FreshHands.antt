@@ -3,10 +3,12 @@ use Rattle.std.proofs.Common.{◌≡◌, ℕ, zero, suc, ◌<◌, false, List, [
 use Rattle.std.proofs.Common.{slice_get, option_map, Some, refl, sym, ◌∙◌, ap, subst}
 use Rattle.std.proofs.Math.Seq.{take-suc}
 use Rattle.std.proofs.lemmas.List.{map-append, length-map}
+use Rattle.std.proofs.lemmas.Simd.{map-map}
 use Rattle.std.proofs.lemmas.Option.{none-some, same_Some, slice_get-map}
+use Rattle.vcode_base.specs.declared.rule.Rule.{Rule}
 use Rattle.job_steps.specs.Events.{recalled_standing}
 use Rattle.job_steps.specs.Standings.{Standing, Waiting, Live, InFlight, Ended, Collected, of_job}
-use Rattle.job_steps.specs.States.{Task}
+use Rattle.job_steps.specs.States.{JobValue, Task, ruled}
 use Rattle.job_slots.specs.Answers.{is_in_flight}
 use Rattle.job_machine.specs.declared.hands.Hand.{Hand}
 use Rattle.job_machine.specs.declared.hands.Hand.TheVariants as hand
@@ -18,18 +20,27 @@ use Rattle.job_machine.proofs.RunningOut.{beside_at}
 abbrev pub fresh : {A : Type 0} → List Task → List (Hand A)
 fresh tasks = map (λ task. hand.Free task.limits.words) tasks
 
+-- the same, as the jobs tell it
+abbrev pub fresh_jobs : {A : Type 0} → List JobValue → List (Hand A)
+fresh_jobs jobs = map (λ job. hand.Free job.limits.words) jobs
+
+pub fresh-ruled : {A : Type 0} (rule : Rule) (jobs : List JobValue) →
+    fresh_jobs {A = A} jobs ≡ fresh (map (ruled rule) jobs)
+fresh-ruled rule jobs = sym (map-map (λ (task : Task). hand.Free task.limits.words) (ruled rule) jobs)
+
 -- one desk more
-pub fresh_more : {A : Type 0} (tasks : List Task) (hands after : List (Hand A)) (place next desk : ℕ) (task : Task) →
-    next ≡ suc place → place < length tasks → task ≡ get_or tasks place task → hands ≡ fresh (take place tasks) →
-    desk ≡ task.limits.words → after ≡ hands ++ hand.Free desk ∷ [] → after ≡ fresh (take next tasks)
-fresh_more {A} tasks hands after place next desk task next_is within task_is hands_are desk_is after_is =
-    let words_of : Task → Hand A = λ task. hand.Free task.limits.words in
-    let own : hand.Free desk ≡ words_of (get_or tasks place task) =
-    ap (λ words. hand.Free words) desk_is ∙ ap words_of task_is in
+pub fresh_more : {A : Type 0} (jobs : List JobValue) (hands after : List (Hand A)) (place next desk : ℕ)
+    (job : JobValue) → next ≡ suc place → place < length jobs → job ≡ get_or jobs place job →
+    hands ≡ fresh_jobs (take place jobs) → desk ≡ job.limits.words → after ≡ hands ++ hand.Free desk ∷ [] →
+    after ≡ fresh_jobs (take next jobs)
+fresh_more {A} jobs hands after place next desk job next_is within job_is hands_are desk_is after_is =
+    let words_of : JobValue → Hand A = λ job. hand.Free job.limits.words in
+    let own : hand.Free desk ≡ words_of (get_or jobs place job) =
+    ap (λ words. hand.Free words) desk_is ∙ ap words_of job_is in
     after_is
     ∙ ((λ i. hands_are i ++ own i ∷ [])
-    ∙ (sym (map-append words_of (take place tasks) (get_or tasks place task ∷ []))
-    ∙ ap fresh (sym (ap (λ k. take k tasks) next_is ∙ take-suc tasks place task within))))
+    ∙ (sym (map-append words_of (take place jobs) (get_or jobs place job ∷ []))
+    ∙ ap fresh_jobs (sym (ap (λ k. take k jobs) next_is ∙ take-suc jobs place job within))))
 
 rests : (s : Standing) → is_in_flight (recalled_standing s) ≡ false
 rests Waiting = refl

@@ -3,6 +3,7 @@ mod FreshHands
 mod HandLemmas
 mod Places
 mod Replaying
+mod Rules
 mod RunningOut
 mod SoundLemmas
 mod Stepping

@@ -155,10 +155,10 @@ pub record Moves (job : ℕ) (old new : MachineState) : Type 0 where
   pub others : OthersStand job old new
 
 pub stays : (job : ℕ) (m : MachineState) → Moves job m m
-stays job m = record { leads = (refl, refl, ([], refl)); others = λ other ne. refl }
+stays job m = record { leads = (refl, refl, ([], refl), refl); others = λ other ne. refl }
 
 pub leads_one : (event : Event) (m : MachineState) → Leads m (machine_after event m)
-leads_one event m = (refl, refl, (event ∷ [], refl))
+leads_one event m = (refl, refl, (event ∷ [], refl), refl)
 
 pub others_by : (event : Event) (job : ℕ) (m : MachineState) → Happens m.region m.tasks event m.standings job →
     OthersStand job m (machine_after event m)
@@ -180,6 +180,7 @@ leads_on join old between new first second =
       second.0 ∙ first.0,
       second.1 ∙ first.1,
       join old.region old.tasks old.standings between.standings new.standings first.2 again,
+      second.3 ∙ first.3,
     )
 
 pub moves_on : LeadsJoin → (job : ℕ) (old between new : MachineState) → Moves job old between → Moves job between new →
@@ -460,6 +461,7 @@ all_recalled recalls m new place same place_is new_is =
           all_recalls (length m.tasks),
           recalls m.region m.tasks m.standings same ∙ sym (ap (λ (k : MachineState). k.standings) is),
         ),
+        ap (λ (k : MachineState). k.rule) is,
       );
       no_step = subst (λ (k : MachineState). HasNoStep k) (sym is) (recalled_twice m.standings);
     }

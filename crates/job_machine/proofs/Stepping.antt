@@ -78,7 +78,7 @@ ends_so use_up keep m job can e =
     let c = changed m.region m.tasks (Begin job) m.standings job e.task e.old Ended refl e.task_is e.old_is e.next in
     record {
       goes_on = record {
-        leads = (refl, refl, (Begin job ∷ [], refl));
+        leads = (refl, refl, (Begin job ∷ [], refl), refl);
         no_step = subst HasNone (sym c.after) (no_step_with job m.standings Ended can.none refl);
         others = λ other ne. with_other m job (Begin job) Ended other ne c;
       };
@@ -204,7 +204,7 @@ step_by use_up keep m job words ticket can b =
     let second = use_up m.region m.tasks can.verified (Finish job) between kept refl c.can in
     record {
       goes_on = record {
-        leads = (refl, refl, (Begin job ∷ Finish job ∷ [], refl));
+        leads = (refl, refl, (Begin job ∷ Finish job ∷ [], refl), refl);
         no_step = subst (λ (ss : List Standing). recalled_standings ss ≡ ss) (sym is)
             (no_step_with job m.standings late can.none (stays_so (n + 1) (state_after b.task (n + 1))));
         others = λ other ne. ap (of_job other) is ∙ of_with_other job other m.standings late ne;

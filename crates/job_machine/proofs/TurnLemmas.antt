@@ -1,16 +1,18 @@
 -- What a turn of one job makes of what a machine shows.
 use Rattle.std.proofs.Common.{◌≡◌, ℕ, zero, suc, ◌+◌, ◌<◌, ◌≤◌, Bool, true, false, cond, List, [], ◌∷◌}
-use Rattle.std.proofs.Common.{length, set, get_or, slice_get, position, All, Option, Some, None, refl, sym, ◌∙◌}
+use Rattle.std.proofs.Common.{length, map, set, get_or, slice_get, position, All, Option, Some, None, refl, sym, ◌∙◌}
 use Rattle.std.proofs.Common.{ap}
 use Rattle.std.proofs.Common.{subst, arith, inl, inr}
 use Rattle.std.specs.Prelude.{nat_le, nat_lt, not, option_map}
 use Rattle.std.specs.List.{prefix_len}
 use Rattle.std.specs.Prelude.{Result, Ok, Err, IsErr, IfSome, OnOk, OnErr, ◌↔◌}
 use Rattle.std.proofs.lemmas.Bool.{false≢true, cases_Bool, cases_lt, leb-true, le-leb}
+use Rattle.std.proofs.Math.ListN.{get_or-map}
 use Rattle.std.proofs.lemmas.List.{length-map}
 use Rattle.std.proofs.lemmas.List.Quantifiers.{position-Some}
 use Rattle.std.proofs.lemmas.Option.{none-some, same_Some, slice_get-get_or}
 use Rattle.std.proofs.lemmas.Option.{slice_get_read}
+use Rattle.vcode_base.specs.declared.rule.Rule.{Rule}
 use Rattle.refcounts.specs.SharedState.{block_count, blocks_in, IsTidy}
 use Rattle.refcounts.specs.SharedState as shared
 use Rattle.job_memory.specs.JobBlocks.{JobBlocks, ChangesOnlyOf, own_slots, held_words}
@@ -23,7 +25,7 @@ use Rattle.job_steps.specs.Events.{job_of, named_job, with_next, next_standing_o
 use Rattle.job_steps.specs.Standings.{Standing, Waiting, Live, of_job, is_waiting, held_by, used_words, granted_words}
 use Rattle.job_steps.specs.Standings.{has_room}
 use Rattle.job_steps.specs.Standings.{admission_at, admission}
-use Rattle.job_steps.specs.States.{Task}
+use Rattle.job_steps.specs.States.{JobValue, Task, ruled}
 use Rattle.job_steps.specs.Tickets.{Asked}
 use Rattle.job_slots.specs.declared.status.Status.{Status}
 use Rattle.job_slots.specs.declared.status.Status.TheVariants as status
@@ -45,9 +47,9 @@ use Rattle.job_machine.specs.Sound.{IsSound, standings_of}
 use Rattle.job_machine.proofs.SoundLemmas.{place_is, no_place, beside_at, standing_at, stands_after, stands_still}
 use Rattle.job_machine.proofs.SoundLemmas.{missing_after, sound_with, sum_is, sum_within, granted_is}
 
-abbrev pub shown_machine : JobBlocks → List Task → List SlotState → MachineState
-shown_machine blocks tasks slots =
-    record { region = blocks.memory.room; tasks = tasks; standings = standings_of slots }
+abbrev pub shown_machine : Rule → JobBlocks → List Task → List SlotState → MachineState
+shown_machine rule blocks tasks slots =
+    record { rule = rule; region = blocks.memory.room; tasks = tasks; standings = standings_of slots }
 
 -- the job of a number, at its place
 pub record HasTurn (tasks : List Task) (slots : List SlotState) (m : MachineState) (job place : ℕ) (task : Task)
@@ -58,10 +60,12 @@ pub record HasTurn (tasks : List Task) (slots : List SlotState) (m : MachineStat
   pub shown_task : of_job job m.tasks ≡ Some task
   pub shown_standing : of_job job m.standings ≡ Some (standing_of slot)
 
-turn_at : (tasks : List Task) (slots : List SlotState) (region job place : ℕ) (task : Task) (slot : SlotState) →
+turn_at : (rule : Rule) (tasks : List Task) (slots : List SlotState) (region job place : ℕ) (task : Task)
+    (slot : SlotState) →
     job ≡ suc place → slice_get tasks place ≡ Some task → slice_get slots place ≡ Some slot →
-    HasTurn tasks slots (record { region = region; tasks = tasks; standings = standings_of slots }) job place task slot
-turn_at tasks slots region job place task slot job_is task_at slot_at = record {
+    HasTurn tasks slots (record { rule = rule; region = region; tasks = tasks; standings = standings_of slots }) job
+    place task slot
+turn_at rule tasks slots region job place task slot job_is task_at slot_at = record {
   job_is = job_is;
   task_at = task_at;
   slot_at = slot_at;
@@ -69,25 +73,32 @@ turn_at tasks slots region job place task slot job_is task_at slot_at = record {
   shown_standing = ap (λ (j : ℕ). of_job j (standings_of slots)) job_is ∙ standing_at slots place slot slot_at;
 }
 
-pub has_turn : (blocks : JobBlocks) (tasks : List Task) (slots : List SlotState) (m : MachineState) (job place : ℕ)
+pub has_turn : {rule : Rule} (blocks : JobBlocks) (tasks : List Task) (slots : List SlotState) (m : MachineState)
+    (job place : ℕ)
     (o : Option ℕ) (task : Task) (slot : SlotState) → IsSound blocks tasks slots →
-    shown_machine blocks tasks slots ≡ m → o ≡ place_of (length m.tasks) job → o ≡ Some place →
+    shown_machine rule blocks tasks slots ≡ m → o ≡ place_of (length m.tasks) job → o ≡ Some place →
     task ≡ get_or tasks place task → slot ≡ get_or slots place slot → HasTurn tasks slots m job place task slot
-has_turn blocks tasks slots m job place o task slot sound view o_is some task_is slot_is =
+has_turn {rule} blocks tasks slots m job place o task slot sound view o_is some task_is slot_is =
     subst (λ (m : MachineState). o ≡ place_of (length m.tasks) job → HasTurn tasks slots m job place task slot) view
     (λ e.
     let is = place_is (length tasks) job place (sym e ∙ some) in
-    turn_at tasks slots blocks.memory.room job place task slot is.job_is
+    turn_at rule tasks slots blocks.memory.room job place task slot is.job_is
     (slice_get_read tasks (length tasks) place task refl is.within task_is)
     (slice_get_read slots (length slots) place slot refl (omega (arith, is.within, sound.slots_are)) slot_is))
     o_is
 
+-- the task of a job that is read among the jobs
+pub task_read : (rule : Rule) (jobs : List JobValue) (place : ℕ) (job : JobValue) → job ≡ get_or jobs place job →
+    ruled rule job ≡ get_or (map (ruled rule) jobs) place (ruled rule job)
+task_read rule jobs place job is = ap (ruled rule) is ∙ sym (get_or-map (ruled rule) jobs place job)
+
 -- the same where the task isn't read
-pub some_turn : (blocks : JobBlocks) (tasks : List Task) (slots : List SlotState) (m : MachineState) (job place : ℕ)
-    (o : Option ℕ) (slot : SlotState) → IsSound blocks tasks slots → shown_machine blocks tasks slots ≡ m →
+pub some_turn : {rule : Rule} (blocks : JobBlocks) (tasks : List Task) (slots : List SlotState) (m : MachineState)
+    (job place : ℕ)
+    (o : Option ℕ) (slot : SlotState) → IsSound blocks tasks slots → shown_machine rule blocks tasks slots ≡ m →
     o ≡ place_of (length m.tasks) job → o ≡ Some place → slot ≡ get_or slots place slot →
     (task : Task) × HasTurn tasks slots m job place task slot
-some_turn blocks tasks slots m job place o slot sound view o_is some slot_is =
+some_turn {rule} blocks tasks slots m job place o slot sound view o_is some slot_is =
     subst
     (λ (m : MachineState). o ≡ place_of (length m.tasks) job → (task : Task) × HasTurn tasks slots m job place task
     slot)
@@ -97,14 +108,15 @@ some_turn blocks tasks slots m job place o slot sound view o_is some slot_is =
     let slot_at =
     slice_get_read slots (length slots) place slot refl (omega (arith, is.within, sound.slots_are)) slot_is in
     let task = beside_at slots tasks (sym sound.slots_are) place slot slot_at in
-    (task.0, turn_at tasks slots blocks.memory.room job place task.0 slot is.job_is task.1 slot_at))
+    (task.0, turn_at rule tasks slots blocks.memory.room job place task.0 slot is.job_is task.1 slot_at))
     o_is
 
 -- a place is within the jobs
-pub within_jobs : (blocks : JobBlocks) (tasks : List Task) (slots : List SlotState) (m : MachineState) (job place : ℕ)
-    (o : Option ℕ) → IsSound blocks tasks slots → shown_machine blocks tasks slots ≡ m →
+pub within_jobs : {rule : Rule} (blocks : JobBlocks) (tasks : List Task) (slots : List SlotState) (m : MachineState)
+    (job place : ℕ)
+    (o : Option ℕ) → IsSound blocks tasks slots → shown_machine rule blocks tasks slots ≡ m →
     o ≡ place_of (length m.tasks) job → o ≡ Some place → place < length tasks
-within_jobs blocks tasks slots m job place o sound view o_is some =
+within_jobs {rule} blocks tasks slots m job place o sound view o_is some =
     subst (λ (m : MachineState). o ≡ place_of (length m.tasks) job → place < length tasks) view
     (λ e. (place_is (length tasks) job place (sym e ∙ some)).within) o_is
 
@@ -126,44 +138,48 @@ turn_sound others {old} {new} {tasks} {slots} {m} {job} {place} {task} {before} 
     (subst (λ (j : ℕ). Shows j new task after) h.job_is shows)
 
 -- the machine shows what the event makes of it
-pub turn_state : EventsChangeTheirJob → (old new : JobBlocks) {tasks : List Task} {slots : List SlotState}
+pub turn_state : {rule : Rule} → EventsChangeTheirJob → (old new : JobBlocks) {tasks : List Task}
+    {slots : List SlotState}
     {m : MachineState} (event : Event) {job place : ℕ} {task : Task} {before : SlotState} (after : SlotState) →
-    shown_machine old tasks slots ≡ m → HasTurn tasks slots m job place task before →
+    shown_machine rule old tasks slots ≡ m → HasTurn tasks slots m job place task before →
     new.memory.room ≡ old.memory.room →
     job_of old.memory.room tasks event (standings_of slots) ≡ Some job →
     standing_of after ≡ or_same (standing_of before) (next_standing event task (standing_of before)) →
-    shown_machine new tasks (set slots place after) ≡ machine_after event m
-turn_state laws old new {tasks} {slots} {m} event {job} {place} {task} {before} after view h room named stands =
+    shown_machine rule new tasks (set slots place after) ≡ machine_after event m
+turn_state {rule} laws old new {tasks} {slots} {m} event {job} {place} {task} {before} after view h room named stands =
     let standings =
     stands_after laws old.memory.room tasks event slots place task before after
     (named ∙ ap (λ (j : ℕ). Some j) h.job_is) h.task_at h.slot_at stands in
-    let here : shown_machine new tasks (set slots place after) ≡ machine_after event (shown_machine old tasks slots) =
-    λ i. record { region = room i; tasks = tasks; standings = standings i } in
+    let here : shown_machine rule new tasks (set slots place after) ≡ machine_after event
+    (shown_machine rule old tasks slots) =
+    λ i. record { rule = rule; region = room i; tasks = tasks; standings = standings i } in
     here ∙ ap (machine_after event) view
 
 -- the machine shows what it showed
-pub turn_still : (old new : JobBlocks) {tasks : List Task} {slots : List SlotState} {m : MachineState} {job place : ℕ}
-    {task : Task} {before : SlotState} (after : SlotState) → shown_machine old tasks slots ≡ m →
+pub turn_still : {rule : Rule} (old new : JobBlocks) {tasks : List Task} {slots : List SlotState} {m : MachineState}
+    {job place : ℕ}
+    {task : Task} {before : SlotState} (after : SlotState) → shown_machine rule old tasks slots ≡ m →
     HasTurn tasks slots m job place task before → new.memory.room ≡ old.memory.room →
-    standing_of after ≡ standing_of before → shown_machine new tasks (set slots place after) ≡ m
-turn_still old new {tasks} {slots} {m} {job} {place} {task} {before} after view h room stands =
+    standing_of after ≡ standing_of before → shown_machine rule new tasks (set slots place after) ≡ m
+turn_still {rule} old new {tasks} {slots} {m} {job} {place} {task} {before} after view h room stands =
     let standings = stands_still slots place before after h.slot_at stands in
-    let here : shown_machine new tasks (set slots place after) ≡ shown_machine old tasks slots =
-    λ i. record { region = room i; tasks = tasks; standings = standings i } in
+    let here : shown_machine rule new tasks (set slots place after) ≡ shown_machine rule old tasks slots =
+    λ i. record { rule = rule; region = room i; tasks = tasks; standings = standings i } in
     here ∙ view
 
 -- an event of a job that there isn't
-pub no_turn : MissingAreClosed → ClosedChangeNothing → (blocks : JobBlocks) (tasks : List Task)
+pub no_turn : {rule : Rule} → MissingAreClosed → ClosedChangeNothing → (blocks : JobBlocks) (tasks : List Task)
     (slots : List SlotState) (m : MachineState) (event : Event) (job : ℕ) (o : Option ℕ) → IsSound blocks tasks slots →
-    shown_machine blocks tasks slots ≡ m → named_job event ≡ Some job → o ≡ place_of (length m.tasks) job → o ≡ None →
+    shown_machine rule blocks tasks slots ≡ m → named_job event ≡ Some job → o ≡ place_of (length m.tasks) job → o ≡
+    None →
     m ≡ machine_after event m
-no_turn missing closed blocks tasks slots m event job o sound view named o_is none =
+no_turn {rule} missing closed blocks tasks slots m event job o sound view named o_is none =
     subst (λ (m : MachineState). o ≡ place_of (length m.tasks) job → m ≡ machine_after event m) view
     (λ e.
     let none_here =
     no_place (length tasks) job (standings_of slots) (length-map slots standing_of ∙ sound.slots_are) (sym e ∙ none) in
     let still = missing_after missing closed blocks.memory.room tasks event slots job named none_here in
-    λ i. record { region = blocks.memory.room; tasks = tasks; standings = sym still i })
+    λ i. record { rule = rule; region = blocks.memory.room; tasks = tasks; standings = sym still i })
     o_is
 
 pub no_job : {E : Type 0} (list : List E) (tasks : List Task) (job : ℕ) (o : Option ℕ) → length list ≡ length tasks →
@@ -216,35 +232,36 @@ recalled_stands job task status.Collected n = refl
 
 -- ---- a begin and a finish
 
-pub begun_state : {A : Type 0} → EventsChangeTheirJob → (old new : JobBlocks) {tasks : List Task}
+pub begun_state : {rule : Rule} {A : Type 0} → EventsChangeTheirJob → (old new : JobBlocks) {tasks : List Task}
     {slots : List SlotState} {m : MachineState} {job place : ℕ} {task : Task} {before : SlotState} (after : SlotState) →
-    shown_machine old tasks slots ≡ m → HasTurn tasks slots m job place task before →
+    shown_machine rule old tasks slots ≡ m → HasTurn tasks slots m job place task before →
     new.memory.room ≡ old.memory.room →
     (answer : Begun A) →
     standing_of after ≡ standing_after_begun answer (standing_of before)
     (or_same (standing_of before) (next_standing (Begin job) task (standing_of before))) →
-    shown_machine new tasks (set slots place after) ≡ after_begun answer m (machine_after (Begin job) m)
-begun_state laws old new {tasks} {slots} {m} {job} after view h room (begun.Began ticket) stands =
+    shown_machine rule new tasks (set slots place after) ≡ after_begun answer m (machine_after (Begin job) m)
+begun_state {rule} laws old new {tasks} {slots} {m} {job} after view h room (begun.Began ticket) stands =
     turn_state laws old new (Begin job) after view h room refl stands
-begun_state laws old new {tasks} {slots} {m} {job} after view h room (begun.Ended desk) stands =
+begun_state {rule} laws old new {tasks} {slots} {m} {job} after view h room (begun.Ended desk) stands =
     turn_state laws old new (Begin job) after view h room refl stands
-begun_state laws old new after view h room (begun.NotReady desk) stands =
+begun_state {rule} laws old new after view h room (begun.NotReady desk) stands =
     turn_still old new after view h room stands
-begun_state laws old new after view h room (begun.SmallDesk desk) stands =
+begun_state {rule} laws old new after view h room (begun.SmallDesk desk) stands =
     turn_still old new after view h room stands
 
-pub finished_state : EventsChangeTheirJob → (old new : JobBlocks) {tasks : List Task} {slots : List SlotState}
+pub finished_state : {rule : Rule} → EventsChangeTheirJob → (old new : JobBlocks) {tasks : List Task}
+    {slots : List SlotState}
     {m : MachineState} {job place : ℕ} {task : Task} {before : SlotState} (after : SlotState) →
-    shown_machine old tasks slots ≡ m → HasTurn tasks slots m job place task before →
+    shown_machine rule old tasks slots ≡ m → HasTurn tasks slots m job place task before →
     new.memory.room ≡ old.memory.room → (answer : Finished) →
     standing_of after ≡ standing_after_finished answer (standing_of before)
     (or_same (standing_of before) (next_standing (Finish job) task (standing_of before))) →
-    shown_machine new tasks (set slots place after) ≡ after_finished answer m (machine_after (Finish job) m)
-finished_state laws old new {tasks} {slots} {m} {job} after view h room finished.Done stands =
+    shown_machine rule new tasks (set slots place after) ≡ after_finished answer m (machine_after (Finish job) m)
+finished_state {rule} laws old new {tasks} {slots} {m} {job} after view h room finished.Done stands =
     turn_state laws old new (Finish job) after view h room refl stands
-finished_state laws old new {tasks} {slots} {m} {job} after view h room finished.Ended stands =
+finished_state {rule} laws old new {tasks} {slots} {m} {job} after view h room finished.Ended stands =
     turn_state laws old new (Finish job) after view h room refl stands
-finished_state laws old new after view h room finished.Stale stands =
+finished_state {rule} laws old new after view h room finished.Stale stands =
     turn_still old new after view h room stands
 
 -- there are numbers for two blocks more
@@ -332,11 +349,12 @@ are_kept alone blocks tasks slots sound tidy within = record {
 
 -- ---- what is told of a slot
 
-pub slot_in : ShownIsAlone → (blocks : JobBlocks) (tasks : List Task) (slots : List SlotState) (m : MachineState)
+pub slot_in : {rule : Rule} → ShownIsAlone → (blocks : JobBlocks) (tasks : List Task) (slots : List SlotState)
+    (m : MachineState)
     (job place : ℕ) (o : Option ℕ) (slot : SlotState) → IsSound blocks tasks slots → IsTidy blocks.memory →
-    shown_machine blocks tasks slots ≡ m → o ≡ place_of (length m.tasks) job → o ≡ Some place →
+    shown_machine rule blocks tasks slots ≡ m → o ≡ place_of (length m.tasks) job → o ≡ Some place →
     slot ≡ get_or slots place slot → IsSlotOf job m slot
-slot_in alone blocks tasks slots m job place o slot sound tidy view o_is some slot_is =
+slot_in {rule} alone blocks tasks slots m job place o slot sound tidy view o_is some slot_is =
     let turn = some_turn blocks tasks slots m job place o slot sound view o_is some slot_is in
     let shown =
     alone job blocks turn.0 slot tidy (turn_shows sound turn.1) in
@@ -349,10 +367,11 @@ slot_in alone blocks tasks slots m job place o slot sound tidy view o_is some sl
       outcome_is = shown.outcome_is;
     }
 
-pub slot_missing : (blocks : JobBlocks) (tasks : List Task) (slots : List SlotState) (m : MachineState) (job : ℕ)
-    (o : Option ℕ) → IsSound blocks tasks slots → shown_machine blocks tasks slots ≡ m →
+pub slot_missing : {rule : Rule} (blocks : JobBlocks) (tasks : List Task) (slots : List SlotState) (m : MachineState)
+    (job : ℕ)
+    (o : Option ℕ) → IsSound blocks tasks slots → shown_machine rule blocks tasks slots ≡ m →
     o ≡ place_of (length m.tasks) job → o ≡ None → IsMissing job m
-slot_missing blocks tasks slots m job o sound view o_is none =
+slot_missing {rule} blocks tasks slots m job o sound view o_is none =
     subst (λ (m : MachineState). o ≡ place_of (length m.tasks) job → IsMissing job m) view
     (λ e. record {
       no_task = no_job tasks tasks job o refl e none;
@@ -434,19 +453,20 @@ pub record HasFirst (blocks : JobBlocks) (tasks : List Task) (slots : List SlotS
   pub waiting : slot.status ≡ status.Waiting
   pub first : position is_waiting (standings_of slots) ≡ Some place
 
-pub has_first : (blocks : JobBlocks) (tasks : List Task) (slots : List SlotState) (m : MachineState) (job place : ℕ)
+pub has_first : {rule : Rule} (blocks : JobBlocks) (tasks : List Task) (slots : List SlotState) (m : MachineState)
+    (job place : ℕ)
     (o : Option ℕ) (task : Task) (slot : SlotState) → IsSound blocks tasks slots →
-    shown_machine blocks tasks slots ≡ m → o ≡ position waits slots → o ≡ Some place → place < length slots →
+    shown_machine rule blocks tasks slots ≡ m → o ≡ position waits slots → o ≡ Some place → place < length slots →
     job ≡ suc place → task ≡ get_or tasks place task → slot ≡ get_or slots place slot →
     HasFirst blocks tasks slots m job place task slot
-has_first blocks tasks slots m job place o task slot sound view o_is some within job_is task_is slot_is =
+has_first {rule} blocks tasks slots m job place o task slot sound view o_is some within job_is task_is slot_is =
     let first = first_is slots ∙ (sym o_is ∙ some) in
     let slot_at = slice_get_read slots (length slots) place slot refl within slot_is in
     let task_at =
     slice_get_read tasks (length tasks) place task refl (omega (arith, within, sound.slots_are)) task_is in
     subst (λ (m : MachineState). HasFirst blocks tasks slots m job place task slot) view
     (record {
-      turn = turn_at tasks slots blocks.memory.room job place task slot job_is task_at slot_at;
+      turn = turn_at rule tasks slots blocks.memory.room job place task slot job_is task_at slot_at;
       waiting = first_waits slots place slot first slot_at;
       first = first;
     })
@@ -485,29 +505,30 @@ admission_by_both : (m : MachineState) (first next : Option ℕ) → position is
 admission_by_both m first next is next_is =
     sym (ap (λ o. admission_by o (admission m.region m.tasks m.standings)) is ∙ ap (admission_by first) next_is)
 
-pub admitted_answer : (blocks : JobBlocks) (tasks : List Task) (slots : List SlotState) (m : MachineState)
+pub admitted_answer : {rule : Rule} (blocks : JobBlocks) (tasks : List Task) (slots : List SlotState) (m : MachineState)
     (job place : ℕ) (task : Task) (slot : SlotState) → IsSound blocks tasks slots →
-    shown_machine blocks tasks slots ≡ m →
+    shown_machine rule blocks tasks slots ≡ m →
     HasFirst blocks tasks slots m job place task slot →
     (jobs.granted_words blocks + task.limits.words ≤ blocks.memory.room) → Admitted job ≡ admission_in m
-admitted_answer blocks tasks slots m job place task slot sound view h room =
-    admission_by_both (shown_machine blocks tasks slots) (Some place) (Some job) h.first
+admitted_answer {rule} blocks tasks slots m job place task slot sound view h room =
+    admission_by_both (shown_machine rule blocks tasks slots) (Some place) (Some job) h.first
     (admission_of blocks tasks slots m job place task slot sound h room)
     ∙ ap admission_in view
 
-pub refused_answer : (blocks : JobBlocks) (tasks : List Task) (slots : List SlotState) (m : MachineState)
+pub refused_answer : {rule : Rule} (blocks : JobBlocks) (tasks : List Task) (slots : List SlotState) (m : MachineState)
     (job place : ℕ) (task : Task) (slot : SlotState) → IsSound blocks tasks slots →
-    shown_machine blocks tasks slots ≡ m →
+    shown_machine rule blocks tasks slots ≡ m →
     HasFirst blocks tasks slots m job place task slot →
     blocks.memory.room < jobs.granted_words blocks + task.limits.words → NotNow ≡ admission_in m
-refused_answer blocks tasks slots m job place task slot sound view h past =
-    admission_by_both (shown_machine blocks tasks slots) (Some place) None h.first
+refused_answer {rule} blocks tasks slots m job place task slot sound view h past =
+    admission_by_both (shown_machine rule blocks tasks slots) (Some place) None h.first
     (refusal_of blocks tasks slots m job place task slot sound h past)
     ∙ ap admission_in view
 
-pub none_answer : (blocks : JobBlocks) (tasks : List Task) (slots : List SlotState) (m : MachineState) (o : Option ℕ) →
-    shown_machine blocks tasks slots ≡ m → o ≡ position waits slots → o ≡ None → NoneWaiting ≡ admission_in m
-none_answer blocks tasks slots m o view o_is none =
+pub none_answer : {rule : Rule} (blocks : JobBlocks) (tasks : List Task) (slots : List SlotState) (m : MachineState)
+    (o : Option ℕ) →
+    shown_machine rule blocks tasks slots ≡ m → o ≡ position waits slots → o ≡ None → NoneWaiting ≡ admission_in m
+none_answer {rule} blocks tasks slots m o view o_is none =
     let first = first_is slots ∙ (sym o_is ∙ none) in
     sym (ap (λ o. admission_by o (admission blocks.memory.room tasks (standings_of slots))) first)
     ∙ ap admission_in view
@@ -516,37 +537,40 @@ none_answer blocks tasks slots m o view o_is none =
 admit_still : (m : MachineState) → admission m.region m.tasks m.standings ≡ None → machine_after Admit m ≡ m
 admit_still m none =
     λ i. record {
+      rule = m.rule;
       region = m.region;
       tasks = m.tasks;
       standings = after_no_admission m.region m.tasks m.standings none i;
     }
 
-pub none_state : (blocks : JobBlocks) (tasks : List Task) (slots : List SlotState) (m : MachineState) (o : Option ℕ) →
-    shown_machine blocks tasks slots ≡ m → o ≡ position waits slots → o ≡ None → m ≡ machine_after Admit m
-none_state blocks tasks slots m o view o_is none =
+pub none_state : {rule : Rule} (blocks : JobBlocks) (tasks : List Task) (slots : List SlotState) (m : MachineState)
+    (o : Option ℕ) →
+    shown_machine rule blocks tasks slots ≡ m → o ≡ position waits slots → o ≡ None → m ≡ machine_after Admit m
+none_state {rule} blocks tasks slots m o view o_is none =
     let first = first_is slots ∙ (sym o_is ∙ none) in
     let closed = admission_none blocks.memory.room tasks (standings_of slots) first in
     subst (λ (m : MachineState). m ≡ machine_after Admit m) view
-    (sym (admit_still (shown_machine blocks tasks slots) closed))
+    (sym (admit_still (shown_machine rule blocks tasks slots) closed))
 
-pub refused_state : (old new : JobBlocks) (tasks : List Task) (slots : List SlotState) (m : MachineState)
+pub refused_state : {rule : Rule} (old new : JobBlocks) (tasks : List Task) (slots : List SlotState) (m : MachineState)
     (job place : ℕ) (task : Task) (before after : SlotState) → IsSound old tasks slots →
-    shown_machine old tasks slots ≡ m →
+    shown_machine rule old tasks slots ≡ m →
     HasFirst old tasks slots m job place task before → old.memory.room < jobs.granted_words old + task.limits.words →
     new.memory.room ≡ old.memory.room → after ≡ before →
-    shown_machine new tasks (set slots place after) ≡ machine_after Admit m
-refused_state old new tasks slots m job place task before after sound view h past room same =
+    shown_machine rule new tasks (set slots place after) ≡ machine_after Admit m
+refused_state {rule} old new tasks slots m job place task before after sound view h past room same =
     let closed = refusal_of old tasks slots m job place task before sound h past in
     turn_still old new after view h.turn room (ap standing_of same)
     ∙ subst (λ (m : MachineState). m ≡ machine_after Admit m) view
-    (sym (admit_still (shown_machine old tasks slots) closed))
+    (sym (admit_still (shown_machine rule old tasks slots) closed))
 
-pub admitted_state : EventsChangeTheirJob → (old new : JobBlocks) (tasks : List Task) (slots : List SlotState)
+pub admitted_state : {rule : Rule} → EventsChangeTheirJob → (old new : JobBlocks) (tasks : List Task)
+    (slots : List SlotState)
     (m : MachineState) (job place : ℕ) (task : Task) (before after : SlotState) → IsSound old tasks slots →
-    shown_machine old tasks slots ≡ m → HasFirst old tasks slots m job place task before →
+    shown_machine rule old tasks slots ≡ m → HasFirst old tasks slots m job place task before →
     (jobs.granted_words old + task.limits.words ≤ old.memory.room) → new.memory.room ≡ old.memory.room →
-    standing_of after ≡ Live 0 → shown_machine new tasks (set slots place after) ≡ machine_after Admit m
-admitted_state laws old new tasks slots m job place task before after sound view h fits room live =
+    standing_of after ≡ Live 0 → shown_machine rule new tasks (set slots place after) ≡ machine_after Admit m
+admitted_state {rule} laws old new tasks slots m job place task before after sound view h fits room live =
     let waiting : standing_of before ≡ Waiting =
     ap (λ (s : Status). standing_by s before.trace.executed) h.waiting in
     turn_state laws old new Admit after view h.turn room

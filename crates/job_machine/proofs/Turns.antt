@@ -22,7 +22,7 @@ abbrev pub left_in : MachineState → ℕ
 left_in m = all_events_left m.tasks m.standings
 
 pub leads_none : (m : MachineState) → Leads m m
-leads_none m = (refl, refl, ([], refl))
+leads_none m = (refl, refl, ([], refl), refl)
 
 -- ---- one job
 

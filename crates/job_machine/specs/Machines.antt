@@ -2,37 +2,47 @@
 use Rattle.std.specs.Prelude.{◌≡◌, ℕ, zero, suc, nat_lt, max, Bool, false, if◌then◌else◌, List, fold}
 use Rattle.std.specs.Prelude.{position, Option, Some, None, refl}
 use Rattle.std.specs.Coded.{Coded, code_by, coded_ℕ, coded×, coded_list}
+use Rattle.vcode_base.specs.declared.rule.Rule.{Rule}
 use Rattle.job_steps.specs.declared.event.Event.{Event}
 use Rattle.job_steps.specs.Events.{after_event, after_events, recalled_standings, LeadTo}
 use Rattle.job_steps.specs.Runs.{outcome}
 use Rattle.job_steps.specs.Standings.{Standing, Waiting, Ended, Collected, of_job, is_waiting, admission}
 use Rattle.job_steps.specs.Standings.{outcome_at}
-use Rattle.job_steps.specs.States.{Task}
+use Rattle.job_steps.specs.States.{JobValue, Task, ruled}
 use Rattle.job_steps.specs.Steps.{Ending}
 use Rattle.job_steps.specs.Tickets.{Asked}
 use Rattle.job_slots.specs.declared.answer.Begun.{Begun}
 use Rattle.job_slots.specs.declared.answer.Begun.TheVariants as begun
 use Rattle.job_slots.specs.declared.answer.Finished.{Finished}
 use Rattle.job_slots.specs.declared.answer.Finished.TheVariants as finished
-use Rattle.job_slots.specs.Answers.{Begins, Finishes, IsReturned, is_live, is_in_flight, is_ended}
+use Rattle.job_slots.specs.Answers.{Begins, Finishes, is_live, is_in_flight, is_ended}
+use Rattle.job_slots.specs.Slots.{IsReturned}
 use Rattle.job_machine.specs.declared.machine.Admission.{Admission}
 use Rattle.job_machine.specs.declared.machine.Admission.TheVariants.{Admitted, NotNow, NoneWaiting}
 
--- the words of the region, and the jobs in order with where each stands
+-- the rule, the words of the region, and the jobs in order, each with that rule, with where each stands
 pub record MachineState : Type 0 where
+  pub rule : Rule
   pub region : ℕ
   pub tasks : List Task
   pub standings : List Standing
 
 -- it is told apart by all of these
-abbrev pub machine_code : Coded Task → Coded Standing → Coded MachineState
-machine_code task standing =
-    code_by (ℕ × (List Task × List Standing)) (coded× coded_ℕ (coded× (coded_list task) (coded_list standing)))
-    (λ m. (m.region, (m.tasks, m.standings))) (λ p. record { region = p.0; tasks = p.1.0; standings = p.1.1 }) (λ _. refl)
+abbrev pub task_code : Coded Rule → Coded JobValue → Coded Task
+task_code rule job =
+    code_by (Rule × JobValue) (coded× rule job)
+    (λ t. (t.rule, record { name = t.name; verified = t.verified; limits = t.limits })) (λ p. ruled p.0 p.1) (λ _. refl)
+
+abbrev pub machine_code : Coded Rule → Coded JobValue → Coded Standing → Coded MachineState
+machine_code rule job standing =
+    code_by (Rule × (ℕ × (List Task × List Standing)))
+    (coded× rule (coded× coded_ℕ (coded× (coded_list (task_code rule job)) (coded_list standing))))
+    (λ m. (m.rule, (m.region, (m.tasks, m.standings))))
+    (λ p. record { rule = p.0; region = p.1.0; tasks = p.1.1.0; standings = p.1.1.1 }) (λ _. refl)
 
 -- the same jobs, that stand otherwise
 abbrev pub with_standings : MachineState → List Standing → MachineState
-with_standings m standings = record { region = m.region; tasks = m.tasks; standings = standings }
+with_standings m standings = record { rule = m.rule; region = m.region; tasks = m.tasks; standings = standings }
 
 -- the machine after an event, which is passed over where it isn't open
 abbrev pub machine_after : Event → MachineState → MachineState
@@ -50,6 +60,7 @@ recalled m = with_standings m (recalled_standings m.standings)
 abbrev pub Leads : MachineState → MachineState → Type 0
 Leads old new =
     (new.region ≡ old.region) × (new.tasks ≡ old.tasks) × LeadTo old.region old.tasks old.standings new.standings
+    × (new.rule ≡ old.rule)
 
 -- the words of the job that has the most, and 0 where there is no job
 abbrev pub most_words : List Task → ℕ

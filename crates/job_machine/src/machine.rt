@@ -1,7 +1,7 @@
 //! Jobs over one region of words.
 
 ghost use Rattle.std.specs.Prelude.{◌≡◌, ◌≤◌, ◌↔◌, ℕ, length, All, IfOk, OnOk, OnErr, IsTrue, option_map};
-ghost use Rattle.std.specs.Prelude.{option_copied};
+ghost use Rattle.std.specs.Prelude.{map, option_copied};
 ghost use Rattle.std.specs.Arc.{arc_value};
 ghost use Rattle.vcode_base.specs.declared.limits.TheConstants.{MOST_JOBS, MOST_WORDS};
 ghost use Rattle.job_steps.specs.declared.event.Event.TheVariants.{Admit, Begin, Finish, Recall, Collect};
@@ -10,6 +10,7 @@ ghost use Rattle.job_steps.specs.EventLaws.{IsVerified, AreKept, EventsChangeThe
 ghost use Rattle.job_steps.specs.EventLaws.{ClosedChangeNothing};
 ghost use Rattle.job_steps.specs.Standings.{Collected, of_job, first_standings, executed_at, peak_at};
 ghost use Rattle.job_steps.specs.Standings.{used_words, granted_words};
+ghost use Rattle.job_steps.specs.States.{ruled};
 ghost use Rattle.job_slots.specs.Laws.{OthersAreShown};
 ghost use Rattle.job_slots.specs.Slots.{status_of};
 ghost use Rattle.job_machine.specs.Machines.{machine_after, Leads, admission_in, BeginsIn, after_begun};
@@ -29,7 +30,7 @@ use job_steps::{Desk, Filled, Job};
 use std::alloc::{AllocError, Allocator};
 use std::marker::Model;
 use std::sync::Arc;
-use vcode_base::{Outcome, Values};
+use vcode_base::{Outcome, Rule, Values};
 
 /// What an admission answers.
 #[derive(Clone, Copy, PartialEq, Eq, Debug)]
@@ -44,10 +45,11 @@ pub enum Admission {
 
 /// Jobs over one region of words, each of which runs as it runs alone.
 ///
-/// Jobs are numbered from 1 in the order in which they were given. In a contract a machine is its region's words and
-/// its jobs, with where each stands. What a job holds, executed and ended by are functions of that alone.
+/// Jobs are numbered from 1 in the order in which they were given. In a contract a machine is its rule, its region's
+/// words and its jobs, with where each stands. What a job holds, executed and ended by are functions of that alone.
 #[derive(Drop)]
 pub struct Machine<A: Allocator> {
+    rule: Rule,
     blocks: JobMemory<A>,
     jobs: Arc<Vec<Job<A>, A>, A>,
     pub(crate) slots: Vec<Slot<A>, A>,
@@ -56,32 +58,45 @@ pub struct Machine<A: Allocator> {
 impl<A: Allocator> Model for Machine<A> {
     ghost use Rattle.std.specs.Arc.{arc_value};
     ghost use Rattle.std.specs.Coded.{codes};
-    ghost use Rattle.job_steps.specs.Jobs.{task_code};
+    ghost use Rattle.std.specs.Prelude.{map};
+    ghost use Rattle.job_steps.specs.Jobs.{job_code};
+    ghost use Rattle.job_steps.specs.States.{ruled};
     ghost use Rattle.job_machine.specs.Machines.{MachineState, machine_code};
     ghost use Rattle.job_machine.specs.Sound.{IsSound, standings_of};
 
     ghost Value = { MachineState };
 
-    ghost coded = { machine_code (task_code (Prim.hlevel codes) (Prim.hlevel codes) (Prim.hlevel codes)) (Prim.hlevel codes) };
+    ghost coded = { machine_code (Prim.hlevel codes)
+        (job_code (Prim.hlevel codes) (Prim.hlevel codes) (Prim.hlevel codes)) (Prim.hlevel codes) };
 
-    ghost view = { λ m. record
-        { region = m.blocks.memory.room; tasks = (arc_value m.jobs).items; standings = standings_of m.slots.items } };
+    ghost view = { λ m. record {
+      rule = m.rule;
+      region = m.blocks.memory.room;
+      tasks = map (ruled m.rule) (arc_value m.jobs).items;
+      standings = standings_of m.slots.items;
+    } };
 
-    ghost invariant = { λ m. IsSound m.blocks (arc_value m.jobs).items m.slots.items };
+    ghost invariant = { λ m. IsSound m.blocks (map (ruled m.rule) (arc_value m.jobs).items) m.slots.items };
 }
 
 impl<A: Allocator + Clone> Machine<A> {
-    /// A machine over a region of so many words, whose jobs all wait. There are at most 64, and the words of each fit the
-    /// region.
+    /// A machine over a region of so many words, whose jobs all wait, and will run by this rule. There are at most 64,
+    /// and the words of each fit the region.
     ///
     /// Takes the memory for the region, for the cells and calls of all jobs, and for the numbers of their blocks; an
     /// error means that the allocator refused it. Of the calls on the machine only `list` and the collection of results
     /// take memory.
-    pub fn new(alloc: A, region: usize, jobs: Vec<Job<A>, A>) -> Result<Machine<A>, AllocError>
+    pub fn new(
+        alloc: A,
+        region: usize,
+        jobs: Vec<Job<A>, A>,
+        rule: Rule,
+    ) -> Result<Machine<A>, AllocError>
         requires region { (1 ≤ region) × (region ≤ MOST_WORDS) }
         requires jobs { length jobs.items ≤ MOST_JOBS }
-        requires words { All (λ task. task.limits.words ≤ region) jobs.items }
-        ensures { IfOk result (λ m. m ≡ record { region = region; tasks = jobs.items; standings = first_standings jobs.items }) }
+        requires words { All (λ job. job.limits.words ≤ region) jobs.items }
+        ensures { let tasks = map (ruled rule) jobs.items in IfOk result
+            (λ m. m ≡ record { rule = rule; region = region; tasks = tasks; standings = first_standings tasks }) }
     {
         new_is_shown();
         let slots = new_slots(alloc.clone()?, jobs.as_slice())?;
@@ -89,6 +104,7 @@ impl<A: Allocator + Clone> Machine<A> {
         let blocks = JobMemory::new(alloc.clone()?, region, jobs.len(), most_blocks)?;
         let jobs = Arc::new(alloc, jobs)?;
         Ok(Machine {
+            rule,
             blocks,
             jobs,
             slots,
@@ -111,9 +127,10 @@ impl<A: Allocator + Clone> Machine<A> {
         let Some(place) = self.place(job) else {
             return Ok(false);
         };
+        let rule = self.rule;
         let jobs = self.jobs.as_slice();
         let slot = &mut self.slots[place];
-        slot.collect(&jobs[place], job, &mut self.blocks)
+        slot.collect(rule, &jobs[place], job, &mut self.blocks)
     }
 
     /// Gives up all steps that have begun, and then runs and collects all jobs on this thread, on a desk of at least the
@@ -145,9 +162,10 @@ impl<A: Allocator> Machine<A> {
         let Some(place) = first_waiting(self.slots.as_slice()) else {
             return Admission::NoneWaiting;
         };
+        let rule = self.rule;
         let jobs = self.jobs.as_slice();
         let slot = &mut self.slots[place];
-        match slot.admit(&jobs[place], place + 1, &mut self.blocks) {
+        match slot.admit(rule, &jobs[place], place + 1, &mut self.blocks) {
             Ok(()) => Admission::Admitted(place + 1),
             Err(_) => Admission::NotNow,
         }
@@ -165,9 +183,10 @@ impl<A: Allocator> Machine<A> {
         let Some(place) = self.place(job) else {
             return Begun::NotReady(desk);
         };
+        let rule = self.rule;
         let jobs = self.jobs.as_slice();
         let slot = &mut self.slots[place];
-        slot.begin(&jobs[place], job, &mut self.blocks, desk)
+        slot.begin(rule, &jobs[place], job, &mut self.blocks, desk)
     }
 
     /// Commits a step that was computed, where it is the one of its job that has begun, with the same instruction and
@@ -184,9 +203,10 @@ impl<A: Allocator> Machine<A> {
         let Some(place) = self.place(job) else {
             return (Finished::Stale, filled.into_desk());
         };
+        let rule = self.rule;
         let jobs = self.jobs.as_slice();
         let slot = &mut self.slots[place];
-        slot.finish(&jobs[place], job, &mut self.blocks, filled)
+        slot.finish(rule, &jobs[place], job, &mut self.blocks, filled)
     }
 
     /// Gives up the step of a job that has begun; true where there was one. The job stands as before the step's begin.
@@ -200,6 +220,13 @@ impl<A: Allocator> Machine<A> {
             return false;
         };
         self.slots[place].recall()
+    }
+
+    /// The rule by which the jobs run.
+    pub fn rule(&self) -> Rule
+        ensures { result ≡ self.now.rule }
+    {
+        self.rule
     }
 
     /// Where a job stands, or `None` for no such job.
@@ -268,7 +295,7 @@ impl<A: Allocator> Machine<A> {
     pub fn list(&self) -> Result<Arc<Vec<Job<A>, A>, A>, AllocError>
     where
         A: Clone,
-        ensures { IfOk result (λ list. (arc_value list).items ≡ self.now.tasks) }
+        ensures { IfOk result (λ list. map (ruled self.now.rule) (arc_value list).items ≡ self.now.tasks) }
     {
         Arc::try_clone(&self.jobs)
     }
@@ -284,14 +311,14 @@ impl<A: Allocator> Machine<A> {
 
     /// The jobs, in order.
     pub(crate) fn in_order(&self) -> &[Job<A>]
-        ensures { result.now ≡ self.now.tasks }
+        ensures { map (ruled self.now.rule) result.now ≡ self.now.tasks }
     {
         self.jobs.as_slice()
     }
 
     /// Whether these are the machine's jobs, in order.
     pub fn holds(&self, jobs: &[Job<A>]) -> bool
-        ensures { IsTrue result ↔ (self.now.tasks ≡ jobs.now) }
+        ensures { IsTrue result ↔ (self.now.tasks ≡ map (ruled self.now.rule) jobs.now) }
     {
         same_jobs(self.jobs.as_slice(), jobs)
     }

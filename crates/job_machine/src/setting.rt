@@ -1,12 +1,11 @@
 //! The slots of a machine's jobs.
 
 ghost use Rattle.std.specs.Prelude.{◌≡◌, ◌*◌, ◌<◌, ◌≤◌, ◌↔◌, length, All, position, sum_by, slice_get, Some};
-ghost use Rattle.std.specs.Prelude.{IfOk, IfSome, IsTrue, ℕ};
+ghost use Rattle.std.specs.Prelude.{IfOk, IfSome, IsTrue, ℕ, fold, max};
 ghost use Rattle.vcode_base.specs.declared.limits.TheConstants.{MOST_JOBS, MOST_CELLS, MOST_WORDS};
-ghost use Rattle.job_steps.specs.States.{Task};
+ghost use Rattle.job_steps.specs.States.{JobValue};
 ghost use Rattle.job_steps.specs.Standings.{is_waiting};
 ghost use Rattle.job_slots.specs.Slots.{SlotState, IsNewSlot, standing_of};
-ghost use Rattle.job_machine.specs.Machines.{most_words};
 
 use job_slots::{Slot, Status};
 use job_steps::Job;
@@ -19,8 +18,8 @@ pub(crate) fn new_slots<A: Allocator + Clone>(
     jobs: &[Job<A>],
 ) -> Result<Vec<Slot<A>, A>, AllocError>
     ensures count { IfOk result (λ slots. length slots.items ≡ length jobs.now) }
-    ensures new { IfOk result (λ slots. (place : ℕ) (task : Task) (slot : SlotState) → slice_get jobs.now place ≡ Some task
-        → slice_get slots.items place ≡ Some slot → IsNewSlot task slot) }
+    ensures new { IfOk result (λ slots. (place : ℕ) (job : JobValue) (slot : SlotState)
+        → slice_get jobs.now place ≡ Some job → slice_get slots.items place ≡ Some slot → IsNewSlot job slot) }
 {
     let mut slots = Vec::with_capacity(alloc.clone()?, jobs.len())?;
     for job in jobs {
@@ -32,7 +31,7 @@ pub(crate) fn new_slots<A: Allocator + Clone>(
 /// The cells of all jobs together.
 pub(crate) fn all_cells<A: Allocator>(jobs: &[Job<A>]) -> usize
     requires { length jobs.now ≤ MOST_JOBS }
-    ensures cells { result ≡ sum_by (λ task. task.limits.cells) jobs.now }
+    ensures cells { result ≡ sum_by (λ job. job.limits.cells) jobs.now }
     ensures within { result ≤ MOST_JOBS * MOST_CELLS }
 {
     let mut cells = 0;
@@ -44,8 +43,8 @@ pub(crate) fn all_cells<A: Allocator>(jobs: &[Job<A>]) -> usize
 
 /// The words of the job that has the most, and 0 where there is none.
 pub(crate) fn most_words<A: Allocator>(jobs: &[Job<A>]) -> usize
-    ensures value { result ≡ most_words jobs.now }
-    ensures each { All (λ task. task.limits.words ≤ result) jobs.now }
+    ensures value { result ≡ fold (λ most job. max most job.limits.words) 0 jobs.now }
+    ensures each { All (λ job. job.limits.words ≤ result) jobs.now }
     ensures within { result ≤ MOST_WORDS }
 {
     let mut most = 0;

@@ -10,7 +10,7 @@ use Rattle.reservations.specs.BookState as book
 use Rattle.job_memory.specs.JobBlocks.{words_of}
 use Rattle.job_memory.specs.Inside.{grant_words}
 
-words_same : (grant : Option Grant) → words_of (grant_words grant) ≡ book.words_of grant
+pub words_same : (grant : Option Grant) → words_of (grant_words grant) ≡ book.words_of grant
 words_same None = refl
 words_same (Some grant) = refl
 

@@ -3,3 +3,4 @@ mod Slots
 mod Booked
 mod Views
 mod Turns
+mod Released

@@ -1,27 +1,20 @@
 -- The words of a job's blocks, and of all blocks, where one slot changes.
-use Rattle.std.proofs.Common.{◌≡◌, ◌≢◌, ℕ, ◌+◌, ◌<◌, ◌≤◌, cond, eqb, List, [], ◌∷◌, length, set, map, refl, sym, ap}
-use Rattle.std.proofs.Common.{◌∙◌, ◌-◌, get_or, subst, inl, inr, arith, true, false}
+use Rattle.std.proofs.Common.{◌≡◌, ℕ, ◌+◌, ◌<◌, ◌≤◌, cond, eqb, List, [], ◌∷◌, length, set, map, refl, sym, ap, ◌∙◌}
+use Rattle.std.proofs.Common.{get_or, subst, inl, inr, arith, true, false}
 use Rattle.std.specs.Prelude.{sum_by, replicate, ◌*◌}
-use Rattle.std.proofs.lemmas.Bool.{cases_eq, cases_lt, le-leb, lt-leb}
+use Rattle.std.proofs.lemmas.Bool.{cases_lt}
 use Rattle.std.proofs.lemmas.Bool.Decides.{nat_tests}
-use Rattle.std.proofs.lemmas.List.{get_or-set_same, get_or-set_other, get_or_past, get_or-replicate}
-use Rattle.std.proofs.lemmas.List.{length-replicate}
+use Rattle.std.proofs.lemmas.List.{get_or_past}
 use Rattle.std.proofs.lemmas.List.Folds.{sum_by-replicate}
 use Rattle.std.proofs.Math.ListN.{get_or-map}
 use Rattle.std.proofs.lemmas.List.Sums.{sum_by-cons, sum_by-set}
-use Rattle.refcounts.specs.SharedState.{Slot, empty_slot, SharedState, slot_in, slot_at, IsLive, IsTidy, words_in}
-use Rattle.refcounts.specs.SharedState.{used_words, with_slot, lowered_slot}
+use Rattle.refcounts.specs.SharedState.{Slot, empty_slot, SharedState, slot_in, slot_at, words_in, used_words}
+use Rattle.refcounts.specs.SharedState.{with_slot}
 use Rattle.refcounts.specs.Owners.{slot_seen_by, slots_seen_by}
 
 -- how many words of a slot a job sees
 abbrev pub seen_words : ℕ → Slot → ℕ
 seen_words job slot = length (slot_seen_by job slot).words
-
-pub seen_own : (job : ℕ) (slot : Slot) → slot.owner ≡ job → seen_words job slot ≡ length slot.words
-seen_own job slot is = grind (arith, nat_tests)
-
-pub seen_other : (job other : ℕ) (slot : Slot) → slot.owner ≡ job → other ≢ job → seen_words other slot ≡ 0
-seen_other job other slot is ne = grind (arith, nat_tests)
 
 pub seen_empty : (job : ℕ) → seen_words job empty_slot ≡ 0
 seen_empty job = elim (eqb 0 job) as (λ b. length (cond b empty_slot empty_slot).words ≡ 0) [
@@ -59,13 +52,6 @@ none_seen job n =
 pub none_used : (n : ℕ) → words_in (replicate n empty_slot) ≡ 0
 none_used n = omega (arith, sum_by-replicate (λ (s : Slot). length s.words) n empty_slot)
 
-pub none_at : (n id : ℕ) → slot_in (replicate n empty_slot) id ≡ empty_slot
-none_at n id = elim (cases_lt id n) [
-  | inl lt ↦ get_or-replicate n id empty_slot empty_slot lt
-  | inr past ↦
-      get_or_past (replicate n empty_slot) id empty_slot (omega (arith, length-replicate n empty_slot, past))
-]
-
 pub held_set : (job : ℕ) (memory : SharedState) (id : ℕ) (slot : Slot) → id < length memory.slots
     → words_in (slots_seen_by job (with_slot memory id slot)) + seen_words job (slot_at memory id) ≡ words_in
     (slots_seen_by job memory) + seen_words job slot
@@ -90,61 +76,22 @@ live_within slots id live = elim (cases_lt id (length slots)) [
       subst (λ (slot : Slot). 0 < slot.count) (get_or_past slots id empty_slot past) live in omega arith)
 ]
 
--- a number that no reference names stays without a block
-pub tidy_put : (memory : SharedState) (id : ℕ) (slot : Slot) → id < length memory.slots
-    → (slot.count ≡ 0 → slot ≡ empty_slot) → IsTidy memory → IsTidy (with_slot memory id slot)
-tidy_put memory id slot within gone tidy other = elim (cases_eq other id) [
-  | inl e ↦ (
-      let here : slot_at (with_slot memory id slot) other ≡ slot =
-      ap (slot_at (with_slot memory id slot)) e ∙ get_or-set_same memory.slots id slot empty_slot within in
-      λ zero. here ∙ gone (ap (λ (s : Slot). s.count) (sym here) ∙ zero)
-      )
-  | inr ne ↦ (
-      let there : slot_at (with_slot memory id slot) other ≡ slot_at memory other =
-      get_or-set_other memory.slots id other slot empty_slot ne in
-      λ zero. there ∙ tidy other (ap (λ (s : Slot). s.count) (sym there) ∙ zero)
-      )
-]
-
 -- the slot of a number as a job sees it
-pub empty_seen : (job : ℕ) → slot_seen_by job empty_slot ≡ empty_slot
+empty_seen : (job : ℕ) → slot_seen_by job empty_slot ≡ empty_slot
 empty_seen job =
     elim (eqb 0 job) as (λ b. cond b empty_slot empty_slot ≡ empty_slot) [ true ↦ refl | false ↦ refl ]
 
-pub seen_at : (job : ℕ) (memory : SharedState) (id : ℕ)
+seen_at : (job : ℕ) (memory : SharedState) (id : ℕ)
     → slot_in (slots_seen_by job memory) id ≡ slot_seen_by job (slot_at memory id)
 seen_at job memory id =
     ap (get_or (slots_seen_by job memory) id) (sym (empty_seen job))
     ∙ get_or-map (slot_seen_by job) memory.slots id empty_slot
 
--- a block that a job sees is there, and is the job's
-pub record IsOwnBlock (job : ℕ) (memory : SharedState) (id : ℕ) : Type 0 where
-  pub live : IsLive memory id
-  pub within : id < length memory.slots
-  pub owner : (slot_at memory id).owner ≡ job
-
-seen_owner : (job : ℕ) (slot : Slot) → 0 < (slot_seen_by job slot).count → slot.owner ≡ job
-seen_owner job slot some = grind (arith, nat_tests)
-
 seen_count : (job : ℕ) (slot : Slot) → (slot_seen_by job slot).count ≤ slot.count
 seen_count job slot = grind (arith, nat_tests)
 
-pub own_block : (job : ℕ) (memory : SharedState) (id : ℕ) → 0 < (slot_in (slots_seen_by job memory) id).count
-    → IsOwnBlock job memory id
-own_block job memory id seen =
-    let there : 0 < (slot_seen_by job (slot_at memory id)).count =
-    subst (λ (slot : Slot). 0 < slot.count) (seen_at job memory id) seen in
-    let live : IsLive memory id = omega (arith, there, seen_count job (slot_at memory id)) in
-    record { live = live; within = live_within memory.slots id live; owner = seen_owner job (slot_at memory id) there }
-
--- a block with one reference less
-pub lowered_many : (slot : Slot) → 1 < slot.count
-    → lowered_slot slot ≡ record { owner = slot.owner; count = slot.count - 1; words = slot.words }
-lowered_many slot many =
-    let rest : Slot = record { owner = slot.owner; count = slot.count - 1; words = slot.words } in
-    ap (λ b. cond b empty_slot rest) (lt-leb slot.count 1 many)
-
-pub lowered_last : (slot : Slot) → slot.count ≤ 1 → lowered_slot slot ≡ empty_slot
-lowered_last slot last =
-    let rest : Slot = record { owner = slot.owner; count = slot.count - 1; words = slot.words } in
-    ap (λ b. cond b empty_slot rest) (le-leb slot.count 1 last)
+-- a job sees no references that aren't there
+pub own_count : (job : ℕ) (memory : SharedState) (id : ℕ)
+    → (slot_in (slots_seen_by job memory) id).count ≤ (slot_at memory id).count
+own_count job memory id =
+    omega (arith, ap (λ (slot : Slot). slot.count) (seen_at job memory id), seen_count job (slot_at memory id))

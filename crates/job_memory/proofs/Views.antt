@@ -1,18 +1,17 @@
 -- The blocks of jobs as a memory and a book say them.
-use Rattle.std.proofs.Common.{subst, get_or, ◌≡◌, ℕ, ◌-◌, true, false, ◌<◌, ◌≤◌, List, length, refl, sym, ap, ◌∙◌}
+use Rattle.std.proofs.Common.{get_or, ◌≡◌, ℕ, ◌-◌, true, false, ◌<◌, ◌≤◌, List, length, refl, sym, ap, ◌∙◌}
 use Rattle.std.proofs.Common.{inl, inr, arith}
 use Rattle.std.specs.Prelude.{Option, Some, None, Result, Ok, Err, OnOk}
 use Rattle.std.proofs.lemmas.Bool.{cases_lt, false≢true}
 use Rattle.std.proofs.lemmas.List.{map-set, length-map}
-use Rattle.refcounts.specs.SharedState.{SharedState, slot_in}
+use Rattle.refcounts.specs.SharedState.{SharedState}
 use Rattle.block_memory.specs.declared.memory.NoRoom.{NoRoom}
 use Rattle.block_memory.specs.declared.memory.NoRoom.TheVariants.{Full, Memory}
 use Rattle.reservations.specs.declared.Grant.{Grant}
 use Rattle.reservations.specs.BookState as book
-use Rattle.job_memory.specs.JobBlocks.{JobBlocks, IsJob, granted_words, with_grant, with_memory, HasGrant, own_slots}
+use Rattle.job_memory.specs.JobBlocks.{JobBlocks, IsJob, granted_words, with_grant, with_memory, HasGrant}
 use Rattle.job_memory.specs.Inside.{IsBooked, grant_words, blocks_by}
 use Rattle.job_memory.proofs.Grants.{granted_same, at_place, same_words}
-use Rattle.job_memory.proofs.Slots.{IsOwnBlock, own_block}
 
 pub on_ok : {X E : Type 0} (result : Result X E) (P Q : Type 0) → (P → Q) → OnOk result P → OnOk result Q
 on_ok (Ok value) P Q then p = then p
@@ -65,14 +64,3 @@ view_held memory new b blocks job held has view =
     ap (λ (grants : List (Option ℕ)). let bs : JobBlocks = record { memory = new; grants = grants } in bs)
     (same_words b.grants (job - 1) has.1.0 held is)
     ∙ ap (λ (bs : JobBlocks). with_memory bs new) view
-
-pub view_own : (memory : SharedState) (b : book.BookState) (blocks : JobBlocks) (job id : ℕ)
-    → 0 < (slot_in (own_slots job blocks) id).count → blocks_by memory b ≡ blocks → IsOwnBlock job memory id
-view_own memory b blocks job id own view =
-    own_block job memory id (subst (λ (bs : JobBlocks). 0 < (slot_in (own_slots job bs) id).count) (sym view) own)
-
-pub more_than_one : (count : ℕ) → 0 < count → (count ≡ 1 → false ≡ true) → 1 < count
-more_than_one count some last = elim (cases_lt 1 count) [
-  | inl many ↦ many
-  | inr few ↦ absurd (false≢true (last (omega (arith, some, few))))
-]

@@ -1,6 +1,6 @@
 -- How counted blocks and a book of reservations stand for the blocks of jobs.
 use Rattle.std.specs.Prelude.{◌≡◌, ℕ, map, Option, Some, None}
-use Rattle.refcounts.specs.SharedState.{SharedState, used_words, words_in, IsTidy}
+use Rattle.refcounts.specs.SharedState.{SharedState, used_words, words_in}
 use Rattle.refcounts.specs.Owners.{slots_seen_by}
 use Rattle.reservations.specs.declared.Grant.{Grant}
 use Rattle.reservations.specs.BookState as book
@@ -19,4 +19,3 @@ pub record IsBooked (memory : SharedState) (b : book.BookState) : Type 0 where
   pub region : b.region ≡ memory.room
   pub used : used_words memory ≡ book.held_words b
   pub held : (job : ℕ) → book.IsJob b job → book.words_held_by b job ≡ words_in (slots_seen_by job memory)
-  pub tidy : IsTidy memory

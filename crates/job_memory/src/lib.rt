@@ -6,18 +6,18 @@
 //! it. Contracts see the blocks by number, and the grant of each job.
 #![tactic(auto)]
 
-ghost use Rattle.std.specs.Prelude.{◌≡◌, ◌+◌, ◌<◌, ◌≤◌, ◌↔◌, length, replicate, All, Some, None, IsErr, IfOk};
-ghost use Rattle.std.specs.Prelude.{OnOk, OnErr};
-ghost use Rattle.refcounts.specs.SharedState.{empty_slot, slot_at, slot_in, IsLive, AreLive, IsTidy, used_words};
-ghost use Rattle.refcounts.specs.SharedState.{block_count, state_after_share, state_after_release};
-ghost use Rattle.refcounts.specs.SharedState.{state_after_shares, state_after_releases};
-ghost use Rattle.job_memory.specs.JobBlocks.{IsJob, HasGrant, AreOwn, grant_of, words_of, granted_words, own_slots};
+ghost use Rattle.std.specs.Prelude.{◌≡◌, ◌+◌, ◌<◌, ◌≤◌, ◌↔◌, length, replicate, All, Some, None, IsTrue, IsErr};
+ghost use Rattle.std.specs.Prelude.{IfOk, OnOk, OnErr};
+ghost use Rattle.refcounts.specs.SharedState.{empty_slot, slot_at, IsLive, AreLive, IsTidy, used_words, block_count};
+ghost use Rattle.refcounts.specs.SharedState.{state_after_share, state_after_shares, state_after_releases};
+ghost use Rattle.job_memory.specs.JobBlocks.{IsJob, HasGrant, AreOwn, grant_of, words_of, granted_words};
 ghost use Rattle.job_memory.specs.JobBlocks.{held_words, with_grant, with_memory, with_block};
 
 pub mod laws;
 
 use block_memory::{BlockId, SlidingMemory};
 use refcounts::SharedMemory;
+use refcounts::laws::{making_changes_only_own, releases_only_free, releasing_changes_only_own};
 use reservations::Book;
 use reservations::laws::{granted_words_are_there, held_is_within_granted};
 pub use reservations::{NotNow, Spent};
@@ -77,6 +77,13 @@ impl<A: Allocator> JobMemory<A> {
         self.book.grant(job, words)
     }
 
+    /// Whether `grant` of so many words to a job that has no grant would be `Ok` now.
+    pub fn fits(&self, words: usize) -> bool
+        ensures { IsTrue result ↔ (granted_words self.now + words ≤ self.now.memory.room) }
+    {
+        self.book.fits(words)
+    }
+
     /// Ends the grant of a job, whose blocks have no words any more. They can be granted anew.
     pub fn close(&mut self, job: usize)
         requires has_grant { HasGrant self.old job }
@@ -91,6 +98,7 @@ impl<A: Allocator> JobMemory<A> {
     ///
     /// `Spent` exactly where the job's blocks and this one have more words than its grant; then nothing changes. The
     /// region always has room for the others.
+    #[inline(always)]
     pub fn place(&mut self, job: usize, words: &[i64]) -> Result<BlockId, Spent>
         requires has_grant { HasGrant self.old job }
         requires numbers { block_count self.old.memory < length self.old.memory.slots }
@@ -99,6 +107,7 @@ impl<A: Allocator> JobMemory<A> {
         ensures placed { IfOk result (λ id. self.new ≡ with_block self.old job id words.now) }
         ensures unchanged { OnErr result (self.new ≡ self.old) }
     {
+        making_changes_only_own();
         granted_words_are_there();
         let _reserved = self.book.granted();
         self.book.charge(job, words.len())?;
@@ -133,26 +142,46 @@ impl<A: Allocator> JobMemory<A> {
 
     /// One reference less to each of these blocks of a job, once for each time that it is listed; the last one of a
     /// block frees it. Nothing else changes.
+    #[inline(always)]
     pub fn release_all(&mut self, job: usize, ids: &[BlockId])
         requires has_grant { HasGrant self.old job }
         requires own { AreOwn job self.old ids.now }
         ensures { self.new ≡ with_memory self.old (state_after_releases self.old.memory ids.now) }
     {
-        for id in ids {
-            self.release(job, *id);
-        }
+        releasing_changes_only_own();
+        let freed = self.memory.release_all(ids);
+        self.book.refund(job, freed as usize);
     }
 
-    /// One reference less to a block of a job.
-    fn release(&mut self, job: usize, id: BlockId)
+    /// One reference less to each of these blocks of a job, as `release_all`, and a new block of the words for the job,
+    /// as `place`, in one: the words that are freed are there for the new block.
+    ///
+    /// There has to be a number without a block before the releases, and the job's grant has to have the words after
+    /// them.
+    pub fn exchange(&mut self, job: usize, taken: &[BlockId], words: &[i64]) -> BlockId
         requires has_grant { HasGrant self.old job }
-        requires own { 0 < (slot_in (own_slots job self.old) id).count }
-        ensures { self.new ≡ with_memory self.old (state_after_release self.old.memory id) }
+        requires own { AreOwn job self.old taken.now }
+        requires numbers { block_count self.old.memory < length self.old.memory.slots }
+        requires room { held_words job (with_memory self.old (state_after_releases self.old.memory taken.now))
+            + length words.now ≤ words_of (grant_of self.old job) }
+        ensures fresh { (result < length self.old.memory.slots)
+            × (slot_at (state_after_releases self.old.memory taken.now) result ≡ empty_slot) }
+        ensures exchanged { self.new ≡ with_block
+            (with_memory self.old (state_after_releases self.old.memory taken.now)) job result words.now }
     {
-        let words = self.memory.len(id);
-        if self.memory.release(id) {
-            self.book.refund(job, words);
-        }
+        making_changes_only_own();
+        releasing_changes_only_own();
+        releases_only_free();
+        granted_words_are_there();
+        let _covered = self.book.granted();
+        let freed = self.memory.release_all(taken);
+        let Ok(()) = self.book.exchange(job, freed as usize, words.len()) else {
+            unreachable!()
+        };
+        let Ok(placed) = self.memory.make(job, words) else {
+            unreachable!()
+        };
+        placed
     }
 
     /// The words of a block.
@@ -164,12 +193,27 @@ impl<A: Allocator> JobMemory<A> {
     }
 
     /// The words of a job's blocks, at most those of its grant.
+    #[inline(always)]
     pub fn held(&self, job: usize) -> usize
         requires { IsJob self.now job }
         ensures value { result ≡ held_words job self.now }
         ensures within { held_words job self.now ≤ words_of (grant_of self.now job) }
     {
         self.book.held(job)
+    }
+
+    /// What a job would hold after `release_all` of these references: the words of its blocks that others name too, or
+    /// that aren't listed.
+    pub fn held_without(&self, job: usize, ids: &[BlockId]) -> usize
+        requires has_grant { HasGrant self.now job }
+        requires own { AreOwn job self.now ids.now }
+        ensures value { result ≡ held_words job
+            (with_memory self.now (state_after_releases self.now.memory ids.now)) }
+        ensures within { result ≤ held_words job self.now }
+    {
+        releasing_changes_only_own();
+        let freed = self.memory.used() - self.memory.used_without(ids);
+        self.book.held(job) - freed
     }
 
     /// The words of all grants together, at most those of the region.

@@ -2,6 +2,7 @@
 use Rattle.std.proofs.Common.{◌≡◌, ℕ, ◌≤◌, List, length, Option, Some, None, refl, sym, ◌∙◌, ap, arith}
 use Rattle.std.proofs.lemmas.List.{length-map}
 use Rattle.vcode_base.specs.declared.outcome.Outcome.{Outcome}
+use Rattle.vcode_base.specs.declared.outcome.Outcome.TheVariants.{Returned, Fault, Memory, Budget}
 use Rattle.refcounts.specs.SharedState.{Slot, words_in, blocks_in}
 use Rattle.signatures.specs.Signatures.{Signature}
 use Rattle.job_steps.specs.EventLaws.{StandsOnRun}
@@ -13,7 +14,7 @@ use Rattle.job_steps.specs.Tracks.{Trace}
 use Rattle.job_slots.specs.declared.status.Status.{Status}
 use Rattle.job_slots.specs.declared.status.Status.TheVariants.{Waiting, Live, InFlight, Ended, Collected}
 use Rattle.job_slots.specs.Holdings.{Cell, HoldStack}
-use Rattle.job_slots.specs.Slots.{ShowsAs, IsRunningSlot, Leaves, standing_by, told_by}
+use Rattle.job_slots.specs.Slots.{ShowsAs, IsRunningSlot, Leaves, IsReturned, standing_by, told_by}
 use Rattle.job_slots.proofs.Holding.{AreTidy, held_is_stack, few_blocks, words_of_none, blocks_of_none}
 use Rattle.job_slots.proofs.Endings.{few_results}
 
@@ -64,6 +65,13 @@ runs_alone reached signatures slots task t verified tidy run =
       few = omega (arith, holds.few, is.cells);
     }
 
+-- a job that ends otherwise than by return leaves nothing
+none_left : (task : Task) (ending : Outcome (List Vector)) → (IsReturned ending → ⊥) → left_words task ending ≡ 0
+none_left task (Returned values) no_return = absurd (no_return tt)
+none_left task (Fault fault line) no_return = refl
+none_left task (Memory fault line) no_return = refl
+none_left task Budget no_return = refl
+
 alone_left : Reaches → EachEnds → (signatures : List Signature) (slots : List Slot) (task : Task) (t : Trace ℕ) →
     IsVerifiedTask signatures task → AreTidy slots → (o : Option (Outcome (List Vector))) → Leaves slots task t o →
     (words_in slots ≡ left_words task (outcome task)) × (blocks_in slots ≤ task.limits.cells)
@@ -71,8 +79,8 @@ alone_left reached ends signatures slots task t verified tidy None left =
     let holds = holds_stack slots t.cells left.stack tidy left.holds in
     let few = few_results reached ends signatures task verified left.stack left.outcome_is in
     (holds.words ∙ sym left.left, omega (arith, holds.few, few))
-alone_left reached ends signatures slots task t verified tidy (Some ending) (is, none, nothing) = (
-  words_of_none slots nothing.no_block ∙ sym (ap (left_words task) is ∙ none),
+alone_left reached ends signatures slots task t verified tidy (Some ending) (is, no_return, nothing) = (
+  words_of_none slots nothing.no_block ∙ sym (ap (left_words task) is ∙ none_left task ending no_return),
   omega (arith, blocks_of_none slots nothing.no_block),
 )
 

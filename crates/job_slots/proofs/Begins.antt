@@ -51,7 +51,7 @@ can_begin law slots task t run verified = law verified.0 task verified.1 t.execu
 -- the line is that of the next instruction
 abbrev pub IsLineOf : Task → Trace ℕ → CodeLine → Type 0
 IsLineOf task t line =
-    (call : Active) (outer : List Active) → StandAll (functions_of task) t.frames (call ∷ outer) →
+    (call : Active) (outer : List Active) → StandAll (functions_of task.verified) t.frames (call ∷ outer) →
     next_item call ≡ instruction_of line
 
 -- a line that is read in the task's program

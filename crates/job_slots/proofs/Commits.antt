@@ -9,14 +9,17 @@ use Rattle.vcode_base.specs.declared.op.Op.{Op}
 use Rattle.vcode_base.specs.declared.op.Op.TheVariants.{Const, Elementwise, Segmented, If, Move, Call, Return}
 use Rattle.vcode_base.specs.declared.op.StackMove.{StackMove}
 use Rattle.vcode_base.specs.declared.op.StackMove.TheVariants.{Copy, Pop, MoveToTop}
+use Rattle.vcode_base.specs.declared.rule.Rule.{Rule}
+use Rattle.vcode_base.specs.declared.rule.Rule.TheVariants.{First, Second}
 use Rattle.vcode_base.specs.Kinds.{result_kinds}
 use Rattle.refcounts.specs.SharedState.{state_after_shares, state_after_releases, AreLive}
-use Rattle.refcounts.specs.Laws.{SharesAreCounted, ReleasesAreCounted, ReleasesKeepBlocks}
+use Rattle.refcounts.specs.Laws.{SharesAreCounted, ReleasesAreCounted, ReleasesKeepBlocks, ReleaseStaysTidy}
 use Rattle.job_steps.specs.Motions.{top_entries, operand_count, stack_after, stack_after_move}
 use Rattle.job_steps.specs.States.{Vector, Entry, new_entries}
 use Rattle.job_slots.specs.Holdings.{Cell, ids_of, entries_of, AreHeld}
 use Rattle.job_memory.specs.JobBlocks.{JobBlocks, AreOwn, ChangesOnlyOf, own_slots, with_memory, with_block}
-use Rattle.job_slots.specs.Commits.{moved_ids, taken_ids, blocks_after_taking, CanTake, ArePlaced}
+use Rattle.job_slots.specs.Commits.{moved_ids, blocks_after_taking, with_releases, CanTake, IsExchanged}
+use Rattle.job_slots.proofs.Placed.{ArePlaced, AreCommitted}
 use Rattle.job_memory.specs.Laws.{BlocksChangeOnlyTheirJob, SharesChangeOnlyTheirJob, ReleasesChangeOnlyTheirJob}
 use Rattle.job_memory.specs.Laws.{ChangesJoin}
 use Rattle.job_slots.proofs.Moves.{All-move, map-top, map-lower, map-stack_after}
@@ -33,14 +36,20 @@ pub record BlockLaws : Type 0 where
   pub shares_change_only_their_job : SharesChangeOnlyTheirJob
   pub releases_change_only_their_job : ReleasesChangeOnlyTheirJob
   pub changes_join : ChangesJoin
+  pub release_stays_tidy : ReleaseStaysTidy
 
--- what is known where the results of an instruction are placed, before what it takes is released
-pub record CanCommit (job : ℕ) (op : Op) (old placed : JobBlocks) (cells news : List Cell) : Type 0 where
-  pub can_take : CanTake job op (ids_of cells) placed
-  pub held : AreHeld (own_slots job (blocks_after_taking op (ids_of cells) placed)) (stack_after op news cells)
+-- what an instruction takes off the stack can be taken, and what it leaves where it has no results
+pub record CanCommit (job : ℕ) (op : Op) (old : JobBlocks) (cells : List Cell) : Type 0 where
+  pub can_take : CanTake job op (ids_of cells) old
+  pub held : AreHeld (own_slots job (blocks_after_taking op (ids_of cells) old)) (stack_after op [] cells)
+  pub others : ChangesOnlyOf job old (blocks_after_taking op (ids_of cells) old)
+
+-- these cells hold the stack after the instruction, whose results are the new ones
+pub record IsCommitted (job : ℕ) (op : Op) (old new : JobBlocks) (cells news : List Cell) : Type 0 where
+  pub held : AreHeld (own_slots job new) (stack_after op news cells)
   pub ids : ids_of (stack_after op news cells) ≡ stack_after op (ids_of news) (ids_of cells)
   pub entries : entries_of (stack_after op news cells) ≡ stack_after op (entries_of news) (entries_of cells)
-  pub others : ChangesOnlyOf job old (blocks_after_taking op (ids_of cells) placed)
+  pub others : ChangesOnlyOf job old new
 
 -- ---- the results are placed
 
@@ -50,7 +59,7 @@ record IsPlaced (job : ℕ) (old placed : JobBlocks) (whole : List Cell) : Type 
   others : ChangesOnlyOf job old placed
 
 -- the tag of a cell's entry is below the next one
-abbrev IsOlder : ℕ → Cell → Type 0
+abbrev pub IsOlder : ℕ → Cell → Type 0
 IsOlder next c = c.entry.tag < next
 
 abbrev first_tag : List Entry → ℕ
@@ -94,10 +103,10 @@ placed_all laws job (c ∷ news) (v ∷ vs) next old placed cells held older e a
 -- ---- what is taken is released
 
 -- these cells hold a stack after the blocks of these numbers are released
-record IsReleased (job : ℕ) (old placed : JobBlocks) (ids : List ℕ) (kept : List Cell) : Type 0 where
-  own : AreOwn job placed ids
-  held : AreHeld (own_slots job (with_memory placed (state_after_releases placed.memory ids))) kept
-  others : ChangesOnlyOf job old (with_memory placed (state_after_releases placed.memory ids))
+pub record IsReleased (job : ℕ) (old placed : JobBlocks) (ids : List ℕ) (kept : List Cell) : Type 0 where
+  pub own : AreOwn job placed ids
+  pub held : AreHeld (own_slots job (with_releases ids placed)) kept
+  pub others : ChangesOnlyOf job old (with_releases ids placed)
 
 -- so do these after the blocks of these numbers are shared
 record IsShared (job : ℕ) (old placed : JobBlocks) (ids : List ℕ) (new : List Cell) : Type 0 where
@@ -120,18 +129,6 @@ module _ (laws : BlockLaws) (job : ℕ) (old placed : JobBlocks) where
         others = (laws.changes_join job).both old placed _ is.others
             (laws.releases_change_only_their_job placed job (ids_of taken) own);
       }
-
-  -- a commit where what it takes is known, with what it leaves
-  commits : (op : Op) (cells news : List Cell) → CanTake job op (ids_of cells) placed →
-      AreHeld (own_slots job (blocks_after_taking op (ids_of cells) placed)) (stack_after op news cells) →
-      ChangesOnlyOf job old (blocks_after_taking op (ids_of cells) placed) → CanCommit job op old placed cells news
-  commits op cells news can_take held others = record {
-    can_take = can_take;
-    held = held;
-    ids = map-stack_after (λ (c : Cell). c.id) op news cells;
-    entries = map-stack_after (λ (c : Cell). c.entry) op news cells;
-    others = others;
-  }
 
   -- so many cells are taken off the stack, and the new ones lie on the others
   pushed : (n : ℕ) (cells news : List Cell) → IsPlaced job old placed (reverse news ++ cells) →
@@ -252,43 +249,128 @@ module _ (laws : BlockLaws) (job : ℕ) (old placed : JobBlocks) where
         subst (λ (ids : List ℕ). IsShared job old placed ids (stack_after_move Copy lower upper cells))
         (map-lower (λ (c : Cell). c.id) lower upper cells) copied_by
 
-    by_motion : (motion : StackMove) → CanCommit job (Move motion lower upper) old placed cells []
-    by_motion Copy = commits (Move Copy lower upper) cells [] copied.live copied.held copied.others
-    by_motion Pop = commits (Move Pop lower upper) cells [] popped.own popped.held popped.others
-    by_motion MoveToTop = commits (Move MoveToTop lower upper) cells [] tt turned.held is.others
+-- ---- without results
 
-  -- ---- the instructions
+module _ (laws : BlockLaws) (job : ℕ) (old : JobBlocks) (cells : List Cell) (held : AreHeld (own_slots job old) cells)
+  where
+    as_it_was : IsPlaced job old old cells
+    as_it_was = record { held = held; others = (laws.changes_join job).none old }
 
-  -- what it takes are its operands, and its results lie on the other cells
-  by_operands : (op : Op) (cells news : List Cell) →
-      (AreOwn job placed (taken_ids op (ids_of cells)) → CanTake job op (ids_of cells) placed) →
-      with_memory placed (state_after_releases placed.memory (taken_ids op (ids_of cells)))
-      ≡ blocks_after_taking op (ids_of cells) placed →
-      reverse news ++ drop (operand_count op) cells ≡ stack_after op news cells →
-      IsPlaced job old placed (reverse news ++ cells) → CanCommit job op old placed cells news
-  by_operands op cells news can_take blocks stack is =
-      let r = pushed (operand_count op) cells news is in
-      let left : JobBlocks = with_memory placed (state_after_releases placed.memory (taken_ids op (ids_of cells))) in
-      commits op cells news (can_take r.own)
-      (subst (λ (b : JobBlocks). AreHeld (own_slots job b) (stack_after op news cells)) blocks
-      (subst (λ (cs : List Cell). AreHeld (own_slots job left) cs) stack r.held))
-      (subst (λ (b : JobBlocks). ChangesOnlyOf job old b) blocks r.others)
+    by_motion : (motion : StackMove) (lower upper : ℕ) → CanCommit job (Move motion lower upper) old cells
+    by_motion Copy lower upper =
+        let is = copied laws job old old lower upper cells as_it_was in
+        record { can_take = is.live; held = is.held; others = is.others }
+    by_motion Pop lower upper =
+        let is = popped laws job old old lower upper cells as_it_was in
+        record { can_take = is.own; held = is.held; others = is.others }
+    by_motion MoveToTop lower upper =
+        let is = turned laws job old old lower upper cells as_it_was in
+        record { can_take = tt; held = is.held; others = (laws.changes_join job).none old }
 
-  by_op : (op : Op) (cells news : List Cell) → length news ≡ length (result_kinds op) →
-      IsPlaced job old placed (reverse news ++ cells) → CanCommit job op old placed cells news
-  by_op (Move motion lower upper) cells [] count is = by_motion lower upper cells is motion
-  by_op (Move motion lower upper) cells (c ∷ news) count is = absurd (omega (arith, count))
-  by_op (Const k) cells news count is = by_operands (Const k) cells news (λ own. own) refl refl is
-  by_op (Elementwise e) cells news count is = by_operands (Elementwise e) cells news (λ own. own) refl refl is
-  by_op (Segmented e) cells news count is = by_operands (Segmented e) cells news (λ own. own) refl refl is
-  by_op If cells news count is = by_operands If cells news (λ own. own) refl refl is
-  by_op Call cells news count is = by_operands Call cells news (λ own. own) refl refl is
-  by_op Return cells news count is = by_operands Return cells news (λ own. own) refl refl is
+    -- so many operands are the job's, and without them the other cells hold theirs
+    pub without_top : (n : ℕ) → IsReleased job old old (top_entries n (ids_of cells)) (drop n cells)
+    without_top n = pushed laws job old old n cells [] as_it_was
 
-pub can_commit : BlockLaws → (job : ℕ) (op : Op) (old placed : JobBlocks) (cells news : List Cell) (next : ℕ)
-    (values : List Vector) → AreHeld (own_slots job old) cells → All (λ (c : Cell). c.entry.tag < next) cells →
+    pub can_commit : (op : Op) → CanCommit job op old cells
+    can_commit (Move motion lower upper) = by_motion motion lower upper
+    can_commit (Const k) =
+        let is = without_top (operand_count (Const k)) in
+        record { can_take = is.own; held = is.held; others = is.others }
+    can_commit (Elementwise e) =
+        let is = without_top (operand_count (Elementwise e)) in
+        record { can_take = is.own; held = is.held; others = is.others }
+    can_commit (Segmented e) =
+        let is = without_top (operand_count (Segmented e)) in
+        record { can_take = is.own; held = is.held; others = is.others }
+    can_commit If =
+        let is = without_top (operand_count If) in
+        record { can_take = is.own; held = is.held; others = is.others }
+    can_commit Call =
+        let is = without_top (operand_count Call) in
+        record { can_take = is.own; held = is.held; others = is.others }
+    can_commit Return =
+        let is = without_top (operand_count Return) in
+        record { can_take = is.own; held = is.held; others = is.others }
+
+-- ---- with results
+
+-- the cells without so many at the top hold theirs where a new block comes in their place, in either order
+exchanged_one : BlockLaws → (rule : Rule) (job n : ℕ) (old between : JobBlocks) (cells : List Cell) (c : Cell) →
+    AreHeld (own_slots job old) cells → All (IsOlder c.entry.tag) cells →
+    IsExchanged rule job (top_entries n (ids_of cells)) c.id c.entry.value.words old between →
+    IsPlaced job old between (c ∷ drop n cells)
+exchanged_one laws First job n old between cells c held older is =
+    let placed : JobBlocks = with_block old job c.id c.entry.value.words in
+    let one : IsPlaced job old placed (c ∷ cells) = record {
+      held = placed_one job old.memory c cells is.within is.free held older;
+      others = laws.blocks_change_only_their_job old job c.id c.entry.value.words is.within is.free;
+    } in
+    let r = pushed laws job old placed n cells (c ∷ []) one in
+    subst (λ (b : JobBlocks). IsPlaced job old b (c ∷ drop n cells)) (sym is.exchanged)
+    (record { held = r.held; others = r.others })
+exchanged_one laws Second job n old between cells c held older is =
+    let r = without_top laws job old cells held n in
+    let fewer : JobBlocks = with_releases (top_entries n (ids_of cells)) old in
+    let within : c.id < length fewer.memory.slots = omega (arith, is.within, r.others.memory.ids) in
+    subst (λ (b : JobBlocks). IsPlaced job old b (c ∷ drop n cells)) (sym is.exchanged)
+    (record {
+      held = placed_one job fewer.memory c (drop n cells) within is.free r.held
+          (All-drop (IsOlder c.entry.tag) n cells older);
+      others = (laws.changes_join job).both old fewer _ r.others
+          (laws.blocks_change_only_their_job fewer job c.id c.entry.value.words within is.free);
+    })
+
+-- an instruction with results pushes them
+pushes : (op : Op) (news cells : List Cell) → 0 < length (result_kinds op) →
+    reverse news ++ drop (operand_count op) cells ≡ stack_after op news cells
+pushes (Move motion lower upper) news cells some = absurd (omega (arith, some))
+pushes (Const k) news cells some = refl
+pushes (Elementwise e) news cells some = refl
+pushes (Segmented e) news cells some = refl
+pushes If news cells some = refl
+pushes Call news cells some = refl
+pushes Return news cells some = refl
+
+-- the blocks after an instruction hold what it leaves
+placed_by : BlockLaws → (rule : Rule) (job : ℕ) (op : Op) (old new : JobBlocks) (cells news : List Cell) (next : ℕ)
+    (values : List Vector) → AreHeld (own_slots job old) cells → All (IsOlder next) cells →
     entries_of news ≡ new_entries next values → length news ≡ length (result_kinds op) →
-    ArePlaced job news old placed → CanCommit job op old placed cells news
-can_commit laws job op old placed cells news next values held older entries count are =
-    by_op laws job old placed op cells news count
-    (placed_all laws job news values next old placed cells held older entries are)
+    AreCommitted rule job op (ids_of cells) news old new → IsPlaced job old new (stack_after op news cells)
+placed_by laws rule job op old new cells [] next values held older entries count are =
+    let can = can_commit laws job old cells held op in
+    subst (λ (b : JobBlocks). IsPlaced job old b (stack_after op [] cells)) (sym are)
+    (record { held = can.held; others = can.others })
+placed_by laws rule job op old new cells (c ∷ news) next [] held older entries count are =
+    absurd (let none : length (entries_of (c ∷ news)) ≡ 0 = ap (λ (es : List Entry). length es) entries in
+    omega (arith, none))
+placed_by laws rule job op old new cells (c ∷ news) next (v ∷ vs) held older entries count are =
+    let n = operand_count op in
+    let kept : List Cell = c ∷ drop n cells in
+    let tag : c.entry.tag ≡ next = ap first_tag entries in
+    let rest : entries_of news ≡ new_entries (next + 1) vs = ap (λ (es : List Entry). drop 1 es) entries in
+    let one = exchanged_one laws rule job n old are.0 cells c held
+    (All-weaker (IsOlder next) (IsOlder c.entry.tag) (λ x o. omega (arith, o, tag)) cells older) are.1 in
+    let later : All (IsOlder (next + 1)) kept =
+    All-cons (IsOlder (next + 1)) c (drop n cells) (omega (arith, tag))
+    (All-weaker (IsOlder next) (IsOlder (next + 1)) (λ x o. omega (arith, o)) (drop n cells)
+    (All-drop (IsOlder next) n cells older)) in
+    let after = placed_all laws job news vs (next + 1) are.0 new kept one.held later rest are.2 in
+    let stack : reverse news ++ kept ≡ stack_after op (c ∷ news) cells =
+    sym (reverse_onto c news (drop n cells)) ∙ pushes op (c ∷ news) cells (omega (arith, count)) in
+    record {
+      held = subst (λ (whole : List Cell). AreHeld (own_slots job new) whole) stack after.held;
+      others = (laws.changes_join job).both old are.0 new one.others after.others;
+    }
+
+pub committed : BlockLaws → (rule : Rule) (job : ℕ) (op : Op) (old new : JobBlocks) (cells news : List Cell) (next : ℕ)
+    (values : List Vector) → AreHeld (own_slots job old) cells → All (IsOlder next) cells →
+    entries_of news ≡ new_entries next values → length news ≡ length (result_kinds op) →
+    AreCommitted rule job op (ids_of cells) news old new → IsCommitted job op old new cells news
+committed laws rule job op old new cells news next values held older entries count are =
+    let is = placed_by laws rule job op old new cells news next values held older entries count are in
+    record {
+      held = is.held;
+      ids = map-stack_after (λ (c : Cell). c.id) op news cells;
+      entries = map-stack_after (λ (c : Cell). c.entry) op news cells;
+      others = is.others;
+    }

@@ -76,12 +76,13 @@ fault_ends others_are_ready end_is_own slots task t question fault line verified
     let same = asked_is task t.executed s ready.call ready.outer question run.running ready.calls asked in
     let line_same = line_is task t.executed s ready.call ready.outer line run.running ready.calls at in
     let item = (next_item ready.call).item in
-    let calls = calls_after task (flag_of (question_of item s.stack)) ready.call.rest ready.call.ret ready.outer in
+    let calls = calls_after task.verified (flag_of (question_of item s.stack)) ready.call.rest ready.call.ret
+    ready.outer in
     let here : value_fault (op_of item) (sources_of item s.stack) ≡ Some fault =
     ap (λ (q : Question). value_fault q.op q.sources) same ∙ faulty in
     let over : state_after task (t.executed + 1) ≡ Over (Fault fault line) s.executed s.peak =
     ready.next
-    ∙ ap (λ (o : Option DataFault). progress_by o (next_item ready.call) s calls) here
+    ∙ ap (λ (o : Option DataFault). progress_by task.rule o (next_item ready.call) s calls) here
     ∙ ap (λ (l : ℕ). Over (Fault fault l) s.executed s.peak) line_same in
     let own = end_is_own task (t.executed + 1) (Fault fault line) s.executed s.peak over in
     record {
@@ -89,7 +90,7 @@ fault_ends others_are_ready end_is_own slots task t question fault line verified
         outcome_is = own.0;
         executed_is = run.at.executed ∙ sym own.1;
         peak_is = run.at.peak ∙ sym own.2;
-        nothing_left = refl;
+        no_return = λ returned. absurd returned;
       };
       standing = ap (standing_after (t.executed + 1)) over;
     }
@@ -136,7 +137,7 @@ returned : Reaches → EndIsOwn → (signatures : List Signature) (slots : List 
     (p : Progress) → IsVerifiedTask signatures task → state_after task (n + 1) ≡ p → IsAfter slots task u p →
     u.frames ≡ [] → Returns slots task u n p
 returned reaches end_is_own signatures slots task u n (Running s) verified e after none =
-    let calls = no_calls (functions_of task) u.frames s.calls none after.0.frames in
+    let calls = no_calls (functions_of task.verified) u.frames s.calls none after.0.frames in
     absurd (omega (arith, (reaches signatures task verified (n + 1) s e).active, ap length calls))
 returned reaches end_is_own signatures slots task u n (Over ending count most) verified e after none =
     let own = end_is_own task (n + 1) ending count most e in

@@ -11,30 +11,31 @@ use Rattle.vcode_base.specs.declared.fault.MemoryFault.TheVariants as memory
 use Rattle.vcode_base.specs.declared.limits.Limits.{Limits}
 use Rattle.vcode_base.specs.declared.op.Op.{Op}
 use Rattle.vcode_base.specs.declared.outcome.Outcome.TheVariants.{Budget}
+use Rattle.vcode_base.specs.Instructions.{op_of}
 use Rattle.vcode_base.specs.Meaning.{shape, need}
 use Rattle.vcode_reader.specs.Trees.{Function}
-use Rattle.refcounts.specs.SharedState.{SharedState, Slot, words_in, IsTidy}
-use Rattle.refcounts.specs.Owners.{slots_seen_by}
+use Rattle.refcounts.specs.SharedState.{Slot, IsTidy}
+use Rattle.job_memory.specs.JobBlocks.{JobBlocks, AreOwn, own_slots}
 use Rattle.job_steps.specs.declared.frame.Frame.{Frame}
 use Rattle.job_steps.specs.Buffers.{HaveAtMost}
 use Rattle.job_steps.specs.EventLaws.{IsVerified, EarlyEndsEnd}
 use Rattle.job_steps.specs.Events.{early_end, early_end_in}
 use Rattle.job_steps.specs.Frames.{StandAll}
-use Rattle.job_steps.specs.Motions.{depth_after}
+use Rattle.job_steps.specs.Motions.{depth_after, operand_count}
 use Rattle.job_steps.specs.Questions.{Question, need_words}
 use Rattle.job_steps.specs.Runs.{state_after}
-use Rattle.job_steps.specs.Standings.{left_words}
-use Rattle.job_steps.specs.States.{Task, Active, State, held_words}
+use Rattle.job_steps.specs.States.{Task, Active, State}
 use Rattle.job_steps.specs.Steps.{Ending, Running, next_item, question_of, ending_by, memory_fault}
-use Rattle.job_steps.specs.Steps.{is_call}
+use Rattle.job_steps.specs.Steps.{held_at, is_call}
 use Rattle.job_steps.specs.StepLaws.{CanBegin, StepsCanBegin, StepsCanAdvance}
 use Rattle.job_steps.specs.Tickets.{CanAnswer, question_by}
 use Rattle.job_steps.specs.Tracks.{Trace, IsAt, functions_of}
 use Rattle.job_slots.specs.Answers.{early_end_at, IsNext, IsEnding}
-use Rattle.job_slots.specs.Holdings.{HoldStack}
-use Rattle.job_slots.specs.Slots.{IsRunningSlot}
+use Rattle.job_slots.specs.Commits.{held_under, taken_ids}
+use Rattle.job_slots.specs.Executions.{IsCounted, HeldIsCounted}
+use Rattle.job_slots.specs.Slots.{IsRunningSlot, IsReturned}
 use Rattle.job_slots.proofs.Begins.{can_begin, question_when, line_when, early_end_when}
-use Rattle.job_slots.proofs.Holding.{held_is_stack, own_are_tidy}
+use Rattle.job_slots.proofs.Operands.{deep_enough}
 
 -- ---- a limit, with words that are counted up to the greatest number
 
@@ -122,8 +123,9 @@ budget_end task t s runs at spent =
     ∙ ap (λ (b : Bool). cond b (Some Budget) (early_end_in task s s.calls)) (eq-eqb _ _ same)
 
 pub early_end_is : (task : Task) (t : Trace ℕ) (s : State) (op : Op) (line : ℕ) (sources : List (List ℤ)) (held : ℕ) →
-    state_after task t.executed ≡ Running s → IsAt task t s → CanBegin task t.executed s t →
-    IsNext task t.executed op line sources → held ≡ held_words s.stack → (t.executed ≡ t.limits.budget → ⊥) →
+    state_after task t.executed ≡ Running s → IsAt task t s → (can : CanBegin task t.executed s t) →
+    IsNext task t.executed op line sources → held ≡ held_at task.rule (next_item can.call).item s →
+    (t.executed ≡ t.limits.budget → ⊥) →
     early_end_at task t.executed ≡ ending_by line (shape op sources)
     (memory_fault t.limits op (held + need_words (question_by op sources)) (depth_after op (length t.cells))
     (length t.frames))
@@ -136,32 +138,45 @@ early_end_is task t s op line sources held runs at can next held_is unspent =
     ∙ (ap (λ (b : Bool). cond b (Some Budget) (early_end_in task s s.calls)) no
     ∙ (ap (early_end_in task s) can.calls
     ∙ same_ending (next_item can.call).number line (question_of (next_item can.call).item s.stack)
-    (question_by op sources) task.limits t.limits (held_words s.stack) held (length s.stack) (length t.cells)
+    (question_by op sources) task.limits t.limits (held_at task.rule (next_item can.call).item s) held
+    (length s.stack) (length t.cells)
     (length s.calls) (length t.frames)
     (same_line task t s op line sources runs can next) (same_question task t s op line sources runs can next)
-    (sym at.limits) (sym held_is) (sym at.cells) (sym (as_many (functions_of task) t.frames s.calls at.frames))))
+    (sym at.limits) (sym held_is) (sym at.cells) (sym (as_many (functions_of task.verified) t.frames s.calls
+    at.frames))))
 
--- the words of a job's blocks are those of its stack
-pub held_is : (job : ℕ) (memory : SharedState) (task : Task) (t : Trace ℕ) (s : State) →
-    HoldStack (slots_seen_by job memory) t.cells s.stack → IsTidy memory →
-    words_in (slots_seen_by job memory) ≡ held_words s.stack
-held_is job memory task t s holds tidy =
-    held_is_stack (slots_seen_by job memory) holds.cells holds.held (own_are_tidy job memory tidy)
-    ∙ ap held_words (sym holds.entries_are)
+-- where the next instruction was read
+module _ (law : StepsCanBegin ℕ) (counted : HeldIsCounted) (number : ℕ) (blocks : JobBlocks) (task : Task) (t : Trace ℕ)
+    (run : IsRunningSlot (own_slots number blocks) task t) (verified : IsVerified task) (tidy : IsTidy blocks.memory)
+    (op : Op) (line : ℕ) (sources : List (List ℤ)) (next : IsNext task t.executed op line sources) where
+  can : CanBegin task t.executed run.state t
+  can = can_begin law (own_slots number blocks) task t run verified
 
--- an answer that tells it from what is read
-pub ends_with : StepsCanBegin ℕ → (number : ℕ) (memory : SharedState) (task : Task) (t : Trace ℕ)
-    (run : IsRunningSlot (slots_seen_by number memory) task t) (op : Op) (line : ℕ) (sources : List (List ℤ)) (held : ℕ)
-    (answer : Option Ending) → IsVerified task → IsTidy memory → IsNext task t.executed op line sources →
-    held ≡ words_in (slots_seen_by number memory) → (t.executed ≡ t.limits.budget → ⊥) →
-    answer ≡ ending_by line (shape op sources)
-    (memory_fault t.limits op (held + need_words (question_by op sources)) (depth_after op (length t.cells))
-    (length t.frames)) → early_end_at task t.executed ≡ answer
-ends_with law number memory task t run op line sources held answer verified tidy next held_here unspent told =
-    early_end_is task t run.state op line sources held run.running run.at
-    (can_begin law (slots_seen_by number memory) task t run verified) next
-    (held_here ∙ held_is number memory task t run.state run.holds tidy) unspent
-    ∙ sym told
+  op_is : op_of (next_item can.call).item ≡ op
+  op_is = ap (λ (q : Question). q.op) (same_question task t run.state op line sources run.running can next)
+
+  is_counted : IsCounted task.rule number blocks (next_item can.call).item run.state t.cells
+  is_counted = counted task.rule number blocks (next_item can.call).item run.state t.cells run.holds tidy
+
+  -- its operands are there, and the job's
+  pub operands_are_own : AreOwn number blocks (taken_ids op t.cells)
+  operands_are_own = subst (λ (o : Op). AreOwn number blocks (taken_ids o t.cells)) op_is is_counted.own
+
+  pub operands_are_there : operand_count op ≤ length t.cells
+  operands_are_there =
+      subst (λ (o : Op). operand_count o ≤ length t.cells) op_is
+      (deep_enough (op_of (next_item can.call).item) (length t.cells) can.deep)
+
+  -- an answer that tells the end before it from what was read
+  pub ends_with : (held : ℕ) (answer : Option Ending) → held ≡ held_under task.rule number op t.cells blocks →
+      (t.executed ≡ t.limits.budget → ⊥) →
+      answer ≡ ending_by line (shape op sources)
+      (memory_fault t.limits op (held + need_words (question_by op sources)) (depth_after op (length t.cells))
+      (length t.frames)) → early_end_at task t.executed ≡ answer
+  ends_with held answer held_here unspent told =
+      let held_is : held ≡ held_at task.rule (next_item can.call).item run.state =
+      held_here ∙ (ap (λ (o : Op). held_under task.rule number o t.cells blocks) (sym op_is) ∙ is_counted.held) in
+      early_end_is task t run.state op line sources held run.running run.at can next held_is unspent ∙ sym told
 
 -- ---- where nothing ends the job
 
@@ -186,25 +201,25 @@ can_ask law task t s op line sources words verified runs at can next goes_on eno
 
 -- ---- where something does
 
-abbrev LeavesNone : Task → Option Ending → Type 0
-LeavesNone task ending = MatchOption ending (Unit {0}) (λ e. left_words task e ≡ 0)
+abbrev IsNoReturn : Option Ending → Type 0
+IsNoReturn ending = MatchOption ending (Unit {0}) (λ e. IsReturned e → ⊥)
 
-leaves_none_by : (task : Task) (line : ℕ) (fault : Option DataFault) (refusal : Option MemoryFault) →
-    LeavesNone task (ending_by line fault refusal)
-leaves_none_by task line (Some fault) refusal = refl
-leaves_none_by task line None (Some refusal) = refl
-leaves_none_by task line None None = tt
+no_return_by : (line : ℕ) (fault : Option DataFault) (refusal : Option MemoryFault) →
+    IsNoReturn (ending_by line fault refusal)
+no_return_by line (Some fault) refusal = λ returned. returned
+no_return_by line None (Some refusal) = λ returned. returned
+no_return_by line None None = tt
 
-leaves_none_in : (task : Task) (s : State) (calls : List Active) → LeavesNone task (early_end_in task s calls)
-leaves_none_in task s [] = tt
-leaves_none_in task s (call ∷ outer) = leaves_none_by task _ _ _
+no_return_in : (task : Task) (s : State) (calls : List Active) → IsNoReturn (early_end_in task s calls)
+no_return_in task s [] = tt
+no_return_in task s (call ∷ outer) = no_return_by _ _ _
 
-leaves_none : (task : Task) (s : State) → LeavesNone task (early_end task s)
-leaves_none task s =
+no_return : (task : Task) (s : State) → IsNoReturn (early_end task s)
+no_return task s =
     elim (eqb s.executed task.limits.budget)
-    as (λ b. LeavesNone task (cond b (Some Budget) (early_end_in task s s.calls))) [
-      | true ↦ refl
-      | false ↦ leaves_none_in task s s.calls
+    as (λ b. IsNoReturn (cond b (Some Budget) (early_end_in task s s.calls))) [
+      | true ↦ λ returned. returned
+      | false ↦ no_return_in task s s.calls
     ]
 
 -- that is the job's end
@@ -219,5 +234,5 @@ is_ending law slots task t run ending verified early =
       outcome_is = end.outcome_is;
       executed_is = sym end.executed_is;
       peak_is = run.at.peak ∙ sym end.peak_is;
-      nothing_left = subst (LeavesNone task) ends (leaves_none task s);
+      no_return = subst IsNoReturn ends (no_return task s);
     }

@@ -8,6 +8,7 @@ use Rattle.vcode_base.specs.declared.fault.DataFault.{DataFault}
 use Rattle.vcode_base.specs.declared.fault.MemoryFault.{MemoryFault}
 use Rattle.vcode_base.specs.declared.outcome.Outcome.{Outcome}
 use Rattle.vcode_base.specs.declared.outcome.Outcome.TheVariants.{Returned, Budget}
+use Rattle.vcode_base.specs.declared.rule.Rule.{Rule}
 use Rattle.vcode_base.specs.Instructions.{op_of}
 use Rattle.vcode_base.specs.Meaning.{value_fault}
 use Rattle.vcode_reader.specs.declared.line.Numbered.{Numbered}
@@ -24,14 +25,15 @@ use Rattle.job_steps.specs.Steps.{progress_in, next_progress}
 abbrev Returns : State → Progress → Type 0
 Returns s p = (values : List Vector) (x y : ℕ) → p ≡ Over (Returned values) x y → reverse (values_of s.stack) ≡ values
 
-returns_past : (item : Item) (s : State) (calls : List Active) → Returns s (progress_past item s calls)
-returns_past item s [] values x y e = cc
-returns_past item s (call ∷ outer) values x y e = absurd (cc)
+returns_past : (rule : Rule) (item : Item) (s : State) (calls : List Active) →
+    Returns s (progress_past rule item s calls)
+returns_past rule item s [] values x y e = cc
+returns_past rule item s (call ∷ outer) values x y e = absurd (cc)
 
-returns_by : (fault : Option DataFault) (line : Numbered Item) (s : State) (calls : List Active) →
-    Returns s (progress_by fault line s calls)
-returns_by (Some fault) line s calls values x y e = absurd (cc)
-returns_by None line s calls values x y e = returns_past line.item s calls values x y e
+returns_by : (rule : Rule) (fault : Option DataFault) (line : Numbered Item) (s : State) (calls : List Active) →
+    Returns s (progress_by rule fault line s calls)
+returns_by rule (Some fault) line s calls values x y e = absurd (cc)
+returns_by rule None line s calls values x y e = returns_past rule line.item s calls values x y e
 
 returns_unless : (line : ℕ) (shape : Option DataFault) (refusal : Option MemoryFault) (s : State) (p : Progress) →
     Returns s p → Returns s (progress_unless (ending_by line shape refusal) s p)
@@ -49,10 +51,11 @@ stuck_returns s values x y e = absurd (cc)
 returns_in : (task : Task) (s : State) (calls : List Active) → Returns s (progress_in task s calls)
 returns_in task s [] = stuck_returns s
 returns_in task s (call ∷ outer) =
-    returns_where (can_run task (next_item call).item s.stack) s _ Stuck
+    returns_where (can_run task.verified (next_item call).item s.stack) s _ Stuck
     (returns_unless (next_item call).number _ _ s _
-    (returns_by (value_fault (op_of (next_item call).item) (sources_of (next_item call).item s.stack)) (next_item call) s
-    (calls_after task (flag_of (question_of (next_item call).item s.stack)) call.rest call.ret outer)))
+    (returns_by task.rule (value_fault (op_of (next_item call).item) (sources_of (next_item call).item s.stack))
+    (next_item call) s
+    (calls_after task.verified (flag_of (question_of (next_item call).item s.stack)) call.rest call.ret outer)))
     (stuck_returns s)
 
 returns_next : (task : Task) (s : State) → Returns s (next_progress task s)

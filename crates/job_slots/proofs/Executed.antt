@@ -16,7 +16,7 @@ use Rattle.vcode_base.specs.Meaning.{result_of, second_result_of, value_fault}
 use Rattle.vcode_reader.specs.Trees.{Item}
 use Rattle.signatures.specs.Signatures.{Signature}
 use Rattle.refcounts.specs.SharedState.{Slot, slot_in, slot_at, occurrences, IsTidy}
-use Rattle.job_memory.specs.JobBlocks.{JobBlocks, ChangesOnlyOf, own_slots, held_words}
+use Rattle.job_memory.specs.JobBlocks.{JobBlocks, own_slots}
 use Rattle.job_steps.specs.EventLaws.{OthersAreReady}
 use Rattle.job_steps.specs.Events.{early_end}
 use Rattle.job_steps.specs.Motions.{stack_after}
@@ -24,23 +24,25 @@ use Rattle.job_steps.specs.Questions.{Question, need_words}
 use Rattle.job_steps.specs.Reached.{Reaches, IsReached, IsVerifiedTask}
 use Rattle.job_steps.specs.Runs.{state_after}
 use Rattle.job_steps.specs.Standings.{held_in}
-use Rattle.job_steps.specs.States.{Vector, Task, Entry, Active, State, held_words as stack_words, new_entries}
+use Rattle.job_steps.specs.States.{Vector, Task, Entry, Active, State, new_entries}
 use Rattle.job_steps.specs.StepLaws.{CanAdvance, StepsCanAdvance}
 use Rattle.job_steps.specs.Steps.{Running, next_item, sources_of, question_of, results_of, flag_of}
 use Rattle.job_steps.specs.Steps.{words_at, calls_after, progress_by, progress_past, vectors_of}
 use Rattle.job_steps.specs.Tickets.{AreResults}
 use Rattle.job_steps.specs.Tracks.{Trace, IsAt, IsDeep, IsWhere, Advances, EachTrackFollows}
 use Rattle.job_slots.specs.Answers.{question_at, question_in, question_before}
-use Rattle.job_slots.specs.Commits.{CanTake, blocks_after_taking, moved_ids}
-use Rattle.job_slots.specs.Executions.{AreFew, CanShare, CanGoPast, HasPlaced, IsExecuted, CanExecute, StepsExecute}
+use Rattle.job_slots.specs.Commits.{CanTake, held_under, moved_ids}
+use Rattle.job_slots.specs.Executions.{AreFew, CanShare, CanSettle, CanGoPast, HasSettled, IsCounted, IsExecuted}
+use Rattle.job_slots.specs.Executions.{CanExecute, StepsExecute}
 use Rattle.job_slots.specs.Holdings.{Cell, ids_of, entries_of, AreHeld, HoldStack}
 use Rattle.job_slots.specs.Slots.{IsAfter}
-use Rattle.job_slots.proofs.Commits.{BlockLaws, CanCommit, can_commit}
-use Rattle.job_slots.proofs.Holding.{held_is_stack, own_are_tidy, named_here, named_more}
-use Rattle.job_slots.proofs.Placed.{NewCells, new_cells}
+use Rattle.job_slots.proofs.Commits.{BlockLaws, IsCommitted, can_commit, committed}
+use Rattle.job_slots.proofs.Holding.{named_here, named_more}
+use Rattle.job_slots.proofs.Placed.{AreCommitted, NewCells, new_cells}
 use Rattle.job_slots.proofs.Instructions.{two_results, length_by_kinds, return_leaves, stack_at_return}
 use Rattle.job_slots.proofs.Reversed.{All-reverse}
 use Rattle.job_slots.proofs.Seen.{count_seen}
+use Rattle.job_slots.proofs.Under.{held_is_counted}
 
 -- the laws of steps and of blocks
 pub record Laws : Type 0 where
@@ -100,24 +102,18 @@ few_moved lower upper ids blocks few =
     (All-take (λ id. (slot_at blocks.memory id).count + length ids < 2 ^ 64) lower (drop upper ids)
     (All-drop (λ id. (slot_at blocks.memory id).count + length ids < 2 ^ 64) upper ids few)))
 
--- an instruction that copies has no results, so that the blocks are as they were
-share_room : (op : Op) (job : ℕ) (first second : List ℤ) (ids cells : List ℕ) (old placed : JobBlocks) →
-    HasPlaced job op first second ids old placed → AreFew old cells → CanShare op cells placed
-share_room (Move Copy lower upper) job first second [] cells old placed has few =
-    subst (λ (b : JobBlocks). AreFew b (moved_ids lower upper cells)) (sym has.are_new)
-    (few_moved lower upper cells old few)
-share_room (Move Copy lower upper) job first second (id ∷ ids) cells old placed has few =
-    absurd (omega (arith, has.given))
-share_room op job first second ids cells old placed has few = tt
+share_room : (op : Op) (cells : List ℕ) (blocks : JobBlocks) → AreFew blocks cells → CanShare op cells blocks
+share_room (Move Copy lower upper) cells blocks few = few_moved lower upper cells blocks few
+share_room op cells blocks few = tt
 
 -- ---- where the job is
 
 -- the track and the blocks are where the job is, where the track is and the cells hold the stack
 is_after : (slots : List Slot) (task : Task) (u : Trace ℕ) (item : Item) (s : State) (calls : List Active) →
     state_after task s.executed ≡ Running s → (calls ≡ [] → op_of item ≡ Return) →
-    IsWhere task u (progress_past item s calls) →
+    IsWhere task u (progress_past task.rule item s calls) →
     HoldStack slots u.cells (stack_after (op_of item) (new_entries s.next (results_of (question_of item s.stack))) s.stack) →
-    IsAfter slots task u (progress_past item s calls)
+    IsAfter slots task u (progress_past task.rule item s calls)
 is_after slots task u item s [] running leaves where_is holds =
     let q = question_of item s.stack in
     let same : stack_after (op_of item) (new_entries s.next (results_of q)) s.stack ≡ s.stack =
@@ -162,8 +158,11 @@ module _ (laws : Laws) (signatures : List Signature) (task : Task) (verified : I
   is_reached : IsReached signatures task t.executed s
   is_reached = laws.reached signatures task verified t.executed s running
 
+  counted : IsCounted task.rule job old item s t.cells
+  counted = held_is_counted laws.blocks task.rule job old item s t.cells holds tidy
+
   -- the words that are held and needed
-  words_are : words_at item s ≡ held_words job old + length first + length second
+  words_are : words_at task.rule item s ≡ held_under task.rule job op t.cells old + length first + length second
   words_are =
       let sources = sources_of item s.stack in
       let kinds = (can.answers task.limits.words (omega arith)).kinds in
@@ -172,10 +171,7 @@ module _ (laws : Laws) (signatures : List Signature) (task : Task) (verified : I
       let needed : need_words (question_of item s.stack)
       ≡ length (result_of op sources) + length (second_result_of op sources) =
       ap (λ (p : ℕ × ℕ). p.0 + p.1) lengths in
-      let stack : held_words job old ≡ stack_words s.stack =
-      held_is_stack (own_slots job old) holds.cells holds.held (own_are_tidy job old.memory tidy)
-      ∙ ap stack_words (sym holds.entries_are) in
-      omega (arith, needed, stack, ap length results.first_result, ap length results.second_result)
+      omega (arith, needed, counted.held, ap length results.first_result, ap length results.second_result)
 
   tags : All (λ c. c.entry.tag < s.next) holds.cells
   tags =
@@ -189,87 +185,89 @@ module _ (laws : Laws) (signatures : List Signature) (task : Task) (verified : I
       ∙ ap (λ (l : List ℤ). vectors_of (result_kinds op) (result_of op (sources_of item s.stack) ∷ l ∷ []))
       results.second_result
 
-  module _ (ids : List ℕ) (placed : JobBlocks) (has : HasPlaced job op first second ids old placed) where
-    new : NewCells job ids s.next (vectors_of (result_kinds op) (first ∷ second ∷ [])) old placed
-    new = new_cells job (result_kinds op) (first ∷ second ∷ []) ids s.next old placed has.given has.are_new
+  goes_past : CanGoPast task.verified t op
+  goes_past = record { unspent = can.unspent; deep = can.deep; cells = can.cells; follows = can.follows }
 
-    commits : CanCommit job op old placed holds.cells new.cells
+  can_settle : CanSettle job op t.cells old
+  can_settle =
+      let listed_are : length t.cells ≡ length (ids_of holds.cells) = ap length holds.ids_are in
+      let few : AreFew old (ids_of holds.cells) =
+      few_held job old holds.cells holds.held
+      (omega (arith, at.cells, listed_are, is_reached.cells, task.limits.cells_in_range.1)) in
+      record {
+        deep = can.deep;
+        own = counted.own;
+        can_take = subst (λ (xs : List ℕ). CanTake job op xs old) (sym holds.ids_are)
+            (can_commit laws.blocks job old holds.cells holds.held op).can_take;
+        can_share = share_room op t.cells old (subst (AreFew old) (sym holds.ids_are) few);
+      }
+
+  module _ (ids : List ℕ) (new : JobBlocks) (has : HasSettled task.rule job op first second t.cells ids old new) where
+    made : NewCells task.rule job op t.cells ids s.next (vectors_of (result_kinds op) (first ∷ second ∷ [])) old new
+    made =
+        new_cells task.rule job op t.cells first second s.next old new (result_kinds op) ids has.given (two_results op)
+        has.settled
+
+    commits : IsCommitted job op old new holds.cells made.cells
     commits =
-        can_commit laws.blocks job op old placed holds.cells new.cells s.next
-        (vectors_of (result_kinds op) (first ∷ second ∷ [])) holds.held tags new.entries_are
-        (new.count ∙ has.given) new.are_placed
-
-    goes_past : CanGoPast job task t op ids placed
-    goes_past =
-        let listed_are : length t.cells ≡ length (ids_of holds.cells) = ap length holds.ids_are in
-        let few : AreFew old (ids_of holds.cells) =
-        few_held job old holds.cells holds.held
-        (omega (arith, at.cells, listed_are, is_reached.cells, task.limits.cells_in_range.1)) in
-        record {
-          unspent = can.unspent;
-          deep = can.deep;
-          given = has.given;
-          cells = can.cells;
-          follows = can.follows;
-          can_take = subst (λ (xs : List ℕ). CanTake job op xs placed) (sym holds.ids_are) commits.can_take;
-          can_share = share_room op job first second ids t.cells old placed has
-              (subst (AreFew old) (sym holds.ids_are) few);
-        }
+        committed laws.blocks task.rule job op old new holds.cells made.cells s.next
+        (vectors_of (result_kinds op) (first ∷ second ∷ [])) holds.held tags made.entries_are
+        (made.count ∙ has.given)
+        (subst (λ (xs : List ℕ). AreCommitted task.rule job op xs made.cells old new) holds.ids_are made.are_committed)
 
     module _ (u : Trace ℕ)
-        (advances : Advances task op flag ids (held_words job old + length first + length second) t u) where
-      now_holds : HoldStack (own_slots job (blocks_after_taking op t.cells placed)) u.cells
+        (advances : Advances task.verified op flag ids
+        (held_under task.rule job op t.cells old + length first + length second) t u) where
+      now_holds : HoldStack (own_slots job new) u.cells
           (stack_after op (new_entries s.next (results_of (question_of item s.stack))) s.stack)
       now_holds = record {
-        cells = stack_after op new.cells holds.cells;
+        cells = stack_after op made.cells holds.cells;
         ids_are =
             advances.cells
             ∙ ap (λ (xs : List ℕ). stack_after op ids xs) holds.ids_are
-            ∙ ap (λ (xs : List ℕ). stack_after op xs (ids_of holds.cells)) (sym new.ids_are)
+            ∙ ap (λ (xs : List ℕ). stack_after op xs (ids_of holds.cells)) (sym made.ids_are)
             ∙ sym commits.ids;
         entries_are =
             ap (λ (vs : List Vector). stack_after op (new_entries s.next vs) s.stack) (sym values_are)
-            ∙ ap (λ (es : List Entry). stack_after op es s.stack) (sym new.entries_are)
-            ∙ ap (λ (es : List Entry). stack_after op (entries_of new.cells) es) holds.entries_are
+            ∙ ap (λ (es : List Entry). stack_after op es s.stack) (sym made.entries_are)
+            ∙ ap (λ (es : List Entry). stack_after op (entries_of made.cells) es) holds.entries_are
             ∙ sym commits.entries;
-        held =
-            subst (λ (xs : List ℕ). AreHeld (own_slots job (blocks_after_taking op xs placed))
-            (stack_after op new.cells holds.cells)) (sym holds.ids_are) commits.held;
+        held = commits.held;
       }
 
-      where_is : IsWhere task u (progress_past item s (calls_after task flag call.rest call.ret outer))
+      where_is : IsWhere task u (progress_past task.rule item s
+          (calls_after task.verified flag call.rest call.ret outer))
       where_is =
           laws.each_track_follows task t u s call outer ids at calls (subst (IsDeep op) at.cells can.deep) has.given
-          (subst (λ (w : ℕ). Advances task op flag ids w t u) (sym words_are) advances)
+          (subst (λ (w : ℕ). Advances task.verified op flag ids w t u) (sym words_are) advances)
 
-      executed : state_after task (t.executed + 1) ≡ progress_by (value_fault op (sources_of item s.stack))
-          (next_item call) s
-          (calls_after task flag call.rest call.ret outer) →
-          IsExecuted job old (blocks_after_taking op t.cells placed) task t u
+      executed : state_after task (t.executed + 1) ≡ progress_by task.rule
+          (value_fault op (sources_of item s.stack)) (next_item call) s
+          (calls_after task.verified flag call.rest call.ret outer) → IsExecuted job old new task t u
       executed next =
           let past : state_after task (t.executed + 1)
-          ≡ progress_past item s (calls_after task flag call.rest call.ret outer) =
-          next ∙ ap (λ (o : Option DataFault). progress_by o (next_item call) s
-          (calls_after task flag call.rest call.ret outer)) results.no_fault in
+          ≡ progress_past task.rule item s (calls_after task.verified flag call.rest call.ret outer) =
+          next ∙ ap (λ (o : Option DataFault). progress_by task.rule o (next_item call) s
+          (calls_after task.verified flag call.rest call.ret outer)) results.no_fault in
           record {
             after =
-                subst (IsAfter (own_slots job (blocks_after_taking op t.cells placed)) task u) (sym past)
-                (is_after (own_slots job (blocks_after_taking op t.cells placed)) task u item s
-                (calls_after task flag call.rest call.ret outer)
+                subst (IsAfter (own_slots job new) task u) (sym past)
+                (is_after (own_slots job new) task u item s
+                (calls_after task.verified flag call.rest call.ret outer)
                 (ap (state_after task) (sym at.executed) ∙ running)
-                (return_leaves task flag call.rest call.ret outer) where_is now_holds);
-            others =
-                subst (λ (xs : List ℕ). ChangesOnlyOf job old (blocks_after_taking op xs placed)) (sym holds.ids_are)
-                commits.others;
+                (return_leaves task.verified flag call.rest call.ret outer) where_is now_holds);
+            others = commits.others;
           }
 
-  can_execute : state_after task (t.executed + 1) ≡ progress_by (value_fault op (sources_of item s.stack)) (next_item call) s
-      (calls_after task flag call.rest call.ret outer) → CanExecute job old task t op flag first second
+  can_execute : state_after task (t.executed + 1) ≡ progress_by task.rule (value_fault op (sources_of item s.stack))
+      (next_item call) s (calls_after task.verified flag call.rest call.ret outer) →
+      CanExecute job old task t op flag first second
   can_execute next = record {
     two = two_results op;
     room = omega (arith, can.room, words_are);
+    can_settle = can_settle;
     goes_past = goes_past;
-    executes = λ ids placed u has advances. executed ids placed has u advances next;
+    executes = λ ids new u has advances. executed ids new has u advances next;
   }
 
 pub executable : Laws → StepsExecute
@@ -287,14 +285,12 @@ executable laws job old task t op flag first second flying verified tidy answere
     subst (λ (o : Op). CanExecute job old task t o flag first second) op_is
     (subst (λ (f : Bool). CanExecute job old task t (op_of item) f first second) flag_is found)
 
--- the instruction is executed where the track and the blocks went past it
-pub executed_past : {job : ℕ} {old placed gone_past : JobBlocks} {task : Task} {t u : Trace ℕ} {op : Op} {flag : Bool}
+-- the instruction is executed where blocks have its results and the track went past it
+pub executed_past : {job : ℕ} {old new : JobBlocks} {task : Task} {t u : Trace ℕ} {op : Op} {flag : Bool}
     {first second : List ℤ} {ids : List ℕ} {held : ℕ} → CanExecute job old task t op flag first second →
-    HasPlaced job op first second ids old placed → gone_past ≡ blocks_after_taking op t.cells placed →
-    held ≡ held_words job old → Advances task op flag ids (held + length first + length second) t u →
-    IsExecuted job old gone_past task t u
-executed_past {job} {old} {placed} {gone_past} {task} {t} {u} {op} {flag} {first} {second} {ids} can has past held_is
-    advances =
-    subst (λ (b : JobBlocks). IsExecuted job old b task t u) (sym past)
-    (can.executes ids placed u has
-    (subst (λ (h : ℕ). Advances task op flag ids (h + length first + length second) t u) held_is advances))
+    HasSettled task.rule job op first second t.cells ids old new →
+    held ≡ held_under task.rule job op t.cells old →
+    Advances task.verified op flag ids (held + length first + length second) t u → IsExecuted job old new task t u
+executed_past {job} {old} {new} {task} {t} {u} {op} {flag} {first} {second} {ids} can has held_is advances =
+    can.executes ids new u has
+    (subst (λ (h : ℕ). Advances task.verified op flag ids (h + length first + length second) t u) held_is advances)

@@ -44,6 +44,16 @@ named_other id first ids ne =
     let none : cond (eqb first id) 1 0 ≡ 0 = ap (λ (b : Bool). let n : ℕ = cond b 1 0 in n) no in
     omega (arith, none)
 
+pub named_sum : (id first : ℕ) (ids : List ℕ) →
+    occurrences id (first ∷ ids) ≡ occurrences id (first ∷ []) + occurrences id ids
+named_sum id first ids =
+    let step : occurrences id (first ∷ ids) ≡ cond (eqb first id) 1 0 + occurrences id ids =
+    sum_by-cons (λ (other : ℕ). cond (eqb other id) 1 0) first ids in
+    let one : occurrences id (first ∷ []) ≡ cond (eqb first id) 1 0 + occurrences id [] =
+    sum_by-cons (λ (other : ℕ). cond (eqb other id) 1 0) first [] in
+    let none : occurrences id [] ≡ 0 = refl in
+    omega arith
+
 pub named_more : (id first : ℕ) (ids : List ℕ) → occurrences id ids ≤ occurrences id (first ∷ ids)
 named_more id first ids =
     let step : occurrences id (first ∷ ids) ≡ cond (eqb first id) 1 0 + occurrences id ids =

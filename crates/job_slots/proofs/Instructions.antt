@@ -9,7 +9,8 @@ use Rattle.vcode_base.specs.Instructions.{op_of}
 use Rattle.vcode_base.specs.Kinds.{HaveKinds, result_kinds}
 use Rattle.vcode_reader.specs.Trees.{Item, Body, End, Do, Choice}
 use Rattle.job_steps.specs.Motions.{stack_after}
-use Rattle.job_steps.specs.States.{Task, Entry, Active, Callee, calls_with, callee_named, new_entries}
+use Rattle.verifier.specs.Typed.{TypedProgram}
+use Rattle.job_steps.specs.States.{Entry, Active, Callee, calls_with, callee_named, new_entries}
 use Rattle.job_steps.specs.Steps.{calls_past, calls_after, first_item, vectors_of}
 
 -- an instruction has at most two results
@@ -30,24 +31,24 @@ some_calls : (callee : Option Callee) (call : Active) (outer : List Active) → 
 some_calls None call outer none = cc
 some_calls (Some callee) call outer none = cc
 
-return_past : (task : Task) (item : Item) (call : Active) (outer : List Active) →
-    calls_past task item call outer ≡ [] → op_of item ≡ Return
-return_past task (instr.Const k list) call outer none = absurd (let e : call ∷ outer ≡ [] = none in cc)
-return_past task (instr.Elementwise e) call outer none = absurd (let e : call ∷ outer ≡ [] = none in cc)
-return_past task (instr.Segmented s) call outer none = absurd (let e : call ∷ outer ≡ [] = none in cc)
-return_past task instr.If call outer none = absurd (let e : call ∷ outer ≡ [] = none in cc)
-return_past task (instr.Move motion lower upper) call outer none = absurd (let e : call ∷ outer ≡ [] = none in cc)
-return_past task (instr.Call name) call outer none =
-    absurd (some_calls (callee_named task.verified name) call outer none)
-return_past task instr.Return call outer none = refl
+return_past : (verified : TypedProgram) (item : Item) (call : Active) (outer : List Active) →
+    calls_past verified item call outer ≡ [] → op_of item ≡ Return
+return_past verified (instr.Const k list) call outer none = absurd (let e : call ∷ outer ≡ [] = none in cc)
+return_past verified (instr.Elementwise e) call outer none = absurd (let e : call ∷ outer ≡ [] = none in cc)
+return_past verified (instr.Segmented s) call outer none = absurd (let e : call ∷ outer ≡ [] = none in cc)
+return_past verified instr.If call outer none = absurd (let e : call ∷ outer ≡ [] = none in cc)
+return_past verified (instr.Move motion lower upper) call outer none = absurd (let e : call ∷ outer ≡ [] = none in cc)
+return_past verified (instr.Call name) call outer none =
+    absurd (some_calls (callee_named verified name) call outer none)
+return_past verified instr.Return call outer none = refl
 
 -- only by RET no call is left
-pub return_leaves : (task : Task) (flag : Bool) (rest : Body) (ret : ℕ) (outer : List Active) →
-    calls_after task flag rest ret outer ≡ [] → op_of (first_item rest ret).item ≡ Return
-return_leaves task flag End ret outer none = refl
-return_leaves task flag (Do item line rest) ret outer none =
-    return_past task item (record { rest = rest; ret = ret }) outer none
-return_leaves task flag (Choice line first second end rest) ret outer none = absurd (cc)
+pub return_leaves : (verified : TypedProgram) (flag : Bool) (rest : Body) (ret : ℕ) (outer : List Active) →
+    calls_after verified flag rest ret outer ≡ [] → op_of (first_item rest ret).item ≡ Return
+return_leaves verified flag End ret outer none = refl
+return_leaves verified flag (Do item line rest) ret outer none =
+    return_past verified item (record { rest = rest; ret = ret }) outer none
+return_leaves verified flag (Choice line first second end rest) ret outer none = absurd (cc)
 
 -- RET leaves the stack as it was
 pub stack_at_return : (op : Op) → op ≡ Return → (lists : List (List ℤ)) (next : ℕ) (stack : List Entry) →

@@ -33,7 +33,7 @@ seen_count : (slot : Slot) (b : Bool) → (cond b slot empty_slot).count ≤ slo
 seen_count slot true = omega arith
 seen_count slot false = omega arith
 
-own_named : (job : ℕ) (memory : SharedState) (ids : List ℕ) →
+pub own_named : (job : ℕ) (memory : SharedState) (ids : List ℕ) →
     ((id : ℕ) → occurrences id ids ≤ (slot_in (slots_seen_by job memory) id).count) → AreNamed memory ids
 own_named job memory ids own id =
     omega (

@@ -6,6 +6,7 @@ mod Committed
 mod Counts
 mod EarlyEnds
 mod Endings
+mod Exchanges
 mod Executed
 mod Held
 mod Holding
@@ -21,3 +22,4 @@ mod SeenSlots
 mod Slots
 mod Started
 mod Takes
+mod Under

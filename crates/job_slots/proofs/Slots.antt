@@ -8,7 +8,7 @@ use Rattle.refcounts.specs.SharedState.{empty_slot}
 use Rattle.job_memory.specs.JobBlocks.{JobBlocks, grant_of, own_slots, with_grant}
 use Rattle.job_steps.specs.Runs.{state_after}
 use Rattle.job_steps.specs.Standings.{Live}
-use Rattle.job_steps.specs.States.{Task, Vector, first_state}
+use Rattle.job_steps.specs.States.{Task, Vector, first_state, ruled}
 use Rattle.job_steps.specs.Tracks.{Trace}
 use Rattle.job_slots.specs.declared.status.Status.{Status}
 use Rattle.job_slots.specs.declared.status.Status.TheVariants as status
@@ -21,13 +21,14 @@ use Rattle.job_slots.proofs.Holding.{none_held}
 -- ---- a new slot
 
 pub new_is_shown : NewIsShown
-new_is_shown number blocks task slot new is_job no_grant no_block = record {
+new_is_shown rule number blocks job slot new is_job no_grant no_block = record {
   is_job = is_job;
   verified = new.verified;
   limits = new.first.limits;
-  grant = no_grant ∙ ap (grant_by task) (sym new.status_is);
+  grant = no_grant ∙ ap (grant_by (ruled rule job)) (sym new.status_is);
   shown =
-      subst (λ (s : Status). ShowsAs (own_slots number blocks) task slot.trace slot.outcome s) (sym new.status_is)
+      subst (λ (s : Status). ShowsAs (own_slots number blocks) (ruled rule job) slot.trace slot.outcome s)
+      (sym new.status_is)
       (record { first = new.first; nothing = record { no_cell = new.first.cells; no_block = no_block } });
 }
 
@@ -63,7 +64,7 @@ recalled_is_shown number blocks task slot h = record {
 runs_at_first : (slots : List shared.Slot) (task : Task) (t : Trace ℕ) → IsWaitingSlot slots task t →
     IsRunningSlot slots task t
 runs_at_first slots task t h = record {
-  state = first_state task;
+  state = first_state task.verified;
   running = ap (state_after task) h.first.executed;
   at = record {
     limits = h.first.limits;

@@ -1,7 +1,7 @@
 -- Where a begin leaves a job.
-use Rattle.std.proofs.Common.{◌≡◌, ℕ, cond, Option, Some, None, sym, ◌∙◌, ap, subst}
+use Rattle.std.proofs.Common.{◌≡◌, ◌≤◌, ℕ, cond, Option, Some, None, sym, ◌∙◌, ap, subst}
 use Rattle.std.specs.Prelude.{is_some}
-use Rattle.job_memory.specs.JobBlocks.{JobBlocks, own_slots}
+use Rattle.job_memory.specs.JobBlocks.{JobBlocks, HasGrant, own_slots}
 use Rattle.job_steps.specs.declared.event.Event.TheVariants as event
 use Rattle.job_steps.specs.EventLaws.{EarlyEndsEnd}
 use Rattle.job_steps.specs.Events.{next_standing, standing_after_begin}
@@ -28,6 +28,11 @@ pub runs : (number : ℕ) (blocks : JobBlocks) (task : Task) (slot : SlotState) 
 runs number blocks task slot shows live =
     subst (λ (s : Status). ShowsAs (own_slots number blocks) task slot.trace slot.outcome s) live shows.shown
 
+pub has_grant : (number : ℕ) (blocks : JobBlocks) (task : Task) (slot : SlotState) → Shows number blocks task slot →
+    slot.status ≡ status.Live → HasGrant blocks number
+has_grant number blocks task slot shows live =
+    (shows.is_job, (task.limits.words, shows.grant ∙ ap (grant_by task) live))
+
 pub is_active : (slot : SlotState) → slot.status ≡ status.Live → IsActive slot.status
 is_active slot live = subst IsActive (sym live) tt
 
@@ -53,14 +58,15 @@ next_of number blocks task slot early shows live is =
 
 pub is_ticket : (number words : ℕ) (blocks : JobBlocks) (task : Task) (slot : SlotState) (ticket : Asked) →
     Shows number blocks task slot → slot.status ≡ status.Live → IsAskedOf number words task slot.trace.executed ticket →
-    IsTicketOf number words task (standing_of slot) ticket
-is_ticket number words blocks task slot ticket shows live asked = record {
+    task.limits.words ≤ words → IsTicketOf number words task (standing_of slot) ticket
+is_ticket number words blocks task slot ticket shows live asked enough = record {
   live = ap (λ (s : Status). standing_by s slot.trace.executed) live ∙ ap (λ n. Live n) (sym asked.step_is);
   next =
       next_of number blocks task slot None shows live asked.goes_on ∙ ap (λ n. Some (InFlight n)) (sym asked.step_is);
   question = ap (question_at task) asked.step_is ∙ asked.question;
   job_is = asked.job_is;
   words_are = asked.words_are;
+  enough = enough;
 }
 
 pub shows_flying : (number : ℕ) (blocks : JobBlocks) (task : Task) (slot : SlotState) → Shows number blocks task slot →

@@ -5,15 +5,15 @@ use Rattle.job_steps.specs.declared.event.Event.TheVariants as event
 use Rattle.job_steps.specs.Events.{early_end, next_standing}
 use Rattle.job_steps.specs.Questions.{Question}
 use Rattle.job_steps.specs.Runs.{state_after, outcome, executed_count, peak}
-use Rattle.job_steps.specs.Standings.{Standing, Live, InFlight, Ended, left_words}
+use Rattle.job_steps.specs.Standings.{Standing, Live, InFlight, Ended}
 use Rattle.job_steps.specs.States.{Task, Active, State}
-use Rattle.vcode_base.specs.declared.outcome.Outcome.TheVariants.{Returned}
 use Rattle.job_steps.specs.Steps.{Ending, Progress, Running, Over, Stuck, next_item, question_of, flag_of}
 use Rattle.job_steps.specs.Tickets.{Asked, AreResults, question_by}
 use Rattle.job_slots.specs.declared.answer.Begun.{Begun}
 use Rattle.job_slots.specs.declared.answer.Begun.TheVariants as begun
 use Rattle.job_slots.specs.declared.answer.Finished.{Finished}
 use Rattle.job_slots.specs.declared.answer.Finished.TheVariants as finished
+use Rattle.job_slots.specs.Slots.{IsReturned}
 
 -- ---- what a step asks
 
@@ -78,13 +78,15 @@ or_same standing (Some next) = next
 
 -- ---- a begin
 
--- the ticket is that of the job's next step, and nothing ends the job before its values are looked at
+-- the ticket is that of the job's next step, nothing ends the job before its values are looked at, and the desk has the
+-- job's words
 pub record IsTicketOf (job words : ℕ) (task : Task) (standing : Standing) (ticket : Asked) : Type 0 where
   pub live : standing ≡ Live ticket.step
   pub next : next_standing (event.Begin job) task standing ≡ Some (InFlight ticket.step)
   pub question : question_at task ticket.step ≡ Some ticket.question
   pub job_is : ticket.job ≡ job
   pub words_are : ticket.words ≡ words
+  pub enough : task.limits.words ≤ words
 
 -- what a ticket says whose job goes on after so many instructions
 pub record IsAskedOf (job words : ℕ) (task : Task) (n : ℕ) (ticket : Asked) : Type 0 where
@@ -139,13 +141,6 @@ standing_after_finished finished.Done old next = next
 standing_after_finished finished.Ended old next = next
 standing_after_finished finished.Stale old next = old
 
--- ---- an outcome
-
--- the job returned
-abbrev pub IsReturned : Ending → Type 0
-IsReturned (Returned values) = Unit {0}
-IsReturned ending = ⊥
-
 -- ---- results
 
 -- these are the instruction, the choice and the results of what a step asks
@@ -156,9 +151,9 @@ pub record IsAnswered (task : Task) (n : ℕ) (op : Op) (flag : Bool) (first sec
   pub flag_is : flag ≡ flag_of question
   pub results : AreResults question first second
 
--- a job that ends so, with these counts
+-- a job that ends so, with these counts, and not by return
 pub record IsEnding (task : Task) (executed most : ℕ) (ending : Ending) : Type 0 where
   pub outcome_is : outcome task ≡ ending
   pub executed_is : executed ≡ executed_count task
   pub peak_is : most ≡ peak task
-  pub nothing_left : left_words task ending ≡ 0
+  pub no_return : IsReturned ending → ⊥

@@ -3,25 +3,32 @@ use Rattle.std.specs.Prelude.{◌≡◌, ℕ, ℤ, ◌+◌, ◌^◌, ◌<◌, �
 use Rattle.vcode_base.specs.declared.op.Op.{Op}
 use Rattle.vcode_base.specs.declared.op.Op.TheVariants.{Move}
 use Rattle.vcode_base.specs.declared.op.StackMove.TheVariants.{Copy}
+use Rattle.vcode_base.specs.declared.rule.Rule.{Rule}
+use Rattle.vcode_base.specs.Instructions.{op_of}
 use Rattle.vcode_base.specs.Kinds.{result_kinds}
+use Rattle.vcode_reader.specs.Trees.{Item}
 use Rattle.refcounts.specs.SharedState.{IsTidy, empty_slot, slot_at}
 use Rattle.job_steps.specs.EventLaws.{IsVerified}
 use Rattle.job_steps.specs.Motions.{depth_after}
 use Rattle.job_steps.specs.Runs.{state_after}
-use Rattle.job_steps.specs.States.{Task}
+use Rattle.job_steps.specs.States.{Task, State}
+use Rattle.job_steps.specs.Steps.{held_at}
 use Rattle.job_steps.specs.Tracks.{Trace, IsDeep, CanFollow, Advances}
+use Rattle.verifier.specs.Typed.{TypedProgram}
+use Rattle.job_slots.specs.declared.commit.NewBlocks.{NewBlocks}
+use Rattle.verifier.specs.Typed.{TypedProgram}
+use Rattle.job_slots.specs.declared.commit.NewBlocks.TheVariants.{Without, One, Two}
 use Rattle.job_slots.specs.Answers.{IsAnswered}
-use Rattle.job_slots.specs.Commits.{CanTake, blocks_after_taking, moved_ids}
-use Rattle.job_memory.specs.JobBlocks.{JobBlocks, ChangesOnlyOf, own_slots, held_words, with_block}
+use Rattle.job_slots.specs.Commits.{CanTake, IsExchanged, blocks_after_taking, held_under, moved_ids, taken_ids}
+use Rattle.job_memory.specs.JobBlocks.{JobBlocks, AreOwn, ChangesOnlyOf, own_slots, with_block}
+use Rattle.job_slots.specs.Holdings.{HoldStack}
 use Rattle.job_slots.specs.Slots.{IsFlyingSlot, IsAfter}
 
--- blocks of these words were placed one after another, and these are their numbers; further lists weren't placed
-abbrev pub AreNew : ℕ → List ℕ → List (List ℤ) → JobBlocks → JobBlocks → Type 0
-AreNew job [] lists old new = new ≡ old
-AreNew job (id ∷ ids) [] old new = ⊥
-AreNew job (id ∷ ids) (words ∷ lists) old new =
-    (id < length old.memory.slots) × (slot_at old.memory id ≡ empty_slot)
-    × AreNew job ids lists (with_block old job id words) new
+-- the numbers of the blocks of results, from the bottom up
+abbrev pub ids_in : NewBlocks → List ℕ
+ids_in Without = []
+ids_in (One ids) = ids
+ids_in (Two ids) = ids
 
 -- each of these blocks may be shared as often as there are some
 abbrev pub AreFew : JobBlocks → List ℕ → Type 0
@@ -32,38 +39,65 @@ abbrev pub CanShare : Op → List ℕ → JobBlocks → Type 0
 CanShare (Move Copy lower upper) ids blocks = AreFew blocks (moved_ids lower upper ids)
 CanShare op ids blocks = Unit {0}
 
--- the instruction can take its operands off the stack and leave these results there
-pub record CanGoPast (job : ℕ) (task : Task) (t : Trace ℕ) (op : Op) (results : List ℕ) (blocks : JobBlocks) : Type 0
-  where
-    pub unspent : t.executed < t.limits.budget
-    pub deep : IsDeep op (length t.cells)
-    pub given : length results ≡ length (result_kinds op)
-    pub cells : depth_after op (length t.cells) ≤ t.limits.cells
-    pub follows : CanFollow task t.frames t.limits.calls
-    pub can_take : CanTake job op t.cells blocks
-    pub can_share : CanShare op t.cells blocks
+-- the instruction can take its operands off the stack, whose cells name the blocks of these numbers, the top first
+pub record CanSettle (job : ℕ) (op : Op) (cells : List ℕ) (blocks : JobBlocks) : Type 0 where
+  pub deep : IsDeep op (length cells)
+  pub own : AreOwn job blocks (taken_ids op cells)
+  pub can_take : CanTake job op cells blocks
+  pub can_share : CanShare op cells blocks
 
--- these results of the instruction were placed as blocks of these numbers
-pub record HasPlaced (job : ℕ) (op : Op) (first second : List ℤ) (ids : List ℕ) (old placed : JobBlocks) : Type 0 where
+-- the operands of the next instruction are the job's, and what counts as held is that of its run alone
+pub record IsCounted (rule : Rule) (job : ℕ) (blocks : JobBlocks) (item : Item) (s : State) (ids : List ℕ) : Type 0
+  where
+    pub own : AreOwn job blocks (taken_ids (op_of item) ids)
+    pub held : held_under rule job (op_of item) ids blocks ≡ held_at rule item s
+
+-- so it is where the cells hold the stack
+abbrev pub HeldIsCounted : Type 0
+HeldIsCounted =
+    (rule : Rule) (job : ℕ) (blocks : JobBlocks) (item : Item) (s : State) (ids : List ℕ) →
+    HoldStack (own_slots job blocks) ids s.stack → IsTidy blocks.memory → IsCounted rule job blocks item s ids
+
+-- its operands are taken off the stack, and blocks of these numbers have the words of its results
+abbrev pub AreSettled : Rule → ℕ → Op → List ℤ → List ℤ → List ℕ → List ℕ → JobBlocks → JobBlocks → Type 0
+AreSettled rule job op first second cells [] old new = new ≡ blocks_after_taking op cells old
+AreSettled rule job op first second cells (id ∷ []) old new =
+    IsExchanged rule job (taken_ids op cells) id first old new
+AreSettled rule job op first second cells (below ∷ top ∷ ids) old new =
+    (between : JobBlocks) × IsExchanged rule job (taken_ids op cells) below first old between
+    × (top < length between.memory.slots) × (slot_at between.memory top ≡ empty_slot)
+    × (new ≡ with_block between job top second)
+
+-- so many of them as the instruction has results
+pub record HasSettled (rule : Rule) (job : ℕ) (op : Op) (first second : List ℤ) (cells ids : List ℕ)
+    (old new : JobBlocks) : Type 0 where
   pub given : length ids ≡ length (result_kinds op)
-  pub are_new : AreNew job ids (first ∷ second ∷ []) old placed
+  pub settled : AreSettled rule job op first second cells ids old new
+
+-- the track can go on to what follows the instruction
+pub record CanGoPast (verified : TypedProgram) (t : Trace ℕ) (op : Op) : Type 0 where
+  pub unspent : t.executed < t.limits.budget
+  pub deep : IsDeep op (length t.cells)
+  pub cells : depth_after op (length t.cells) ≤ t.limits.cells
+  pub follows : CanFollow verified t.frames t.limits.calls
 
 -- track and blocks are where the job is after one instruction more, and no other job's blocks changed
 pub record IsExecuted (job : ℕ) (old new : JobBlocks) (task : Task) (t u : Trace ℕ) : Type 0 where
   pub after : IsAfter (own_slots job new) task u (state_after task (t.executed + 1))
   pub others : ChangesOnlyOf job old new
 
--- The instruction has at most two results, for which the job's words have room. Where they are placed, it can go past,
--- and that executes it.
+-- The instruction has at most two results, for which the job's words have room. Its operands can be taken off the stack,
+-- and the track can go past. Where blocks have the results, that executes it.
 pub record CanExecute (job : ℕ) (old : JobBlocks) (task : Task) (t : Trace ℕ) (op : Op) (flag : Bool)
     (first second : List ℤ) : Type 0 where
   pub two : length (result_kinds op) ≤ 2
-  pub room : held_words job old + length first + length second ≤ task.limits.words
-  pub goes_past : (ids : List ℕ) (placed : JobBlocks) → HasPlaced job op first second ids old placed →
-      CanGoPast job task t op ids placed
-  pub executes : (ids : List ℕ) (placed : JobBlocks) (u : Trace ℕ) → HasPlaced job op first second ids old placed →
-      Advances task op flag ids (held_words job old + length first + length second) t u →
-      IsExecuted job old (blocks_after_taking op t.cells placed) task t u
+  pub room : held_under task.rule job op t.cells old + length first + length second ≤ task.limits.words
+  pub can_settle : CanSettle job op t.cells old
+  pub goes_past : CanGoPast task.verified t op
+  pub executes : (ids : List ℕ) (new : JobBlocks) (u : Trace ℕ) →
+      HasSettled task.rule job op first second t.cells ids old new →
+      Advances task.verified op flag ids (held_under task.rule job op t.cells old + length first + length second) t u →
+      IsExecuted job old new task t u
 
 abbrev pub StepsExecute : Type 0
 StepsExecute =

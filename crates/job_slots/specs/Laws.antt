@@ -1,10 +1,11 @@
 -- The laws of slots, as the public module `laws` promises them.
 use Rattle.std.specs.Prelude.{◌≡◌, ◌≢◌, ℕ, ◌≤◌, None}
+use Rattle.vcode_base.specs.declared.rule.Rule.{Rule}
 use Rattle.refcounts.specs.SharedState.{empty_slot, slot_in, blocks_in, IsTidy}
 use Rattle.job_memory.specs.JobBlocks.{JobBlocks, IsJob, ChangesOnlyOf, grant_of, own_slots, held_words}
 use Rattle.job_steps.specs.EventLaws.{StandsOnRun}
 use Rattle.job_steps.specs.Standings.{held_by, executed_at, peak_at, outcome_at}
-use Rattle.job_steps.specs.States.{Task}
+use Rattle.job_steps.specs.States.{JobValue, Task, ruled}
 use Rattle.job_slots.specs.Slots.{SlotState, Shows, IsNewSlot, standing_of, told_outcome, recalled_slot}
 
 -- what a slot shows: it stands on its run alone, and its counts and its blocks' words are those of its standing
@@ -25,11 +26,11 @@ abbrev pub OthersAreShown : Type 0
 OthersAreShown = (number other : ℕ) (old new : JobBlocks) (task : Task) (slot : SlotState)
     → ChangesOnlyOf other old new → other ≢ number → Shows number old task slot → Shows number new task slot
 
--- a new slot of a job that has neither a grant nor a block
+-- a new slot of a job that has neither a grant nor a block, by whichever rule it runs
 abbrev pub NewIsShown : Type 0
-NewIsShown = (number : ℕ) (blocks : JobBlocks) (task : Task) (slot : SlotState) → IsNewSlot task slot
+NewIsShown = (rule : Rule) (number : ℕ) (blocks : JobBlocks) (job : JobValue) (slot : SlotState) → IsNewSlot job slot
     → IsJob blocks number → grant_of blocks number ≡ None → ((id : ℕ) → slot_in (own_slots number blocks) id ≡ empty_slot)
-    → Shows number blocks task slot
+    → Shows number blocks (ruled rule job) slot
 
 abbrev pub RecalledIsShown : Type 0
 RecalledIsShown = (number : ℕ) (blocks : JobBlocks) (task : Task) (slot : SlotState) → Shows number blocks task slot

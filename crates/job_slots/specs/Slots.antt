@@ -6,9 +6,10 @@ use Rattle.refcounts.specs.SharedState as shared
 use Rattle.job_memory.specs.JobBlocks.{JobBlocks, IsJob, grant_of, own_slots}
 use Rattle.job_steps.specs.EventLaws.{IsVerified}
 use Rattle.job_steps.specs.Events.{early_end}
+use Rattle.job_steps.specs.Reached.{IsVerifiedBySome}
 use Rattle.job_steps.specs.Runs.{state_after, outcome, executed_count, peak}
 use Rattle.job_steps.specs.Standings.{Standing, Waiting, Live, InFlight, Ended, Collected, held_in, left_words}
-use Rattle.job_steps.specs.States.{Vector, Task, Entry, State, values_of, held_words}
+use Rattle.job_steps.specs.States.{Vector, JobValue, Task, Entry, State, values_of, held_words}
 use Rattle.job_steps.specs.Steps.{Progress, Running, Over, Stuck}
 use Rattle.job_steps.specs.Tracks.{Trace, IsFirst, IsAt, IsThrough}
 use Rattle.job_slots.specs.declared.status.Status.{Status}
@@ -61,11 +62,16 @@ pub record HasReturned (slots : List shared.Slot) (task : Task) (t : Trace ℕ) 
   pub left : left_words task (outcome task) ≡ held_words stack
   pub holds : HoldStack slots t.cells stack
 
--- what a job that has ended leaves until it is collected: its results, or its ending
+-- the job returned
+abbrev pub IsReturned : Outcome (List Vector) → Type 0
+IsReturned (Returned values) = Unit {0}
+IsReturned ending = ⊥
+
+-- what a job that has ended leaves until it is collected: its results, or its ending, which is no return
 abbrev pub Leaves : List shared.Slot → Task → Trace ℕ → Option (Outcome (List Vector)) → Type 0
 Leaves slots task t None = HasReturned slots task t
 Leaves slots task t (Some ending) =
-    (outcome task ≡ ending) × (left_words task ending ≡ 0) × HoldNothing slots t.cells
+    (outcome task ≡ ending) × (IsReturned ending → ⊥) × HoldNothing slots t.cells
 
 pub record HasEnded (slots : List shared.Slot) (task : Task) (t : Trace ℕ) (o : Option (Outcome (List Vector)))
     : Type 0 where
@@ -81,7 +87,7 @@ pub record IsCollectedSlot (slots : List shared.Slot) (task : Task) (t : Trace �
   pub nothing : HoldNothing slots t.cells
 
 pub record IsWaitingSlot (slots : List shared.Slot) (task : Task) (t : Trace ℕ) : Type 0 where
-  pub first : IsFirst task t
+  pub first : IsFirst task.verified task.limits t
   pub nothing : HoldNothing slots t.cells
 
 abbrev pub ShowsAs : List shared.Slot → Task → Trace ℕ → Option (Outcome (List Vector)) → Status → Type 0
@@ -122,10 +128,10 @@ IsAfter slots task t Stuck = ⊥
 -- ---- new slots
 
 -- a job that waits, at the first line of its MAIN
-pub record IsNewSlot (task : Task) (slot : SlotState) : Type 0 where
+pub record IsNewSlot (job : JobValue) (slot : SlotState) : Type 0 where
   pub status_is : slot.status ≡ status.Waiting
-  pub verified : IsVerified task
-  pub first : IsFirst task slot.trace
+  pub verified : IsVerifiedBySome job.verified
+  pub first : IsFirst job.verified job.limits slot.trace
 
 abbrev pub told_by : Status → Option (Outcome (List Vector)) → Option (Outcome (List Vector))
 told_by status.Collected o = o

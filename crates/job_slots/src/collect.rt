@@ -5,6 +5,7 @@ ghost use Rattle.vcode_base.specs.declared.outcome.Outcome.TheVariants.{Returned
 ghost use Rattle.job_memory.specs.JobBlocks.{own_slots};
 ghost use Rattle.job_steps.specs.EventLaws.{IsVerified};
 ghost use Rattle.job_steps.specs.Runs.{outcome};
+ghost use Rattle.job_steps.specs.States.{ruled};
 ghost use Rattle.job_slots.specs.Slots.{HasReturned};
 
 use block_memory::BlockId;
@@ -12,19 +13,20 @@ use job_memory::JobMemory;
 use job_steps::laws::{each_ends, results_have_kinds};
 use job_steps::{Job, Track};
 use std::alloc::{AllocError, Allocator};
-use vcode_base::{Kind, Sequence, Value, Values, Words};
+use vcode_base::{Kind, Rule, Sequence, Value, Values, Words};
 
 /// Copies of the results, from the bottom of the stack up.
 pub(crate) fn results<A: Allocator + Clone>(
     alloc: A,
+    rule: Rule,
     job: &Job<A>,
     track: &Track<BlockId, A>,
     number: usize,
     blocks: &JobMemory<A>,
 ) -> Result<Values<A>, AllocError>
-    requires returned { HasReturned (own_slots number blocks.now) job.now track.now }
-    requires verified { IsVerified job.now }
-    ensures { IfOk result (λ values. outcome job.now ≡ Returned values) }
+    requires returned { HasReturned (own_slots number blocks.now) (ruled rule job.now) track.now }
+    requires verified { IsVerified (ruled rule job.now) }
+    ensures { IfOk result (λ values. outcome (ruled rule job.now) ≡ Returned values) }
 {
     results_have_kinds();
     each_ends();

@@ -1,27 +1,55 @@
 //! What an instruction that is executed does to the cells and the blocks.
 
 ghost use Rattle.std.specs.Prelude.{◌≡◌, ◌+◌, ◌<◌, ◌≤◌, length, reverse, Some};
+ghost use Rattle.vcode_base.specs.Kinds.{result_kinds};
 ghost use Rattle.refcounts.specs.SharedState.{block_count, empty_slot, slot_at};
-ghost use Rattle.job_memory.specs.JobBlocks.{IsJob, HasGrant, ChangesOnlyOf, grant_of, words_of, own_slots};
+ghost use Rattle.job_memory.specs.JobBlocks.{IsJob, HasGrant, AreOwn, ChangesOnlyOf, grant_of, words_of, own_slots};
 ghost use Rattle.job_memory.specs.JobBlocks.{held_words, with_block};
 ghost use Rattle.job_steps.specs.EventLaws.{IsVerified};
-ghost use Rattle.job_steps.specs.Motions.{top_entries};
+ghost use Rattle.job_steps.specs.Motions.{operand_count, top_entries};
 ghost use Rattle.job_steps.specs.Runs.{state_after};
+ghost use Rattle.job_steps.specs.States.{ruled};
 ghost use Rattle.job_steps.specs.Tracks.{IsDeep, Advances};
-ghost use Rattle.job_slots.specs.Commits.{CanTake, blocks_after_taking, moved_ids};
-ghost use Rattle.job_slots.specs.Executions.{CanGoPast, CanShare};
+ghost use Rattle.job_slots.specs.Commits.{CanTake, IsExchanged, blocks_after_taking, blocks_beside, held_under};
+ghost use Rattle.job_slots.specs.Commits.{moved_ids, taken_ids};
+ghost use Rattle.job_slots.specs.Executions.{CanGoPast, CanSettle, CanShare, HasSettled, ids_in};
 ghost use Rattle.job_slots.specs.Slots.{IsFlyingSlot, IsAfter};
 ghost use Rattle.job_slots.specs.Answers.{IsAnswered};
 
 use crate::execution::steps_execute;
 use block_memory::BlockId;
 use job_memory::JobMemory;
+use job_memory::laws::releases_change_only_their_job;
 use job_steps::{Job, Track};
+use refcounts::laws::releases_only_free;
 use std::alloc::Allocator;
-use vcode_base::{Op, StackMove};
+use vcode_base::{Op, Rule, StackMove};
+
+/// The blocks of an instruction's results, from the bottom of the stack up.
+#[derive(Clone, Copy)]
+pub(crate) enum NewBlocks {
+    Without,
+    One([BlockId; 1]),
+    Two([BlockId; 2]),
+}
+
+impl NewBlocks {
+    /// Their numbers.
+    #[inline(always)]
+    fn as_slice(&self) -> &[BlockId]
+        ensures { result.now ≡ ids_in self.now }
+    {
+        match self {
+            NewBlocks::Without => &[],
+            NewBlocks::One(ids) => ids,
+            NewBlocks::Two(ids) => ids,
+        }
+    }
+}
 
 /// Executes the next instruction of a job that runs, whose results are these words.
 pub(crate) fn execute<A: Allocator>(
+    rule: Rule,
     job: &Job<A>,
     track: &mut Track<BlockId, A>,
     number: usize,
@@ -31,80 +59,85 @@ pub(crate) fn execute<A: Allocator>(
     first: &[i64],
     second: &[i64],
 )
-    requires flying { IsFlyingSlot (own_slots number blocks.old) job.now track.old }
-    requires verified { IsVerified job.now }
+    requires flying { IsFlyingSlot (own_slots number blocks.old) (ruled rule job.now) track.old }
+    requires verified { IsVerified (ruled rule job.now) }
     requires is_job { IsJob blocks.old number }
     requires grant { grant_of blocks.old number ≡ Some job.now.limits.words }
     requires numbers { block_count blocks.old.memory + 2 ≤ length blocks.old.memory.slots }
-    requires answered { IsAnswered job.now track.old.executed op flag first.now second.now }
-    ensures after { IsAfter (own_slots number blocks.new) job.now track.new (state_after job.now (track.old.executed + 1)) }
+    requires answered { IsAnswered (ruled rule job.now) track.old.executed op flag first.now second.now }
+    ensures after { IsAfter (own_slots number blocks.new) (ruled rule job.now) track.new
+        (state_after (ruled rule job.now) (track.old.executed + 1)) }
     ensures limits { track.new.limits ≡ track.old.limits }
     ensures others { ChangesOnlyOf number blocks.old blocks.new }
     ensures same_grant { grant_of blocks.new number ≡ grant_of blocks.old number }
 {
     steps_execute();
     let _used = blocks.used();
-    let words = blocks.held(number) + first.len() + second.len();
-    match op.result_kinds() {
-        [] => go_past(job, track, number, blocks, op, flag, &[], words),
-        [_] => {
-            let result = place(number, blocks, first);
-            go_past(job, track, number, blocks, op, flag, &[result], words);
-        }
-        _ => {
-            let below = place(number, blocks, first);
-            let top = place(number, blocks, second);
-            go_past(job, track, number, blocks, op, flag, &[below, top], words);
-        }
+    let words = held_under(rule, track, number, blocks, op) + first.len() + second.len();
+    let results = settle(rule, track, number, blocks, op, first, second);
+    go_past(job, track, op, flag, results.as_slice(), words);
+}
+
+/// The words that count as held while an instruction's results are made: not those of the operands under the second
+/// rule, unless an entry below them has them too.
+#[inline(always)]
+pub(crate) fn held_under<A: Allocator>(
+    rule: Rule,
+    track: &Track<BlockId, A>,
+    number: usize,
+    blocks: &JobMemory<A>,
+    op: Op,
+) -> usize
+    requires has_grant { HasGrant blocks.now number }
+    requires deep { operand_count op ≤ length track.now.cells }
+    requires own { AreOwn number blocks.now (taken_ids op track.now.cells) }
+    ensures { result ≡ held_under rule number op track.now.cells blocks.now }
+{
+    match rule {
+        Rule::First => blocks.held(number),
+        Rule::Second => blocks.held_without(number, top(track.cells(), op.operand_kinds().len())),
     }
 }
 
-/// A new block of the job, whose grant has room for it.
-fn place<A: Allocator>(number: usize, blocks: &mut JobMemory<A>, words: &[i64]) -> BlockId
-    requires has_grant { HasGrant blocks.old number }
-    requires numbers { block_count blocks.old.memory < length blocks.old.memory.slots }
-    requires room { held_words number blocks.old + length words.now ≤ words_of (grant_of blocks.old number) }
-    ensures fresh { (result < length blocks.old.memory.slots) × (slot_at blocks.old.memory result ≡ empty_slot) }
-    ensures placed { blocks.new ≡ with_block blocks.old number result words.now }
-    ensures held { held_words number blocks.new ≡ held_words number blocks.old + length words.now }
-    ensures count { block_count blocks.new.memory ≡ block_count blocks.old.memory + 1 }
-    ensures numbers { length blocks.new.memory.slots ≡ length blocks.old.memory.slots }
-    ensures grants { blocks.new.grants ≡ blocks.old.grants }
-{
-    let Ok(id) = blocks.place(number, words) else {
-        unreachable!()
-    };
-    id
-}
-
-/// The operands of the next instruction leave the stack, its results take their place, and the job goes on behind it.
-fn go_past<A: Allocator>(
-    job: &Job<A>,
-    track: &mut Track<BlockId, A>,
-    number: usize,
-    blocks: &mut JobMemory<A>,
-    op: Op,
-    flag: bool,
-    results: &[BlockId],
-    words: usize,
-)
-    requires has_grant { HasGrant blocks.old number }
-    requires can { CanGoPast number job.now track.old op results.now blocks.old }
-    ensures blocks { blocks.new ≡ blocks_after_taking op track.old.cells blocks.old }
-    ensures grants { blocks.new.grants ≡ blocks.old.grants }
-    ensures track { Advances job.now op flag results.now words track.old track.new }
-{
-    release_taken(track, number, blocks, op);
-    track.advance(job, op, flag, results, words);
-}
-
-/// One reference less to each block that the instruction takes off the stack, and one more to each that it copies.
-fn release_taken<A: Allocator>(
+/// Takes the operands of an instruction off the blocks, and places its results.
+#[tactic(auto, using(crate::proofs::Placed::same_grants))]
+#[inline(always)]
+fn settle<A: Allocator>(
+    rule: Rule,
     track: &Track<BlockId, A>,
     number: usize,
     blocks: &mut JobMemory<A>,
     op: Op,
-)
+    first: &[i64],
+    second: &[i64],
+) -> NewBlocks
+    requires has_grant { HasGrant blocks.old number }
+    requires numbers { block_count blocks.old.memory + 2 ≤ length blocks.old.memory.slots }
+    requires two { length (result_kinds op) ≤ 2 }
+    requires room { held_under rule number op track.now.cells blocks.old + length first.now + length second.now
+        ≤ words_of (grant_of blocks.old number) }
+    requires can { CanSettle number op track.now.cells blocks.old }
+    ensures settled { HasSettled rule number op first.now second.now track.now.cells (ids_in result) blocks.old
+        blocks.new }
+    ensures grants { blocks.new.grants ≡ blocks.old.grants }
+{
+    match op.result_kinds() {
+        [] => {
+            take(track, number, blocks, op);
+            NewBlocks::Without
+        }
+        [_] => NewBlocks::One([exchange(rule, track, number, blocks, op, first)]),
+        _ => {
+            let below = exchange(rule, track, number, blocks, op, first);
+            let top = place(number, blocks, second);
+            NewBlocks::Two([below, top])
+        }
+    }
+}
+
+/// One reference less to each block that the instruction takes off the stack, and one more to each that it copies.
+#[inline(always)]
+fn take<A: Allocator>(track: &Track<BlockId, A>, number: usize, blocks: &mut JobMemory<A>, op: Op)
     requires has_grant { HasGrant blocks.old number }
     requires deep { IsDeep op (length track.now.cells) }
     requires can_take { CanTake number op track.now.cells blocks.old }
@@ -126,7 +159,77 @@ fn release_taken<A: Allocator>(
     }
 }
 
-/// So many cells at the top.
+/// A new block of the words in the place of the operands, which go after it is placed, or before it under the second
+/// rule.
+#[inline(always)]
+fn exchange<A: Allocator>(
+    rule: Rule,
+    track: &Track<BlockId, A>,
+    number: usize,
+    blocks: &mut JobMemory<A>,
+    op: Op,
+    words: &[i64],
+) -> BlockId
+    requires has_grant { HasGrant blocks.old number }
+    requires numbers { block_count blocks.old.memory < length blocks.old.memory.slots }
+    requires deep { operand_count op ≤ length track.now.cells }
+    requires own { AreOwn number blocks.old (taken_ids op track.now.cells) }
+    requires room { held_under rule number op track.now.cells blocks.old + length words.now
+        ≤ words_of (grant_of blocks.old number) }
+    ensures exchanged { IsExchanged rule number (taken_ids op track.now.cells) result words.now blocks.old blocks.new }
+    ensures held { held_words number blocks.new
+        ≤ held_under rule number op track.now.cells blocks.old + length words.now }
+    ensures count { block_count blocks.new.memory ≤ block_count blocks.old.memory + 1 }
+    ensures numbers { length blocks.new.memory.slots ≡ length blocks.old.memory.slots }
+    ensures grants { blocks.new.grants ≡ blocks.old.grants }
+{
+    releases_only_free();
+    releases_change_only_their_job();
+    let operands = top(track.cells(), op.operand_kinds().len());
+    match rule {
+        Rule::First => {
+            let id = place(number, blocks, words);
+            blocks.release_all(number, operands);
+            id
+        }
+        Rule::Second => blocks.exchange(number, operands, words),
+    }
+}
+
+/// A new block of the job, whose grant has room for it.
+#[inline(always)]
+fn place<A: Allocator>(number: usize, blocks: &mut JobMemory<A>, words: &[i64]) -> BlockId
+    requires has_grant { HasGrant blocks.old number }
+    requires numbers { block_count blocks.old.memory < length blocks.old.memory.slots }
+    requires room { held_words number blocks.old + length words.now ≤ words_of (grant_of blocks.old number) }
+    ensures fresh { (result < length blocks.old.memory.slots) × (slot_at blocks.old.memory result ≡ empty_slot) }
+    ensures placed { blocks.new ≡ with_block blocks.old number result words.now }
+{
+    let Ok(id) = blocks.place(number, words) else {
+        unreachable!()
+    };
+    id
+}
+
+/// The results of the next instruction take the place of its operands among the cells, and the job goes on after it.
+#[inline(always)]
+fn go_past<A: Allocator>(
+    job: &Job<A>,
+    track: &mut Track<BlockId, A>,
+    op: Op,
+    flag: bool,
+    results: &[BlockId],
+    words: usize,
+)
+    requires can { CanGoPast job.now.verified track.old op }
+    requires given { length results.now ≡ length (result_kinds op) }
+    ensures { Advances job.now.verified op flag results.now words track.old track.new }
+{
+    track.advance(job, op, flag, results, words);
+}
+
+/// The cells at the top, of which there are at least `count`.
+#[inline(always)]
 fn top(cells: &[BlockId], count: usize) -> &[BlockId]
     requires { count ≤ length cells.now }
     ensures { result.now ≡ top_entries count (reverse cells.now) }
@@ -135,6 +238,7 @@ fn top(cells: &[BlockId], count: usize) -> &[BlockId]
 }
 
 /// The `lower` cells that lie below the top `upper`.
+#[inline(always)]
 fn below_top(cells: &[BlockId], lower: usize, upper: usize) -> &[BlockId]
     requires { lower + upper ≤ length cells.now }
     ensures { result.now ≡ moved_ids lower upper (reverse cells.now) }

@@ -1,6 +1,7 @@
-//! The law that the next instruction of a job whose step is in flight can be executed.
+//! Laws of the next instruction of a job: what counts as held at it, and that it can be executed where its step is in
+//! flight.
 
-ghost use Rattle.job_slots.specs.Executions.{StepsExecute};
+ghost use Rattle.job_slots.specs.Executions.{HeldIsCounted, StepsExecute};
 
 use block_memory::BlockId;
 use job_memory::laws::{
@@ -8,7 +9,9 @@ use job_memory::laws::{
     shares_change_only_their_job,
 };
 use job_steps::laws::{each_track_follows, others_are_ready, reached, steps_can_advance};
-use refcounts::laws::{releases_are_counted, releases_keep_blocks, shares_are_counted};
+use refcounts::laws::{
+    release_stays_tidy, releases_are_counted, releases_keep_blocks, shares_are_counted,
+};
 use vcode_base::laws::results_have_needed_lengths;
 
 /// The results of a step in flight have room in the job's words, and what is done with them executes its instruction.
@@ -23,6 +26,22 @@ pub(crate) fn steps_execute()
     shares_are_counted();
     releases_are_counted();
     releases_keep_blocks();
+    release_stays_tidy();
+    blocks_change_only_their_job();
+    shares_change_only_their_job();
+    releases_change_only_their_job();
+    changes_join();
+}
+
+/// What counts as held at the next instruction of a job is what counts when it runs alone, and the blocks of its operands
+/// are the job's.
+pub(crate) fn held_is_counted()
+    ensures { HeldIsCounted }
+{
+    shares_are_counted();
+    releases_are_counted();
+    releases_keep_blocks();
+    release_stays_tidy();
     blocks_change_only_their_job();
     shares_change_only_their_job();
     releases_change_only_their_job();

@@ -11,7 +11,7 @@ ghost use Rattle.job_steps.specs.declared.operands.TheConstants.{MOST_OPERANDS};
 ghost use Rattle.job_steps.specs.EventLaws.{IsVerified};
 ghost use Rattle.job_steps.specs.Frames.{instruction_in};
 ghost use Rattle.job_steps.specs.Motions.{operand_count, top_entries};
-ghost use Rattle.job_steps.specs.States.{Entry, words_of};
+ghost use Rattle.job_steps.specs.States.{Entry, ruled, words_of};
 ghost use Rattle.job_steps.specs.Steps.{sources_of};
 ghost use Rattle.job_slots.specs.Slots.{IsRunningSlot};
 ghost use Rattle.job_slots.specs.Answers.{IsNext, line_at, question_at};
@@ -21,7 +21,7 @@ use job_memory::JobMemory;
 use job_steps::laws::steps_can_begin;
 use job_steps::{Filled, Job, MOST_OPERANDS, Track};
 use std::alloc::Allocator;
-use vcode_base::{Instr, Instruction, Op};
+use vcode_base::{Instr, Instruction, Op, Rule};
 use vcode_reader::{CodeItem, CodeLine};
 
 /// The words of an instruction's operands from the bottom of the stack up, or of its list.
@@ -52,14 +52,15 @@ pub(crate) struct Next<'a> {
 /// The next instruction of a job that runs.
 #[inline(always)]
 pub(crate) fn read_next<'a, A: Allocator>(
+    rule: Rule,
     job: &'a Job<A>,
     track: &Track<BlockId, A>,
     number: usize,
     blocks: &'a JobMemory<A>,
 ) -> Next<'a>
-    requires running { IsRunningSlot (own_slots number blocks.now) job.now track.now }
-    requires verified { IsVerified job.now }
-    ensures next { IsNext job.now track.now.executed result.op result.line
+    requires running { IsRunningSlot (own_slots number blocks.now) (ruled rule job.now) track.now }
+    requires verified { IsVerified (ruled rule job.now) }
+    ensures next { IsNext (ruled rule job.now) track.now.executed result.op result.line
         (contents (take result.operands.count result.operands.lists)) }
     ensures kinds { HaveKinds (source_kinds result.op) (contents (take result.operands.count result.operands.lists)) }
 {
@@ -74,14 +75,15 @@ pub(crate) fn read_next<'a, A: Allocator>(
 
 /// The line of the next instruction of a job that runs.
 pub(crate) fn line_of_next<A: Allocator>(
+    rule: Rule,
     job: &Job<A>,
     track: &Track<BlockId, A>,
     number: usize,
     blocks: &JobMemory<A>,
 ) -> u64
-    requires running { IsRunningSlot (own_slots number blocks.now) job.now track.now }
-    requires verified { IsVerified job.now }
-    ensures { line_at job.now track.now.executed ≡ Some result }
+    requires running { IsRunningSlot (own_slots number blocks.now) (ruled rule job.now) track.now }
+    requires verified { IsVerified (ruled rule job.now) }
+    ensures { line_at (ruled rule job.now) track.now.executed ≡ Some result }
 {
     steps_can_begin::<BlockId>();
     track.line(job.verified().program()).number
@@ -194,20 +196,21 @@ fn words_at<'a, A: Allocator>(ids: &[BlockId], place: usize, blocks: &'a JobMemo
 
 /// Whether a step that was computed is the next of the job.
 pub(crate) fn is_asked<A: Allocator>(
+    rule: Rule,
     job: &Job<A>,
     track: &Track<BlockId, A>,
     number: usize,
     blocks: &JobMemory<A>,
     filled: &Filled<A>,
 ) -> bool
-    requires running { IsRunningSlot (own_slots number blocks.now) job.now track.now }
-    requires verified { IsVerified job.now }
+    requires running { IsRunningSlot (own_slots number blocks.now) (ruled rule job.now) track.now }
+    requires verified { IsVerified (ruled rule job.now) }
     ensures { IsTrue result ↔ ((track.now.executed ≡ filled.now.step)
-        × (question_at job.now filled.now.step ≡ Some filled.now.question)) }
+        × (question_at (ruled rule job.now) filled.now.step ≡ Some filled.now.question)) }
 {
     if track.executed() != filled.step() {
         return false;
     }
-    let next = read_next(job, track, number, blocks);
+    let next = read_next(rule, job, track, number, blocks);
     filled.asks(next.op, next.operands.as_slice())
 }

@@ -11,12 +11,14 @@ ghost use Rattle.job_steps.specs.EventLaws.{IsVerified};
 ghost use Rattle.job_steps.specs.Events.{next_standing};
 ghost use Rattle.job_steps.specs.Runs.{outcome, executed_count, peak};
 ghost use Rattle.job_steps.specs.Standings.{Live, InFlight, Ended};
+ghost use Rattle.job_steps.specs.States.{ruled};
 ghost use Rattle.job_slots.specs.declared.status.Status.TheVariants as status;
 ghost use Rattle.job_slots.specs.declared.answer.Finished.TheVariants as finished;
 ghost use Rattle.job_slots.specs.Holdings.{HoldSomeStack, HoldNothing};
-ghost use Rattle.job_slots.specs.Slots.{Shows, Leaves, IsActive, IsNewSlot, standing_of, told_outcome, recalled_slot};
+ghost use Rattle.job_slots.specs.Slots.{Shows, Leaves, IsActive, IsNewSlot, IsReturned, standing_of, told_outcome};
+ghost use Rattle.job_slots.specs.Slots.{recalled_slot};
 ghost use Rattle.job_slots.specs.Answers.{Begins, IsPutOff, Finishes, Fits, IsEnding, is_ended, is_in_flight};
-ghost use Rattle.job_slots.specs.Answers.{or_same, standing_after_begun, standing_after_finished, IsReturned};
+ghost use Rattle.job_slots.specs.Answers.{or_same, standing_after_begun, standing_after_finished};
 
 use crate::answer::{Begun, Finished};
 use crate::collect::results;
@@ -34,12 +36,12 @@ use job_steps::{Desk, Filled, Job, Track};
 use refcounts::laws::{releases_are_counted, releases_keep_blocks};
 use std::alloc::{AllocError, Allocator};
 use std::marker::Model;
-use vcode_base::{Outcome, Values};
+use vcode_base::{Outcome, Rule, Values};
 
 /// Where a job stands in its run, and how it ended, once that is known.
 ///
-/// Its calls take the job that it was made for, the job's number from 1 on, and the memory of all jobs, in which it has
-/// to show where the job stands.
+/// Its calls take the rule by which the job runs, the job that it was made for, the job's number from 1 on, and the
+/// memory of all jobs, in which it has to show where the job stands.
 #[derive(Drop)]
 pub struct Slot<A: Allocator> {
     alloc: A,
@@ -112,14 +114,15 @@ impl<A: Allocator> Slot<A> {
     /// `NotNow` exactly where all reserved words and these together are more than the region has; then nothing changes.
     pub fn admit(
         &mut self,
+        rule: Rule,
         job: &Job<A>,
         number: usize,
         blocks: &mut JobMemory<A>,
     ) -> Result<(), NotNow>
-        requires shows { Shows number blocks.old job.now self.old }
+        requires shows { Shows number blocks.old (ruled rule job.now) self.old }
         requires waits { self.old.status ≡ status.Waiting }
         ensures not_now { IsErr result ↔ (blocks.old.memory.room < granted_words blocks.old + job.now.limits.words) }
-        ensures shows { Shows number blocks.new job.now self.new }
+        ensures shows { Shows number blocks.new (ruled rule job.now) self.new }
         ensures others { ChangesOnlyOf number blocks.old blocks.new }
         ensures admitted { OnOk result (standing_of self.new ≡ Live 0) }
         ensures unchanged { OnErr result ((self.new ≡ self.old) × (blocks.new ≡ blocks.old)) }
@@ -137,17 +140,19 @@ impl<A: Allocator> Slot<A> {
     /// limit, ends here; then its blocks are released.
     pub fn begin(
         &mut self,
+        rule: Rule,
         job: &Job<A>,
         number: usize,
         blocks: &mut JobMemory<A>,
         desk: Desk<A>,
     ) -> Begun<A>
-        requires { Shows number blocks.old job.now self.old }
-        ensures answer { Begins number desk job.now (standing_of self.old) result }
-        ensures shows { Shows number blocks.new job.now self.new }
+        requires { Shows number blocks.old (ruled rule job.now) self.old }
+        ensures answer { Begins number desk (ruled rule job.now) (standing_of self.old) result }
+        ensures shows { Shows number blocks.new (ruled rule job.now) self.new }
         ensures others { ChangesOnlyOf number blocks.old blocks.new }
         ensures standing { standing_of self.new ≡ standing_after_begun result (standing_of self.old)
-            (or_same (standing_of self.old) (next_standing (event.Begin number) job.now (standing_of self.old))) }
+            (or_same (standing_of self.old)
+            (next_standing (event.Begin number) (ruled rule job.now) (standing_of self.old))) }
         ensures unchanged { IsPutOff result → (self.new ≡ self.old) × (blocks.new ≡ blocks.old) }
     {
         changes_join();
@@ -161,14 +166,14 @@ impl<A: Allocator> Slot<A> {
         if desk.words() < job.limits().words {
             return Begun::SmallDesk(desk);
         }
-        match ticket_of(job, &self.track, number, blocks, desk) {
+        match ticket_of(rule, job, &self.track, number, blocks, desk) {
             Ok(ticket) => {
                 self.status = Status::InFlight;
                 Begun::Began(ticket)
             }
             Err(halted) => {
                 let Halted { ending, desk } = halted;
-                self.end(job, number, blocks, ending);
+                self.end(rule, job, number, blocks, ending);
                 Begun::Ended(desk)
             }
         }
@@ -181,19 +186,21 @@ impl<A: Allocator> Slot<A> {
     /// The job ends by a value fault, and by the RET of its only active call.
     pub fn finish(
         &mut self,
+        rule: Rule,
         job: &Job<A>,
         number: usize,
         blocks: &mut JobMemory<A>,
         filled: Filled<A>,
     ) -> (Finished, Desk<A>)
-        requires shows { Shows number blocks.old job.now self.old }
+        requires shows { Shows number blocks.old (ruled rule job.now) self.old }
         requires numbers { block_count blocks.old.memory + 2 ≤ length blocks.old.memory.slots }
-        ensures answer { Finishes number job.now (standing_of self.old) filled result.0 }
+        ensures answer { Finishes number (ruled rule job.now) (standing_of self.old) filled result.0 }
         ensures desk { result.1 ≡ filled.words }
-        ensures shows { Shows number blocks.new job.now self.new }
+        ensures shows { Shows number blocks.new (ruled rule job.now) self.new }
         ensures others { ChangesOnlyOf number blocks.old blocks.new }
         ensures standing { standing_of self.new ≡ standing_after_finished result.0 (standing_of self.old)
-            (or_same (standing_of self.old) (next_standing (event.Finish number) job.now (standing_of self.old))) }
+            (or_same (standing_of self.old)
+            (next_standing (event.Finish number) (ruled rule job.now) (standing_of self.old))) }
         ensures unchanged { result.0 ≡ finished.Stale → (self.new ≡ self.old) × (blocks.new ≡ blocks.old) }
     {
         changes_join();
@@ -203,10 +210,10 @@ impl<A: Allocator> Slot<A> {
                 return (Finished::Stale, filled.into_desk());
             }
         }
-        if !is_asked(job, &self.track, number, blocks, &filled) {
+        if !is_asked(rule, job, &self.track, number, blocks, &filled) {
             return (Finished::Stale, filled.into_desk());
         }
-        let finished = self.commit(job, number, blocks, &filled);
+        let finished = self.commit(rule, job, number, blocks, &filled);
         (finished, filled.into_desk())
     }
 
@@ -231,25 +238,27 @@ impl<A: Allocator> Slot<A> {
     ///
     /// [`AllocError`] where memory for copies of the results was refused, which comes only at a job that returned. Nothing
     /// changes then.
+    #[tactic(auto, using(crate::proofs::Holding::words_of_none))]
     pub fn collect(
         &mut self,
+        rule: Rule,
         job: &Job<A>,
         number: usize,
         blocks: &mut JobMemory<A>,
     ) -> Result<bool, AllocError>
     where
         A: Clone,
-        requires { Shows number blocks.old job.now self.old }
+        requires { Shows number blocks.old (ruled rule job.now) self.old }
         ensures answer { IfOk result (λ yes. yes ≡ is_ended (standing_of self.old)) }
         ensures standing { OnOk result
             (standing_of self.new ≡ or_same (standing_of self.old)
-            (next_standing (event.Collect number) job.now (standing_of self.old))) }
-        ensures shows { Shows number blocks.new job.now self.new }
+            (next_standing (event.Collect number) (ruled rule job.now) (standing_of self.old))) }
+        ensures shows { Shows number blocks.new (ruled rule job.now) self.new }
         ensures others { ChangesOnlyOf number blocks.old blocks.new }
         ensures nothing_to_collect { IfOk result (λ yes. yes ≡ false
             → (self.new ≡ self.old) × (blocks.new ≡ blocks.old)) }
         ensures unchanged { OnErr result ((self.new ≡ self.old) × (blocks.new ≡ blocks.old)) }
-        ensures returned { OnErr result ((standing_of self.old ≡ Ended) × IsReturned (outcome job.now)) }
+        ensures returned { OnErr result ((standing_of self.old ≡ Ended) × IsReturned (outcome (ruled rule job.now))) }
     {
         changes_join();
         grants_change_only_their_job();
@@ -259,7 +268,7 @@ impl<A: Allocator> Slot<A> {
                 return Ok(false);
             }
         }
-        self.store(job, number, blocks)?;
+        self.store(rule, job, number, blocks)?;
         self.let_go(number, blocks);
         blocks.close(number);
         self.status = Status::Collected;
@@ -269,23 +278,24 @@ impl<A: Allocator> Slot<A> {
     /// Copies the results of a job that has returned, so that the outcome of a job that has ended is there.
     fn store(
         &mut self,
+        rule: Rule,
         job: &Job<A>,
         number: usize,
         blocks: &JobMemory<A>,
     ) -> Result<(), AllocError>
     where
         A: Clone,
-        requires verified { IsVerified job.now }
-        requires leaves { Leaves (own_slots number blocks.now) job.now self.old.trace self.old.outcome }
-        ensures stored { OnOk result (self.new ≡ record self.old { outcome = Some (outcome job.now) }) }
+        requires verified { IsVerified (ruled rule job.now) }
+        requires leaves { Leaves (own_slots number blocks.now) (ruled rule job.now) self.old.trace self.old.outcome }
+        ensures stored { OnOk result (self.new ≡ record self.old { outcome = Some (outcome (ruled rule job.now)) }) }
         ensures unchanged { OnErr result (self.new ≡ self.old) }
-        ensures returned { OnErr result (IsReturned (outcome job.now)) }
+        ensures returned { OnErr result (IsReturned (outcome (ruled rule job.now))) }
     {
         if self.outcome.is_some() {
             return Ok(());
         }
         let alloc = self.alloc.clone()?;
-        let values = results(alloc, job, &self.track, number, blocks)?;
+        let values = results(alloc, rule, job, &self.track, number, blocks)?;
         self.outcome = Some(Outcome::Returned(values));
         Ok(())
     }
@@ -293,32 +303,35 @@ impl<A: Allocator> Slot<A> {
     /// The job goes on past its step, or ends with it.
     fn commit(
         &mut self,
+        rule: Rule,
         job: &Job<A>,
         number: usize,
         blocks: &mut JobMemory<A>,
         filled: &Filled<A>,
     ) -> Finished
-        requires shows { Shows number blocks.old job.now self.old }
+        requires shows { Shows number blocks.old (ruled rule job.now) self.old }
         requires flying { self.old.status ≡ status.InFlight }
-        requires fits { Fits job.now (standing_of self.old) filled.now }
+        requires fits { Fits (ruled rule job.now) (standing_of self.old) filled.now }
         requires numbers { block_count blocks.old.memory + 2 ≤ length blocks.old.memory.slots }
-        ensures answer { Finishes number job.now (standing_of self.old) filled.now result }
-        ensures shows { Shows number blocks.new job.now self.new }
+        ensures answer { Finishes number (ruled rule job.now) (standing_of self.old) filled.now result }
+        ensures shows { Shows number blocks.new (ruled rule job.now) self.new }
         ensures others { ChangesOnlyOf number blocks.old blocks.new }
-        ensures standing { Some (standing_of self.new) ≡ next_standing (event.Finish number) job.now (standing_of self.old) }
+        ensures standing { Some (standing_of self.new)
+            ≡ next_standing (event.Finish number) (ruled rule job.now) (standing_of self.old) }
     {
         reached();
         others_are_ready();
         end_is_own();
         match filled.answer() {
             Err(fault) => {
-                let line = line_of_next(job, &self.track, number, blocks);
-                self.end(job, number, blocks, Outcome::Fault(fault, line));
+                let line = line_of_next(rule, job, &self.track, number, blocks);
+                self.end(rule, job, number, blocks, Outcome::Fault(fault, line));
                 Finished::Ended
             }
             Ok((first, second)) => {
                 let (op, flag) = (filled.op(), filled.flag());
                 execute(
+                    rule,
                     job,
                     &mut self.track,
                     number,
@@ -354,21 +367,22 @@ impl<A: Allocator> Slot<A> {
     /// The job, which runs, ends otherwise than by return.
     fn end(
         &mut self,
+        rule: Rule,
         job: &Job<A>,
         number: usize,
         blocks: &mut JobMemory<A>,
         ending: Outcome<Values<A>>,
     )
-        requires shows { Shows number blocks.old job.now self.old }
+        requires shows { Shows number blocks.old (ruled rule job.now) self.old }
         requires active { IsActive self.old.status }
-        requires ending { IsEnding job.now self.old.trace.executed self.old.trace.peak ending }
-        ensures shows { Shows number blocks.new job.now self.new }
+        requires ending { IsEnding (ruled rule job.now) self.old.trace.executed self.old.trace.peak ending }
+        ensures shows { Shows number blocks.new (ruled rule job.now) self.new }
         ensures others { ChangesOnlyOf number blocks.old blocks.new }
         ensures ended { self.new.status ≡ status.Ended }
     {
-        self.let_go(number, blocks);
         self.outcome = Some(ending);
         self.status = Status::Ended;
+        self.let_go(number, blocks)
     }
 
     /// Lets go of all cells, and so of all blocks of the job.

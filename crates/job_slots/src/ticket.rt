@@ -5,22 +5,25 @@ ghost use Rattle.vcode_base.specs.declared.limits.TheConstants.{MOST_WORDS};
 ghost use Rattle.vcode_base.specs.Kinds.{HaveKinds, source_kinds};
 ghost use Rattle.vcode_base.specs.Meaning.{shape};
 ghost use Rattle.vcode_base.specs.Operands.{contents};
-ghost use Rattle.job_memory.specs.JobBlocks.{IsJob, own_slots};
+ghost use Rattle.job_memory.specs.JobBlocks.{HasGrant, own_slots};
 ghost use Rattle.job_steps.specs.EventLaws.{IsVerified};
 ghost use Rattle.job_steps.specs.Motions.{depth_after};
 ghost use Rattle.job_steps.specs.Questions.{need_words};
+ghost use Rattle.job_steps.specs.States.{ruled};
 ghost use Rattle.job_steps.specs.Steps.{ending_by, memory_fault};
 ghost use Rattle.job_steps.specs.Tickets.{question_by};
 ghost use Rattle.job_slots.specs.Slots.{IsRunningSlot};
 ghost use Rattle.job_slots.specs.Answers.{IsAskedOf, early_end_at};
 
+use crate::commit::held_under;
+use crate::execution::held_is_counted;
 use crate::next::{Next, read_next};
 use block_memory::BlockId;
 use job_memory::JobMemory;
 use job_steps::laws::{steps_can_advance, steps_can_begin};
 use job_steps::{Desk, Job, Ticket, Track, need, shape};
 use std::alloc::Allocator;
-use vcode_base::{Outcome, Values};
+use vcode_base::{Outcome, Rule, Values};
 
 /// How a job ends before its next instruction, with the desk that was meant for it.
 #[derive(Drop)]
@@ -32,32 +35,35 @@ pub(crate) struct Halted<A: Allocator> {
 /// The ticket of the next step of a job that runs, on a desk of at least the job's words, or how the job ends before
 /// it.
 pub(crate) fn ticket_of<A: Allocator>(
+    rule: Rule,
     job: &Job<A>,
     track: &Track<BlockId, A>,
     number: usize,
     blocks: &JobMemory<A>,
     desk: Desk<A>,
 ) -> Result<Ticket<A>, Halted<A>>
-    requires running { IsRunningSlot (own_slots number blocks.now) job.now track.now }
-    requires verified { IsVerified job.now }
-    requires is_job { IsJob blocks.now number }
+    requires running { IsRunningSlot (own_slots number blocks.now) (ruled rule job.now) track.now }
+    requires verified { IsVerified (ruled rule job.now) }
+    requires has_grant { HasGrant blocks.now number }
     requires words { job.now.limits.words ≤ desk }
     ensures { MatchResult result
-        (IsAskedOf number desk job.now track.now.executed)
-        (λ halted. (early_end_at job.now track.now.executed ≡ Some halted.ending) × (halted.desk ≡ desk)) }
+        (IsAskedOf number desk (ruled rule job.now) track.now.executed)
+        (λ halted. (early_end_at (ruled rule job.now) track.now.executed ≡ Some halted.ending) × (halted.desk ≡ desk)) }
 {
     steps_can_begin::<BlockId>();
     steps_can_advance::<BlockId>();
+    held_is_counted();
     if track.executed() == track.limits().budget {
         return Err(Halted {
             ending: Outcome::Budget,
             desk,
         });
     }
-    let next = read_next(job, track, number, blocks);
+    let next = read_next(rule, job, track, number, blocks);
     // By its type a memory has no block that no reference names.
     let _used = blocks.used();
-    match early_ending(track, blocks.held(number), &next) {
+    let held = held_under(rule, track, number, blocks, next.op);
+    match early_ending(track, held, &next) {
         Some(ending) => Err(Halted { ending, desk }),
         None => Ok(desk.ask(number, track.executed(), next.op, next.operands.as_slice())),
     }

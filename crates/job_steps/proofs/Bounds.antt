@@ -11,11 +11,13 @@ use Rattle.vcode_base.specs.declared.instr.Instr.TheVariants.{Const, Elementwise
 use Rattle.vcode_base.specs.declared.limits.Limits.{Limits}
 use Rattle.vcode_base.specs.declared.op.Op.{Op}
 use Rattle.vcode_base.specs.declared.outcome.Outcome.{Outcome}
+use Rattle.vcode_base.specs.declared.rule.Rule.{Rule}
 use Rattle.vcode_base.specs.Instructions.{op_of}
 use Rattle.vcode_base.specs.Laws.{ResultsHaveNeededLengths}
 use Rattle.vcode_base.specs.Meaning.{shape}
 use Rattle.vcode_base.specs.Names.{main_name}
 use Rattle.vcode_reader.specs.Trees.{Item, Body, End, Do, Choice}
+use Rattle.verifier.specs.Typed.{TypedProgram}
 use Rattle.job_steps.specs.Motions.{stack_after, depth_after}
 use Rattle.job_steps.specs.Reached.{AreAlike}
 use Rattle.job_steps.specs.Runs.{progress_from, state_after}
@@ -73,7 +75,7 @@ pub shaped : (task : Task) (s : State) (call : Active) (outer : List Active) →
 shaped task s call outer p = (neither (next_item call).number _ _ p.early).0
 
 pub fits_at : (task : Task) (s : State) (call : Active) (outer : List Active) → Passes task s call outer →
-    Fits task.limits (op_of (item_of call)) (words_at (item_of call) s)
+    Fits task.limits (op_of (item_of call)) (words_at task.rule (item_of call) s)
     (depth_after (op_of (item_of call)) (length s.stack)) (length s.calls)
 fits_at task s call outer p = fits task.limits _ _ _ _ (neither (next_item call).number _ _ p.early).1
 
@@ -83,26 +85,26 @@ calls_called : (o : Option Callee) (calls : List Active) → length (calls_with 
 calls_called None calls = omega arith
 calls_called (Some callee) calls = omega arith
 
-length-calls_past : (task : Task) (item : Item) (call : Active) (outer : List Active) (most : ℕ) →
+length-calls_past : (verified : TypedProgram) (item : Item) (call : Active) (outer : List Active) (most : ℕ) →
     suc (length outer) ≤ most →
-    (is_call (op_of item) ≡ true → suc (length outer) + 1 ≤ most) → length (calls_past task item call outer) ≤ most
-length-calls_past task (Const k list) call outer most now more = now
-length-calls_past task (Elementwise e) call outer most now more = now
-length-calls_past task (Segmented e) call outer most now more = now
-length-calls_past task If call outer most now more = now
-length-calls_past task (Move motion lower upper) call outer most now more = now
-length-calls_past task (Call name) call outer most now more =
-    omega (arith, calls_called (callee_named task.verified name) (call ∷ outer), more refl)
-length-calls_past task Return call outer most now more = omega arith
+    (is_call (op_of item) ≡ true → suc (length outer) + 1 ≤ most) → length (calls_past verified item call outer) ≤ most
+length-calls_past verified (Const k list) call outer most now more = now
+length-calls_past verified (Elementwise e) call outer most now more = now
+length-calls_past verified (Segmented e) call outer most now more = now
+length-calls_past verified If call outer most now more = now
+length-calls_past verified (Move motion lower upper) call outer most now more = now
+length-calls_past verified (Call name) call outer most now more =
+    omega (arith, calls_called (callee_named verified name) (call ∷ outer), more refl)
+length-calls_past verified Return call outer most now more = omega arith
 
-length-calls_after : (task : Task) (flag : Bool) (body : Body) (ret : ℕ) (outer : List Active) (most : ℕ) →
+length-calls_after : (verified : TypedProgram) (flag : Bool) (body : Body) (ret : ℕ) (outer : List Active) (most : ℕ) →
     suc (length outer) ≤ most →
     (is_call (op_of (item_of (record { rest = body; ret = ret }))) ≡ true → suc (length outer) + 1 ≤ most) →
-    length (calls_after task flag body ret outer) ≤ most
-length-calls_after task flag End ret outer most now more = omega arith
-length-calls_after task flag (Do item line rest) ret outer most now more =
-    length-calls_past task item (record { rest = rest; ret = ret }) outer most now more
-length-calls_after task flag (Choice line first second end rest) ret outer most now more = now
+    length (calls_after verified flag body ret outer) ≤ most
+length-calls_after verified flag End ret outer most now more = omega arith
+length-calls_after verified flag (Do item line rest) ret outer most now more =
+    length-calls_past verified item (record { rest = rest; ret = ret }) outer most now more
+length-calls_after verified flag (Choice line first second end rest) ret outer most now more = now
 
 -- ---- new entries
 
@@ -155,13 +157,13 @@ pub record IsBounded (task : Task) (n : ℕ) (s : State) : Type 0 where
   pub calls : length s.calls ≤ task.limits.calls
 
 -- the state behind an instruction
-abbrev pub state_past : Item → State → List Active → State
-state_past item s calls = record {
+abbrev pub state_past : Rule → Item → State → List Active → State
+state_past rule item s calls = record {
   stack = stack_after (op_of item) (new_entries s.next (results_of (question_of item s.stack))) s.stack;
   calls = calls;
   executed = s.executed + 1;
   next = s.next + length (results_of (question_of item s.stack));
-  peak = max s.peak (words_at item s);
+  peak = max s.peak (words_at rule item s);
 }
 
 unspent_within : (n budget : ℕ) → eqb n budget ≡ false → n ≤ budget → n + 1 ≤ budget
@@ -169,13 +171,13 @@ unspent_within n budget e h = grind (arith, nat_tests, e, h)
 
 bounded_past : ResultsHaveNeededLengths → (task : Task) (n : ℕ) (s : State) (call : Active) (outer : List Active) →
     IsBounded task n s → Passes task s call outer →
-    IsBounded task (n + 1) (state_past (item_of call) s (calls_then task s call outer))
+    IsBounded task (n + 1) (state_past task.rule (item_of call) s (calls_then task s call outer))
 bounded_past law task n s call outer b p =
     let op = op_of (item_of call) in
     let results = results_of (question_of (item_of call) s.stack) in
     let new = new_entries s.next results in
     let fit = fits_at task s call outer p in
-    let deep = deep_of task (item_of call) s.stack p.runs in
+    let deep = deep_of task.verified (item_of call) s.stack p.runs in
     let old : (k : ℕ) (d : Entry) → k < length s.stack → (get_or s.stack k d).tag < s.next = b.tags in
     let young : (k : ℕ) (d : Entry) → k < length new → s.next ≤ (get_or new k d).tag = tags_from s.next results in
     let total = total_results law s.next (item_of call) s.stack deep (shaped task s call outer p) p.late in
@@ -194,12 +196,12 @@ bounded_past law task n s call outer b p =
           (λ k d h j f g. λ e. absurd (omega (arith, young k d h, old j f g)))
           (λ k d h j f g. λ e. absurd (omega (arith, young j f g, old k d h)))
           b.alike;
-      words = omega (arith, held_after op new s.stack b.alike, total, fit.words_fit);
+      words = omega (arith, held_after task.rule (item_of call) new s b.alike, total, fit.words_fit);
       highest = max-le b.highest fit.words_fit;
       cells = subst (λ m. m ≤ task.limits.cells)
           (sym (length-stack_after op new s.stack (length-results s.next (question_of (item_of call) s.stack))
           deep)) fit.cells_fit;
-      calls = length-calls_after task _ call.rest call.ret outer task.limits.calls now more;
+      calls = length-calls_after task.verified _ call.rest call.ret outer task.limits.calls now more;
     }
 
 -- ---- runs
@@ -224,11 +226,11 @@ pub record Went (task : Task) (s next : State) : Type 0 where
   pub last : Active
   pub others : List Active
   pub calls : calls_then task s call outer ≡ last ∷ others
-  pub new : state_past (item_of call) s (last ∷ others) ≡ next
+  pub new : state_past task.rule (item_of call) s (last ∷ others) ≡ next
 
 went_past : (task : Task) (s next : State) (call : Active) (outer : List Active) → Passes task s call outer →
     (calls : List Active) → calls_then task s call outer ≡ calls →
-    progress_past (item_of call) s calls ≡ Running next → Went task s next
+    progress_past task.rule (item_of call) s calls ≡ Running next → Went task s next
 went_past task s next call outer p [] is e = absurd (over_running _ _ _ next e)
 went_past task s next call outer p (last ∷ others) is e =
     record {
@@ -239,7 +241,7 @@ went_past task s next call outer p (last ∷ others) is e =
       others = others;
       calls = is;
       new =
-          (let h : Running (state_past (item_of call) s (last ∷ others)) ≡ Running next = e in cc);
+          (let h : Running (state_past task.rule (item_of call) s (last ∷ others)) ≡ Running next = e in cc);
     }
 
 went_by : (task : Task) (s next : State) (p : Progress) → Goes task s p → p ≡ Running next → Went task s next
@@ -254,14 +256,14 @@ went task s next e = went_by task s next (next_progress task s) (goes task s) e
 pub bounded_next : ResultsHaveNeededLengths → (task : Task) (n : ℕ) (s next : State) → IsBounded task n s →
     Went task s next → IsBounded task (n + 1) next
 bounded_next law task n s next b w =
-    subst (IsBounded task (n + 1)) (ap (state_past (item_of w.call) s) w.calls
+    subst (IsBounded task (n + 1)) (ap (state_past task.rule (item_of w.call) s) w.calls
     ∙ w.new) (bounded_past law task n s w.call w.outer b w.passes)
 
 first_calls : (o : Option Callee) (most : ℕ) → 1 ≤ most → length (calls_with o []) ≤ most
 first_calls None most h = omega arith
 first_calls (Some callee) most h = h
 
-bounded_first : (task : Task) → IsBounded task 0 (first_state task)
+bounded_first : (task : Task) → IsBounded task 0 (first_state task.verified)
 bounded_first task = record {
   count = refl;
   budget = omega arith;
@@ -276,8 +278,9 @@ bounded_first task = record {
 -- each state that any job reaches is so
 pub bounded : ResultsHaveNeededLengths → (task : Task) (n : ℕ) (s : State) → state_after task n ≡ Running s →
     IsBounded task n s
-bounded law task zero s e = let h : first_state task ≡ s =
-    (let g : Running (first_state task) ≡ Running s = e in cc) in subst (IsBounded task 0) h (bounded_first task)
+bounded law task zero s e = let h : first_state task.verified ≡ s =
+    (let g : Running (first_state task.verified) ≡ Running s = e in cc) in
+    subst (IsBounded task 0) h (bounded_first task)
 bounded law task (suc n) s e =
     let from = running_from task (state_after task n) s e in
     subst (λ k. IsBounded task k s) (omega arith)

@@ -9,7 +9,7 @@ use Rattle.std.proofs.lemmas.Slice.Eq.{slice_eq-Decides}
 use Rattle.vcode_base.specs.declared.limits.Limits.{Limits}
 use Rattle.vcode_base.specs.declared.limits.TheConstants.{MOST_WORDS, MOST_CELLS, MOST_CALLS, MOST_BUDGET}
 use Rattle.verifier.specs.Typed.{TypedProgram}
-use Rattle.job_steps.specs.States.{Task}
+use Rattle.job_steps.specs.States.{JobValue}
 
 -- ---- limits, whose facts are propositions
 
@@ -61,13 +61,13 @@ same_limits a b =
 -- ---- jobs
 
 module _ {F : TypedProgram → TypedProgram → Bool} (exact : (p q : TypedProgram) → Decides (F p q) (p ≡ q)) where
-  pub same_jobs : (s t : Task) → Decides
+  pub same_jobs : (s t : JobValue) → Decides
       (pointwise nat_eq s.name t.name && (F s.verified t.verified && (nat_eq s.limits.words t.limits.words
       && (nat_eq s.limits.cells t.limits.cells && (nat_eq s.limits.calls t.limits.calls
       && nat_eq s.limits.budget t.limits.budget))))) (s ≡ t)
   same_jobs s t =
       Decides-like _
       (λ (n, (p, l)). λ i. record { name = n i; verified = p i; limits = l i })
-      (λ e. (ap (λ (u : Task). u.name) e, (ap (λ (u : Task). u.verified) e, ap (λ (u : Task). u.limits) e)))
+      (λ e. (ap (λ (u : JobValue). u.name) e, (ap (λ (u : JobValue). u.verified) e, ap (λ (u : JobValue). u.limits) e)))
       (Decides-and _ _ (slice_eq-Decides Decides-eqb s.name t.name _ refl)
       (Decides-and _ _ (exact s.verified t.verified) (same_limits s.limits t.limits)))

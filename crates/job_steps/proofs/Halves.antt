@@ -22,9 +22,9 @@ some-none x e = none-some x (sym e)
 -- what the values of the next instruction make of a state
 abbrev by_values : Task → State → Active → List Active → Progress
 by_values task s call outer =
-    progress_by (value_fault (op_of (next_item call).item) (sources_of (next_item call).item s.stack))
+    progress_by task.rule (value_fault (op_of (next_item call).item) (sources_of (next_item call).item s.stack))
     (next_item call) s
-    (calls_after task (flag_of (question_of (next_item call).item s.stack)) call.rest call.ret outer)
+    (calls_after task.verified (flag_of (question_of (next_item call).item s.stack)) call.rest call.ret outer)
 
 -- ---- an end before the values are looked at
 
@@ -39,7 +39,7 @@ ends_calls : (task : Task) (s : State) (calls : List Active) (ending : Ending) �
     progress_in task s calls ≡ Over ending s.executed s.peak
 ends_calls task s [] ending early goes = absurd (none-some ending early)
 ends_calls task s (call ∷ outer) ending early goes =
-    ends_run (can_run task (next_item call).item s.stack) (early_ending task.limits (next_item call) s) s
+    ends_run (can_run task.verified (next_item call).item s.stack) (early_ending task (next_item call) s) s
     (by_values task s call outer) ending early goes
 
 ends_budget : (task : Task) (s : State) (b : Bool) (ending : Ending) →
@@ -80,11 +80,11 @@ record Passes (task : Task) (s : State) (calls : List Active) (p : Progress) : T
   call : Active
   outer : List Active
   calls_are : calls ≡ call ∷ outer
-  runs : can_run task (next_item call).item s.stack ≡ true
+  runs : can_run task.verified (next_item call).item s.stack ≡ true
   next : p ≡ by_values task s call outer
 
 passes_run : (task : Task) (s : State) (call : Active) (outer : List Active) (b : Bool) →
-    can_run task (next_item call).item s.stack ≡ b → (o : Option Ending) → o ≡ None →
+    can_run task.verified (next_item call).item s.stack ≡ b → (o : Option Ending) → o ≡ None →
     (cond b (progress_unless o s (by_values task s call outer)) Stuck ≡ Stuck → ⊥) →
     Passes task s (call ∷ outer) (cond b (progress_unless o s (by_values task s call outer)) Stuck)
 passes_run task s call outer true runs o early goes = record {
@@ -100,8 +100,8 @@ passes_calls : (task : Task) (s : State) (calls : List Active) → early_end_in 
     (progress_in task s calls ≡ Stuck → ⊥) → Passes task s calls (progress_in task s calls)
 passes_calls task s [] early goes = absurd (goes refl)
 passes_calls task s (call ∷ outer) early goes =
-    passes_run task s call outer (can_run task (next_item call).item s.stack) refl
-    (early_ending task.limits (next_item call) s) early goes
+    passes_run task s call outer (can_run task.verified (next_item call).item s.stack) refl
+    (early_ending task (next_item call) s) early goes
 
 -- the budget isn't spent, and nothing stands against the next instruction
 record PassesBudget (task : Task) (s : State) (p : Progress) : Type 0 where

@@ -47,7 +47,8 @@ finish_on_run stuck reaches signatures task v within n Stuck e = absurd (stuck s
 next_on_run : NeverStuck → Reaches → EachEnds → (task : Task) → IsVerified task → (event : Event)
     (old new : Standing) → Changes task event old new → StandsOnRun task old → StandsOnRun task new
 next_on_run stuck reaches ends task v event old new (Admits event_is old_is new_is) h =
-    subst (StandsOnRun task) (sym new_is) (record { state = first_state task; running = refl; budget = omega arith })
+    subst (StandsOnRun task) (sym new_is)
+    (record { state = first_state task.verified; running = refl; budget = omega arith })
 next_on_run stuck reaches ends task v event old new (Begins job n event_is old_is new_is) h =
     subst (StandsOnRun task) (sym new_is)
     (begin_on_run task (ends v.0 task v.1) n (subst (StandsOnRun task) old_is h))

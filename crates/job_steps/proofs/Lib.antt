@@ -16,6 +16,7 @@ mod Progresses
 mod QuestionLemmas
 mod Recalls
 mod Remains
+mod Rules
 mod RunLaws
 mod StackLemmas
 mod Standing

@@ -7,8 +7,8 @@ use Rattle.vcode_base.specs.declared.instr.Instr.TheVariants.{Return}
 use Rattle.vcode_reader.specs.declared.line.CodeItem.{CodeItem}
 use Rattle.vcode_reader.specs.declared.line.CodeItem.TheVariants as code_item
 use Rattle.vcode_reader.specs.Decode.{Tail, Waits, ForElse, ForIf, before, before_else, before_if, tail_of, then_body}
-use Rattle.vcode_reader.specs.Targets.{Jumps, first_of, others_of, jumps_before, jumps_from, targets_of, target_in}
-use Rattle.vcode_reader.specs.Targets.{target_at}
+use Rattle.vcode_reader.specs.Targets.{Jumps, first_of, others_of, jumps_before, jumps_from, target_in}
+use Rattle.vcode_reader.specs.Targets.{target_at, EachTargetIsFirst}
 use Rattle.vcode_reader.specs.Trees.{Item, Body, End, Do, Choice, CodeLine, Function, line_of, instruction_line}
 use Rattle.vcode_reader.specs.Trees.{body_lines, lines_of}
 use Rattle.job_steps.specs.Frames.{rest_behind, rest_of_tail, remaining}
@@ -164,37 +164,12 @@ agree whole p (x ∷ xs) at fit =
     agree_before whole p x.item x.number (tail_of xs) (jumps_from (p + 1) xs) fit.0 (ap tail_of on)
     (sooner whole p (tail_of xs).waits (jumps_from (p + 1) xs).waits (agree whole (p + 1) xs on fit.1))
 
--- the target at a place is the first of those from the place on
-target_from : (lines : List CodeLine) (begun place : ℕ) (x : CodeLine) (rest : List CodeLine) →
-    drop place lines ≡ x ∷ rest →
-    target_in (slice_get (jumps_from begun lines).list place)
-    ≡ target_in (slice_get (jumps_from (begun + place) (x ∷ rest)).list 0)
-unfolding jumps_from
-target_from [] begun zero x rest h = absurd (let k : [] ≡ x ∷ rest = h in cc)
-target_from [] begun (suc place) x rest h = absurd (let k : [] ≡ x ∷ rest = h in cc)
-target_from (y ∷ lines) begun zero x rest h =
-    let same : begun ≡ begun + 0 = omega arith in
-    ap (λ z. target_in (slice_get (jumps_from begun z).list 0)) h
-    ∙ ap (λ p. target_in (slice_get (jumps_from p (x ∷ rest)).list 0)) same
-target_from (y ∷ lines) begun (suc place) x rest h =
-    let same : (begun + 1) + place ≡ begun + suc place = omega arith in
-    ap target_in (by_item y.item begun (jumps_from (begun + 1) lines) place)
-    ∙ (target_from lines (begun + 1) place x rest h
-    ∙ ap (λ p. target_in (slice_get (jumps_from p (x ∷ rest)).list 0)) same)
-  where
-    by_item : (p : CodeItem Item) (begun : ℕ) (j : Jumps) (place : ℕ) →
-        slice_get (jumps_before p begun j).list (suc place) ≡ slice_get j.list place
-    by_item (code_item.Do i) begun j place = refl
-    by_item code_item.If begun j place = refl
-    by_item code_item.Else begun j place = refl
-    by_item code_item.Endif begun j place = refl
-
 -- ---- what an ELSE and an IF go on with
 
 -- where an ELSE goes on
 pub record PassesElse (whole : List CodeLine) (p : ℕ) : Type 0 where
   pub next : ℕ
-  pub target : target_at whole p ≡ Some next
+  pub target : EachTargetIsFirst → target_at whole p ≡ Some next
   pub later : p < next
   pub same : remaining (drop next whole) ≡ remaining (drop p whole)
 
@@ -207,11 +182,11 @@ pub record Chooses (whole : List CodeLine) (p line : ℕ) : Type 0 where
   pub choice : remaining (drop p whole) ≡ Choice line first second end rest
   pub chosen : remaining (drop (p + 1) whole) ≡ then_body first rest
   pub next : ℕ
-  pub target : target_at whole p ≡ Some next
+  pub target : EachTargetIsFirst → target_at whole p ≡ Some next
   pub other : remaining (drop next whole) ≡ then_body second rest
 
 passes_by : (whole : List CodeLine) (p l : ℕ) (b : Body) (ws : List Waits) (qs : List ℕ) →
-    FitsBefore code_item.Else ws → Agree whole p ws qs → target_at whole p ≡ first_of qs →
+    FitsBefore code_item.Else ws → Agree whole p ws qs → (EachTargetIsFirst → target_at whole p ≡ first_of qs) →
     remaining (drop p whole) ≡ rest_of_tail (before_else b ws) → PassesElse whole p
 unfolding then_body
 passes_by whole p l b [] qs fit h target here = absurd fit
@@ -225,7 +200,7 @@ passes_by whole p l b (ForElse e r ∷ ws) (q ∷ qs) fit h target here = record
 }
 
 chooses_by : (whole : List CodeLine) (p l : ℕ) (b : Body) (ws : List Waits) (qs : List ℕ) →
-    FitsBefore code_item.If ws → Agree whole p ws qs → target_at whole p ≡ first_of qs →
+    FitsBefore code_item.If ws → Agree whole p ws qs → (EachTargetIsFirst → target_at whole p ≡ first_of qs) →
     remaining (drop p whole) ≡ rest_of_tail (before_if l b ws) →
     remaining (drop (p + 1) whole) ≡ then_body b (rest_behind ws) → Chooses whole p l
 unfolding then_body
@@ -257,13 +232,10 @@ module _ (f : Function) (p l : ℕ) (xs : List CodeLine) where
       sooner (lines_of f) p (tail_of xs).waits (jumps_from (p + 1) xs).waits
       (agree (lines_of f) (p + 1) xs (next_lines (lines_of f) p x xs at) (fits_there x at).1)
 
-  target_there : (x : CodeLine) → drop p (lines_of f) ≡ x ∷ xs →
+  target_there : (x : CodeLine) → drop p (lines_of f) ≡ x ∷ xs → EachTargetIsFirst →
       target_at (lines_of f) p ≡ target_in (slice_get (jumps_before x.item p (jumps_from (p + 1) xs)).list 0)
-  unfolding targets_of jumps_from
-  target_there x at =
-      let same : 0 + p ≡ p = omega arith in
-      target_from (lines_of f) 0 p x xs at
-      ∙ ap (λ n. target_in (slice_get (jumps_from n (x ∷ xs)).list 0)) same
+  unfolding jumps_from
+  target_there x at first = first (lines_of f) p x xs at
 
   pub else_passes : drop p (lines_of f) ≡ line_of code_item.Else l ∷ xs → PassesElse (lines_of f) p
   unfolding tail_of

@@ -18,14 +18,14 @@ item_of call = (next_item call).item
 -- the calls after the next item of a call
 abbrev pub calls_then : Task → State → Active → List Active → List Active
 calls_then task s call outer =
-    calls_after task (flag_of (question_of (item_of call) s.stack)) call.rest call.ret outer
+    calls_after task.verified (flag_of (question_of (item_of call) s.stack)) call.rest call.ret outer
 
 -- the next instruction passes all that is checked
 pub record Passes (task : Task) (s : State) (call : Active) (outer : List Active) : Type 0 where
   pub calls : s.calls ≡ call ∷ outer
   pub unspent : eqb s.executed task.limits.budget ≡ false
-  pub runs : can_run task (item_of call) s.stack ≡ true
-  pub early : early_ending task.limits (next_item call) s ≡ None
+  pub runs : can_run task.verified (item_of call) s.stack ≡ true
+  pub early : early_ending task (next_item call) s ≡ None
   pub late : value_fault (op_of (item_of call)) (sources_of (item_of call) s.stack) ≡ None
 
 -- no end by return
@@ -40,9 +40,9 @@ pub data Goes (task : Task) (s : State) (p : Progress) : Type 0 where
   Ends : (ending : Outcome (List Vector)) → IsNoReturn ending → p ≡ Over ending s.executed s.peak → Goes task s p
   Idles : s.calls ≡ [] → p ≡ Stuck → Goes task s p
   Blocks : (call : Active) (outer : List Active) → s.calls ≡ call ∷ outer →
-      can_run task (item_of call) s.stack ≡ false → p ≡ Stuck → Goes task s p
+      can_run task.verified (item_of call) s.stack ≡ false → p ≡ Stuck → Goes task s p
   Executes : (call : Active) (outer : List Active) → Passes task s call outer →
-      p ≡ progress_past (item_of call) s (calls_then task s call outer) → Goes task s p
+      p ≡ progress_past task.rule (item_of call) s (calls_then task s call outer) → Goes task s p
 
 no_return : (line : ℕ) (a : Option DataFault) (b : Option MemoryFault) (e : Outcome (List Vector)) →
     ending_by line a b ≡ Some e → IsNoReturn e
@@ -59,9 +59,9 @@ no_return line a b Budget h = tt
 
 by_values : (task : Task) (s : State) (call : Active) (outer : List Active) → s.calls ≡ call ∷ outer →
     eqb s.executed task.limits.budget ≡ false →
-    can_run task (item_of call) s.stack ≡ true → early_ending task.limits (next_item call) s ≡ None →
+    can_run task.verified (item_of call) s.stack ≡ true → early_ending task (next_item call) s ≡ None →
     (o : Option DataFault) → value_fault (op_of (item_of call)) (sources_of (item_of call) s.stack) ≡ o →
-    Goes task s (progress_by o (next_item call) s (calls_then task s call outer))
+    Goes task s (progress_by task.rule o (next_item call) s (calls_then task s call outer))
 by_values task s call outer calls unspent runs early (Some fault) is =
     Ends (Fault fault (next_item call).number) tt refl
 by_values task s call outer calls unspent runs early None is =
@@ -69,19 +69,19 @@ by_values task s call outer calls unspent runs early None is =
 
 by_ending : (task : Task) (s : State) (call : Active) (outer : List Active) → s.calls ≡ call ∷ outer →
     eqb s.executed task.limits.budget ≡ false →
-    can_run task (item_of call) s.stack ≡ true → (o : Option (Outcome (List Vector))) →
-    early_ending task.limits (next_item call) s ≡ o →
+    can_run task.verified (item_of call) s.stack ≡ true → (o : Option (Outcome (List Vector))) →
+    early_ending task (next_item call) s ≡ o →
     Goes task s (progress_unless o s
-    (progress_by (value_fault (op_of (item_of call)) (sources_of (item_of call) s.stack)) (next_item call) s
+    (progress_by task.rule (value_fault (op_of (item_of call)) (sources_of (item_of call) s.stack)) (next_item call) s
     (calls_then task s call outer)))
 by_ending task s call outer calls unspent runs (Some ending) is = Ends ending (no_return _ _ _ ending is) refl
 by_ending task s call outer calls unspent runs None is = by_values task s call outer calls unspent runs is _ refl
 
 by_run : (task : Task) (s : State) (call : Active) (outer : List Active) → s.calls ≡ call ∷ outer →
     eqb s.executed task.limits.budget ≡ false →
-    (b : Bool) → can_run task (item_of call) s.stack ≡ b →
-    Goes task s (cond b (progress_unless (early_ending task.limits (next_item call) s) s
-    (progress_by (value_fault (op_of (item_of call)) (sources_of (item_of call) s.stack)) (next_item call) s
+    (b : Bool) → can_run task.verified (item_of call) s.stack ≡ b →
+    Goes task s (cond b (progress_unless (early_ending task (next_item call) s) s
+    (progress_by task.rule (value_fault (op_of (item_of call)) (sources_of (item_of call) s.stack)) (next_item call) s
     (calls_then task s call outer))) Stuck)
 by_run task s call outer calls unspent true is = by_ending task s call outer calls unspent is _ refl
 by_run task s call outer calls unspent false is = Blocks call outer calls is refl

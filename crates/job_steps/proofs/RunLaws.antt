@@ -56,7 +56,7 @@ unspent_within n budget e h = grind (arith, nat_tests, e, h)
 
 within_past : (task : Task) (n : ℕ) (s : State) (call : Active) (outer : List Active) → IsBounded task n s →
     Passes task s call outer → (calls : List Active) →
-    (ending : Outcome (List Vector)) (x p : ℕ) → progress_past (item_of call) s calls ≡ Over ending x p →
+    (ending : Outcome (List Vector)) (x p : ℕ) → progress_past task.rule (item_of call) s calls ≡ Over ending x p →
     AreWithin task x p
 within_past task n s call outer b passes [] ending x p e =
     let same = same_over _ ending _ _ x p e in

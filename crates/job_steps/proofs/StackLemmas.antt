@@ -18,17 +18,20 @@ use Rattle.vcode_base.specs.declared.op.Segmented.TheVariants.{DefaultPermute, E
 use Rattle.vcode_base.specs.declared.op.Segmented.TheVariants.{Lengths}
 use Rattle.vcode_base.specs.declared.op.StackMove.{StackMove}
 use Rattle.vcode_base.specs.declared.op.StackMove.TheVariants.{Copy, Pop, MoveToTop}
+use Rattle.vcode_base.specs.declared.rule.Rule.{Rule}
+use Rattle.vcode_base.specs.declared.rule.Rule.TheVariants.{First, Second}
 use Rattle.vcode_base.specs.Instructions.{op_of}
 use Rattle.vcode_base.specs.Kinds.{operand_kinds, result_kinds, source_kinds, elementwise_results, segmented_results}
 use Rattle.vcode_base.specs.Laws.{ResultsHaveNeededLengths}
 use Rattle.vcode_base.specs.Meaning.{shape, need, value_fault, result_of, second_result_of}
 use Rattle.vcode_base.specs.Motions.{entries_after_move}
 use Rattle.vcode_reader.specs.Trees.{Item}
+use Rattle.verifier.specs.Typed.{TypedProgram}
 use Rattle.job_steps.specs.Motions.{top_entries, operand_count, stack_after, stack_after_move, depth_after}
 use Rattle.job_steps.specs.Motions.{depth_after_move}
-use Rattle.job_steps.specs.States.{Task, Entry, words_of, held_words, new_entries}
+use Rattle.job_steps.specs.States.{Entry, State, words_of, held_words, new_entries}
 use Rattle.job_steps.specs.Questions.{Question, need_words}
-use Rattle.job_steps.specs.Steps.{sources_of, question_of, vectors_of, results_of, can_run}
+use Rattle.job_steps.specs.Steps.{sources_of, question_of, vectors_of, results_of, can_run, held_at}
 use Rattle.job_steps.specs.Tracks.{IsDeep}
 use Rattle.job_steps.proofs.Held.{Has, has_itself, Agree, held_among, held_append, total_words}
 use Rattle.job_steps.proofs.KindLemmas.{kind_of, reverse-cons, there, kinds-new_entries, kinds-vectors_of}
@@ -145,16 +148,16 @@ length-stack_after Call results stack h deep = length-pushed 0 results stack ∙
 length-stack_after Return results stack h deep = length-pushed 0 results stack ∙ ap (λ n. (length stack - 0) + n) h
 
 -- an instruction that can run finds its entries
-pub deep_of : (task : Task) (item : Item) (stack : List Entry) → can_run task item stack ≡ true →
+pub deep_of : (verified : TypedProgram) (item : Item) (stack : List Entry) → can_run verified item stack ≡ true →
     IsDeep (op_of item) (length stack)
-deep_of task (instr.Const k list) stack runs = omega arith
-deep_of task (instr.Elementwise e) stack runs = there (operand_kinds (Elementwise e)) stack runs
-deep_of task (instr.Segmented e) stack runs = there (operand_kinds (Segmented e)) stack runs
-deep_of task instr.If stack runs = there (operand_kinds If) stack runs
-deep_of task (instr.Move motion lower upper) stack runs = let h : nat_le (lower + upper) (length stack) ≡ true =
+deep_of verified (instr.Const k list) stack runs = omega arith
+deep_of verified (instr.Elementwise e) stack runs = there (operand_kinds (Elementwise e)) stack runs
+deep_of verified (instr.Segmented e) stack runs = there (operand_kinds (Segmented e)) stack runs
+deep_of verified instr.If stack runs = there (operand_kinds If) stack runs
+deep_of verified (instr.Move motion lower upper) stack runs = let h : nat_le (lower + upper) (length stack) ≡ true =
     runs in grind (arith, nat_tests, h)
-deep_of task (instr.Call name) stack runs = omega arith
-deep_of task instr.Return stack runs = omega arith
+deep_of verified (instr.Call name) stack runs = omega arith
+deep_of verified instr.Return stack runs = omega arith
 
 few_elementwise : (e : ElementwiseOp) → length (elementwise_results e) ≤ 2
 few_elementwise (Arith op) = omega arith
@@ -201,7 +204,7 @@ length-results next q = sym (length-map (new_entries next (results_of q)) kind_o
 
 -- ---- how many words there are
 
-held_drop : (n : ℕ) (es : List Entry) → held_words (drop n es) ≤ held_words es
+pub held_drop : (n : ℕ) (es : List Entry) → held_words (drop n es) ≤ held_words es
 held_drop zero es = omega arith
 held_drop (suc n) [] = omega arith
 held_drop (suc n) (e ∷ es) = omega (arith, held_drop n es)
@@ -216,24 +219,36 @@ total_reverse (x ∷ xs) =
     omega (arith, ap total_words (reverse-cons x xs), total_append (reverse xs) (x ∷ []), total_reverse xs)
 
 held_pushed : (count : ℕ) (results stack : List Entry) →
-    held_words (reverse results ++ drop count stack) ≤ total_words results + held_words stack
+    held_words (reverse results ++ drop count stack) ≤ total_words results + held_words (drop count stack)
 held_pushed count results stack =
-    omega (arith, held_append (reverse results) (drop count stack), total_reverse results, held_drop count stack)
+    omega (arith, held_append (reverse results) (drop count stack), total_reverse results)
 
-pub held_after : (op : Op) (results stack : List Entry) → Agree stack →
-    held_words (stack_after op results stack) ≤ total_words results + held_words stack
-held_after (Move motion lower upper) results stack agree =
+-- the results are held with what was held below the operands
+held_below : (op : Op) (results stack : List Entry) → Agree stack →
+    held_words (stack_after op results stack) ≤ total_words results + held_words (drop (operand_count op) stack)
+held_below (Move motion lower upper) results stack agree =
     omega (
       arith,
       held_among (stack_after_move motion lower upper stack) stack
           (All-stack_after_move (Has stack) motion lower upper stack (has_itself stack)) agree,
     )
-held_after (Const k) results stack agree = held_pushed 0 results stack
-held_after (Elementwise e) results stack agree = held_pushed (operand_count (Elementwise e)) results stack
-held_after (Segmented e) results stack agree = held_pushed (operand_count (Segmented e)) results stack
-held_after If results stack agree = held_pushed 1 results stack
-held_after Call results stack agree = held_pushed 0 results stack
-held_after Return results stack agree = held_pushed 0 results stack
+held_below (Const k) results stack agree = held_pushed 0 results stack
+held_below (Elementwise e) results stack agree = held_pushed (operand_count (Elementwise e)) results stack
+held_below (Segmented e) results stack agree = held_pushed (operand_count (Segmented e)) results stack
+held_below If results stack agree = held_pushed 1 results stack
+held_below Call results stack agree = held_pushed 0 results stack
+held_below Return results stack agree = held_pushed 0 results stack
+
+-- so they are with what counts as held at the instruction
+pub held_after : (rule : Rule) (item : Item) (results : List Entry) (s : State) → Agree s.stack →
+    held_words (stack_after (op_of item) results s.stack) ≤ total_words results + held_at rule item s
+held_after First item results s agree =
+    omega (
+      arith,
+      held_below (op_of item) results s.stack agree,
+      held_drop (operand_count (op_of item)) s.stack,
+    )
+held_after Second item results s agree = held_below (op_of item) results s.stack agree
 
 total_vectors : (next : ℕ) (ks : List Kind) (first second : List ℤ) →
     total_words (new_entries next (vectors_of ks (first ∷ second ∷ []))) ≤ length first + length second

@@ -10,7 +10,7 @@ use Rattle.vcode_base.specs.declared.instr.Instr.TheVariants.{Return}
 use Rattle.vcode_reader.specs.declared.line.CodeItem.{CodeItem}
 use Rattle.vcode_reader.specs.declared.line.CodeItem.TheVariants as code_item
 use Rattle.vcode_reader.specs.Decode.{then_body}
-use Rattle.vcode_reader.specs.Targets.{target_at}
+use Rattle.vcode_reader.specs.Targets.{target_at, EachTargetIsFirst}
 use Rattle.vcode_reader.specs.Trees.{Item, Body, End, Do, Choice, CodeLine, Function, line_of, instruction_line}
 use Rattle.vcode_reader.specs.Trees.{lines_of}
 use Rattle.job_steps.specs.declared.frame.Frame.{Frame}
@@ -262,7 +262,7 @@ module _ (functions : List Function) (frame : Frame) (g : Function) (place : ℕ
 pub record Parts (whole : List CodeLine) (p : ℕ) (first second rest : Body) : Type 0 where
   pub chosen : remaining (drop (p + 1) whole) ≡ then_body first rest
   pub next : ℕ
-  pub target : target_at whole p ≡ Some next
+  pub target : EachTargetIsFirst → target_at whole p ≡ Some next
   pub other : remaining (drop next whole) ≡ then_body second rest
 
 parts_by : (whole : List CodeLine) (p l line end : ℕ) (first second rest : Body) (c : Chooses whole p l) →
@@ -316,13 +316,13 @@ module _ (f : Function) (p : ℕ) (xs : List CodeLine) (x : CodeLine) (same : xs
   pub stop_here : IsStop x.item → StopAt (drop p (lines_of f))
   stop_here h = subst StopAt (sym here_is) h
 
-  pub else_here : x.item ≡ code_item.Else → (r : Option ℕ) → r ≡ target_at (lines_of f) p →
+  pub else_here : EachTargetIsFirst → x.item ≡ code_item.Else → (r : Option ℕ) → r ≡ target_at (lines_of f) p →
       MatchOption r (StopAt (drop p (lines_of f))) (GoesTo f p)
-  else_here h r found =
+  else_here first h r found =
       let at : drop p (lines_of f) ≡ line_of code_item.Else x.number ∷ drop (p + 1) (lines_of f) =
       here_is ∙ ap (λ i. line_of i x.number ∷ drop (p + 1) (lines_of f)) h in
       let passes = else_passes f p x.number (drop (p + 1) (lines_of f)) at in
-      subst (λ o. MatchOption o (StopAt (drop p (lines_of f))) (GoesTo f p)) (sym (found ∙ passes.target))
+      subst (λ o. MatchOption o (StopAt (drop p (lines_of f))) (GoesTo f p)) (sym (found ∙ passes.target first))
       (passes.later, within_lines, passes.same)
 
   pub endif_here : x.item ≡ code_item.Endif → GoesTo f p (p + 1)

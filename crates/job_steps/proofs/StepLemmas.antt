@@ -23,7 +23,7 @@ use Rattle.job_steps.specs.Questions.{need_words}
 use Rattle.job_steps.specs.Reached.{IsVerifiedTask, AreTyped, IsReached, Reaches, ValuesHaveKinds}
 use Rattle.job_steps.specs.StepLaws.{CanBegin, CanAdvance, StepsCanBegin, StepsCanAdvance}
 use Rattle.job_steps.specs.States.{Task, Entry, Active, State, stack_kinds, held_words, words_of}
-use Rattle.job_steps.specs.Steps.{Ending, next_item, sources_of, question_of, can_run, early_ending, words_at}
+use Rattle.job_steps.specs.Steps.{Ending, next_item, sources_of, question_of, can_run, early_ending, held_at, words_at}
 use Rattle.job_steps.specs.Tracks.{Trace, IsAt, IsDeep, functions_of}
 use Rattle.job_steps.proofs.Bounds.{Fits, fits, neither}
 use Rattle.job_steps.proofs.Following.{can_follow, same_length}
@@ -36,11 +36,11 @@ use Rattle.job_steps.proofs.Typed.{runs_at}
 runs_next : (signatures : List Signature) (task : Task) (n : ℕ) (s : State) → IsVerifiedTask signatures task →
     IsReached signatures task n s →
     (call : Active) (outer : List Active) → s.calls ≡ call ∷ outer →
-    can_run task (next_item call).item s.stack ≡ true
+    can_run task.verified (next_item call).item s.stack ≡ true
 runs_next signatures task n s v r call outer calls =
     let scope = scope_of signatures task.verified.program in
     let before = subst (λ cs. AreTyped scope task.verified.results cs (stack_kinds s.stack)) calls r.typed in
-    runs_at signatures task v task.verified.results call.rest call.ret outer s.stack before
+    runs_at signatures task.verified v task.verified.results call.rest call.ret outer s.stack before
 
 -- ---- a step begins
 
@@ -52,7 +52,7 @@ module _ {C : Type 0} (signatures : List Signature) (task : Task) (v : IsVerifie
   begins kinds [] is some = absurd (omega arith)
   begins kinds (call ∷ outer) is some =
       let item = (next_item call).item in
-      let stands = subst (StandAll (functions_of task) t.frames) is at.frames in
+      let stands = subst (StandAll (functions_of task.verified) t.frames) is at.frames in
       let runs = runs_next signatures task n s v r call outer is in
       record {
         active = (call, outer, stands);
@@ -65,7 +65,7 @@ module _ {C : Type 0} (signatures : List Signature) (task : Task) (v : IsVerifie
         kinds = kinds call outer is;
         depth = subst (λ m. m ≤ task.limits.cells) (sym at.cells) r.cells;
         words = r.words;
-        deep = subst (IsDeep (op_of item)) (sym at.cells) (deep_of task item s.stack runs);
+        deep = subst (IsDeep (op_of item)) (sym at.cells) (deep_of task.verified item s.stack runs);
       }
 
 pub steps_can_begin : Reaches → ValuesHaveKinds → (C : Type 0) → StepsCanBegin C
@@ -107,19 +107,19 @@ tops_held count stack most agree within =
     (All-reverse short _ (All-take short count stack each))
 
 sources_held : (item : Item) (stack : List Entry) (most : ℕ) → Agree stack →
-    held_words stack + need_words (question_of item stack) ≤ most → HaveAtMost most (sources_of item stack)
+    held_words stack ≤ most → need_words (question_of item stack) ≤ most → HaveAtMost most (sources_of item stack)
 unfolding need
-sources_held (Const k list) stack most agree within =
+sources_held (Const k list) stack most agree held needed =
     All-cons (λ (words : List ℤ). length words ≤ most) list [] (omega arith)
     (All-nil (λ (words : List ℤ). length words ≤ most))
-sources_held (Elementwise e) stack most agree within =
-    tops_held (operand_count (op.Elementwise e)) stack most agree (omega arith)
-sources_held (Segmented e) stack most agree within =
-    tops_held (operand_count (op.Segmented e)) stack most agree (omega arith)
-sources_held If stack most agree within = tops_held 1 stack most agree (omega arith)
-sources_held (Move motion lower upper) stack most agree within = tops_held 0 stack most agree (omega arith)
-sources_held (Call name) stack most agree within = tops_held 0 stack most agree (omega arith)
-sources_held Return stack most agree within = tops_held 0 stack most agree (omega arith)
+sources_held (Elementwise e) stack most agree held needed =
+    tops_held (operand_count (op.Elementwise e)) stack most agree held
+sources_held (Segmented e) stack most agree held needed =
+    tops_held (operand_count (op.Segmented e)) stack most agree held
+sources_held If stack most agree held needed = tops_held 1 stack most agree held
+sources_held (Move motion lower upper) stack most agree held needed = tops_held 0 stack most agree held
+sources_held (Call name) stack most agree held needed = tops_held 0 stack most agree held
+sources_held Return stack most agree held needed = tops_held 0 stack most agree held
 
 -- ---- a step is asked, and the track advances
 
@@ -132,28 +132,29 @@ module _ {C : Type 0} (signatures : List Signature) (task : Task) (v : IsVerifie
   advances unspent call outer is kinds =
       let item = (next_item call).item in
       let runs = runs_next signatures task n s v r call outer is in
-      let stands = subst (StandAll (functions_of task) t.frames) is at.frames in
-      let late : early_ending task.limits (next_item call) s ≡ None =
+      let stands = subst (StandAll (functions_of task.verified) t.frames) is at.frames in
+      let late : early_ending task (next_item call) s ≡ None =
       ap (early_end_in task s) (sym is) ∙ unspent.late in
       let none = neither (next_item call).number _ _ late in
-      let fit : Fits task.limits (op_of item) (words_at item s) (depth_after (op_of item) (length s.stack))
+      let fit : Fits task.limits (op_of item) (words_at task.rule item s) (depth_after (op_of item) (length s.stack))
       (length s.calls) = fits task.limits _ _ _ _ none.1 in
-      let same : length t.frames ≡ length s.calls = same_length (functions_of task) t.frames s.calls at.frames in
-      let short : held_words s.stack + need_words (question_of item s.stack) ≤ task.limits.words = fit.words_fit in
+      let same : length t.frames ≡ length s.calls =
+      same_length (functions_of task.verified) t.frames s.calls at.frames in
+      let room : held_at task.rule item s + need_words (question_of item s.stack) ≤ task.limits.words = fit.words_fit in
       record {
         unspent = subst (λ (l : Limits). t.executed < l.budget) (sym at.limits)
             (subst (λ m. m < task.limits.budget) (sym at.executed)
             (below s.executed n task.limits.budget unspent.unspent r.count r.budget));
-        deep = subst (IsDeep (op_of item)) (sym at.cells) (deep_of task item s.stack runs);
+        deep = subst (IsDeep (op_of item)) (sym at.cells) (deep_of task.verified item s.stack runs);
         cells = subst (λ (l : Limits). depth_after (op_of item) (length t.cells) ≤ l.cells) (sym at.limits)
             (subst (λ m. depth_after (op_of item) m ≤ task.limits.cells) (sym at.cells) fit.cells_fit);
-        follows = can_follow task t.frames call outer s.stack t.limits.calls stands runs
+        follows = can_follow task.verified t.frames call outer s.stack t.limits.calls stands runs
             (λ called. subst (λ (l : Limits). length t.frames < l.calls) (sym at.limits)
             (omega (arith, same, fit.calls_fit called)));
         room = fit.words_fit;
         shaped = none.0;
         answers = λ words more. record { kinds = kinds; shaped = none.0; room = omega arith };
-        lengths = λ words more. sources_held item s.stack words r.alike (omega arith);
+        lengths = λ words more. sources_held item s.stack words r.alike (omega (arith, r.words)) (omega arith);
       }
 
 pub steps_can_advance : Reaches → ValuesHaveKinds → (C : Type 0) → StepsCanAdvance C

@@ -21,10 +21,11 @@ use Rattle.vcode_base.specs.Names.{main_name}
 use Rattle.vcode_reader.specs.Decode.{then_body}
 use Rattle.vcode_reader.specs.Trees.{Item, Body, End, Do, Choice, Function, IsBodyInstruction, IsProperBody}
 use Rattle.signatures.specs.Signatures.{Signature, kinds_of as signature_of}
-use Rattle.verifier.specs.Typed.{AreArrows}
+use Rattle.vcode_base.specs.declared.rule.Rule.{Rule}
+use Rattle.verifier.specs.Typed.{TypedProgram, AreArrows}
 use Rattle.verifier.specs.Kinded.{Scope, Turns, HasKinds, FitsSignature, has_function, scope_of}
 use Rattle.job_steps.specs.Motions.{stack_after, stack_after_move}
-use Rattle.job_steps.specs.Reached.{IsVerifiedTask, AreTyped}
+use Rattle.job_steps.specs.Reached.{IsVerifiedProgram, IsVerifiedTask, AreTyped}
 use Rattle.job_steps.specs.Runs.{progress_from, state_after}
 use Rattle.job_steps.specs.States.{Task, Entry, Active, State, callee_of, callee_at, callee_named, calls_with}
 use Rattle.job_steps.specs.States.{first_state, stack_kinds, new_entries}
@@ -57,11 +58,12 @@ proper_then (Choice line first second end b) c p q = (p.0, p.1, proper_then b c 
 -- ---- the functions that calls name
 
 -- a function with its arrow, which its body keeps to
-pub record IsCallee (signatures : List Signature) (task : Task) (name : List ℕ) (takes gives : List Kind) : Type 0
+pub record IsCallee (signatures : List Signature) (verified : TypedProgram) (name : List ℕ) (takes gives : List Kind)
+    : Type 0
   where
     pub function : Function
-    pub is : callee_named task.verified name ≡ Some (record { function = function; arrow = (takes, gives) })
-    pub kinds : HasKinds (scope_of signatures task.verified.program) function.body takes gives
+    pub is : callee_named verified name ≡ Some (record { function = function; arrow = (takes, gives) })
+    pub kinds : HasKinds (scope_of signatures verified.program) function.body takes gives
     pub proper : IsProperBody function.body
 
 -- a function of this name
@@ -108,42 +110,42 @@ arrow_at signatures functions arrows place f arrow same there signed =
     ∙ (slice_get-map (λ (g : Function). signature_of signatures g.name) functions place
     ∙ (ap (option_map (λ (g : Function). signature_of signatures g.name)) there ∙ ap Some signed))))
 
-callee_at_place : (signatures : List Signature) (task : Task) (name : List ℕ) (takes gives : List Kind) →
-    IsVerifiedTask signatures task → signature_of signatures name ≡ Some (takes, gives) →
-    (place : ℕ) → position (λ (f : Function). bytes_eq f.name name) task.verified.program.functions ≡ Some place →
-    IsCallee signatures task name takes gives
-callee_at_place signatures task name takes gives v s place e =
-    let n = named task.verified.program.functions name place e in
+callee_at_place : (signatures : List Signature) (verified : TypedProgram) (name : List ℕ) (takes gives : List Kind) →
+    IsVerifiedProgram signatures verified → signature_of signatures name ≡ Some (takes, gives) →
+    (place : ℕ) → position (λ (f : Function). bytes_eq f.name name) verified.program.functions ≡ Some place →
+    IsCallee signatures verified name takes gives
+callee_at_place signatures verified name takes gives v s place e =
+    let n = named verified.program.functions name place e in
     let f = n.function in
-    let fit = All-contains (FitsSignature (scope_of signatures task.verified.program))
-    task.verified.program.functions f v.by_signatures.well_kinded.functions n.listed in
+    let fit = All-contains (FitsSignature (scope_of signatures verified.program))
+    verified.program.functions f v.by_signatures.well_kinded.functions n.listed in
     let signed : signature_of signatures f.name ≡ Some (takes, gives) = ap (signature_of signatures) n.named ∙ s in
     let same = same_arrow fit.0 fit.1 takes gives (sym fit.2 ∙ signed) in
-    let arrow = arrow_at signatures task.verified.program.functions task.verified.arrows place f (takes, gives)
+    let arrow = arrow_at signatures verified.program.functions verified.arrows place f (takes, gives)
     v.by_signatures.arrows n.there signed in
     record {
       function = f;
-      is = ap (callee_at task.verified) e
-          ∙ (ap (λ o. callee_of o (slice_get task.verified.arrows place)) n.there ∙ ap (callee_of (Some f)) arrow);
-      kinds = subst (λ ks. HasKinds (scope_of signatures task.verified.program) f.body ks gives) same.0
-          (subst (HasKinds (scope_of signatures task.verified.program) f.body fit.0) same.1 fit.3);
-      proper = All-contains (λ (g : Function). IsProperBody g.body) task.verified.program.functions f v.proper
+      is = ap (callee_at verified) e
+          ∙ (ap (λ o. callee_of o (slice_get verified.arrows place)) n.there ∙ ap (callee_of (Some f)) arrow);
+      kinds = subst (λ ks. HasKinds (scope_of signatures verified.program) f.body ks gives) same.0
+          (subst (HasKinds (scope_of signatures verified.program) f.body fit.0) same.1 fit.3);
+      proper = All-contains (λ (g : Function). IsProperBody g.body) verified.program.functions f v.proper
           n.listed;
     }
 
-callee_by : (signatures : List Signature) (task : Task) (name : List ℕ) (takes gives : List Kind) →
-    IsVerifiedTask signatures task → signature_of signatures name ≡ Some (takes, gives) →
-    (o : Option ℕ) → position (λ (f : Function). bytes_eq f.name name) task.verified.program.functions ≡ o →
-    is_some o ≡ true → IsCallee signatures task name takes gives
-callee_by signatures task name takes gives v s None e there = absurd (let h : false ≡ true = there in cc)
-callee_by signatures task name takes gives v s (Some place) e there =
-    callee_at_place signatures task name takes gives v s place e
+callee_by : (signatures : List Signature) (verified : TypedProgram) (name : List ℕ) (takes gives : List Kind) →
+    IsVerifiedProgram signatures verified → signature_of signatures name ≡ Some (takes, gives) →
+    (o : Option ℕ) → position (λ (f : Function). bytes_eq f.name name) verified.program.functions ≡ o →
+    is_some o ≡ true → IsCallee signatures verified name takes gives
+callee_by signatures verified name takes gives v s None e there = absurd (let h : false ≡ true = there in cc)
+callee_by signatures verified name takes gives v s (Some place) e there =
+    callee_at_place signatures verified name takes gives v s place e
 
-pub callee : (signatures : List Signature) (task : Task) (name : List ℕ) (takes gives : List Kind) →
-    IsVerifiedTask signatures task →
-    IsTrue (has_function name task.verified.program.functions) →
-    signature_of signatures name ≡ Some (takes, gives) → IsCallee signatures task name takes gives
-callee signatures task name takes gives v there s = callee_by signatures task name takes gives v s _ refl there
+pub callee : (signatures : List Signature) (verified : TypedProgram) (name : List ℕ) (takes gives : List Kind) →
+    IsVerifiedProgram signatures verified →
+    IsTrue (has_function name verified.program.functions) →
+    signature_of signatures name ≡ Some (takes, gives) → IsCallee signatures verified name takes gives
+callee signatures verified name takes gives v there s = callee_by signatures verified name takes gives v s _ refl there
 
 -- ---- one instruction
 
@@ -155,23 +157,23 @@ moves : (lower upper l u depth : ℕ) → l ≡ lower → u ≡ upper → l + u 
 moves lower upper l u depth p q h = grind (arith, nat_tests)
 
 -- an instruction that is typed can run
-pub runs : (signatures : List Signature) (task : Task) (item : Item) (takes gives below : List Kind)
-    (stack : List Entry) → IsVerifiedTask signatures task →
-    Turns (scope_of signatures task.verified.program) item takes gives → stack_kinds stack ≡ below ++ takes →
-    can_run task item stack ≡ true
-runs signatures task (Const k list) takes gives below stack v t e = tops stack below takes [] t.0 e
-runs signatures task (Elementwise x) takes gives below stack v t e =
+pub runs : (signatures : List Signature) (verified : TypedProgram) (item : Item) (takes gives below : List Kind)
+    (stack : List Entry) → IsVerifiedProgram signatures verified →
+    Turns (scope_of signatures verified.program) item takes gives → stack_kinds stack ≡ below ++ takes →
+    can_run verified item stack ≡ true
+runs signatures verified (Const k list) takes gives below stack v t e = tops stack below takes [] t.0 e
+runs signatures verified (Elementwise x) takes gives below stack v t e =
     tops stack below takes (operand_kinds (op.Elementwise x)) t.0 e
-runs signatures task (Segmented x) takes gives below stack v t e =
+runs signatures verified (Segmented x) takes gives below stack v t e =
     tops stack below takes (operand_kinds (op.Segmented x)) t.0 e
-runs signatures task If takes gives below stack v t e = tops stack below takes (operand_kinds op.If) t.0 e
-runs signatures task (Move motion lower upper) takes gives below stack v t e =
+runs signatures verified If takes gives below stack v t e = tops stack below takes (operand_kinds op.If) t.0 e
+runs signatures verified (Move motion lower upper) takes gives below stack v t e =
     moves lower upper (length t.0) (length t.1) (length stack) t.2 t.3
     (kinds-moved motion stack below t.0 t.1 (e ∙ ap (λ ks. below ++ ks) t.4)).0
-runs signatures task (Call name) takes gives below stack v t e =
-    ap (λ o. can_call o stack) (callee signatures task name takes gives v t.0 t.1).is
+runs signatures verified (Call name) takes gives below stack v t e =
+    ap (λ o. can_call o stack) (callee signatures verified name takes gives v t.0 t.1).is
     ∙ tops stack below takes takes refl e
-runs signatures task Return takes gives below stack v t e = tops stack below takes [] t.0 e
+runs signatures verified Return takes gives below stack v t e = tops stack below takes [] t.0 e
 
 -- the entries afterwards
 abbrev stack_past : Item → ℕ → List Entry → List Entry
@@ -207,36 +209,36 @@ behind : (scope : Scope) (results : List Kind) (rest : Body) (ret : ℕ) (outer 
 behind scope results rest ret outer kinds below under gives given e later proper out =
     (below, under ++ given, gives, e ∙ append_assoc below under given, later, proper, out)
 
-typed_item : (signatures : List Signature) (task : Task) → IsVerifiedTask signatures task →
+typed_item : (signatures : List Signature) (verified : TypedProgram) → IsVerifiedProgram signatures verified →
     (results : List Kind) (item : Item) (rest : Body) (ret : ℕ) (outer : List Active) (next : ℕ) (stack : List Entry)
     (below under takes gives given : List Kind) → IsBodyInstruction item → IsProperBody rest →
-    Turns (scope_of signatures task.verified.program) item takes given →
+    Turns (scope_of signatures verified.program) item takes given →
     stack_kinds stack ≡ (below ++ under) ++ takes →
-    HasKinds (scope_of signatures task.verified.program) rest (under ++ given) gives →
-    AreTyped (scope_of signatures task.verified.program) results outer (below ++ gives) →
-    AreTyped (scope_of signatures task.verified.program) results
-    (calls_past task item (record { rest = rest; ret = ret }) outer) (stack_kinds (stack_past item next stack))
-typed_item signatures task v results (Const k list) rest ret outer next stack below under takes gives given inner
+    HasKinds (scope_of signatures verified.program) rest (under ++ given) gives →
+    AreTyped (scope_of signatures verified.program) results outer (below ++ gives) →
+    AreTyped (scope_of signatures verified.program) results
+    (calls_past verified item (record { rest = rest; ret = ret }) outer) (stack_kinds (stack_past item next stack))
+typed_item signatures verified v results (Const k list) rest ret outer next stack below under takes gives given inner
     proper t e later out =
-    behind (scope_of signatures task.verified.program) results rest ret outer _ below under gives given
+    behind (scope_of signatures verified.program) results rest ret outer _ below under gives given
     (pushed (Const k list) next stack (below ++ under) takes given t.0 t.1 e) later proper out
-typed_item signatures task v results (Elementwise x) rest ret outer next stack below under takes gives given inner
+typed_item signatures verified v results (Elementwise x) rest ret outer next stack below under takes gives given inner
     proper t e later out =
-    behind (scope_of signatures task.verified.program) results rest ret outer _ below under gives given
+    behind (scope_of signatures verified.program) results rest ret outer _ below under gives given
     (pushed (Elementwise x) next stack (below ++ under) takes given t.0 t.1 e) later proper out
-typed_item signatures task v results (Segmented x) rest ret outer next stack below under takes gives given inner
+typed_item signatures verified v results (Segmented x) rest ret outer next stack below under takes gives given inner
     proper t e later out =
-    behind (scope_of signatures task.verified.program) results rest ret outer _ below under gives given
+    behind (scope_of signatures verified.program) results rest ret outer _ below under gives given
     (pushed (Segmented x) next stack (below ++ under) takes given t.0 t.1 e) later proper out
-typed_item signatures task v results (Move motion lower upper) rest ret outer next stack below under takes gives
+typed_item signatures verified v results (Move motion lower upper) rest ret outer next stack below under takes gives
     given inner proper t e later out =
-    behind (scope_of signatures task.verified.program) results rest ret outer _ below under gives given
+    behind (scope_of signatures verified.program) results rest ret outer _ below under gives given
     (moved_by motion stack (below ++ under) t.0 t.1 given lower upper t.2 t.3 (e
     ∙ ap (λ ks. (below ++ under) ++ ks) t.4) t.5) later proper out
-typed_item signatures task v results (Call name) rest ret outer next stack below under takes gives given inner
+typed_item signatures verified v results (Call name) rest ret outer next stack below under takes gives given inner
     proper t e later out =
-    let scope = scope_of signatures task.verified.program in
-    let found = callee signatures task name takes given v t.0 t.1 in
+    let scope = scope_of signatures verified.program in
+    let found = callee signatures verified name takes given v t.0 t.1 in
     let call : Active = record { rest = rest; ret = ret } in
     let kept : stack_kinds (stack_past (Call name) next stack) ≡ (below ++ under) ++ takes = e in
     subst (λ o. AreTyped scope results (calls_with o (call ∷ outer))
@@ -251,9 +253,9 @@ typed_item signatures task v results (Call name) rest ret outer next stack below
       behind scope results rest ret outer ((below ++ under) ++ given) below under gives given refl later
           proper out,
     )
-typed_item signatures task v results If rest ret outer next stack below under takes gives given inner proper t e
+typed_item signatures verified v results If rest ret outer next stack below under takes gives given inner proper t e
     later out = absurd inner
-typed_item signatures task v results Return rest ret outer next stack below under takes gives given inner proper t e
+typed_item signatures verified v results Return rest ret outer next stack below under takes gives given inner proper t e
     later out = absurd inner
 
 chosen : (P : Body → Type 0) (flag : Bool) (first second : Body) → P first → P second → P (cond flag first second)
@@ -261,17 +263,17 @@ chosen P true first second p q = p
 chosen P false first second p q = q
 
 -- what is typed stays typed
-typed_after : (signatures : List Signature) (task : Task) → IsVerifiedTask signatures task →
+typed_after : (signatures : List Signature) (verified : TypedProgram) → IsVerifiedProgram signatures verified →
     (results : List Kind) (flag : Bool) (rest : Body) (ret : ℕ) (outer : List Active) (next : ℕ)
     (stack : List Entry) →
-    AreTyped (scope_of signatures task.verified.program) results (record { rest = rest; ret = ret } ∷ outer)
+    AreTyped (scope_of signatures verified.program) results (record { rest = rest; ret = ret } ∷ outer)
     (stack_kinds stack) →
-    AreTyped (scope_of signatures task.verified.program) results (calls_after task flag rest ret outer)
+    AreTyped (scope_of signatures verified.program) results (calls_after verified flag rest ret outer)
     (stack_kinds (stack_past (first_item rest ret).item next stack))
-typed_after signatures task v results flag End ret outer next stack (below, own, gives, e, same, proper, out) =
-    subst (AreTyped (scope_of signatures task.verified.program) results outer)
+typed_after signatures verified v results flag End ret outer next stack (below, own, gives, e, same, proper, out) =
+    subst (AreTyped (scope_of signatures verified.program) results outer)
     (sym (e ∙ ap (λ ks. below ++ ks) same)) out
-typed_after signatures task v results flag (Do item line rest) ret outer next stack (
+typed_after signatures verified v results flag (Do item line rest) ret outer next stack (
   below,
   own,
   gives,
@@ -280,9 +282,9 @@ typed_after signatures task v results flag (Do item line rest) ret outer next st
   proper,
   out,
 ) =
-    typed_item signatures task v results item rest ret outer next stack below h.0 h.1 gives h.2 proper.0 proper.1 h.3
-    (e ∙ (ap (λ ks. below ++ ks) h.4 ∙ sym (append_assoc below h.0 h.1))) h.5 out
-typed_after signatures task v results flag (Choice line first second end rest) ret outer next stack (
+    typed_item signatures verified v results item rest ret outer next stack below h.0 h.1 gives h.2 proper.0 proper.1
+    h.3 (e ∙ (ap (λ ks. below ++ ks) h.4 ∙ sym (append_assoc below h.0 h.1))) h.5 out
+typed_after signatures verified v results flag (Choice line first second end rest) ret outer next stack (
   below,
   own,
   gives,
@@ -291,7 +293,7 @@ typed_after signatures task v results flag (Choice line first second end rest) r
   proper,
   out,
 ) =
-    let scope = scope_of signatures task.verified.program in
+    let scope = scope_of signatures verified.program in
     let under = h.0 in
     let base : stack_kinds stack ≡ (below ++ under) ++ (kind.Bool ∷ []) = e
     ∙ (ap (λ ks. below ++ ks) h.2 ∙ sym (append_assoc below under (kind.Bool ∷ []))) in
@@ -308,16 +310,16 @@ typed_after signatures task v results flag (Choice line first second end rest) r
     )
 
 -- a call that is typed can go on
-pub runs_at : (signatures : List Signature) (task : Task) → IsVerifiedTask signatures task →
+pub runs_at : (signatures : List Signature) (verified : TypedProgram) → IsVerifiedProgram signatures verified →
     (results : List Kind) (rest : Body) (ret : ℕ) (outer : List Active) (stack : List Entry) →
-    AreTyped (scope_of signatures task.verified.program) results (record { rest = rest; ret = ret } ∷ outer)
-    (stack_kinds stack) → can_run task (first_item rest ret).item stack ≡ true
-runs_at signatures task v results End ret outer stack (below, own, gives, e, same, proper, out) =
+    AreTyped (scope_of signatures verified.program) results (record { rest = rest; ret = ret } ∷ outer)
+    (stack_kinds stack) → can_run verified (first_item rest ret).item stack ≡ true
+runs_at signatures verified v results End ret outer stack (below, own, gives, e, same, proper, out) =
     tops stack (stack_kinds stack) [] [] refl (sym (append-nil (stack_kinds stack)))
-runs_at signatures task v results (Do item line rest) ret outer stack (below, own, gives, e, h, proper, out) =
-    runs signatures task item h.1 h.2 (below ++ h.0) stack v h.3 (e
+runs_at signatures verified v results (Do item line rest) ret outer stack (below, own, gives, e, h, proper, out) =
+    runs signatures verified item h.1 h.2 (below ++ h.0) stack v h.3 (e
     ∙ (ap (λ ks. below ++ ks) h.4 ∙ sym (append_assoc below h.0 h.1)))
-runs_at signatures task v results (Choice line first second end rest) ret outer stack (
+runs_at signatures verified v results (Choice line first second end rest) ret outer stack (
   below,
   own,
   gives,
@@ -343,9 +345,9 @@ typed_next signatures task s next v typed w =
     let results = task.verified.results in
     let before : AreTyped scope results (w.call ∷ w.outer) (stack_kinds s.stack) =
     subst (λ cs. AreTyped scope results cs (stack_kinds s.stack)) w.passes.calls typed.1 in
-    let after = typed_after signatures task v results (flag_of (question_of (item_of w.call) s.stack)) w.call.rest
-    w.call.ret w.outer s.next s.stack before in
-    let here : IsTyped signatures task (state_past (item_of w.call) s (w.last ∷ w.others)) = (
+    let after = typed_after signatures task.verified v results (flag_of (question_of (item_of w.call) s.stack))
+    w.call.rest w.call.ret w.outer s.next s.stack before in
+    let here : IsTyped signatures task (state_past task.rule (item_of w.call) s (w.last ∷ w.others)) = (
       omega arith,
       subst
           (λ cs. AreTyped scope results cs (stack_kinds (stack_past (item_of w.call) s.next s.stack))) w.calls after,
@@ -354,11 +356,11 @@ typed_next signatures task s next v typed w =
     subst (IsTyped signatures task) w.new here
 
 typed_first : (signatures : List Signature) (task : Task) → IsVerifiedTask signatures task →
-    IsTyped signatures task (first_state task)
+    IsTyped signatures task (first_state task.verified)
 typed_first signatures task v =
     let scope = scope_of signatures task.verified.program in
     let results = task.verified.results in
-    let main = callee signatures task main_name [] results v v.by_signatures.well_kinded.main
+    let main = callee signatures task.verified main_name [] results v v.by_signatures.well_kinded.main
     v.by_signatures.results in
     subst (λ o. (1 ≤ length (calls_with o [])) × AreTyped scope results (calls_with o []) []) (sym main.is)
     (omega arith, ([], [], results, refl, main.kinds, main.proper, refl))
@@ -366,7 +368,7 @@ typed_first signatures task v =
 pub typed : (signatures : List Signature) (task : Task) → IsVerifiedTask signatures task → (n : ℕ) (s : State) →
     state_after task n ≡ Running s → IsTyped signatures task s
 typed signatures task v zero s e =
-    let h : first_state task ≡ s = (let g : Running (first_state task) ≡ Running s = e in cc) in
+    let h : first_state task.verified ≡ s = (let g : Running (first_state task.verified) ≡ Running s = e in cc) in
     subst (IsTyped signatures task) h (typed_first signatures task v)
 typed signatures task v (suc n) s e =
     let from = running_from task (state_after task n) s e in
@@ -374,9 +376,10 @@ typed signatures task v (suc n) s e =
 
 -- ---- never stuck
 
-past_stuck : (item : Item) (s : State) (calls : List Active) → progress_past item s calls ≡ Stuck → ⊥
-past_stuck item s [] h = over_stuck _ _ _ h
-past_stuck item s (last ∷ others) h = running_stuck _ h
+past_stuck : (rule : Rule) (item : Item) (s : State) (calls : List Active) →
+    progress_past rule item s calls ≡ Stuck → ⊥
+past_stuck rule item s [] h = over_stuck _ _ _ h
+past_stuck rule item s (last ∷ others) h = running_stuck _ h
 
 step_stuck : (signatures : List Signature) (task : Task) (s : State) → IsVerifiedTask signatures task →
     IsTyped signatures task s → (p : Progress) → Goes task s p → p ≡ Stuck → ⊥
@@ -387,9 +390,10 @@ step_stuck signatures task s v t p (Blocks call outer calls blocked is) e =
     let scope = scope_of signatures task.verified.program in
     let before = subst (λ cs. AreTyped scope task.verified.results cs (stack_kinds s.stack)) calls t.1 in
     let h : true ≡ false =
-    sym (runs_at signatures task v task.verified.results call.rest call.ret outer s.stack before) ∙ blocked in cc
+    sym (runs_at signatures task.verified v task.verified.results call.rest call.ret outer s.stack before) ∙ blocked
+    in cc
 step_stuck signatures task s v t p (Executes call outer passes is) e =
-    past_stuck (item_of call) s (calls_then task s call outer) (sym is ∙ e)
+    past_stuck task.rule (item_of call) s (calls_then task s call outer) (sym is ∙ e)
 
 stuck_from : (signatures : List Signature) (task : Task) → IsVerifiedTask signatures task → (n : ℕ) (p : Progress) →
     state_after task n ≡ p → (state_after task n ≡ Stuck → ⊥) →
@@ -401,6 +405,6 @@ stuck_from signatures task v n Stuck is never e = never is
 
 pub never_stuck : (signatures : List Signature) (task : Task) → IsVerifiedTask signatures task → (n : ℕ) →
     state_after task n ≡ Stuck → ⊥
-never_stuck signatures task v zero e = running_stuck (first_state task) e
+never_stuck signatures task v zero e = running_stuck (first_state task.verified) e
 never_stuck signatures task v (suc n) e =
     stuck_from signatures task v n (state_after task n) refl (never_stuck signatures task v n) e

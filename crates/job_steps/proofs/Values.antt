@@ -111,7 +111,7 @@ kept_next signatures task s next t k w =
 kept : (signatures : List Signature) (task : Task) → IsVerifiedTask signatures task → (n : ℕ) (s : State) →
     state_after task n ≡ Running s → All IsKept s.stack
 kept signatures task v zero s e =
-    let h : first_state task ≡ s = (let g : Running (first_state task) ≡ Running s = e in cc) in
+    let h : first_state task.verified ≡ s = (let g : Running (first_state task.verified) ≡ Running s = e in cc) in
     subst (λ (first : State). All IsKept first.stack) h (All-nil IsKept)
 kept signatures task v (suc n) s e =
     let from = running_from task (state_after task n) s e in

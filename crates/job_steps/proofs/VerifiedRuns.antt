@@ -5,11 +5,13 @@ use Rattle.std.specs.Prelude.{reverse}
 use Rattle.vcode_base.specs.declared.instr.Instr.TheVariants.{Const, Elementwise, Segmented, If, Move, Call, Return}
 use Rattle.vcode_base.specs.declared.kind.Kind.{Kind}
 use Rattle.vcode_base.specs.declared.outcome.Outcome.TheVariants.{Returned}
+use Rattle.vcode_base.specs.declared.rule.Rule.{Rule}
 use Rattle.vcode_base.specs.Laws.{ResultsHaveNeededLengths}
 use Rattle.vcode_reader.specs.Trees.{Item, Body, End, Do, Choice, IsBodyInstruction}
 use Rattle.signatures.specs.Signatures.{Signature}
 use Rattle.verifier.specs.Kinded.{Turns, scope_of}
-use Rattle.job_steps.specs.Reached.{IsVerifiedTask, AreTyped, IsReached, IsWithin}
+use Rattle.verifier.specs.Typed.{TypedProgram}
+use Rattle.job_steps.specs.Reached.{IsVerifiedProgram, IsVerifiedTask, AreTyped, IsReached, IsWithin}
 use Rattle.job_steps.specs.Runs.{progress_from, state_after, whole_run, outcome, executed_count, peak, ending_in}
 use Rattle.job_steps.specs.Runs.{executed_count_in, peak_in}
 use Rattle.job_steps.specs.States.{Vector, Task, Entry, Active, State, calls_with, values_of, stack_kinds}
@@ -65,33 +67,34 @@ each_ends law signatures task v = ends_by law signatures task v (whole_run task)
 some_none : {T : Type 0} (x : T) (xs : List T) → x ∷ xs ≡ [] → ⊥
 some_none x xs e = cc
 
-calls_past_none : (signatures : List Signature) (task : Task) → IsVerifiedTask signatures task →
+calls_past_none : (signatures : List Signature) (verified : TypedProgram) → IsVerifiedProgram signatures verified →
     (item : Item) (call : Active) (outer : List Active) (takes gives : List Kind) →
-    IsBodyInstruction item → Turns (scope_of signatures task.verified.program) item takes gives →
-    calls_past task item call outer ≡ [] → ⊥
-calls_past_none signatures task v (Const k list) call outer takes gives inner t e = some_none call outer e
-calls_past_none signatures task v (Elementwise x) call outer takes gives inner t e = some_none call outer e
-calls_past_none signatures task v (Segmented x) call outer takes gives inner t e = some_none call outer e
-calls_past_none signatures task v If call outer takes gives inner t e = some_none call outer e
-calls_past_none signatures task v (Move motion lower upper) call outer takes gives inner t e = some_none call outer e
-calls_past_none signatures task v (Call name) call outer takes gives inner t e =
+    IsBodyInstruction item → Turns (scope_of signatures verified.program) item takes gives →
+    calls_past verified item call outer ≡ [] → ⊥
+calls_past_none signatures verified v (Const k list) call outer takes gives inner t e = some_none call outer e
+calls_past_none signatures verified v (Elementwise x) call outer takes gives inner t e = some_none call outer e
+calls_past_none signatures verified v (Segmented x) call outer takes gives inner t e = some_none call outer e
+calls_past_none signatures verified v If call outer takes gives inner t e = some_none call outer e
+calls_past_none signatures verified v (Move motion lower upper) call outer takes gives inner t e =
+    some_none call outer e
+calls_past_none signatures verified v (Call name) call outer takes gives inner t e =
     some_none _ (call ∷ outer)
-    (ap (λ o. calls_with o (call ∷ outer)) (sym (callee signatures task name takes gives v t.0 t.1).is) ∙ e)
-calls_past_none signatures task v Return call outer takes gives inner t e = absurd inner
+    (ap (λ o. calls_with o (call ∷ outer)) (sym (callee signatures verified name takes gives v t.0 t.1).is) ∙ e)
+calls_past_none signatures verified v Return call outer takes gives inner t e = absurd inner
 
 -- the last call returns with the results
-last_kinds : (signatures : List Signature) (task : Task) → IsVerifiedTask signatures task →
+last_kinds : (signatures : List Signature) (verified : TypedProgram) → IsVerifiedProgram signatures verified →
     (results : List Kind) (flag : Bool) (rest : Body) (ret : ℕ) (outer : List Active) (kinds : List Kind) →
-    AreTyped (scope_of signatures task.verified.program) results (record { rest = rest; ret = ret } ∷ outer) kinds →
-    calls_after task flag rest ret outer ≡ [] → kinds ≡ results
-last_kinds signatures task v results flag End ret outer kinds (below, own, gives, e, same, proper, out) none =
+    AreTyped (scope_of signatures verified.program) results (record { rest = rest; ret = ret } ∷ outer) kinds →
+    calls_after verified flag rest ret outer ≡ [] → kinds ≡ results
+last_kinds signatures verified v results flag End ret outer kinds (below, own, gives, e, same, proper, out) none =
     e ∙ (ap (λ ks. below ++ ks) same
-    ∙ subst (λ cs. AreTyped (scope_of signatures task.verified.program) results cs (below ++ gives)) none out)
-last_kinds signatures task v results flag (Do item line rest) ret outer kinds (below, own, gives, e, h, proper, out)
+    ∙ subst (λ cs. AreTyped (scope_of signatures verified.program) results cs (below ++ gives)) none out)
+last_kinds signatures verified v results flag (Do item line rest) ret outer kinds (below, own, gives, e, h, proper, out)
     none =
-    absurd (calls_past_none signatures task v item (record { rest = rest; ret = ret }) outer h.1 h.2 proper.0 h.3
+    absurd (calls_past_none signatures verified v item (record { rest = rest; ret = ret }) outer h.1 h.2 proper.0 h.3
     none)
-last_kinds signatures task v results flag (Choice line first second end rest) ret outer kinds (
+last_kinds signatures verified v results flag (Choice line first second end rest) ret outer kinds (
   below,
   own,
   gives,
@@ -108,13 +111,13 @@ kinds-values (e ∷ es) = ap (λ ks. kind_of e ∷ ks) (kinds-values es)
 kinds-returned : (stack : List Entry) → map (λ (v : Vector). v.kind) (reverse (values_of stack)) ≡ stack_kinds stack
 kinds-returned stack = map-reverse (λ (v : Vector). v.kind) (values_of stack) ∙ ap reverse (kinds-values stack)
 
-returned_past : (item : Item) (s : State) (calls : List Active) (values : List Vector) (x p : ℕ) →
-    progress_past item s calls ≡ Over (Returned values) x p →
+returned_past : (rule : Rule) (item : Item) (s : State) (calls : List Active) (values : List Vector) (x p : ℕ) →
+    progress_past rule item s calls ≡ Over (Returned values) x p →
     (calls ≡ []) × (reverse (values_of s.stack) ≡ values)
-returned_past item s [] values x p e =
+returned_past rule item s [] values x p e =
     let ending : Returned (reverse (values_of s.stack)) ≡ Returned values = (same_over _ _ _ _ x p e).ending in
     (refl, (cc))
-returned_past item s (last ∷ others) values x p e = absurd (over_running _ _ _ _ (sym e))
+returned_past rule item s (last ∷ others) values x p e = absurd (over_running _ _ _ _ (sym e))
 
 returned_by : (signatures : List Signature) (task : Task) (s : State) → IsVerifiedTask signatures task →
     IsTyped signatures task s → (q : Progress) → Goes task s q →
@@ -129,11 +132,11 @@ returned_by signatures task s v t q (Executes call outer passes is) values x p e
     let before = subst
     (λ cs. AreTyped (scope_of signatures task.verified.program) task.verified.results cs (stack_kinds s.stack))
     passes.calls t.1 in
-    let back = returned_past (item_of call) s (calls_then task s call outer) values x p (sym is ∙ e) in
+    let back = returned_past task.rule (item_of call) s (calls_then task s call outer) values x p (sym is ∙ e) in
     ap (map (λ (v : Vector). v.kind)) (sym back.1)
     ∙ (kinds-returned s.stack
-    ∙ last_kinds signatures task v task.verified.results _ call.rest call.ret outer (stack_kinds s.stack) before
-    back.0)
+    ∙ last_kinds signatures task.verified v task.verified.results _ call.rest call.ret outer (stack_kinds s.stack)
+    before back.0)
 
 returned_from : (signatures : List Signature) (task : Task) → IsVerifiedTask signatures task →
     (n : ℕ) (q : Progress) → state_after task n ≡ q →

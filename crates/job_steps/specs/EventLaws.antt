@@ -9,11 +9,11 @@ use Rattle.job_steps.specs.declared.event.Event.TheVariants.{Begin, Recall}
 use Rattle.job_steps.specs.Events.{early_end, next_standing, named_job, job_of, is_open, after_event, after_events}
 use Rattle.job_steps.specs.Events.{recalled_standings, all_recalls, LeadTo, is_recall, AreOpen, event_count}
 use Rattle.job_steps.specs.Events.{all_events_left}
-use Rattle.job_steps.specs.Reached.{IsVerifiedTask, IsWithin}
+use Rattle.job_steps.specs.Reached.{IsVerifiedTask, IsVerifiedBySome, IsWithin}
 use Rattle.job_steps.specs.Runs.{state_after, outcome, executed_count, peak}
 use Rattle.job_steps.specs.Standings.{Standing, Waiting, Live, InFlight, Ended, Collected, of_job, with_standing}
 use Rattle.job_steps.specs.Standings.{first_standings, reserved_words, granted_words, admission, executed_at, peak_at}
-use Rattle.job_steps.specs.Standings.{held_by, used_words}
+use Rattle.job_steps.specs.Standings.{held_by, used_words, sum_over}
 use Rattle.job_steps.specs.States.{Task, Active, State}
 use Rattle.job_steps.specs.Steps.{Ending, Running, Over, next_item, sources_of, question_of, flag_of, can_run}
 use Rattle.job_steps.specs.Steps.{calls_after, progress_by}
@@ -39,11 +39,11 @@ pub record IsReady (task : Task) (n : ℕ) (s : State) : Type 0 where
   pub call : Active
   pub outer : List Active
   pub calls : s.calls ≡ call ∷ outer
-  pub runs : can_run task (next_item call).item s.stack ≡ true
+  pub runs : can_run task.verified (next_item call).item s.stack ≡ true
   pub next :
-      state_after task (n + 1) ≡ progress_by
+      state_after task (n + 1) ≡ progress_by task.rule
       (value_fault (op_of (next_item call).item) (sources_of (next_item call).item s.stack)) (next_item call) s
-      (calls_after task (flag_of (question_of (next_item call).item s.stack)) call.rest call.ret outer)
+      (calls_after task.verified (flag_of (question_of (next_item call).item s.stack)) call.rest call.ret outer)
 
 abbrev pub OthersAreReady : Type 0
 OthersAreReady =
@@ -94,7 +94,7 @@ AdmittedHaveRoom =
 
 -- some signatures verify the task's program
 abbrev pub IsVerified : Task → Type 0
-IsVerified task = (signatures : List Signature) × IsVerifiedTask signatures task
+IsVerified task = IsVerifiedBySome task.verified
 
 -- after so many instructions the job runs, within its budget
 pub record IsRunning (task : Task) (n : ℕ) : Type 0 where
@@ -107,7 +107,8 @@ pub record HasBegun (task : Task) (n : ℕ) : Type 0 where
   pub run : IsRunning task n
   pub goes_on : early_end task run.state ≡ None
 
--- a job stands where its run alone is
+-- A job stands where its run alone is. Of one that has ended this says only that its run ends within its limits, as
+-- that of each verified job does; the definition of events and EndedAreOver say that it ended where its run is over.
 abbrev pub StandsOnRun : Task → Standing → Type 0
 StandsOnRun task Waiting = Unit {0}
 StandsOnRun task (Live n) = IsRunning task n
@@ -152,6 +153,14 @@ pub record UsesWithin (task : Task) (standing : Standing) : Type 0 where
 abbrev pub UseIsWithin : Type 0
 UseIsWithin =
     (task : Task) → IsVerified task → (standing : Standing) → StandsOnRun task standing → UsesWithin task standing
+
+-- with another standing of one job, a sum over all jobs changes by that job's number
+abbrev pub SumsFollowStandings : Type 0
+SumsFollowStandings =
+    (number : Task → Standing → ℕ) (tasks : List Task) (standings : List Standing) (job : ℕ) (task : Task)
+    (old new : Standing) → of_job job tasks ≡ Some task → of_job job standings ≡ Some old →
+    sum_over number tasks (with_standing job new standings) + number task old
+    ≡ sum_over number tasks standings + number task new
 
 -- the vectors of all jobs have room in what is granted
 abbrev pub UsedIsGranted : Type 0

@@ -14,7 +14,7 @@ use Rattle.job_steps.specs.Steps.{Ending, Progress, Running, Over, Stuck, early_
 
 abbrev pub early_end_in : Task → State → List Active → Option Ending
 early_end_in task s [] = None
-early_end_in task s (call ∷ outer) = early_ending task.limits (next_item call) s
+early_end_in task s (call ∷ outer) = early_ending task (next_item call) s
 
 -- what ends a job before the values of its next instruction are looked at: its budget is spent, or a shape or a limit
 abbrev pub early_end : Task → State → Option Ending

@@ -7,6 +7,7 @@ pub mod Motions
 pub mod Piles
 pub mod Questions
 pub mod Reached
+pub mod RuleLaws
 pub mod Runs
 pub mod Standings
 pub mod States

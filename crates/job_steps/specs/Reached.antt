@@ -8,16 +8,24 @@ use Rattle.vcode_base.specs.declared.outcome.Outcome.TheVariants.{Returned}
 use Rattle.vcode_reader.specs.Trees.{IsProperBody, HaveProperBodies}
 use Rattle.signatures.specs.Signatures.{Signature}
 use Rattle.verifier.specs.Kinded.{Scope, HasKinds, scope_of}
-use Rattle.verifier.specs.Typed.{IsVerifiedBy}
+use Rattle.verifier.specs.Typed.{TypedProgram, IsVerifiedBy}
 use Rattle.job_steps.specs.States.{Vector, Task, Entry, Active, State, stack_kinds, held_words}
 use Rattle.job_steps.specs.Steps.{Running, Over, Stuck, next_item, sources_of}
 use Rattle.job_steps.specs.Runs.{state_after, whole_run, outcome, executed_count, peak}
 
--- The signatures verify the task's program. Its bodies hold neither RET nor an instruction IF, and each list in them is
--- of its kind.
-pub record IsVerifiedTask (signatures : List Signature) (task : Task) : Type 0 where
-  pub by_signatures : IsVerifiedBy signatures task.verified
-  pub proper : HaveProperBodies task.verified.program.functions
+-- The signatures verify the program. Its bodies hold neither RET nor an instruction IF, and each list in them is of its
+-- kind.
+pub record IsVerifiedProgram (signatures : List Signature) (verified : TypedProgram) : Type 0 where
+  pub by_signatures : IsVerifiedBy signatures verified
+  pub proper : HaveProperBodies verified.program.functions
+
+-- some signatures verify the program
+abbrev pub IsVerifiedBySome : TypedProgram → Type 0
+IsVerifiedBySome verified = (signatures : List Signature) × IsVerifiedProgram signatures verified
+
+-- the signatures verify the task's program
+abbrev pub IsVerifiedTask : List Signature → Task → Type 0
+IsVerifiedTask signatures task = IsVerifiedProgram signatures task.verified
 
 -- What remains of each call, the innermost first, goes from its own entries, which lie on those of the outer calls, to what
 -- its function gives; at the end these are the results.

@@ -12,7 +12,7 @@ progress_from task Stuck = Stuck
 
 -- after so many steps
 abbrev pub state_after : Task → ℕ → Progress
-state_after task zero = Running (first_state task)
+state_after task zero = Running (first_state task.verified)
 state_after task (suc n) = progress_from task (state_after task n)
 
 -- the end, which is reached after at most the budget's instructions

@@ -6,6 +6,7 @@ use Rattle.std.specs.Str.{bytes_eq}
 use Rattle.vcode_base.specs.declared.kind.Kind.{Kind}
 use Rattle.vcode_base.specs.declared.value.Value.{Value}
 use Rattle.vcode_base.specs.declared.limits.Limits.{Limits}
+use Rattle.vcode_base.specs.declared.rule.Rule.{Rule}
 use Rattle.vcode_base.specs.Names.{main_name}
 use Rattle.vcode_reader.specs.Trees.{Body, Function}
 use Rattle.verifier.specs.Typed.{TypedProgram}
@@ -18,11 +19,22 @@ Vector = Value (List ℤ)
 abbrev pub Arrow : Type 0
 Arrow = List Kind × List Kind
 
--- what is run: a verified program, within its limits
+-- what a job is: a verified program, with its name and its limits
+pub record JobValue : Type 0 where
+  pub name : List ℕ
+  pub verified : TypedProgram
+  pub limits : Limits
+
+-- what is run: a job, and the rule by which its operands count
 pub record Task : Type 0 where
   pub name : List ℕ
   pub verified : TypedProgram
   pub limits : Limits
+  pub rule : Rule
+
+-- a job under a rule
+abbrev pub ruled : Rule → JobValue → Task
+ruled rule job = record { name = job.name; verified = job.verified; limits = job.limits; rule = rule }
 
 -- an entry of the stack: copies of it have its tag, and no other entry has
 pub record Entry : Type 0 where
@@ -69,10 +81,10 @@ calls_with None calls = calls
 calls_with (Some callee) calls = record { rest = callee.function.body; ret = callee.function.ret } ∷ calls
 
 -- the state before the first instruction
-abbrev pub first_state : Task → State
-first_state task = record {
+abbrev pub first_state : TypedProgram → State
+first_state verified = record {
   stack = [];
-  calls = calls_with (callee_named task.verified main_name) [];
+  calls = calls_with (callee_named verified main_name) [];
   executed = 0;
   next = 0;
   peak = 0;

@@ -18,11 +18,11 @@ use Rattle.job_steps.specs.Tracks.{Trace, IsAt, IsDeep, CanFollow, functions_of}
 
 -- Some call is active. The operands of its next instruction are there, of their kinds, within what the job may hold.
 pub record CanBegin {C : Type 0} (task : Task) (n : ℕ) (s : State) (t : Trace C) : Type 0 where
-  pub active : AreActive (functions_of task) t.frames
+  pub active : AreActive (functions_of task.verified) t.frames
   pub call : Active
   pub outer : List Active
   pub calls : s.calls ≡ call ∷ outer
-  pub stands : StandAll (functions_of task) t.frames (call ∷ outer)
+  pub stands : StandAll (functions_of task.verified) t.frames (call ∷ outer)
   pub executed : t.executed ≡ n
   pub within : n ≤ task.limits.budget
   pub kinds : HaveKinds (source_kinds (op_of (next_item call).item)) (sources_of (next_item call).item s.stack)
@@ -41,8 +41,8 @@ pub record CanAdvance {C : Type 0} (task : Task) (s : State) (t : Trace C) (item
   pub unspent : t.executed < t.limits.budget
   pub deep : IsDeep (op_of item) (length t.cells)
   pub cells : depth_after (op_of item) (length t.cells) ≤ t.limits.cells
-  pub follows : CanFollow task t.frames t.limits.calls
-  pub room : words_at item s ≤ task.limits.words
+  pub follows : CanFollow task.verified t.frames t.limits.calls
+  pub room : words_at task.rule item s ≤ task.limits.words
   pub shaped : shape (op_of item) (sources_of item s.stack) ≡ None
   pub answers : (words : ℕ) → task.limits.words ≤ words →
       CanAnswer words (question_by (op_of item) (sources_of item s.stack))

@@ -1,11 +1,13 @@
 -- One instruction of a job that runs alone: what ends the job before it, and the state after it.
 use Rattle.std.specs.Prelude.{ℕ, ℤ, pos, ◌+◌, ◌==◌, nat_lt, nat_le, max, Bool, true, false, ◌&&◌, if◌then◌else◌, List}
-use Rattle.std.specs.Prelude.{[], ◌∷◌, length, take, reverse, slice_index_or, Option, Some, None}
+use Rattle.std.specs.Prelude.{[], ◌∷◌, length, drop, reverse, slice_index_or, take, Option, Some, None}
 use Rattle.vcode_base.specs.declared.instr.Instr.TheVariants.{Const, If, Move, Call, Return}
 use Rattle.vcode_base.specs.declared.op.Op.{Op}
 use Rattle.vcode_base.specs.declared.op.Op.TheVariants as op
 use Rattle.vcode_base.specs.declared.kind.Kind.{Kind}
 use Rattle.vcode_base.specs.declared.limits.Limits.{Limits}
+use Rattle.vcode_base.specs.declared.rule.Rule.{Rule}
+use Rattle.vcode_base.specs.declared.rule.Rule.TheVariants.{First, Second}
 use Rattle.vcode_base.specs.declared.fault.DataFault.{DataFault}
 use Rattle.vcode_base.specs.declared.fault.MemoryFault.{MemoryFault}
 use Rattle.vcode_base.specs.declared.fault.MemoryFault.TheVariants as memory
@@ -18,6 +20,7 @@ use Rattle.vcode_base.specs.Meaning.{operand, shape, value_fault, result_of, sec
 use Rattle.vcode_reader.specs.declared.line.Numbered.{Numbered}
 use Rattle.vcode_reader.specs.Decode.{then_body}
 use Rattle.vcode_reader.specs.Trees.{Item, Body, End, Do, Choice, line_of}
+use Rattle.verifier.specs.Typed.{TypedProgram}
 use Rattle.job_steps.specs.Motions.{top_entries, operand_count, stack_after, depth_after}
 use Rattle.job_steps.specs.Questions.{Question, need_words}
 use Rattle.job_steps.specs.States.{Vector, Task, Entry, Active, State, Callee, callee_named, calls_with, words_of}
@@ -68,20 +71,21 @@ can_call (Some callee) stack = has_on_top callee.arrow.0 stack
 
 -- The entries that the instruction takes are there, of its kinds; those of a CALL are what its function takes, and a motion
 -- takes any.
-abbrev pub can_run : Task → Item → List Entry → Bool
-can_run task (Call name) stack = can_call (callee_named task.verified name) stack
-can_run task (Move motion lower upper) stack = nat_le (lower + upper) (length stack)
-can_run task item stack = has_on_top (operand_kinds (op_of item)) stack
+abbrev pub can_run : TypedProgram → Item → List Entry → Bool
+can_run verified (Call name) stack = can_call (callee_named verified name) stack
+can_run verified (Move motion lower upper) stack = nat_le (lower + upper) (length stack)
+can_run verified item stack = has_on_top (operand_kinds (op_of item)) stack
 
 -- ---- what ends a job before the instruction's values are looked at
 
--- what counts as held at an instruction
-abbrev pub held_at : Item → State → ℕ
-held_at item s = held_words s.stack
+-- what counts as held at an instruction: the words of the stack, under the second rule without the operands
+abbrev pub held_at : Rule → Item → State → ℕ
+held_at First item s = held_words s.stack
+held_at Second item s = held_words (drop (operand_count (op_of item)) s.stack)
 
 -- the words that are held and needed
-abbrev pub words_at : Item → State → ℕ
-words_at item s = held_at item s + need_words (question_of item s.stack)
+abbrev pub words_at : Rule → Item → State → ℕ
+words_at rule item s = held_at rule item s + need_words (question_of item s.stack)
 
 abbrev pub is_call : Op → Bool
 is_call op.Call = true
@@ -102,11 +106,11 @@ ending_by line None (Some refusal) = Some (Memory refusal line)
 ending_by line None None = None
 
 -- the shapes don't fit, or else a limit would be passed
-abbrev pub early_ending : Limits → Numbered Item → State → Option (Outcome (List Vector))
-early_ending limits line s =
+abbrev pub early_ending : Task → Numbered Item → State → Option (Outcome (List Vector))
+early_ending task line s =
     ending_by line.number (shape (op_of line.item) (sources_of line.item s.stack))
-    (memory_fault limits (op_of line.item) (words_at line.item s) (depth_after (op_of line.item) (length s.stack))
-    (length s.calls))
+    (memory_fault task.limits (op_of line.item) (words_at task.rule line.item s)
+    (depth_after (op_of line.item) (length s.stack)) (length s.calls))
 
 -- ---- the state after an instruction
 
@@ -121,34 +125,35 @@ abbrev pub next_item : Active → Numbered Item
 next_item call = first_item call.rest call.ret
 
 -- the calls after an instruction, behind which this remains of the innermost
-abbrev pub calls_past : Task → Item → Active → List Active → List Active
-calls_past task (Call name) call outer = calls_with (callee_named task.verified name) (call ∷ outer)
-calls_past task Return call outer = outer
-calls_past task item call outer = call ∷ outer
+abbrev pub calls_past : TypedProgram → Item → Active → List Active → List Active
+calls_past verified (Call name) call outer = calls_with (callee_named verified name) (call ∷ outer)
+calls_past verified Return call outer = outer
+calls_past verified item call outer = call ∷ outer
 
 -- the calls after the next item of the innermost, which is of this body; an IF's choice goes before what is behind the IF
-abbrev pub calls_after : Task → Bool → Body → ℕ → List Active → List Active
-calls_after task flag End ret outer = outer
-calls_after task flag (Do item line rest) ret outer = calls_past task item (record { rest = rest; ret = ret }) outer
-calls_after task flag (Choice line first second end rest) ret outer =
+abbrev pub calls_after : TypedProgram → Bool → Body → ℕ → List Active → List Active
+calls_after verified flag End ret outer = outer
+calls_after verified flag (Do item line rest) ret outer =
+    calls_past verified item (record { rest = rest; ret = ret }) outer
+calls_after verified flag (Choice line first second end rest) ret outer =
     record { rest = then_body (if flag then first else second) rest; ret = ret } ∷ outer
 
 -- the instruction is executed, with these calls afterwards; without any the job has returned
-abbrev pub progress_past : Item → State → List Active → Progress
-progress_past item s [] =
-    Over (Returned (reverse (values_of s.stack))) (s.executed + 1) (max s.peak (words_at item s))
-progress_past item s (call ∷ outer) = Running (record {
+abbrev pub progress_past : Rule → Item → State → List Active → Progress
+progress_past rule item s [] =
+    Over (Returned (reverse (values_of s.stack))) (s.executed + 1) (max s.peak (words_at rule item s))
+progress_past rule item s (call ∷ outer) = Running (record {
   stack = stack_after (op_of item) (new_entries s.next (results_of (question_of item s.stack))) s.stack;
   calls = call ∷ outer;
   executed = s.executed + 1;
   next = s.next + length (results_of (question_of item s.stack));
-  peak = max s.peak (words_at item s);
+  peak = max s.peak (words_at rule item s);
 })
 
 -- the ending by a value fault, or the instruction is executed
-abbrev pub progress_by : Option DataFault → Numbered Item → State → List Active → Progress
-progress_by (Some fault) line s calls = Over (Fault fault line.number) s.executed s.peak
-progress_by None line s calls = progress_past line.item s calls
+abbrev pub progress_by : Rule → Option DataFault → Numbered Item → State → List Active → Progress
+progress_by rule (Some fault) line s calls = Over (Fault fault line.number) s.executed s.peak
+progress_by rule None line s calls = progress_past rule line.item s calls
 
 -- a job that ends here keeps its counts
 abbrev pub progress_unless : Option (Outcome (List Vector)) → State → Progress → Progress
@@ -157,16 +162,16 @@ progress_unless (Some ending) s progress = Over ending s.executed s.peak
 
 abbrev pub progress_at : Task → Numbered Item → State → List Active → Progress
 progress_at task line s calls =
-    if can_run task line.item s.stack then
-    progress_unless (early_ending task.limits line s) s
-    (progress_by (value_fault (op_of line.item) (sources_of line.item s.stack)) line s calls)
+    if can_run task.verified line.item s.stack then
+    progress_unless (early_ending task line s) s
+    (progress_by task.rule (value_fault (op_of line.item) (sources_of line.item s.stack)) line s calls)
     else Stuck
 
 abbrev pub progress_in : Task → State → List Active → Progress
 progress_in task s [] = Stuck
 progress_in task s (call ∷ outer) =
     progress_at task (next_item call) s
-    (calls_after task (flag_of (question_of (next_item call).item s.stack)) call.rest call.ret outer)
+    (calls_after task.verified (flag_of (question_of (next_item call).item s.stack)) call.rest call.ret outer)
 
 -- The first case that fits: the budget is spent; the job can't go on; a shape or a limit ends it; a value has no result;
 -- the instruction is executed.

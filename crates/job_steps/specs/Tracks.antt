@@ -8,6 +8,7 @@ use Rattle.vcode_base.specs.Kinds.{result_kinds}
 use Rattle.vcode_base.specs.declared.op.Op.TheVariants.{Move}
 use Rattle.vcode_reader.specs.declared.line.CodeItem.TheVariants as code_item
 use Rattle.vcode_reader.specs.Trees.{Item, Function}
+use Rattle.verifier.specs.Typed.{TypedProgram}
 use Rattle.job_steps.specs.declared.frame.Frame.{Frame}
 use Rattle.job_steps.specs.Frames.{Stands, StandAll, next_line}
 use Rattle.job_steps.specs.Motions.{operand_count, stack_after}
@@ -29,16 +30,16 @@ pub record HasLimits (limits : Limits) (cells frames : ℕ) : Type 0 where
   pub cells_are : cells ≡ limits.cells
   pub frames_are : frames ≡ limits.calls
 
-abbrev pub functions_of : Task → List Function
-functions_of task = task.verified.program.functions
+abbrev pub functions_of : TypedProgram → List Function
+functions_of verified = verified.program.functions
 
--- nothing is done, and the frames stand at the first calls
-pub record IsFirst {C : Type 0} (task : Task) (t : Trace C) : Type 0 where
-  pub limits : t.limits ≡ task.limits
+-- nothing is done, within these limits, and the frames stand at the first calls of the program
+pub record IsFirst {C : Type 0} (verified : TypedProgram) (within : Limits) (t : Trace C) : Type 0 where
+  pub limits : t.limits ≡ within
   pub cells : t.cells ≡ []
   pub executed : t.executed ≡ 0
   pub peak : t.peak ≡ 0
-  pub frames : StandAll (functions_of task) t.frames (first_state task).calls
+  pub frames : StandAll (functions_of verified) t.frames (first_state verified).calls
 
 -- the entries that an instruction takes are there
 abbrev pub IsDeep : Op → ℕ → Type 0
@@ -46,41 +47,41 @@ IsDeep (Move motion lower upper) depth = lower + upper ≤ depth
 IsDeep op depth = operand_count op ≤ depth
 
 -- the function that a CALL names is there, and so is room for one call more
-abbrev pub CanCall : Task → Item → (active room : ℕ) → Type 0
-CanCall task (Call name) active room =
-    (callee : Callee) × (callee_named task.verified name ≡ Some callee) × (active < room)
-CanCall task item active room = Unit {0}
+abbrev pub CanCall : TypedProgram → Item → (active room : ℕ) → Type 0
+CanCall verified (Call name) active room =
+    (callee : Callee) × (callee_named verified name ≡ Some callee) × (active < room)
+CanCall verified item active room = Unit {0}
 
 -- the call of a function, of which nothing is done
 abbrev pub first_call : Callee → Active
 first_call callee = record { rest = callee.function.body; ret = callee.function.ret }
 
 -- a frame stands at a CALL of this function
-pub record IsCallOf (task : Task) (frame : Frame) (name : List ℕ) (callee : Callee) : Type 0 where
+pub record IsCallOf (verified : TypedProgram) (frame : Frame) (name : List ℕ) (callee : Callee) : Type 0 where
   pub call : Active
-  pub stands : Stands (functions_of task) frame call
+  pub stands : Stands (functions_of verified) frame call
   pub next : (next_line call).item ≡ code_item.Do (Call name)
-  pub is : callee_named task.verified name ≡ Some callee
+  pub is : callee_named verified name ≡ Some callee
 
 -- a call is active whose next instruction can be followed, where there is room for so many frames
-pub record CanFollow (task : Task) (frames : List Frame) (room : ℕ) : Type 0 where
+pub record CanFollow (verified : TypedProgram) (frames : List Frame) (room : ℕ) : Type 0 where
   pub call : Active
   pub outer : List Active
-  pub stands : StandAll (functions_of task) frames (call ∷ outer)
-  pub called : CanCall task (next_item call).item (length frames) room
+  pub stands : StandAll (functions_of verified) frames (call ∷ outer)
+  pub called : CanCall verified (next_item call).item (length frames) room
 
 -- the frames stand at the calls after the next instruction, whichever calls they stood at
-abbrev pub Follow : Task → Bool → List Frame → List Frame → Type 0
-Follow task flag old new =
-    (call : Active) (outer : List Active) → StandAll (functions_of task) old (call ∷ outer) →
-    StandAll (functions_of task) new (calls_after task flag call.rest call.ret outer)
+abbrev pub Follow : TypedProgram → Bool → List Frame → List Frame → Type 0
+Follow verified flag old new =
+    (call : Active) (outer : List Active) → StandAll (functions_of verified) old (call ∷ outer) →
+    StandAll (functions_of verified) new (calls_after verified flag call.rest call.ret outer)
 
 -- the instruction is executed, with these results and these words held and needed
-pub record Advances {C : Type 0} (task : Task) (op : Op) (flag : Bool) (results : List C) (words : ℕ)
+pub record Advances {C : Type 0} (verified : TypedProgram) (op : Op) (flag : Bool) (results : List C) (words : ℕ)
     (old new : Trace C) : Type 0 where
   pub limits : new.limits ≡ old.limits
   pub cells : new.cells ≡ stack_after op results old.cells
-  pub frames : Follow task flag old.frames new.frames
+  pub frames : Follow verified flag old.frames new.frames
   pub executed : new.executed ≡ old.executed + 1
   pub peak : new.peak ≡ max old.peak words
 
@@ -90,7 +91,7 @@ pub record Advances {C : Type 0} (task : Task) (op : Op) (flag : Bool) (results 
 pub record IsAt {C : Type 0} (task : Task) (t : Trace C) (s : State) : Type 0 where
   pub limits : t.limits ≡ task.limits
   pub cells : length t.cells ≡ length s.stack
-  pub frames : StandAll (functions_of task) t.frames s.calls
+  pub frames : StandAll (functions_of task.verified) t.frames s.calls
   pub executed : t.executed ≡ s.executed
   pub peak : t.peak ≡ s.peak
 
@@ -112,7 +113,7 @@ EachTrackFollows C =
     IsAt task t s → s.calls ≡ call ∷ outer →
     IsDeep (op_of (next_item call).item) (length s.stack) →
     length results ≡ length (result_kinds (op_of (next_item call).item)) →
-    Advances task (op_of (next_item call).item) (flag_of (question_of (next_item call).item s.stack)) results
-    (words_at (next_item call).item s) t u →
-    IsWhere task u (progress_past (next_item call).item s
-    (calls_after task (flag_of (question_of (next_item call).item s.stack)) call.rest call.ret outer))
+    Advances task.verified (op_of (next_item call).item) (flag_of (question_of (next_item call).item s.stack)) results
+    (words_at task.rule (next_item call).item s) t u →
+    IsWhere task u (progress_past task.rule (next_item call).item s
+    (calls_after task.verified (flag_of (question_of (next_item call).item s.stack)) call.rest call.ret outer))

@@ -20,7 +20,7 @@ pub(crate) fn first_frames<A: Allocator>(
 ) -> Result<Pile<Frame, A>, AllocError>
     ensures room { IfOk result (λ frames. frames.room ≡ job.now.limits.calls) }
     ensures stand { IfOk result (λ frames.
-        StandAll (functions_of job.now) frames.entries (first_state job.now).calls) }
+        StandAll (functions_of job.now.verified) frames.entries (first_state job.now.verified).calls) }
 {
     let main = main_frame(job);
     let mut frames = Pile::new(alloc, job.limits().calls)?;
@@ -30,7 +30,7 @@ pub(crate) fn first_frames<A: Allocator>(
 
 /// The frame of the first line of `MAIN`.
 fn main_frame<A: Allocator>(job: &Job<A>) -> Frame
-    ensures { StandAll (functions_of job.now) (result ∷ []) (first_state job.now).calls }
+    ensures { StandAll (functions_of job.now.verified) (result ∷ []) (first_state job.now.verified).calls }
 {
     let program = job.verified().program();
     Frame::first(program.position(b"MAIN").unwrap())
@@ -38,9 +38,9 @@ fn main_frame<A: Allocator>(job: &Job<A>) -> Frame
 
 /// Follows the next instruction of the innermost call, whose flag is given where it is an `IF`.
 pub(crate) fn follow<A: Allocator>(frames: &mut Pile<Frame, A>, job: &Job<A>, flag: bool)
-    requires { CanFollow job.now frames.old.entries frames.old.room }
+    requires { CanFollow job.now.verified frames.old.entries frames.old.room }
     ensures room { frames.new.room ≡ frames.old.room }
-    ensures frames { Follow job.now flag frames.old.entries frames.new.entries }
+    ensures frames { Follow job.now.verified flag frames.old.entries frames.new.entries }
 {
     let program = job.verified().program();
     let frame = frames.at(0);
@@ -58,11 +58,11 @@ fn follow_instruction<A: Allocator>(
     instruction: &Instruction<A>,
 )
     requires frame { slice_get frames.old.entries 0 ≡ Some frame }
-    requires line { (call : Active) → Stands (functions_of job.now) frame call
+    requires line { (call : Active) → Stands (functions_of job.now.verified) frame call
         → (next_line call).item ≡ code_item.Do instruction.now }
-    requires calls { CanFollow job.now frames.old.entries frames.old.room }
+    requires calls { CanFollow job.now.verified frames.old.entries frames.old.room }
     ensures room { frames.new.room ≡ frames.old.room }
-    ensures frames { (flag : Bool) → Follow job.now flag frames.old.entries frames.new.entries }
+    ensures frames { (flag : Bool) → Follow job.now.verified flag frames.old.entries frames.new.entries }
 {
     match instruction {
         Instr::Return => frames.lower(1),
@@ -77,9 +77,9 @@ fn follow_instruction<A: Allocator>(
 
 /// The first frame of the function that a `CALL` names.
 fn called<A: Allocator>(frame: Frame, job: &Job<A>) -> Frame
-    requires { (name : List ℕ) × (callee : Callee) × IsCallOf job.now frame name callee }
-    ensures { (name : List ℕ) (callee : Callee) → IsCallOf job.now frame name callee
-        → Stands (functions_of job.now) result (first_call callee) }
+    requires { (name : List ℕ) × (callee : Callee) × IsCallOf job.now.verified frame name callee }
+    ensures { (name : List ℕ) (callee : Callee) → IsCallOf job.now.verified frame name callee
+        → Stands (functions_of job.now.verified) result (first_call callee) }
 {
     let program = job.verified().program();
     Frame::first(program.callee(frame.function, frame.place).unwrap())

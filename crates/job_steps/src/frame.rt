@@ -8,6 +8,7 @@ ghost use Rattle.job_steps.specs.Frames.{StopAt, Stands, remaining, next_line};
 ghost use Rattle.job_steps.specs.States.{Active};
 
 use std::alloc::Allocator;
+use vcode_reader::laws::each_target_is_first;
 use vcode_reader::{CodeItem, CodeLine, Function, Program};
 
 /// A line of the code where an active call goes on: an instruction or an `IF`.
@@ -91,6 +92,7 @@ fn part<A: Allocator>(function: &Function<A>, place: usize, flag: bool) -> usize
         → StopAt (drop place (lines_of function.now))
         → remaining (drop result (lines_of function.now)) ≡ then_body (if flag then first else second) rest }
 {
+    each_target_is_first();
     let next = behind(function, place);
     if flag {
         next
@@ -118,6 +120,7 @@ fn passed<A: Allocator>(function: &Function<A>, place: usize) -> Option<usize>
         (λ next. (place < next) × (place < length (lines_of function.now))
         × (remaining (drop next (lines_of function.now)) ≡ remaining (drop place (lines_of function.now)))) }
 {
+    each_target_is_first();
     match function.lines().get(place)?.item {
         CodeItem::Do(_) | CodeItem::If => None,
         CodeItem::Else => function.target(place),

@@ -1,8 +1,8 @@
 //! What a machine is given to run.
 
 ghost use Rattle.std.specs.Prelude.{◌≡◌};
-ghost use Rattle.job_steps.specs.EventLaws.{IsVerified};
 ghost use Rattle.job_steps.specs.Jobs.{IsName};
+ghost use Rattle.job_steps.specs.Reached.{IsVerifiedBySome};
 
 use std::alloc::Allocator;
 use std::marker::Model;
@@ -23,18 +23,18 @@ pub struct Job<A: Allocator> {
 
 impl<A: Allocator> Model for Job<A> {
     ghost use Rattle.std.specs.Coded.{codes};
-    ghost use Rattle.job_steps.specs.Jobs.{IsName, task_code};
-    ghost use Rattle.job_steps.specs.States.{Task};
+    ghost use Rattle.job_steps.specs.Jobs.{IsName, job_code};
+    ghost use Rattle.job_steps.specs.States.{JobValue};
 
-    ghost Value = { Task };
+    ghost Value = { JobValue };
 
-    ghost coded = { task_code (Prim.hlevel codes) (Prim.hlevel codes) (Prim.hlevel codes) };
+    ghost coded = { job_code (Prim.hlevel codes) (Prim.hlevel codes) (Prim.hlevel codes) };
 
     ghost view = { λ j. record { name = j.name; verified = j.verified; limits = j.limits } };
 
     ghost invariant = { λ j. IsName j.name };
 
-    ghost inverse = { λ t. record { name = t.name; verified = t.verified; limits = t.limits } };
+    ghost inverse = { λ j. record { name = j.name; verified = j.verified; limits = j.limits } };
 }
 
 impl<A: Allocator> Job<A> {
@@ -62,7 +62,7 @@ impl<A: Allocator> Job<A> {
     pub fn verified(&self) -> &Verified<A>
         ensures same { result.now ≡ self.now.verified }
         // Some signatures verify the program, whose bodies are proper.
-        ensures verified_task { IsVerified self.now }
+        ensures verified_program { IsVerifiedBySome self.now.verified }
     {
         let _functions = self.verified.program().functions();
         &self.verified

@@ -4,13 +4,14 @@ ghost use Rattle.std.specs.Prelude.{◌≡◌, ◌↔◌, IsTrue};
 ghost use Rattle.job_steps.specs.Frames.{EachLineRemains};
 ghost use Rattle.job_steps.specs.Reached.{Reaches, NeverStuck, EndsOnce, EachEnds, EndIsOwn};
 ghost use Rattle.job_steps.specs.Reached.{ResultsHaveKinds, ValuesHaveKinds};
+ghost use Rattle.job_steps.specs.RuleLaws.{SecondRuleEndsAlike, SecondRuleGoesAsFar};
 ghost use Rattle.job_steps.specs.StepLaws.{StepsCanBegin, StepsCanAdvance};
 ghost use Rattle.job_steps.specs.Tracks.{EachTrackFollows};
 ghost use Rattle.job_steps.specs.EventLaws.{EarlyEndsEnd, OthersAreReady, EventsChangeTheirJob};
 ghost use Rattle.job_steps.specs.EventLaws.{ClosedChangeNothing, MissingAreClosed, AdmittedHaveRoom};
 ghost use Rattle.job_steps.specs.EventLaws.{FirstAreKept, EventsKeep, RecallsKeep, EndedAreOver};
-ghost use Rattle.job_steps.specs.EventLaws.{UseIsWithin, UsedIsGranted, EventsGoOn, EventsUseUp, EventsEnd};
-ghost use Rattle.job_steps.specs.EventLaws.{EventsAreFew, OthersStay, EventsCommute, RecallUndoesBegin};
+ghost use Rattle.job_steps.specs.EventLaws.{UseIsWithin, SumsFollowStandings, UsedIsGranted, EventsGoOn, EventsUseUp};
+ghost use Rattle.job_steps.specs.EventLaws.{EventsEnd, EventsAreFew, OthersStay, EventsCommute, RecallUndoesBegin};
 ghost use Rattle.job_steps.specs.EventLaws.{EventsJoin, LeadsJoin, RecallsAreEvents};
 
 use crate::job::Job;
@@ -98,6 +99,21 @@ pub fn equal_jobs<A: Allocator>(left: &Job<A>, right: &Job<A>) -> bool
 {
     *left == *right
 }
+
+/// A job that has words enough under the first rule ends alike under the second, after as many instructions and with no
+/// greater peak.
+pub fn second_rule_ends_alike()
+    ensures { SecondRuleEndsAlike }
+{}
+
+/// A verified job executes no fewer instructions under the second rule than under the first.
+pub fn second_rule_goes_as_far()
+    ensures { SecondRuleGoesAsFar }
+{
+    reached();
+    each_ends();
+}
+
 /// Where the budget is spent, or a shape or a limit stands against the next instruction of a verified
 /// job, that is the job's end, with what it used so far.
 pub fn early_ends_end()
@@ -144,9 +160,9 @@ pub fn first_are_kept()
     ensures { FirstAreKept }
 {}
 
-/// Whatever the events, each verified job stands on its run alone, and the words that are granted are
-/// at most the region: a live job runs after as many instructions as its standing says, within its
-/// budget, and one that has ended has its own outcome and counts.
+/// Whatever the events, each verified job stands on its run alone, and the words that are granted are at
+/// most the region: a live job runs after as many instructions as its standing says, within its budget.
+/// That a job ends only where its run is over, with its own outcome and counts, is [`ended_are_over`].
 pub fn events_keep()
     ensures { EventsKeep }
 {
@@ -177,6 +193,11 @@ pub fn use_is_within()
 {
     reached();
 }
+
+/// With another standing of one job, a sum over all jobs changes by that job's number alone.
+pub fn sums_follow_standings()
+    ensures { SumsFollowStandings }
+{}
 
 /// The words of the vectors of all jobs are at most those that are granted.
 pub fn used_is_granted()

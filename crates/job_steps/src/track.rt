@@ -52,7 +52,7 @@ impl<C: Copy, A: Allocator> Track<C, A> {
     pub fn new(alloc: A, job: &Job<A>) -> Result<Track<C, A>, AllocError>
     where
         A: Clone,
-        ensures { IfOk result (IsFirst job.now) }
+        ensures { IfOk result (IsFirst job.now.verified job.now.limits) }
     {
         let limits = job.limits();
         let cells = Pile::new(alloc.clone()?, limits.cells)?;
@@ -142,8 +142,8 @@ impl<C: Copy, A: Allocator> Track<C, A> {
         requires deep { IsDeep op (length self.old.cells) }
         requires given { length results.now ≡ length (result_kinds op) }
         requires cells { depth_after op (length self.old.cells) ≤ self.old.limits.cells }
-        requires calls { CanFollow job.now self.old.frames self.old.limits.calls }
-        ensures { Advances job.now op flag results.now words self.old self.new }
+        requires calls { CanFollow job.now.verified self.old.frames self.old.limits.calls }
+        ensures { Advances job.now.verified op flag results.now words self.old self.new }
     {
         replace(&mut self.cells, op, results);
         follow(&mut self.frames, job, flag);

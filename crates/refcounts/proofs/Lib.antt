@@ -2,3 +2,4 @@ mod Slots
 mod States
 mod Puts
 mod Changes
+mod Freed

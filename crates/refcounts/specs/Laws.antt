@@ -2,7 +2,7 @@
 use Rattle.std.specs.Prelude.{◌≡◌, ℕ, ℤ, ◌+◌, ◌<◌, ◌≤◌, List, length, All}
 use Rattle.refcounts.specs.SharedState.{SharedState, empty_slot, slot_in, slot_at, IsLive, IsTidy, with_slot}
 use Rattle.refcounts.specs.SharedState.{new_slot, state_after_release, state_after_shares, state_after_releases}
-use Rattle.refcounts.specs.SharedState.{occurrences, AreLive, AreNamed}
+use Rattle.refcounts.specs.SharedState.{occurrences, AreLive, AreNamed, used_words, block_count}
 use Rattle.refcounts.specs.Owners.{slots_seen_by, ChangesOnly}
 
 -- the block of the number is there, and the owner's
@@ -43,6 +43,12 @@ ReleasesKeepBlocks = (memory : SharedState) (ids : List ℕ) (id : ℕ) → AreN
     → occurrences id ids < (slot_at memory id).count
     → ((slot_at (state_after_releases memory ids) id).owner ≡ (slot_at memory id).owner)
     × ((slot_at (state_after_releases memory ids) id).words ≡ (slot_at memory id).words)
+
+-- what is released leaves no more words in use, and no more blocks
+abbrev pub ReleasesOnlyFree : Type 0
+ReleasesOnlyFree = (memory : SharedState) (ids : List ℕ) → AreNamed memory ids
+    → (used_words (state_after_releases memory ids) ≤ used_words memory)
+    × (block_count (state_after_releases memory ids) ≤ block_count memory)
 
 -- a release leaves a tidy memory tidy
 abbrev pub ReleaseStaysTidy : Type 0

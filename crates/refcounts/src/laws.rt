@@ -2,7 +2,7 @@
 
 ghost use Rattle.refcounts.specs.Laws.{MakingChangesOnlyOwn, SharingChangesOnlyOwn, ReleasingChangesOnlyOwn};
 ghost use Rattle.refcounts.specs.Laws.{SharesAreCounted, ReleasesAreCounted, ReleasesKeepBlocks};
-ghost use Rattle.refcounts.specs.Laws.{ReleaseStaysTidy};
+ghost use Rattle.refcounts.specs.Laws.{ReleasesOnlyFree, ReleaseStaysTidy};
 
 /// A block that an owner makes changes no other owner's blocks.
 pub fn making_changes_only_own()
@@ -32,6 +32,11 @@ pub fn releases_are_counted()
 /// A block that is released less often than references name it keeps its owner and its words.
 pub fn releases_keep_blocks()
     ensures { ReleasesKeepBlocks }
+{}
+
+/// Blocks that are released leave no more words in use, and no more blocks.
+pub fn releases_only_free()
+    ensures { ReleasesOnlyFree }
 {}
 
 /// A number that no reference names has no block after a release either.

@@ -11,6 +11,7 @@ ghost use Rattle.std.specs.Prelude.{IsTrue, IfOk, OnErr};
 ghost use Rattle.block_memory.specs.Content.{block_count as block_count_of};
 ghost use Rattle.refcounts.specs.SharedState.{empty_slot, slot_at, IsLive, IsTidy, used_words, block_count};
 ghost use Rattle.refcounts.specs.SharedState.{with_slot, new_slot, state_after_share, state_after_release};
+ghost use Rattle.refcounts.specs.SharedState.{state_after_releases, occurrences, AreNamed};
 
 pub mod laws;
 
@@ -101,6 +102,44 @@ impl<M: VectorMemory, A: Allocator> SharedMemory<M, A> {
         last
     }
 
+    /// One reference less to each of these blocks, once for each time that it is listed: at most as often as references
+    /// name it. The last one of a block frees it. Answers how many words this frees.
+    pub fn release_all(&mut self, ids: &[BlockId]) -> u64
+        requires { AreNamed self.old ids.now }
+        ensures released { self.new ≡ state_after_releases self.old ids.now }
+        ensures freed { result + used_words self.new ≡ used_words self.old }
+    {
+        let used = self.used();
+        for id in ids {
+            self.release(*id);
+        }
+        let freed = used - self.used();
+        freed as u64
+    }
+
+    /// The number of words that would be in use after `release_all` of these references. Nothing changes.
+    pub fn used_without(&self, ids: &[BlockId]) -> usize
+        requires { AreNamed self.now ids.now }
+        ensures value { result ≡ used_words (state_after_releases self.now ids.now) }
+        ensures within { result ≤ used_words self.now }
+    {
+        let mut used = self.used();
+        for (index, id) in ids.iter().enumerate() {
+            if self.is_last(*id, &ids[..index]) {
+                used -= self.len(*id);
+            }
+        }
+        used
+    }
+
+    /// Whether exactly one reference to a block is left once these are released.
+    fn is_last(&self, id: BlockId, released: &[BlockId]) -> bool
+        ensures { IsTrue result ↔ ((slot_at self.now id).count ≡ occurrences id released.now + 1) }
+    {
+        let earlier = released.iter().filter(|other| **other == id).count();
+        self.count(id) == earlier as u64 + 1
+    }
+
     /// The number of references to a block, 0 where the number has no block.
     pub fn count(&self, id: BlockId) -> u64
         ensures value { result ≡ (slot_at self.now id).count }
@@ -151,10 +190,12 @@ impl<M: VectorMemory, A: Allocator> SharedMemory<M, A> {
         self.memory.read_into(id, buf);
     }
 
-    /// The number of words of all blocks, at most `size()`. A block counts once, however many references name it.
+    /// The number of words of all blocks, at most `size()`. A block counts once, however many references name it. A
+    /// number that no reference names has no block.
     pub fn used(&self) -> usize
         ensures value { result ≡ used_words self.now }
         ensures within { result ≤ self.now.room }
+        ensures tidy { IsTidy self.now }
     {
         self.memory.used()
     }

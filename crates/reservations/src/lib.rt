@@ -7,7 +7,7 @@
 #![tactic(auto)]
 
 ghost use Rattle.std.specs.Prelude.{◌≡◌, ◌+◌, ◌-◌, ◌<◌, ◌≤◌, ◌↔◌, length, replicate, Some, None, IsSome};
-ghost use Rattle.std.specs.Prelude.{IsErr, IfOk, IfSome, OnOk, OnErr};
+ghost use Rattle.std.specs.Prelude.{IsTrue, IsErr, IfOk, IfSome, OnOk, OnErr};
 ghost use Rattle.reservations.specs.BookState.{IsJob, grant_of, words_granted_to, words_held_by};
 ghost use Rattle.reservations.specs.BookState.{granted_words, IsCovered, with_grant, new_grant, with_held};
 
@@ -83,12 +83,19 @@ impl<A: Allocator> Book<A> {
         ensures granted { OnOk result (self.new ≡ with_grant self.old job (Some (new_grant words))) }
         ensures unchanged { OnErr result (self.new ≡ self.old) }
     {
-        if words > self.region - self.granted {
+        if !self.fits(words) {
             return Err(NotNow);
         }
         self.granted += words;
         self.grants[job - 1] = Some(Grant { words, held: 0 });
         Ok(())
+    }
+
+    /// Whether `grant` of so many words to a job that has no grant would be `Ok` now.
+    pub fn fits(&self, words: usize) -> bool
+        ensures { IsTrue result ↔ (granted_words self.now + words ≤ self.now.region) }
+    {
+        words <= self.region - self.granted
     }
 
     /// A job, which has a grant, comes to hold `n` words more.
@@ -101,12 +108,7 @@ impl<A: Allocator> Book<A> {
         ensures charged { OnOk result (self.new ≡ with_held self.old job (words_held_by self.old job + n)) }
         ensures unchanged { OnErr result (self.new ≡ self.old) }
     {
-        let grant = self.grants[job - 1].as_mut().unwrap();
-        if n > grant.words - grant.held {
-            return Err(Spent);
-        }
-        grant.held += n;
-        Ok(())
+        self.exchange(job, 0, n)
     }
 
     /// A job, which has a grant, holds `n` words less: at most all that it holds.
@@ -117,6 +119,26 @@ impl<A: Allocator> Book<A> {
         ensures { self.new ≡ with_held self.old job (words_held_by self.old job - n) }
     {
         self.grants[job - 1].as_mut().unwrap().held -= n;
+    }
+
+    /// A job, which has a grant, gives back `back` of the words that it holds, and comes to hold `n` words more.
+    ///
+    /// `Spent` exactly where those that it keeps and these are more than its grant has; then nothing changes.
+    pub fn exchange(&mut self, job: usize, back: usize, n: usize) -> Result<(), Spent>
+        requires is_job { IsJob self.old job }
+        requires has_grant { IsSome (grant_of self.old job) }
+        requires holds { back ≤ words_held_by self.old job }
+        ensures spent { IsErr result ↔ (words_granted_to self.old job < words_held_by self.old job - back + n) }
+        ensures exchanged { OnOk result (self.new ≡ with_held self.old job (words_held_by self.old job - back + n)) }
+        ensures unchanged { OnErr result (self.new ≡ self.old) }
+    {
+        let grant = self.grants[job - 1].as_mut().unwrap();
+        let kept = grant.held - back;
+        if n > grant.words - kept {
+            return Err(Spent);
+        }
+        grant.held = kept + n;
+        Ok(())
     }
 
     /// Ends the grant of a job, which has one and holds none of its words. They can be granted anew.

@@ -10,7 +10,7 @@ use Rattle.vcode_base.specs.declared.limits.TheConstants.{MOST_BUDGET, MOST_JOBS
 use Rattle.job_steps.specs.declared.event.Event.{Event}
 use Rattle.job_steps.specs.declared.event.Event.TheVariants.{Admit, Begin, Finish, Recall, Collect}
 use Rattle.job_steps.specs.EventLaws.{IsVerified, IsRunning, HasBegun}
-use Rattle.job_steps.specs.EventLaws.{EarlyEndsEnd, OthersAreReady, EventsKeep, UseIsWithin}
+use Rattle.job_steps.specs.EventLaws.{EarlyEndsEnd, OthersAreReady, EventsKeep, SumsFollowStandings, UseIsWithin}
 use Rattle.job_steps.specs.Events.{early_end, next_standing, job_of, next_standing_in, next_standing_of, with_next}
 use Rattle.job_steps.specs.Events.{standing_after_begin, standing_after, after_event, after_events, recalled_standing}
 use Rattle.job_steps.specs.Reached.{Reaches, EndIsOwn}
@@ -28,27 +28,7 @@ use Rattle.job_machine.specs.Machines.{after_finished}
 use Rattle.step_scheduler.specs.Tallies.{executed_sum, IsKept, OthersCountNothing, RaisesByItsJob}
 use Rattle.step_scheduler.specs.Tallies.{FinishesRaise, RecallsCountNothing, EventsKeepCounts, CountsAreWithin}
 
--- ---- sums
-
-sum_set : (number : Task → Standing → ℕ) (tasks : List Task) (standings : List Standing) (i : ℕ) (task : Task)
-    (old new : Standing) → slice_get tasks i ≡ Some task → slice_get standings i ≡ Some old →
-    sum_over number tasks (set standings i new) + number task old ≡ sum_over number tasks standings + number task new
-sum_set number [] standings i task old new t e = absurd (none-some task t)
-sum_set number (k ∷ tasks) [] i task old new t e = absurd (none-some old e)
-sum_set number (k ∷ tasks) (s ∷ standings) zero task old new t e =
-    let late : number k new ≡ number task new = ap (λ x. number x new) (same_Some k task t) in
-    let task_is : number k s ≡ number task s = ap (λ x. number x s) (same_Some k task t) in
-    let early : number task s ≡ number task old = ap (number task) (same_Some s old e) in
-    omega (arith, late, task_is, early)
-sum_set number (k ∷ tasks) (s ∷ standings) (suc i) task old new t e =
-    let rest = sum_set number tasks standings i task old new t e in omega (arith, rest)
-
-sum_with : (tasks : List Task) (standings : List Standing) (job : ℕ) (task : Task) (old new : Standing) →
-    of_job job tasks ≡ Some task → of_job job standings ≡ Some old →
-    sum_over executed_at tasks (with_standing job new standings) + executed_at task old
-    ≡ sum_over executed_at tasks standings + executed_at task new
-sum_with tasks standings zero task old new t e = absurd (none-some task t)
-sum_with tasks standings (suc i) task old new t e = sum_set executed_at tasks standings i task old new t e
+-- ---- standings
 
 get_set : (standings : List Standing) (i : ℕ) (old new : Standing) → slice_get standings i ≡ Some old →
     slice_get (set standings i new) i ≡ Some new
@@ -103,29 +83,29 @@ KeepsCount event tasks standings job =
     (task : Task) (old new : Standing) → of_job job tasks ≡ Some task → of_job job standings ≡ Some old →
     next_standing event task old ≡ Some new → executed_at task new ≡ executed_at task old
 
-same_sum_next : (event : Event) (tasks : List Task) (standings : List Standing) (job : ℕ) →
+same_sum_next : SumsFollowStandings → (event : Event) (tasks : List Task) (standings : List Standing) (job : ℕ) →
     KeepsCount event tasks standings job → (task : Task) (old : Standing) → of_job job tasks ≡ Some task →
     of_job job standings ≡ Some old → (next : Option Standing) → next_standing event task old ≡ next →
     sum_over executed_at tasks (with_next (Some job) next standings) ≡ sum_over executed_at tasks standings
-same_sum_next event tasks standings job keeps task old t s None is = refl
-same_sum_next event tasks standings job keeps task old t s (Some new) is =
-    omega (arith, sum_with tasks standings job task old new t s, keeps task old new t s is)
+same_sum_next sums event tasks standings job keeps task old t s None is = refl
+same_sum_next sums event tasks standings job keeps task old t s (Some new) is =
+    omega (arith, sums executed_at tasks standings job task old new t s, keeps task old new t s is)
 
-same_sum_in : (event : Event) (tasks : List Task) (standings : List Standing) (job : ℕ) →
+same_sum_in : SumsFollowStandings → (event : Event) (tasks : List Task) (standings : List Standing) (job : ℕ) →
     KeepsCount event tasks standings job → (t : Option Task) → of_job job tasks ≡ t → (s : Option Standing) →
     of_job job standings ≡ s →
     sum_over executed_at tasks (with_next (Some job) (next_standing_in event t s) standings)
     ≡ sum_over executed_at tasks standings
-same_sum_in event tasks standings job keeps None t s s_is = refl
-same_sum_in event tasks standings job keeps (Some task) t None s_is = refl
-same_sum_in event tasks standings job keeps (Some task) t (Some old) s_is =
-    same_sum_next event tasks standings job keeps task old t s_is (next_standing event task old) refl
+same_sum_in sums event tasks standings job keeps None t s s_is = refl
+same_sum_in sums event tasks standings job keeps (Some task) t None s_is = refl
+same_sum_in sums event tasks standings job keeps (Some task) t (Some old) s_is =
+    same_sum_next sums event tasks standings job keeps task old t s_is (next_standing event task old) refl
 
-same_sum : (event : Event) (m : MachineState) (job : ℕ) → job_of m.region m.tasks event m.standings ≡ Some job →
+same_sum : SumsFollowStandings → (event : Event) (m : MachineState) (job : ℕ) → job_of m.region m.tasks event m.standings ≡ Some job →
     KeepsCount event m.tasks m.standings job → executed_sum (machine_after event m) ≡ executed_sum m
-same_sum event m job is keeps =
+same_sum sums event m job is keeps =
     ap (sum_over executed_at m.tasks) (after_by m.region m.tasks event m.standings job is)
-    ∙ same_sum_in event m.tasks m.standings job keeps (of_job job m.tasks) refl (of_job job m.standings) refl
+    ∙ same_sum_in sums event m.tasks m.standings job keeps (of_job job m.tasks) refl (of_job job m.standings) refl
 
 -- ---- events other than a finish
 
@@ -170,21 +150,21 @@ admit_keeps tasks standings job task (InFlight n) new t s is = absurd (none-some
 admit_keeps tasks standings job task Ended new t s is = absurd (none-some new is)
 admit_keeps tasks standings job task Collected new t s is = absurd (none-some new is)
 
-admit_counts_nothing : (m : MachineState) (o : Option ℕ) → admission m.region m.tasks m.standings ≡ o →
+admit_counts_nothing : SumsFollowStandings → (m : MachineState) (o : Option ℕ) → admission m.region m.tasks m.standings ≡ o →
     executed_sum (machine_after Admit m) ≡ executed_sum m
-admit_counts_nothing m None is =
+admit_counts_nothing sums m None is =
     ap (sum_over executed_at m.tasks) (none_admitted m.region m.tasks m.standings is)
-admit_counts_nothing m (Some job) is = same_sum Admit m job is (admit_keeps m.tasks m.standings job)
+admit_counts_nothing sums m (Some job) is = same_sum sums Admit m job is (admit_keeps m.tasks m.standings job)
 
-pub others_count_nothing : EarlyEndsEnd → OthersCountNothing
-others_count_nothing early m kept Admit other =
-    admit_counts_nothing m (admission m.region m.tasks m.standings) refl
-others_count_nothing early m kept (Begin job) other = same_sum (Begin job) m job refl (begin_keeps early m kept job)
-others_count_nothing early m kept (Finish job) other = absurd (false≢true (sym other))
-others_count_nothing early m kept (Recall job) other =
-    same_sum (Recall job) m job refl (recall_keeps m.tasks m.standings job)
-others_count_nothing early m kept (Collect job) other =
-    same_sum (Collect job) m job refl (collect_keeps m.tasks m.standings job)
+pub others_count_nothing : SumsFollowStandings → EarlyEndsEnd → OthersCountNothing
+others_count_nothing sums early m kept Admit other =
+    admit_counts_nothing sums m (admission m.region m.tasks m.standings) refl
+others_count_nothing sums early m kept (Begin job) other = same_sum sums (Begin job) m job refl (begin_keeps early m kept job)
+others_count_nothing sums early m kept (Finish job) other = absurd (false≢true (sym other))
+others_count_nothing sums early m kept (Recall job) other =
+    same_sum sums (Recall job) m job refl (recall_keeps m.tasks m.standings job)
+others_count_nothing sums early m kept (Collect job) other =
+    same_sum sums (Collect job) m job refl (collect_keeps m.tasks m.standings job)
 
 -- ---- recalls
 
@@ -211,8 +191,8 @@ abbrev CountsFrom : Task → ℕ → Progress → Type 0
 CountsFrom task n p = n ≤ executed_at task (standing_after (n + 1) p)
 
 counts_by_values : EndIsOwn → (task : Task) (n : ℕ) (s : State) → s.executed ≡ n → (fault : Option DataFault)
-    (line : Numbered Item) (calls : List Active) → state_after task (n + 1) ≡ progress_by fault line s calls →
-    CountsFrom task n (progress_by fault line s calls)
+    (line : Numbered Item) (calls : List Active) → state_after task (n + 1)
+    ≡ progress_by task.rule fault line s calls → CountsFrom task n (progress_by task.rule fault line s calls)
 counts_by_values own task n s count (Some fault) line calls is =
     let same = own task (n + 1) _ _ _ is in omega (arith, count, same.1)
 counts_by_values own task n s count None line [] is =
@@ -228,10 +208,10 @@ counts_from reaches others own task v n begun =
     subst (CountsFrom task n) (sym ready.next) (counts_by_values own task n s there.count _ _ _ ready.next)
 
 -- what a finish makes of a machine whose job is in flight
-raised : (m : MachineState) (job step : ℕ) (task : Task) → of_job job m.tasks ≡ Some task →
+raised : SumsFollowStandings → (m : MachineState) (job step : ℕ) (task : Task) → of_job job m.tasks ≡ Some task →
     of_job job m.standings ≡ Some (InFlight step) → CountsFrom task step (state_after task (step + 1)) →
     RaisesByItsJob m job step
-raised m job step task t s from =
+raised sums m job step task t s from =
     let new = standing_after (step + 1) (state_after task (step + 1)) in
     let after : after_event m.region m.tasks (Finish job) m.standings ≡ with_standing job new m.standings =
     after_by m.region m.tasks (Finish job) m.standings job refl
@@ -246,66 +226,66 @@ raised m job step task t s from =
           omega (
             arith,
             ap (sum_over executed_at m.tasks) after,
-            sum_with m.tasks m.standings job task (InFlight step) new t s,
+            sums executed_at m.tasks m.standings job task (InFlight step) new t s,
           );
     }
 
-pub finishes_raise : Reaches → OthersAreReady → EndIsOwn → FinishesRaise
-finishes_raise reaches others own m kept job step s =
+pub finishes_raise : SumsFollowStandings → Reaches → OthersAreReady → EndIsOwn → FinishesRaise
+finishes_raise sums reaches others own m kept job step s =
     let task = task_of m.tasks m.standings kept.kept.same_length job (InFlight step) s in
     let v : IsVerified task.0 = verified_of m.tasks kept.verified job task.0 task.1 in
     let begun : HasBegun task.0 step = kept.kept.on_run job task.0 (InFlight step) task.1 s in
-    raised m job step task.0 task.1 s (counts_from reaches others own task.0 v step begun)
+    raised sums m job step task.0 task.1 s (counts_from reaches others own task.0 v step begun)
 
 -- ---- events, one after another
 
 -- the sum isn't lowered by the finish of a job with this task and this standing, if there is one
-finish_keeps : Reaches → OthersAreReady → EndIsOwn → (m : MachineState) → IsKept m → (job : ℕ) → (t : Option Task) →
+finish_keeps : SumsFollowStandings → Reaches → OthersAreReady → EndIsOwn → (m : MachineState) → IsKept m → (job : ℕ) → (t : Option Task) →
     of_job job m.tasks ≡ t → (s : Option Standing) → of_job job m.standings ≡ s →
     executed_sum m
     ≤ sum_over executed_at m.tasks (with_next (Some job) (next_standing_in (Finish job) t s) m.standings)
-finish_keeps reaches others own m kept job None t s s_is = omega arith
-finish_keeps reaches others own m kept job (Some task) t None s_is = omega arith
-finish_keeps reaches others own m kept job (Some task) t (Some Waiting) s_is = omega arith
-finish_keeps reaches others own m kept job (Some task) t (Some (Live n)) s_is = omega arith
-finish_keeps reaches others own m kept job (Some task) t (Some (InFlight n)) s_is =
+finish_keeps sums reaches others own m kept job None t s s_is = omega arith
+finish_keeps sums reaches others own m kept job (Some task) t None s_is = omega arith
+finish_keeps sums reaches others own m kept job (Some task) t (Some Waiting) s_is = omega arith
+finish_keeps sums reaches others own m kept job (Some task) t (Some (Live n)) s_is = omega arith
+finish_keeps sums reaches others own m kept job (Some task) t (Some (InFlight n)) s_is =
     let v : IsVerified task = verified_of m.tasks kept.verified job task t in
     let begun : HasBegun task n = kept.kept.on_run job task (InFlight n) t s_is in
     let from = counts_from reaches others own task v n begun in
     omega (
       arith,
       from,
-      sum_with m.tasks m.standings job task (InFlight n)
+      sums executed_at m.tasks m.standings job task (InFlight n)
           (standing_after (n + 1) (state_after task (n + 1))) t s_is,
     )
-finish_keeps reaches others own m kept job (Some task) t (Some Ended) s_is = omega arith
-finish_keeps reaches others own m kept job (Some task) t (Some Collected) s_is = omega arith
+finish_keeps sums reaches others own m kept job (Some task) t (Some Ended) s_is = omega arith
+finish_keeps sums reaches others own m kept job (Some task) t (Some Collected) s_is = omega arith
 
-finish_never_lowers : Reaches → OthersAreReady → EndIsOwn → (m : MachineState) → IsKept m → (job : ℕ) →
+finish_never_lowers : SumsFollowStandings → Reaches → OthersAreReady → EndIsOwn → (m : MachineState) → IsKept m → (job : ℕ) →
     executed_sum m ≤ executed_sum (machine_after (Finish job) m)
-finish_never_lowers reaches others own m kept job =
+finish_never_lowers sums reaches others own m kept job =
     let after = after_by m.region m.tasks (Finish job) m.standings job refl in
     omega (
       arith,
       ap (sum_over executed_at m.tasks) after,
-      finish_keeps reaches others own m kept job (of_job job m.tasks) refl (of_job job m.standings) refl,
+      finish_keeps sums reaches others own m kept job (of_job job m.tasks) refl (of_job job m.standings) refl,
     )
 
 no_fewer_by : (m : MachineState) (event : Event) → executed_sum (machine_after event m) ≡ executed_sum m →
     executed_sum m ≤ executed_sum (machine_after event m)
 no_fewer_by m event same = omega (arith, same)
 
-never_lowers : EarlyEndsEnd → Reaches → OthersAreReady → EndIsOwn → (m : MachineState) → IsKept m → (event : Event) →
+never_lowers : SumsFollowStandings → EarlyEndsEnd → Reaches → OthersAreReady → EndIsOwn → (m : MachineState) → IsKept m → (event : Event) →
     executed_sum m ≤ executed_sum (machine_after event m)
-never_lowers early reaches others own m kept Admit =
-    no_fewer_by m Admit (others_count_nothing early m kept Admit refl)
-never_lowers early reaches others own m kept (Begin job) =
-    no_fewer_by m (Begin job) (others_count_nothing early m kept (Begin job) refl)
-never_lowers early reaches others own m kept (Finish job) = finish_never_lowers reaches others own m kept job
-never_lowers early reaches others own m kept (Recall job) =
-    no_fewer_by m (Recall job) (others_count_nothing early m kept (Recall job) refl)
-never_lowers early reaches others own m kept (Collect job) =
-    no_fewer_by m (Collect job) (others_count_nothing early m kept (Collect job) refl)
+never_lowers sums early reaches others own m kept Admit =
+    no_fewer_by m Admit (others_count_nothing sums early m kept Admit refl)
+never_lowers sums early reaches others own m kept (Begin job) =
+    no_fewer_by m (Begin job) (others_count_nothing sums early m kept (Begin job) refl)
+never_lowers sums early reaches others own m kept (Finish job) = finish_never_lowers sums reaches others own m kept job
+never_lowers sums early reaches others own m kept (Recall job) =
+    no_fewer_by m (Recall job) (others_count_nothing sums early m kept (Recall job) refl)
+never_lowers sums early reaches others own m kept (Collect job) =
+    no_fewer_by m (Collect job) (others_count_nothing sums early m kept (Collect job) refl)
 
 kept_after : EventsKeep → (m : MachineState) → IsKept m → (event : Event) → IsKept (machine_after event m)
 kept_after keep m kept event = record {
@@ -313,17 +293,17 @@ kept_after keep m kept event = record {
   kept = keep m.region m.tasks kept.verified (event ∷ []) m.standings kept.kept;
 }
 
-all_keep : EarlyEndsEnd → Reaches → OthersAreReady → EndIsOwn → EventsKeep → (events : List Event) (m : MachineState) →
+all_keep : SumsFollowStandings → EarlyEndsEnd → Reaches → OthersAreReady → EndIsOwn → EventsKeep → (events : List Event) (m : MachineState) →
     IsKept m → executed_sum m ≤ sum_over executed_at m.tasks (after_events m.region m.tasks events m.standings)
-all_keep early reaches others own keep [] m kept = omega arith
-all_keep early reaches others own keep (event ∷ events) m kept =
-    let here = never_lowers early reaches others own m kept event in
-    let rest = all_keep early reaches others own keep events (machine_after event m) (kept_after keep m kept event) in
+all_keep sums early reaches others own keep [] m kept = omega arith
+all_keep sums early reaches others own keep (event ∷ events) m kept =
+    let here = never_lowers sums early reaches others own m kept event in
+    let rest = all_keep sums early reaches others own keep events (machine_after event m) (kept_after keep m kept event) in
     omega (arith, here, rest)
 
-pub events_keep_counts : EarlyEndsEnd → Reaches → OthersAreReady → EndIsOwn → EventsKeep → EventsKeepCounts
-events_keep_counts early reaches others own keep old new kept leads =
-    let there = all_keep early reaches others own keep leads.2.0 old kept in
+pub events_keep_counts : SumsFollowStandings → EarlyEndsEnd → Reaches → OthersAreReady → EndIsOwn → EventsKeep → EventsKeepCounts
+events_keep_counts sums early reaches others own keep old new kept leads =
+    let there = all_keep sums early reaches others own keep leads.2.0 old kept in
     let same : sum_over executed_at new.tasks new.standings
     ≡ sum_over executed_at old.tasks (after_events old.region old.tasks leads.2.0 old.standings) =
     λ i. sum_over executed_at (leads.1 i) (sym leads.2.1 i) in

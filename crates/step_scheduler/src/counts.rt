@@ -7,7 +7,8 @@ ghost use Rattle.step_scheduler.specs.Tallies.{OthersCountNothing, RecallsCountN
 
 use job_machine::Machine;
 use job_steps::laws::{
-    early_ends_end, end_is_own, events_keep, others_are_ready, reached, use_is_within,
+    early_ends_end, end_is_own, events_keep, others_are_ready, reached, sums_follow_standings,
+    use_is_within,
 };
 use std::alloc::Allocator;
 
@@ -24,6 +25,7 @@ pub(crate) fn count_laws()
     events_keep();
     others_are_ready();
     reached();
+    sums_follow_standings();
     use_is_within();
 }
 

@@ -17,7 +17,7 @@ pub struct Tally<A: Allocator> {
 pub enum RunFault {
     /// The allocator refused memory; where that was for the results of a job, also when the calling thread tried again.
     Memory,
-    /// The machine that came back from the workers holds other jobs than the one that was given.
+    /// The machine that came back from the workers has another rule or other jobs than the one that was given.
     Mixed,
 }
 

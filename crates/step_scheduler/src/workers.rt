@@ -1,8 +1,9 @@
 //! A run of a machine's jobs by workers.
 
-ghost use Rattle.std.specs.Prelude.{◌≡◌, ◌+◌, ◌≤◌, sum, vec_len, All, IfOk, OnOk};
+ghost use Rattle.std.specs.Prelude.{◌≡◌, ◌≢◌, ◌+◌, ◌≤◌, ◌↔◌, map, sum, vec_len, All, IfOk, OnOk, IsErrOf, IsTrue};
 ghost use Rattle.vcode_base.specs.declared.limits.TheConstants.{MOST_WORKERS};
 ghost use Rattle.job_steps.specs.Standings.{Collected};
+ghost use Rattle.job_steps.specs.States.{ruled};
 ghost use Rattle.step_scheduler.specs.Tallies.{executed_sum};
 
 use crate::counts::{count_laws, executed_in_all};
@@ -20,20 +21,21 @@ use std::sync::Wait;
 use std::sync::ledger::{Blank, Ledger, Share};
 use std::thread;
 use std::thread::Threads;
+use vcode_base::Rule;
 
 /// Runs all jobs of a machine on so many worker threads, 1 to 16, and collects them.
 ///
 /// Steps that have begun are given up first. A worker that can't be started, or that memory is refused to, is missed;
 /// what the workers leave is run out on the calling thread.
 ///
-/// The machine that comes back has the jobs of the one that was given, in order, all collected. The tally has a number
-/// for each worker; they and the caller's add up to the instructions that the jobs executed by this call.
+/// The machine that comes back has the rule and the jobs of the one that was given, in order, all collected. The tally has a
+/// number for each worker; they and the caller's add up to the instructions that the jobs executed by this call.
 ///
 /// # Errors
 ///
 /// [`RunFault::Memory`] where memory was refused for a desk of the calling thread, for the tally or for the list of jobs,
 /// or for the results of a job both to a worker and to the calling thread. [`RunFault::Mixed`] where the machine that the
-/// workers leave doesn't hold the jobs that were given. Both drop the machine.
+/// workers leave has another rule, or doesn't hold the jobs that were given. Both drop the machine.
 pub fn run_workers<A, R, G>(
     rt: &R,
     alloc: A,
@@ -46,6 +48,7 @@ where
     R: Threads + Wait + Sync,
     G: Gate + Sync,
     requires workers { (1 ≤ workers) × (workers ≤ MOST_WORKERS) }
+    ensures rule { IfOk result (λ ran. ran.0.rule ≡ machine.rule) }
     ensures jobs { IfOk result (λ ran. ran.0.tasks ≡ machine.tasks) }
     ensures collected { IfOk result (λ ran. All (λ standing. standing ≡ Collected) ran.0.standings) }
     ensures workers { IfOk result (λ ran. vec_len ran.1.workers ≡ workers) }
@@ -73,15 +76,17 @@ where
     requires name { blank.name ≡ L.name }
     requires parts { (blank.parts ≡ L.parts) × (blank.parts ≡ workers + 1) }
     requires before { executed_sum machine ≡ L.executed_before }
+    ensures rule { IfOk result (λ ran. ran.0.rule ≡ machine.rule) }
     ensures jobs { IfOk result (λ ran. ran.0.tasks ≡ machine.tasks) }
     ensures collected { IfOk result (λ ran. All (λ standing. standing ≡ Collected) ran.0.standings) }
     ensures workers { IfOk result (λ ran. vec_len ran.1.workers ≡ workers) }
     ensures counted { IfOk result (λ ran. executed_sum ran.0 ≡ executed_sum machine + (sum ran.1.workers.items + ran.1.caller)) }
 {
+    let rule = machine.rule();
     let list = machine.list()?;
     let desk = Desk::new(alloc, machine.most_words())?;
     let (machine, workers) = run_threads::<L, A, R, G>(rt, alloc, machine, workers, gate, blank)?;
-    run_out_jobs(machine, list.as_slice(), desk, workers)
+    run_out_jobs(machine, rule, list.as_slice(), desk, workers)
 }
 
 /// Gives up the steps that have begun, and lets workers run the machine's jobs: the machine that they leave, and how many
@@ -145,26 +150,39 @@ fn take_back<L: Opening, A: Allocator>(
     Ok((machine, workers))
 }
 
-/// Runs out the machine that the workers leave, whose jobs have to be these, and counts what this thread does beside what
-/// they did.
+/// Whether a machine has this rule.
+fn has_rule<A: Allocator>(machine: &Machine<A>, rule: Rule) -> bool
+    ensures { IsTrue result ↔ (machine.now.rule ≡ rule) }
+{
+    machine.rule() == rule
+}
+
+/// Runs out the machine that the workers leave, which has to have this rule and these jobs, and counts what this thread does
+/// beside what they did.
 ///
 /// # Errors
 ///
-/// [`RunFault::Mixed`] where the machine has other jobs, and [`RunFault::Memory`] where memory for the results of a job was
+/// [`RunFault::Mixed`] where the machine has another rule or other jobs, and [`RunFault::Memory`] where memory for the results of a job was
 /// refused.
 fn run_out_jobs<A: Allocator + Clone>(
     machine: Machine<A>,
+    rule: Rule,
     jobs: &[Job<A>],
     desk: Desk<A>,
     workers: Vec<u64, A>,
 ) -> Result<(Machine<A>, Tally<A>), RunFault>
-    requires { All (λ task. task.limits.words ≤ desk) jobs.now }
-    ensures jobs { IfOk result (λ ran. ran.0.tasks ≡ jobs.now) }
+    requires { All (λ task. task.limits.words ≤ desk) (map (ruled rule) jobs.now) }
+    ensures rule { IfOk result (λ ran. ran.0.rule ≡ rule) }
+    ensures jobs { IfOk result (λ ran. ran.0.tasks ≡ map (ruled rule) jobs.now) }
     ensures collected { IfOk result (λ ran. All (λ standing. standing ≡ Collected) ran.0.standings) }
     ensures workers { IfOk result (λ ran. ran.1.workers ≡ workers) }
     ensures counted { IfOk result
         (λ ran. executed_sum ran.0 + sum workers.items ≡ executed_sum machine + (sum ran.1.workers.items + ran.1.caller)) }
+    ensures mixed { IsErrOf result RunFault.Mixed → machine.rule ≡ rule → machine.tasks ≢ map (ruled rule) jobs.now }
 {
+    if !has_rule(&machine, rule) {
+        return Err(RunFault::Mixed);
+    }
     if !machine.holds(jobs) {
         return Err(RunFault::Mixed);
     }
@@ -203,6 +221,7 @@ where
 /// [`AllocError`] where memory for the results of a job was refused.
 fn run_out<A: Allocator + Clone>(machine: &mut Machine<A>, desk: Desk<A>) -> Result<u64, AllocError>
     requires { All (λ task. task.limits.words ≤ desk) machine.old.tasks }
+    ensures rule { machine.new.rule ≡ machine.old.rule }
     ensures jobs { machine.new.tasks ≡ machine.old.tasks }
     ensures collected { OnOk result (All (λ standing. standing ≡ Collected) machine.new.standings) }
     ensures counted { IfOk result (λ count. executed_sum machine.new ≡ executed_sum machine.old + count) }

@@ -13,6 +13,7 @@ pub mod limits;
 mod line_words;
 mod op;
 mod outcome;
+mod rule;
 mod sequence;
 mod value;
 
@@ -23,5 +24,6 @@ pub use limits::Limits;
 pub use line_words::{LineWords, Parentheses};
 pub use op::{Arith, Comparison, Elementwise, Fold, Logic, Op, Segmented, StackMove};
 pub use outcome::Outcome;
+pub use rule::Rule;
 pub use sequence::Sequence;
 pub use value::{Value, Values, Words};

@@ -6,7 +6,7 @@ use Rattle.vcode_reader.specs.declared.line.CodeItem.{CodeItem}
 use Rattle.vcode_reader.specs.declared.line.CodeItem.TheVariants as code_item
 use Rattle.vcode_reader.specs.Decode.{AreBodyLines, tree_of, tree_of-body_lines, then_body}
 use Rattle.vcode_reader.specs.Targets.{Jumps, first_of, others_of, jumps_before, jumps_from, targets_of, target_in}
-use Rattle.vcode_reader.specs.Targets.{EachPartIsPassed}
+use Rattle.vcode_reader.specs.Targets.{EachPartIsPassed, EachTargetIsFirst}
 use Rattle.vcode_reader.specs.Trees.{Item, Body, End, Do, Choice, CodeLine, line_of, instruction_line, body_lines}
 
 regroup : (x y b rest : List CodeLine) (i m n : CodeLine) →
@@ -98,6 +98,12 @@ from_place (y ∷ lines) begun (suc place) x rest h =
         target_in (slice_get (jumps_from begun (y ∷ lines)).list (suc place))
         ≡ target_in (slice_get (jumps_from (begun + 1) lines).list place)
     later y begun lines place = ap target_in (by_item y.item begun (jumps_from (begun + 1) lines) place)
+
+pub each_target_is_first : EachTargetIsFirst
+unfolding targets_of
+each_target_is_first lines place x rest h =
+    let same : 0 + place ≡ place = omega arith in
+    from_place lines 0 place x rest h ∙ ap (λ p. target_in (slice_get (jumps_from p (x ∷ rest)).list 0)) same
 
 pub each_part_is_passed : EachPartIsPassed
 unfolding targets_of jumps_from

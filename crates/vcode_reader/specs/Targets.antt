@@ -41,6 +41,12 @@ target_in (Some target) = target
 abbrev pub target_at : List CodeLine → ℕ → Option ℕ
 target_at lines place = target_in (slice_get (targets_of lines) place)
 
+-- the target at a place is the first of those from the place on
+abbrev pub EachTargetIsFirst : Type 0
+EachTargetIsFirst =
+    (lines : List CodeLine) (place : ℕ) (x : CodeLine) (rest : List CodeLine) → drop place lines ≡ x ∷ rest →
+    target_at lines place ≡ target_in (slice_get (jumps_from place (x ∷ rest)).list 0)
+
 -- The target at the place of a line that begins a part of an IF is the place behind the line that ends the part: for
 -- an
 -- IF the first line behind its ELSE, for an ELSE the first line behind its ENDIF.

@@ -2,7 +2,7 @@
 
 ghost use Rattle.std.specs.Prelude.{◌≡◌, ◌↔◌, IsTrue};
 ghost use Rattle.vcode_reader.specs.Callees.{EachCallIsFound};
-ghost use Rattle.vcode_reader.specs.Targets.{EachPartIsPassed};
+ghost use Rattle.vcode_reader.specs.Targets.{EachPartIsPassed, EachTargetIsFirst};
 ghost use Rattle.vcode_reader.specs.First.{EveryTextIsRead, WholeTextsAreRead, OneProgram};
 
 use crate::program::Program;
@@ -23,6 +23,11 @@ pub fn whole_texts_are_read()
 /// The grammar relates words to one program at most.
 pub fn one_program()
     ensures { OneProgram }
+{}
+
+/// In any code, the target at a place is the first of those from the place on.
+pub fn each_target_is_first()
+    ensures { EachTargetIsFirst }
 {}
 
 /// In any code, the target of an IF whose first part is a body is the place behind its ELSE, and that

@@ -10,6 +10,7 @@ use signatures::SignatureFault;
 use std::alloc::{AllocError, Allocator, Global};
 use std::process::Abort;
 use std::test::Fail;
+use vcode_base::Rule;
 use vcode_reader::CodeFault;
 use verifier::KindFault;
 
@@ -38,6 +39,15 @@ const UNFINISHED: &[u8] =
 
 /// Behind the job stands a line that is none of a job.
 const BAD_LINE: &[u8] = b"JOB a 9 16 4 100\nSIGNATURES\nCODE\nEND\r\nEND\r\nJOB b 9 16 4 100";
+
+/// Blank lines before the rule line and after it, and a job that is refused.
+const SECOND_RULE: &[u8] = b"\n \r\n\tBATCH  2\r\n\nJOB a 9 16 4 100\nSIGNATURES\nCODE\nEND\n";
+
+/// The rule line comes twice.
+const RULE_TWICE: &[u8] = b"BATCH 2\n\nBATCH 2\nJOB a 9 16 4 100\n";
+
+/// The rule line comes after a job.
+const LATE_RULE: &[u8] = b"JOB a 9 16 4 100\nSIGNATURES\nCODE\nEND\nBATCH 2\n";
 
 /// What a batch comes to, or a refusal of memory.
 type Reading<A> = Result<Batch<JobEntries<A>>, AllocError>;
@@ -112,27 +122,76 @@ fn are_the_five(rt: &impl Abort, entries: &[JobEntry<Global>]) {
 
 #[test]
 fn five_jobs_have_these_fates(rt: HostRuntime) -> Result<(), Fail> {
-    let Batch::Jobs(entries) = read(rt.alloc(), FIVE_JOBS)? else {
-        return Err(Fail::from("the batch is refused"));
+    let Batch::Jobs(Rule::First, entries) = read(rt.alloc(), FIVE_JOBS)? else {
+        return Err(Fail::from("the batch is refused, or has the second rule"));
     };
     are_the_five(&rt, entries.as_slice());
     Ok(())
 }
 
 #[test]
-fn two_batches_are_refused(rt: HostRuntime) {
+fn batches_are_refused(rt: HostRuntime) {
     for (text, line, fault) in [
         (UNFINISHED, 6, BatchFault::UnfinishedJob),
         (BAD_LINE, 5, BatchFault::BadJobLine),
+        (RULE_TWICE, 3, BatchFault::BadJobLine),
+        (LATE_RULE, 5, BatchFault::BadJobLine),
+        (b"\nBATCH 02\n", 2, BatchFault::BadJobLine),
+        (b"BATCH 2 2", 1, BatchFault::BadJobLine),
+        (b"BATCH\n2\n", 1, BatchFault::BadJobLine),
+        (b"BATCH 1\n", 1, BatchFault::BadJobLine),
     ] {
         assert!(rt; read(rt.alloc(), text) == Ok(Batch::Refused(line, fault)));
     }
 }
 
+/// The rule of a batch, and how many jobs it has, unless it is refused.
+fn rule_and_count(alloc: Global, text: &[u8]) -> Result<Option<(Rule, usize)>, AllocError> {
+    match read(alloc, text)? {
+        Batch::Jobs(rule, entries) => Ok(Some((rule, entries.len()))),
+        Batch::Refused(..) => Ok(None),
+    }
+}
+
+#[test]
+fn batches_have_these_rules(rt: HostRuntime) -> Result<(), Fail> {
+    for (text, rule, jobs) in [
+        (b"".as_slice(), Rule::First, 0),
+        (b"\n \r\n", Rule::First, 0),
+        (TWO_JOBS, Rule::First, 2),
+        (b"BATCH 2", Rule::Second, 0),
+        (b"\nBATCH 2\n\n", Rule::Second, 0),
+        (SECOND_RULE, Rule::Second, 1),
+    ] {
+        assert_eq!(rt; rule_and_count(rt.alloc(), text)?, Some((rule, jobs)));
+    }
+    Ok(())
+}
+
+#[test]
+fn lines_count_with_the_rule_line(rt: HostRuntime) -> Result<(), Fail> {
+    let Batch::Jobs(Rule::Second, entries) = read(rt.alloc(), SECOND_RULE)? else {
+        return Err(Fail::from("the batch is refused, or has the first rule"));
+    };
+    let refusal = Some((8, JobFault::Kind(KindFault::NoMain)));
+    assert!(rt; is_told(entries.as_slice().first(), "a", refusal));
+    Ok(())
+}
+
 #[test]
 fn batches_are_read_however_cut(rt: HostRuntime) -> Result<(), Fail> {
     let heap = LocalHeap::new(rt.alloc(), HEAP)?;
-    for text in [FIVE_JOBS, TWO_JOBS, UNFINISHED, BAD_LINE] {
+    for text in [
+        FIVE_JOBS,
+        TWO_JOBS,
+        UNFINISHED,
+        BAD_LINE,
+        SECOND_RULE,
+        RULE_TWICE,
+        LATE_RULE,
+        b"BATCH 2",
+        b"\nBATCH 02\n",
+    ] {
         is_read_however_cut::<Feed<_>>(&rt, rt.alloc(), &heap, text)?;
     }
     Ok(())

@@ -63,7 +63,7 @@ fn ends(alloc: Global, size: usize, more: usize) -> Result<Option<(u64, BatchFau
     let mut feed = Feed::new(alloc, REGION)?;
     feed_past(&mut feed, alloc, size, more)?;
     match feed.end()? {
-        Batch::Jobs(_) => Ok(None),
+        Batch::Jobs(..) => Ok(None),
         Batch::Refused(line, fault) => Ok(Some((line, fault))),
     }
 }

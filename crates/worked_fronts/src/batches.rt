@@ -18,8 +18,17 @@ pub const EXECUTED_BY_TWO: [u64; 2] = [2, 4];
 ///
 /// [`AllocError`] where memory for the text was refused.
 pub(crate) fn twelve_jobs(alloc: Global) -> Result<String, AllocError> {
+    twelve_jobs_by(alloc, "")
+}
+
+/// The same jobs behind this line.
+///
+/// # Errors
+///
+/// [`AllocError`] where memory for the text was refused.
+pub(crate) fn twelve_jobs_by(alloc: Global, rule_line: &str) -> Result<String, AllocError> {
     format!(in alloc;
-        "JOB t 5 16 4 100\nSIGNATURES\nMAIN () -> (INT)\nCODE\nFUNC MAIN\n\
+        "{rule_line}JOB t 5 16 4 100\nSIGNATURES\nMAIN () -> (INT)\nCODE\nFUNC MAIN\n\
         CONST INT (1 2 3)\nCONST INT 3\nMAKE_SEGDES\n+_REDUCE INT\nRET\nEND\n\
         JOB t 4 16 4 100\nSIGNATURES\nMAIN () -> (INT)\nCODE\nFUNC MAIN\nCONST INT (1 2 3)\nCONST INT 3\n\
         MAKE_SEGDES\n+_REDUCE INT\nRET\nEND\n\
@@ -41,5 +50,11 @@ pub(crate) fn twelve_jobs(alloc: Global) -> Result<String, AllocError> {
     )
 }
 
+/// The line by which jobs run by the second rule.
+pub const SECOND_RULE: &str = "BATCH 2\n";
+
 /// The instructions that they execute.
 pub const EXECUTED_BY_TWELVE: [u64; 12] = [5, 2, 1, 0, 4, 2, 5, 2, 2, 5, 4, 3];
+
+/// The same by the second rule, which two of them return by.
+pub const EXECUTED_BY_THE_SECOND_RULE: [u64; 12] = [5, 5, 1, 0, 4, 4, 5, 2, 2, 5, 4, 3];

@@ -9,6 +9,8 @@
 #[cfg(test)]
 mod batches;
 #[cfg(test)]
+mod calls;
+#[cfg(test)]
 mod command_lines;
 #[cfg(test)]
 mod devices;

@@ -7,6 +7,7 @@ use batch_reader::{Batch, Entry, Fate, Feed, JobEntry};
 use job_machine::{Job, Machine};
 use std::alloc::{AllocError, Global};
 use std::test::Fail;
+use vcode_base::Rule;
 use vcode_base::limits::MOST_JOBS;
 
 /// Puts the job of an entry behind the others.
@@ -27,29 +28,29 @@ fn put_job(entry: JobEntry<Global>, jobs: &mut Vec<Job<Global>>, most: usize) ->
     Ok(())
 }
 
-/// The jobs of a batch, each of at most so many words. What `feed` refuses `end` tells again.
-fn jobs(alloc: Global, batch: &[u8], most: usize) -> Result<Vec<Job<Global>>, Fail>
+/// The rule of a batch and its jobs, each of at most so many words. What `feed` refuses `end` tells again.
+fn jobs(alloc: Global, batch: &[u8], most: usize) -> Result<(Rule, Vec<Job<Global>>), Fail>
     requires { most ≤ MOST_WORDS }
-    ensures few { IfOk result (λ jobs. length jobs.items ≤ MOST_JOBS) }
-    ensures words { IfOk result (λ jobs. All (λ job. job.limits.words ≤ most) jobs.items) }
+    ensures few { IfOk result (λ r. length r.1.items ≤ MOST_JOBS) }
+    ensures words { IfOk result (λ r. All (λ job. job.limits.words ≤ most) r.1.items) }
 {
     let mut feed = Feed::new(alloc, most)?;
     let _ = feed.feed(batch);
-    let Batch::Jobs(entries) = feed.end()? else {
+    let Batch::Jobs(rule, entries) = feed.end()? else {
         return Err(Fail::from("the batch is refused"));
     };
     let mut jobs = Vec::new(alloc);
     for entry in entries.into_vec() {
         put_job(entry, &mut jobs, most)?;
     }
-    Ok(jobs)
+    Ok((rule, jobs))
 }
 
 /// The words of each region.
 pub const REGION: usize = 64;
 
-/// A machine over 64 words with the jobs of a batch.
+/// A machine over 64 words with the jobs of a batch, by its rule.
 pub(crate) fn machine(alloc: Global, batch: &[u8]) -> Result<Machine<Global>, Fail> {
-    let jobs = jobs(alloc, batch, REGION)?;
-    Ok(Machine::new(alloc, REGION, jobs)?)
+    let (rule, jobs) = jobs(alloc, batch, REGION)?;
+    Ok(Machine::new(alloc, REGION, jobs, rule)?)
 }

@@ -1,5 +1,6 @@
 //! Workers that meet in the middle of a step.
 
+use crate::calls::Calls;
 use std::rt::Clock;
 use std::sync::atomic::{AtomicU64, Ordering};
 use std::thread;
@@ -17,7 +18,7 @@ pub struct Meeting<'a, R: Clock> {
     here: AtomicU64,
     /// The same for the first steps that met the other.
     met: AtomicU64,
-    calls: AtomicU64,
+    calls: Calls,
 }
 
 impl<'a, R: Clock> Meeting<'a, R> {
@@ -26,7 +27,7 @@ impl<'a, R: Clock> Meeting<'a, R> {
             rt,
             here: AtomicU64::new(0),
             met: AtomicU64::new(0),
-            calls: AtomicU64::new(0),
+            calls: Calls::new(),
         }
     }
 
@@ -37,13 +38,13 @@ impl<'a, R: Clock> Meeting<'a, R> {
 
     /// How many steps came.
     pub(crate) fn calls(&self) -> u64 {
-        self.calls.load(Ordering::SeqCst)
+        self.calls.count()
     }
 }
 
 impl<'a, R: Clock> Gate for Meeting<'a, R> {
     fn between(&self, job: usize, step: u64) {
-        self.calls.fetch_add(1, Ordering::SeqCst);
+        self.calls.between(job, step);
         if step != 0 {
             return;
         }

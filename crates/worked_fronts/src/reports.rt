@@ -3,7 +3,8 @@
 ghost use Rattle.std.specs.Prelude.{◌≤◌};
 ghost use Rattle.vcode_base.specs.declared.limits.TheConstants.{MOST_WORKERS};
 
-use crate::batches::{TWO_JOBS, twelve_jobs};
+use crate::batches::{SECOND_RULE, TWO_JOBS, twelve_jobs, twelve_jobs_by};
+use crate::calls::Calls;
 use crate::machines::REGION;
 use crate::meeting::Meeting;
 use batch_front::{Device, FrontFault, Gate, NoGate, Options, Status, parse_schedule, run};
@@ -28,6 +29,18 @@ const REPORT_ON_TWELVE: &[u8] = b"JOB 1 t RETURNED\nINT (6)\nUSED 5 instructions
     JOB 10 t RETURNED\nINT (0 1 0 3 7)\nUSED 5 instructions 13 words\n\
     JOB 11 t FAULT line 106 F7 INDEX_TWICE\nUSED 4 instructions 6 words\n\
     JOB 12 t MEMORY line 117 M1 WORDS\nUSED 3 instructions 3 words\nEND 12 jobs 0 refused\n";
+
+const REPORT_BY_THE_SECOND_RULE: &[u8] = b"JOB 1 t RETURNED\nINT (6)\nUSED 5 instructions 4 words\n\
+    JOB 2 t RETURNED\nINT (6)\nUSED 5 instructions 4 words\n\
+    JOB 3 t RETURNED\nUSED 1 instructions 0 words\nJOB 4 t BUDGET\nUSED 0 instructions 0 words\n\
+    JOB 5 t RETURNED\nINT (1 2 3)\nINT (1 2 3)\nINT (1 2 3)\nUSED 4 instructions 3 words\n\
+    JOB 6 t RETURNED\nINT (2 4 6)\nUSED 4 instructions 3 words\n\
+    JOB 7 t RETURNED\nINT (3)\nINT (1)\nINT (2)\nUSED 5 instructions 3 words\n\
+    JOB 8 t MEMORY line 74 M3 CALLS\nUSED 2 instructions 0 words\n\
+    JOB 9 t FAULT line 84 F4 ZERO_DIVISOR\nUSED 2 instructions 2 words\n\
+    JOB 10 t RETURNED\nINT (0 1 0 3 7)\nUSED 5 instructions 8 words\n\
+    JOB 11 t FAULT line 107 F7 INDEX_TWICE\nUSED 4 instructions 5 words\n\
+    JOB 12 t MEMORY line 118 M1 WORDS\nUSED 3 instructions 2 words\nEND 12 jobs 0 refused\n";
 
 /// What a run came to, and what was written.
 fn ending<H, G>(
@@ -68,21 +81,34 @@ fn two_workers_compute_at_once(rt: HostRuntime) {
     assert_eq!(rt; report.as_slice(), REPORT_ON_TWO);
 }
 
-/// The twelve jobs, run so, have the report that is wanted.
-fn reports_on_twelve<H>(rt: &H, alloc: Global, batch: &[u8], options: &Options)
+/// Jobs of which some don't return, run so, have this report.
+fn reports<H, G>(rt: &H, alloc: Global, batch: &str, options: &Options, gate: &G, wanted: &[u8])
 where
     H: Abort + Threads + Wait + Sync,
+    G: Gate + Sync,
 {
-    let (outcome, report) = ending(rt, alloc, batch, options, &NoGate);
+    let (outcome, report) = ending(rt, alloc, batch.as_bytes(), options, gate);
     assert_eq!(rt; outcome, Ok(Status::SomeNot), "{options:?}");
-    assert_eq!(rt; report.as_slice(), REPORT_ON_TWELVE, "{options:?}");
+    assert_eq!(rt; report.as_slice(), wanted, "{options:?}");
 }
 
 #[test]
 fn each_number_of_workers_gives_the_same_report(rt: HostRuntime) -> Result<(), Fail> {
     let batch = twelve_jobs(rt.alloc())?;
     for workers in 1..MOST_WORKERS as u32 + 1 {
-        reports_on_twelve(&rt, rt.alloc(), batch.as_bytes(), &options_of(workers));
+        let options = options_of(workers);
+        reports(&rt, rt.alloc(), &batch, &options, &NoGate, REPORT_ON_TWELVE);
+    }
+    Ok(())
+}
+
+#[test]
+fn the_second_rule_has_its_report(rt: HostRuntime) -> Result<(), Fail> {
+    let batch = twelve_jobs_by(rt.alloc(), SECOND_RULE)?;
+    let wanted = REPORT_BY_THE_SECOND_RULE;
+    for workers in [1, 2, 16] {
+        let options = options_of(workers);
+        reports(&rt, rt.alloc(), &batch, &options, &NoGate, wanted);
     }
     Ok(())
 }
@@ -102,9 +128,12 @@ fn options_by(alloc: Global, list: &str) -> Result<Options, Fail> {
 #[test]
 fn each_schedule_gives_the_same_report(rt: HostRuntime) -> Result<(), Fail> {
     let batch = twelve_jobs(rt.alloc())?;
+    let gate = Calls::new();
     for list in ["1,2,3", "b5,1,f5", "12,11,10"] {
         let options = options_by(rt.alloc(), list)?;
-        reports_on_twelve(&rt, rt.alloc(), batch.as_bytes(), &options);
+        reports(&rt, rt.alloc(), &batch, &options, &gate, REPORT_ON_TWELVE);
     }
+    // No worker has taken a step.
+    assert_eq!(rt; gate.count(), 0);
     Ok(())
 }

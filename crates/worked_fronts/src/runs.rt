@@ -3,7 +3,10 @@
 ghost use Rattle.std.specs.Prelude.{◌≤◌};
 ghost use Rattle.vcode_base.specs.declared.limits.TheConstants.{MOST_WORKERS};
 
-use crate::batches::{EXECUTED_BY_TWELVE, EXECUTED_BY_TWO, TWO_JOBS, twelve_jobs};
+use crate::batches::{
+    EXECUTED_BY_THE_SECOND_RULE, EXECUTED_BY_TWELVE, EXECUTED_BY_TWO, SECOND_RULE, TWO_JOBS,
+    twelve_jobs_by,
+};
 use crate::machines::machine;
 use crate::meeting::Meeting;
 use job_machine::{Admission, Begun, Desk, Filled, Finished, Machine, Status, compute};
@@ -13,6 +16,7 @@ use std::sync::Wait;
 use std::test::Fail;
 use std::thread::Threads;
 use step_scheduler::{Gate, NoGate, Tally, run_workers};
+use vcode_base::Rule;
 
 /// What so many workers, which pass this gate, make of a machine.
 fn ran<R, G>(
@@ -63,26 +67,27 @@ fn two_workers_compute_at_once(rt: HostRuntime) -> Result<(), Fail> {
     Ok(())
 }
 
-/// The run of the twelve jobs by so many workers.
+/// The run of the twelve jobs behind this line by so many workers.
 fn run_of_twelve<R: Threads + Wait + Sync>(
     rt: &R,
     alloc: Global,
+    rule_line: &str,
     workers: usize,
 ) -> Result<(Machine<Global>, Tally<Global>), Fail>
     requires { (1 ≤ workers) × (workers ≤ MOST_WORKERS) }
 {
-    let batch = twelve_jobs(alloc)?;
+    let batch = twelve_jobs_by(alloc, rule_line)?;
     let machine = machine(alloc, batch.as_bytes())?;
     ran(rt, alloc, machine, workers, &NoGate)
 }
 
-/// Whether each of the twelve jobs is collected and has executed what it executes.
-fn are_the_twelve(machine: &Machine<Global>) -> bool {
+/// Whether each of the twelve jobs is collected and has executed so many instructions.
+fn are_the_twelve(machine: &Machine<Global>, executed: &[u64; 12]) -> bool {
     for place in 0..12usize {
         if machine.status(place + 1) != Some(Status::Collected) {
             return false;
         }
-        if machine.executed(place + 1) != Some(EXECUTED_BY_TWELVE[place]) {
+        if machine.executed(place + 1) != Some(executed[place]) {
             return false;
         }
     }
@@ -104,8 +109,8 @@ where
     R: Abort + Threads + Wait + Sync,
     requires { (1 ≤ workers) × (workers ≤ MOST_WORKERS) }
 {
-    let (machine, tally) = run_of_twelve(rt, alloc, workers)?;
-    assert!(rt; are_the_twelve(&machine));
+    let (machine, tally) = run_of_twelve(rt, alloc, "", workers)?;
+    assert!(rt; are_the_twelve(&machine, &EXECUTED_BY_TWELVE));
     assert_eq!(rt;
         (tally.workers.len(), by_workers(&tally), tally.caller),
         (workers, 35, 0)
@@ -118,6 +123,26 @@ fn each_number_of_workers_executes_the_same(rt: HostRuntime) -> Result<(), Fail>
     execute_the_twelve(&rt, rt.alloc(), 1)?;
     execute_the_twelve(&rt, rt.alloc(), 2)?;
     execute_the_twelve(&rt, rt.alloc(), 16)
+}
+
+/// So many workers execute what the twelve jobs execute by the second rule, which the machine keeps.
+fn execute_by_the_second_rule<R>(rt: &R, alloc: Global, workers: usize) -> Result<(), Fail>
+where
+    R: Abort + Threads + Wait + Sync,
+    requires { (1 ≤ workers) × (workers ≤ MOST_WORKERS) }
+{
+    let (machine, tally) = run_of_twelve(rt, alloc, SECOND_RULE, workers)?;
+    assert_eq!(rt; machine.rule(), Rule::Second);
+    assert!(rt; are_the_twelve(&machine, &EXECUTED_BY_THE_SECOND_RULE));
+    assert_eq!(rt; (by_workers(&tally), tally.caller), (40, 0));
+    Ok(())
+}
+
+#[test]
+fn each_number_of_workers_keeps_the_second_rule(rt: HostRuntime) -> Result<(), Fail> {
+    execute_by_the_second_rule(&rt, rt.alloc(), 1)?;
+    execute_by_the_second_rule(&rt, rt.alloc(), 2)?;
+    execute_by_the_second_rule(&rt, rt.alloc(), 16)
 }
 
 /// The first step of job 1, which has begun on a machine of jobs that wait, and is computed.

@@ -6,7 +6,7 @@ ghost use Rattle.vcode_base.specs.declared.limits.TheConstants.{MOST_JOBS, MOST_
 use crate::fault::CaseFault;
 use job_machine::{Begun, Desk, Finished, Job, Machine, Ticket, compute};
 use std::alloc::{AllocError, Global};
-use vcode_base::Outcome;
+use vcode_base::{Outcome, Rule};
 
 /// A machine over a region of so many words, and the tickets of all begins, but of those that were finished.
 #[derive(Drop)]
@@ -25,7 +25,7 @@ impl Player {
         requires few { length jobs.items ≤ MOST_JOBS }
         requires words { All (λ job. job.limits.words ≤ region) jobs.items }
     {
-        let machine = Machine::new(alloc, region, jobs)?;
+        let machine = Machine::new(alloc, region, jobs, Rule::First)?;
         Ok(Player {
             machine,
             region,

@@ -34,6 +34,19 @@ fn releases<M: VectorMemory>(
     was_last
 }
 
+/// One reference less to a block, in a list, and how many words are freed by it.
+fn frees<M: VectorMemory>(
+    rt: &impl Abort,
+    shared: &mut SharedMemory<M, Global>,
+    id: BlockId,
+    freed: u64,
+) {
+    assert!(rt; shared.count(id) > 0);
+    let left = shared.used_without(&[id]);
+    assert_eq!(rt; shared.release_all(&[id]), freed);
+    assert_eq!(rt; shared.used(), left);
+}
+
 /// The block is there, with its owner and its words.
 fn is_there<M: VectorMemory>(rt: &impl Abort, shared: &SharedMemory<M, Global>, id: BlockId) {
     assert!(rt; shared.count(id) > 0);
@@ -59,6 +72,18 @@ fn lives_while_named<M: VectorMemory>(
         assert_eq!(rt; releases(rt, shared, id, count), is_last);
     }
     assert_eq!(rt; (shared.used(), shared.blocks()), (0, 0));
+    Ok(())
+}
+
+#[test]
+fn frees_with_the_last(rt: HostRuntime) -> Result<(), Fail> {
+    let memory = SlidingMemory::new(rt.alloc(), 10, 4)?;
+    let mut shared = SharedMemory::new(rt.alloc(), memory)?;
+    assert!(&rt; shared.blocks() < shared.ids());
+    let id = shared.make(OWNER, WORDS)?;
+    shares(&rt, &mut shared, id, 2);
+    frees(&rt, &mut shared, id, 0);
+    frees(&rt, &mut shared, id, 3);
     Ok(())
 }
 

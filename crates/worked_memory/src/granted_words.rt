@@ -2,7 +2,7 @@
 ghost use Rattle.std.specs.Prelude.{IsSome};
 ghost use Rattle.reservations.specs.BookState.{IsJob, grant_of};
 
-use crate::granted_words::Call::{Charge, Close, Grant, Has, Refund};
+use crate::granted_words::Call::{Charge, Close, Exchange, Grant, Has, Refund};
 use reservations::{self, Book, NotNow, Spent};
 use std::alloc::Global;
 use std::process::Abort;
@@ -16,6 +16,8 @@ enum Call {
     Charge(usize, usize, Result<(), Spent>),
     /// Of words that the job holds.
     Refund(usize, usize),
+    /// Of words that the job holds, for so many others.
+    Exchange(usize, usize, usize, Result<(), Spent>),
     /// For a job that holds nothing.
     Close(usize),
     /// The job has this grant, and so many words are granted in all.
@@ -48,6 +50,7 @@ fn grants(
 ) {
     is_job(rt, book, job);
     assert!(rt; book.grant_of(job).is_none());
+    assert_eq!(rt; book.fits(words), answer.is_ok(), "{job} and {words}");
     assert_eq!(rt; book.grant(job, words), answer, "{job} and {words}");
 }
 
@@ -66,6 +69,23 @@ fn refunds(rt: &impl Abort, book: &mut Book<Global>, job: usize, words: usize) {
     has_grant(rt, book, job);
     assert!(rt; words <= book.held(job));
     book.refund(job, words);
+}
+
+fn exchanges(
+    rt: &impl Abort,
+    book: &mut Book<Global>,
+    job: usize,
+    back: usize,
+    words: usize,
+    answer: Result<(), Spent>,
+) {
+    has_grant(rt, book, job);
+    assert!(rt; back <= book.held(job));
+    assert_eq!(rt;
+        book.exchange(job, back, words),
+        answer,
+        "{job} and {words} for {back}"
+    );
 }
 
 fn closes(rt: &impl Abort, book: &mut Book<Global>, job: usize) {
@@ -94,6 +114,7 @@ fn follows(rt: &impl Abort, book: &mut Book<Global>, calls: &[Call]) {
             Grant(job, words, answer) => grants(rt, book, job, words, answer),
             Charge(job, words, answer) => charges(rt, book, job, words, answer),
             Refund(job, words) => refunds(rt, book, job, words),
+            Exchange(job, back, words, answer) => exchanges(rt, book, job, back, words, answer),
             Close(job) => closes(rt, book, job),
             Has(job, grant, granted) => has(rt, book, job, grant, granted),
         }
@@ -144,6 +165,23 @@ fn charges_up_to_the_grant(rt: HostRuntime) -> Result<(), Fail> {
         Refund(1, 4),
         Has(1, grant(5, 1), 5),
         Charge(1, 4, Ok(())),
+    ];
+    follows(&rt, &mut book, &calls);
+    Ok(())
+}
+
+#[test]
+fn exchanges_up_to_the_grant(rt: HostRuntime) -> Result<(), Fail> {
+    let mut book = Book::new(rt.alloc(), 10, 1)?;
+    let calls = [
+        Grant(1, 5, Ok(())),
+        Charge(1, 5, Ok(())),
+        Exchange(1, 3, 4, Err(Spent)),
+        Has(1, grant(5, 5), 5),
+        Exchange(1, 3, 2, Ok(())),
+        Has(1, grant(5, 4), 5),
+        Exchange(1, 4, 5, Ok(())),
+        Has(1, grant(5, 5), 5),
     ];
     follows(&rt, &mut book, &calls);
     Ok(())

@@ -1,12 +1,11 @@
-use Rattle.std.proofs.Common.{◌≡◌, ◌≤◌, take}
-use Rattle.std.specs.Prelude.{All}
+use Rattle.std.proofs.Common.{◌≡◌, ◌≤◌, max, take}
+use Rattle.std.specs.Prelude.{All, fold}
 use Rattle.vcode_base.specs.declared.limits.TheConstants.{MOST_WORDS}
-use Rattle.job_machine.specs.Machines.{most_words}
 use Rattle.job_machine.proofs.setting.most_words.Given as goal
 
 abbrev pub invariant-loop-job : goal.invariant-loop-job
 invariant-loop-job g l = record {
-  value : l.most ≡ most_words (take l.job-index l.jobs);
-  each : All (λ task. task.limits.words ≤ l.most) (take l.job-index l.jobs);
+  value : l.most ≡ fold (λ most job. max most job.limits.words) 0 (take l.job-index l.jobs);
+  each : All (λ job. job.limits.words ≤ l.most) (take l.job-index l.jobs);
   within : l.most ≤ MOST_WORDS;
 }

@@ -4,7 +4,7 @@ use Rattle.std.proofs.lemmas.Slice.Zip.{zip_turn, zip_end}
 use Rattle.std.specs.Iterator.Adapters.{zip_first, zip_second}
 use Rattle.std.specs.Slice.Iter.{iter_rest}
 use Rattle.job_steps.specs.Runs.{outcome}
-use Rattle.job_steps.specs.States.{Vector}
+use Rattle.job_steps.specs.States.{Vector, ruled}
 use Rattle.verifier.specs.Typed.{TypedProgram}
 use Rattle.job_slots.proofs.Results.{values_in, result_of_turn, more_results, all_results}
 use Rattle.job_slots.proofs.collect.results.Goals as goal
@@ -16,7 +16,8 @@ words-requires g c =
     let turn = zip_turn c.cells-cells.result.now c.results-kinds.result.now c.loop-id.yielded
     c.into_iter-id-iterator.result c.loop-id.id-iterator c.next.new.self c.next.result first second c.loop-id.yielded_by
     (c.in-Some.id, c.in-Some.kind) c.in-Some.is c.next.ensures.steps in
-    (result_of_turn c.results_have_kinds.ensures c.each_ends.ensures c.args.number c.args.blocks.now c.args.job.now
+    (result_of_turn c.results_have_kinds.ensures c.each_ends.ensures c.args.number c.args.blocks.now
+    (ruled c.args.rule c.args.job.now)
     c.args.track.now c.requires.verified c.requires.returned c.cells-cells.result.now c.results-kinds.result.now
     (record {
       ids_are = c.cells-cells.ensures;
@@ -31,13 +32,13 @@ loop-id-preserved g c =
     c.into_iter-id-iterator.result c.loop-id.id-iterator c.next.new.self c.next.result first second c.loop-id.yielded_by
     (c.in-Some.id, c.in-Some.kind) c.in-Some.is c.next.ensures.steps in
     let is = result_of_turn c.results_have_kinds.ensures c.each_ends.ensures c.args.number c.args.blocks.now
-    c.args.job.now c.args.track.now c.requires.verified c.requires.returned c.cells-cells.result.now
+    (ruled c.args.rule c.args.job.now) c.args.track.now c.requires.verified c.requires.returned c.cells-cells.result.now
     c.results-kinds.result.now (record {
       ids_are = c.cells-cells.ensures;
       kinds_are = c.results-kinds.ensures.same ∙ ap (λ (v : TypedProgram). v.results) c.verified.ensures.same;
     }) (length c.loop-id.yielded) c.in-Some.id.now c.in-Some.kind.now turn.0 turn.2 turn.3 in
     let value : Vector = c.in_ok-value_of.field-0 in
-    more_results (values_in (outcome c.args.job.now)) c.loop-id.values.items c.push.new.self.items
+    more_results (values_in (outcome (ruled c.args.rule c.args.job.now))) c.loop-id.values.items c.push.new.self.items
     (length c.loop-id.yielded) (length (c.loop-id.yielded ++ (c.in-Some.id, c.in-Some.kind) ∷ [])) value is.within
     c.loop-id.invariant
     (is.value_is value value c.words.result.now c.in_ok-value_of.ensures c.words.ensures) c.in_ok-push.ensures.items
@@ -50,7 +51,8 @@ returns g c =
     let count = zip_end c.cells-cells.result.now c.results-kinds.result.now c.loop-id.yielded
     c.into_iter-id-iterator.result c.loop-id.id-iterator c.next.new.self c.next.result first second c.loop-id.yielded_by
     c.in-None.is c.next.ensures.steps in
-    all_results c.results_have_kinds.ensures c.each_ends.ensures _ c.args.job.now c.args.track.now c.requires.verified
+    all_results c.results_have_kinds.ensures c.each_ends.ensures _ (ruled c.args.rule c.args.job.now) c.args.track.now
+    c.requires.verified
     c.requires.returned c.cells-cells.result.now c.results-kinds.result.now
     (record {
       ids_are = c.cells-cells.ensures;

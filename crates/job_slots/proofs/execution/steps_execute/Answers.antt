@@ -17,5 +17,6 @@ returns c =
         shares_change_only_their_job = c.shares_change_only_their_job.ensures;
         releases_change_only_their_job = c.releases_change_only_their_job.ensures;
         changes_join = c.changes_join.ensures;
+        release_stays_tidy = c.release_stays_tidy.ensures;
       };
     })

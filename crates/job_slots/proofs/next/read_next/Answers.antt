@@ -1,4 +1,5 @@
 use Rattle.job_steps.specs.StepLaws.{CanBegin}
+use Rattle.job_steps.specs.States.{ruled}
 use Rattle.job_slots.proofs.Begins.{IsLineOf, can_begin, is_next, line_of, deep_line}
 use Rattle.job_slots.proofs.Held.{are_there}
 use Rattle.job_slots.proofs.next.read_next.Given.{Over}
@@ -6,13 +7,16 @@ use Rattle.job_slots.proofs.next.read_next.Goals as goal
 use Rattle.job_slots.proofs.next.read_next.Goals.{After-program, After-line-line}
 
 can : (g : Over) (c : goal.After-program g) →
-    CanBegin c.args.job.now c.args.track.now.executed c.requires.running.state c.args.track.now
+    CanBegin (ruled c.args.rule c.args.job.now) c.args.track.now.executed c.requires.running.state c.args.track.now
 can g c =
-    can_begin c.steps_can_begin.ensures _ c.args.job.now c.args.track.now c.requires.running c.requires.verified
+    can_begin c.steps_can_begin.ensures _ (ruled c.args.rule c.args.job.now) c.args.track.now c.requires.running
+    c.requires.verified
 
-is_line : (g : Over) (c : goal.After-line-line g) → IsLineOf c.args.job.now c.args.track.now c.line-line.result.now
+is_line : (g : Over) (c : goal.After-line-line g) → IsLineOf (ruled c.args.rule c.args.job.now) c.args.track.now
+    c.line-line.result.now
 is_line g c =
-    line_of c.args.job.now c.args.track.now c.program.result.now c.verified.result.now c.line-line.result.now
+    line_of (ruled c.args.rule c.args.job.now) c.args.track.now c.program.result.now c.verified.result.now
+    c.line-line.result.now
     c.program.ensures.same c.verified.ensures.same c.line-line.ensures.item
 
 pub line-line-requires : goal.line-line-requires
@@ -24,7 +28,8 @@ operands_of-requires g c =
     let track = c.args.track.now in
     let run = c.requires.running in
     record {
-      deep = deep_line c.args.job.now track run.state c.line-line.result.now (can g at.After-program)
+      deep = deep_line (ruled c.args.rule c.args.job.now) track run.state c.line-line.result.now
+          (can g at.After-program)
           (is_line g at.After-line-line);
       live = (are_there c.args.number c.args.blocks.now.memory track.cells run.state.stack run.holds).live;
     }
@@ -36,7 +41,7 @@ returns g c =
     let run = c.requires.running in
     let there = are_there c.args.number c.args.blocks.now.memory track.cells run.state.stack run.holds in
     let next =
-    is_next c.args.job.now track run.state c.line-line.result.now c.op_of.result _ run.running
+    is_next (ruled c.args.rule c.args.job.now) track run.state c.line-line.result.now c.op_of.result _ run.running
     (can g at.After-program) (is_line g at.After-line-line) c.op_of.ensures
     (c.operands_of.ensures run.state.stack there.lists) in
     record { next = next.next; kinds = next.kinds }

@@ -9,21 +9,21 @@ use Rattle.job_steps.proofs.follow.called.Goals as goal
 
 pub unwrap-requires : goal.unwrap-requires
 unwrap-requires g c =
-    let task = c.args.job.now in
+    let verified = c.args.job.now.verified in
     let frame = c.args.frame in
-    let same = same_functions c.program-program.result.now c.verified.result.now task c.program-program.ensures.same
+    let same = same_functions c.program-program.result.now c.verified.result.now verified c.program-program.ensures.same
     c.verified.ensures.same in
-    let at : c.callee.result ≡ callee_at (functions_of task) frame.function frame.place =
+    let at : c.callee.result ≡ callee_at (functions_of verified) frame.function frame.place =
     c.callee.ensures ∙ ap (λ (fs : List Function). callee_at fs frame.function frame.place) same in
-    (found_call task frame c.requires.0 c.requires.1 c.callee.result c.requires.2 at).some
+    (found_call verified frame c.requires.0 c.requires.1 c.callee.result c.requires.2 at).some
 
 pub returns : goal.returns
 returns g c = λ name callee call.
-    let task = c.args.job.now in
+    let verified = c.args.job.now.verified in
     let frame = c.args.frame in
-    let same = same_functions c.program-program.result.now c.verified.result.now task c.program-program.ensures.same
+    let same = same_functions c.program-program.result.now c.verified.result.now verified c.program-program.ensures.same
     c.verified.ensures.same in
-    let at : c.callee.result ≡ callee_at (functions_of task) frame.function frame.place =
+    let at : c.callee.result ≡ callee_at (functions_of verified) frame.function frame.place =
     c.callee.ensures ∙ ap (λ (fs : List Function). callee_at fs frame.function frame.place) same in
-    subst (λ (f : Frame). Stands (functions_of task) f (first_call callee)) (sym c.first.ensures)
-    ((found_call task frame name callee c.callee.result call at).first c.unwrap.result c.unwrap.ensures)
+    subst (λ (f : Frame). Stands (functions_of verified) f (first_call callee)) (sym c.first.ensures)
+    ((found_call verified frame name callee c.callee.result call at).first c.unwrap.result c.unwrap.ensures)

@@ -12,21 +12,21 @@ use Rattle.job_steps.proofs.follow.main_frame.Goals as goal
 
 pub unwrap-requires : goal.unwrap-requires
 unwrap-requires g c =
-    let task = c.args.job.now in
-    let same = same_functions c.program-program.result.now c.verified.result.now task c.program-program.ensures.same
+    let verified = c.args.job.now.verified in
+    let same = same_functions c.program-program.result.now c.verified.result.now verified c.program-program.ensures.same
     c.verified.ensures.same in
-    let main : MainIs task c.position.result =
-    main_is task c.position.result c.verified.ensures.verified_task
+    let main : MainIs verified c.position.result =
+    main_is verified c.position.result c.verified.ensures.verified_program
     (c.position.ensures ∙ ap (λ (fs : List Function). position (λ f. bytes_eq f.name main_name) fs) same) in
     main.some
 
 pub returns : goal.returns
 returns g c =
-    let task = c.args.job.now in
-    let same = same_functions c.program-program.result.now c.verified.result.now task c.program-program.ensures.same
+    let verified = c.args.job.now.verified in
+    let same = same_functions c.program-program.result.now c.verified.result.now verified c.program-program.ensures.same
     c.verified.ensures.same in
-    let main : MainIs task c.position.result =
-    main_is task c.position.result c.verified.ensures.verified_task
+    let main : MainIs verified c.position.result =
+    main_is verified c.position.result c.verified.ensures.verified_program
     (c.position.ensures ∙ ap (λ (fs : List Function). position (λ f. bytes_eq f.name main_name) fs) same) in
-    subst (λ (f : Frame). StandAll (functions_of task) (f ∷ []) (first_state task).calls) (sym c.first.ensures)
+    subst (λ (f : Frame). StandAll (functions_of verified) (f ∷ []) (first_state verified).calls) (sym c.first.ensures)
     (main.first c.unwrap.result c.unwrap.ensures)

@@ -14,5 +14,6 @@ returns-else-flag g c = λ line end first second rest h stop.
     let f = c.args.function.now in
     let p = parts f c.args.place line end first second rest c.requires h stop in
     let next : c.unwrap_or.result ≡ p.next =
-    c.unwrap_or.ensures ∙ ap (λ o. unwrap_or o c.behind-next.result) (c.target.ensures ∙ p.target) in
+    c.unwrap_or.ensures
+    ∙ ap (λ o. unwrap_or o c.behind-next.result) (c.target.ensures ∙ p.target c.each_target_is_first.ensures) in
     rw c.if-flag.false (ap (remaining_from f) next ∙ p.other)

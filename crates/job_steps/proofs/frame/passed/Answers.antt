@@ -15,7 +15,7 @@ pub returns-in-Else : goal.returns-in-Else
 returns-in-Else g c =
     let look = c.in_ok-get.ensures.lookup in
     else_here c.args.function.now c.args.place c.lines.result.now c.in_ok-get.field-0.now c.lines.ensures look.0
-    look.1 c.in-Else.is c.target.result c.target.ensures
+    look.1 c.each_target_is_first.ensures c.in-Else.is c.target.result c.target.ensures
 
 pub returns-in-Endif : goal.returns-in-Endif
 returns-in-Endif g c =

@@ -1,22 +1,35 @@
-use Rattle.std.proofs.Common.{◌≡◌, ◌≤◌, ◌+◌, ◌∙◌, ap, sym, subst, arith}
+use Rattle.std.proofs.Common.{◌≡◌, ◌≤◌, ◌+◌, ◌∙◌, List, map, ap, sym, subst, arith}
 use Rattle.std.specs.Prelude.{All, sum, vec_len}
 use Rattle.std.proofs.lemmas.Result.{IfOk-weaker}
-use Rattle.job_steps.specs.States.{Task}
+use Rattle.vcode_base.specs.declared.rule.Rule.{Rule}
+use Rattle.job_steps.specs.States.{JobValue, Task, ruled}
 use Rattle.step_scheduler.specs.Tallies.{executed_sum}
 use Rattle.step_scheduler.proofs.workers.run_under.Goals as goal
 
+-- the jobs that are listed, under the rule of the machine, are its tasks
+tasks_are : (rule mine : Rule) (jobs shown : List JobValue) (tasks : List Task) → rule ≡ mine → shown ≡ jobs
+    → map (ruled mine) jobs ≡ tasks → map (ruled rule) shown ≡ tasks
+tasks_are rule mine jobs shown tasks e f h = ap (λ r. map (ruled r) shown) e ∙ ap (map (ruled mine)) f ∙ h
+
 pub run_out_jobs-requires : goal.run_out_jobs-requires
 run_out_jobs-requires g c =
-    let jobs_are = c.as_slice.ensures.value ∙ ap (λ v. v.items) c.deref.ensures ∙ c.in_ok-list.ensures in
-    subst (All (λ (task : Task). task.limits.words ≤ c.in_ok-desk.desk)) (sym jobs_are)
+    let same = tasks_are _ _ _ _ _ c.rule-rule.ensures (c.as_slice.ensures.value ∙ ap (λ v. v.items) c.deref.ensures)
+    c.in_ok-list.ensures in
+    subst (All (λ (task : Task). task.limits.words ≤ c.in_ok-desk.desk)) (sym same)
     (subst (λ n. All (λ (task : Task). task.limits.words ≤ n) c.args.machine.tasks) (sym c.in_ok-desk.ensures)
     c.most_words.ensures.each)
 
+pub returns-clause-rule : goal.returns-clause-rule
+returns-clause-rule g c =
+    IfOk-weaker c.run_out_jobs.result (λ ran. ran.0.rule ≡ c.rule-rule.result) (λ ran. ran.0.rule ≡ c.args.machine.rule)
+    (λ ran e. e ∙ c.rule-rule.ensures) c.run_out_jobs.ensures.rule
+
 pub returns-clause-jobs : goal.returns-clause-jobs
 returns-clause-jobs g c =
-    let jobs_are = c.as_slice.ensures.value ∙ ap (λ v. v.items) c.deref.ensures ∙ c.in_ok-list.ensures in
-    IfOk-weaker c.run_out_jobs.result (λ ran. ran.0.tasks ≡ c.as_slice.result.now)
-    (λ ran. ran.0.tasks ≡ c.args.machine.tasks) (λ ran e. e ∙ jobs_are) c.run_out_jobs.ensures.jobs
+    let same = tasks_are _ _ _ _ _ c.rule-rule.ensures (c.as_slice.ensures.value ∙ ap (λ v. v.items) c.deref.ensures)
+    c.in_ok-list.ensures in
+    IfOk-weaker c.run_out_jobs.result (λ ran. ran.0.tasks ≡ map (ruled c.rule-rule.result) c.as_slice.result.now)
+    (λ ran. ran.0.tasks ≡ c.args.machine.tasks) (λ ran e. e ∙ same) c.run_out_jobs.ensures.jobs
 
 pub returns-clause-workers : goal.returns-clause-workers
 returns-clause-workers g c =

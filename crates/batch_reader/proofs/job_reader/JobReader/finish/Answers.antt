@@ -1,8 +1,16 @@
 use Rattle.batch_reader.proofs.ReaderLemmas.{at_end, few_at_end, jobs_at_end, refused_at_end}
 use Rattle.batch_reader.proofs.job_reader.JobReader.finish.Goals as goal
 
+pub returns-in-Fresh-clause-batch : goal.returns-in-Fresh-clause-batch
+returns-in-Fresh-clause-batch g c = rw (← c.self.view_is) (λ come stands. jobs_at_end _ come _ stands (at_end _ come _
+    c.in-Fresh.is stands))
+
+pub returns-in-Fresh-clause-few : goal.returns-in-Fresh-clause-few
+returns-in-Fresh-clause-few g c = rw (← c.self.view_is) (λ come stands. few_at_end _ come stands)
+
 pub returns-in-Between-clause-batch : goal.returns-in-Between-clause-batch
-returns-in-Between-clause-batch g c = rw (← c.self.view_is) (λ come stands. jobs_at_end _ come c.in-Between.is stands)
+returns-in-Between-clause-batch g c = rw (← c.self.view_is) (λ come stands. jobs_at_end _ come _ stands (at_end _ come
+    _ c.in-Between.is stands))
 
 pub returns-in-Between-clause-few : goal.returns-in-Between-clause-few
 returns-in-Between-clause-few g c = rw (← c.self.view_is) (λ come stands. few_at_end _ come stands)

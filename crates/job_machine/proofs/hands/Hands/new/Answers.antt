@@ -1,6 +1,6 @@
 use Rattle.std.proofs.Common.{◌+◌, ◌∙◌, ap, arith}
 use Rattle.std.proofs.lemmas.List.{take_all}
-use Rattle.job_machine.proofs.FreshHands.{fresh, fresh_more, fresh_fit}
+use Rattle.job_machine.proofs.FreshHands.{fresh, fresh_jobs, fresh-ruled, fresh_more, fresh_fit}
 use Rattle.job_machine.proofs.hands.Hands.new.Goals as goal
 
 pub loop-job-init : goal.loop-job-init
@@ -15,4 +15,6 @@ loop-job-preserved g c =
 pub returns : goal.returns
 returns g c =
     fresh_fit c.args.machine.now c.loop-job.hands.items c.jobs-count.ensures.kept.same_length
-    (c.loop-job.invariant ∙ ap fresh (take_all _ _ c.loop-job-test.false ∙ c.in_order-jobs.ensures))
+    (c.loop-job.invariant
+    ∙ (ap fresh_jobs (take_all _ _ c.loop-job-test.false)
+    ∙ (fresh-ruled c.args.machine.now.rule c.in_order-jobs.result.now ∙ ap fresh c.in_order-jobs.ensures)))

@@ -1,8 +1,9 @@
-use Rattle.std.proofs.Common.{◌≡◌, ◌+◌, ◌<◌, length, get_or, position, ap, ◌∙◌, arith}
+use Rattle.std.proofs.Common.{◌≡◌, ◌+◌, ◌<◌, length, get_or, position, ap, ◌∙◌, arith, map}
 use Rattle.std.specs.Arc.{arc_value}
 use Rattle.job_steps.specs.Standings.{is_waiting}
 use Rattle.job_slots.specs.Slots.{SlotState, standing_of}
-use Rattle.job_machine.proofs.TurnLemmas.{HasFirst, turn_shows, turn_sound, has_first, none_answer, none_state}
+use Rattle.job_steps.specs.States.{ruled}
+use Rattle.job_machine.proofs.TurnLemmas.{HasFirst, task_read, turn_shows, turn_sound, has_first, none_answer, none_state}
 use Rattle.job_machine.proofs.TurnLemmas.{within_by, admitted_answer, refused_answer, admitted_state, refused_state}
 use Rattle.job_machine.proofs.TurnLemmas.{fits_by, past_by, live_by, same_by}
 use Rattle.job_machine.proofs.machine.Machine.admit.Given.{Over}
@@ -18,32 +19,41 @@ searched g c =
 
 pub returns-in_default-clause-answer : goal.returns-in_default-clause-answer
 returns-in_default-clause-answer g c =
-    none_answer c.self.inside.blocks (arc_value c.self.inside.jobs).items c.self.inside.slots.items c.args.self.now
+    none_answer c.self.inside.blocks (map (ruled c.self.inside.rule) (arc_value c.self.inside.jobs).items)
+    c.self.inside.slots.items c.args.self.now
     c.first_waiting.result c.self.view_is
     (searched g (goal.at.returns-in_default-clause-answer g c).After-first_waiting) c.in_default.is
 
 pub returns-in_default-clause-state : goal.returns-in_default-clause-state
 returns-in_default-clause-state g c =
-    none_state c.self.inside.blocks (arc_value c.self.inside.jobs).items c.self.inside.slots.items c.args.self.now
+    none_state c.self.inside.blocks (map (ruled c.self.inside.rule) (arc_value c.self.inside.jobs).items)
+    c.self.inside.slots.items c.args.self.now
     c.first_waiting.result c.self.view_is
     (searched g (goal.at.returns-in_default-clause-state g c).After-first_waiting) c.in_default.is
 
 -- the first job that waits has the turn
 first : (g : Over) (c : goal.After-admit-arg-1 g) →
-    HasFirst c.self.inside.blocks (arc_value c.self.inside.jobs).items c.self.inside.slots.items c.args.self.now
-    (c.in-Some.place + 1) c.in-Some.place c.index-jobs-place.result c.index_mut-slot.result.now
+    HasFirst c.self.inside.blocks (map (ruled c.self.inside.rule) (arc_value c.self.inside.jobs).items)
+    c.self.inside.slots.items c.args.self.now
+    (c.in-Some.place + 1) c.in-Some.place (ruled c.self.inside.rule c.index-jobs-place.result)
+    c.index_mut-slot.result.now
 first g c =
     let jobs_are = c.as_slice-jobs.ensures.value ∙ ap (λ v. v.items) c.deref.ensures in
     let place = c.in-Some.place in
-    let task = c.index-jobs-place.result in
+    let rule = c.self.inside.rule in
+    let jobs = (arc_value c.self.inside.jobs).items in
+    let job = c.index-jobs-place.result in
     let below =
     within_by c.first_waiting.result place c.as_slice.result.now c.first_waiting.ensures.within c.in-Some.is in
     let within : place < length c.self.inside.slots.items = omega (arith, below, ap length c.as_slice.ensures.value) in
-    has_first c.self.inside.blocks (arc_value c.self.inside.jobs).items c.self.inside.slots.items c.args.self.now
-    (place + 1) place c.first_waiting.result task c.index_mut-slot.result.now c.self.invariant c.self.view_is
+    has_first c.self.inside.blocks (map (ruled c.self.inside.rule) (arc_value c.self.inside.jobs).items)
+    c.self.inside.slots.items c.args.self.now
+    (place + 1) place c.first_waiting.result (ruled rule job) c.index_mut-slot.result.now c.self.invariant
+    c.self.view_is
     (c.first_waiting.ensures.first
     ∙ ap (position (λ (slot : SlotState). is_waiting (standing_of slot))) c.as_slice.ensures.value)
-    c.in-Some.is within (omega arith) (c.index-jobs-place.is ∙ ap (λ ts. get_or ts place task) jobs_are)
+    c.in-Some.is within (omega arith) (task_read rule jobs place job
+    (c.index-jobs-place.is ∙ ap (λ js. get_or js place job) jobs_are))
     c.index_mut-slot.ensures.value
 
 pub admit-requires-clause-shows : goal.admit-requires-clause-shows
@@ -61,10 +71,10 @@ invariant_of-self g c =
 pub returns-clause-answer : goal.returns-clause-answer
 returns-clause-answer g c =
     let blocks = c.self.inside.blocks in
-    let tasks = (arc_value c.self.inside.jobs).items in
+    let tasks = (map (ruled c.self.inside.rule) (arc_value c.self.inside.jobs).items) in
     let slots = c.self.inside.slots.items in
     let place = c.in-Some.place in
-    let task = c.index-jobs-place.result in
+    let task = ruled c.self.inside.rule c.index-jobs-place.result in
     let before = c.index_mut-slot.result.now in
     let first = first g (goal.at.returns-clause-answer g c).After-admit-arg-1 in
     elim c.match-admit.branch [
@@ -81,10 +91,10 @@ returns-clause-answer g c =
 pub returns-clause-state : goal.returns-clause-state
 returns-clause-state g c =
     let blocks = c.self.inside.blocks in
-    let tasks = (arc_value c.self.inside.jobs).items in
+    let tasks = (map (ruled c.self.inside.rule) (arc_value c.self.inside.jobs).items) in
     let slots = c.self.inside.slots.items in
     let place = c.in-Some.place in
-    let task = c.index-jobs-place.result in
+    let task = ruled c.self.inside.rule c.index-jobs-place.result in
     let before = c.index_mut-slot.result.now in
     let first = first g (goal.at.returns-clause-state g c).After-admit-arg-1 in
     elim c.match-admit.branch [

@@ -1,6 +1,8 @@
-use Rattle.std.proofs.Common.{◌<◌, length, get_or, ap, ◌∙◌, arith}
+use Rattle.std.proofs.Common.{◌<◌, length, get_or, ap, ◌∙◌, arith, map}
+use Rattle.std.proofs.lemmas.List.{length-map}
 use Rattle.std.specs.Arc.{arc_value}
-use Rattle.job_machine.proofs.TurnLemmas.{HasTurn, has_turn, within_jobs, turn_shows, turn_sound, begins_in}
+use Rattle.job_steps.specs.States.{ruled}
+use Rattle.job_machine.proofs.TurnLemmas.{HasTurn, has_turn, task_read, within_jobs, turn_shows, turn_sound, begins_in}
 use Rattle.job_machine.proofs.TurnLemmas.{begun_state}
 use Rattle.job_machine.proofs.machine.Machine.begin.Given.{Over}
 use Rattle.job_machine.proofs.machine.Machine.begin.Goals as goal
@@ -9,8 +11,13 @@ use Rattle.job_machine.proofs.machine.Machine.begin.Goals.{In-Some, After-begin-
 -- the place is that of a job
 within : (g : Over) (c : goal.In-Some g) → c.in-Some.place < length (arc_value c.self.inside.jobs).items
 within g c =
-    within_jobs c.self.inside.blocks (arc_value c.self.inside.jobs).items c.self.inside.slots.items c.args.self.now
-    c.args.job c.in-Some.place c.place.result c.self.invariant c.self.view_is c.place.ensures c.in-Some.is
+    omega (
+      arith,
+      within_jobs c.self.inside.blocks (map (ruled c.self.inside.rule) (arc_value c.self.inside.jobs).items)
+          c.self.inside.slots.items c.args.self.now c.args.job c.in-Some.place c.place.result
+          c.self.invariant c.self.view_is c.place.ensures c.in-Some.is,
+      length-map (arc_value c.self.inside.jobs).items (ruled c.self.inside.rule),
+    )
 
 pub index_mut-slot-requires : goal.index_mut-slot-requires
 index_mut-slot-requires g c =
@@ -19,6 +26,7 @@ index_mut-slot-requires g c =
       within g (goal.at.index_mut-slot-requires g c).In-Some,
       c.self.invariant.slots_are,
       c.self.inside.slots.ok,
+      length-map (arc_value c.self.inside.jobs).items (ruled c.self.inside.rule),
     )
 
 pub offset_bounds-jobs-place : goal.offset_bounds-jobs-place
@@ -39,14 +47,20 @@ bounds-jobs-place g c =
 
 -- the job has the turn
 turn : (g : Over) (c : goal.After-begin-arg-1 g) →
-    HasTurn (arc_value c.self.inside.jobs).items c.self.inside.slots.items c.args.self.now c.args.job c.in-Some.place
-    c.index-jobs-place.result c.index_mut-slot.result.now
+    HasTurn (map (ruled c.self.inside.rule) (arc_value c.self.inside.jobs).items) c.self.inside.slots.items
+    c.args.self.now c.args.job c.in-Some.place
+    (ruled c.self.inside.rule c.index-jobs-place.result) c.index_mut-slot.result.now
 turn g c =
+    let rule = c.self.inside.rule in
+    let jobs = (arc_value c.self.inside.jobs).items in
     let jobs_are = c.as_slice-jobs.ensures.value ∙ ap (λ v. v.items) c.deref.ensures in
-    let task = c.index-jobs-place.result in
-    has_turn c.self.inside.blocks (arc_value c.self.inside.jobs).items c.self.inside.slots.items c.args.self.now
-    c.args.job c.in-Some.place c.place.result task c.index_mut-slot.result.now c.self.invariant c.self.view_is
-    c.place.ensures c.in-Some.is (c.index-jobs-place.is ∙ ap (λ ts. get_or ts c.in-Some.place task) jobs_are)
+    let job = c.index-jobs-place.result in
+    has_turn c.self.inside.blocks (map (ruled rule) jobs) c.self.inside.slots.items c.args.self.now
+    c.args.job c.in-Some.place c.place.result (ruled rule job) c.index_mut-slot.result.now c.self.invariant
+    c.self.view_is
+    c.place.ensures c.in-Some.is
+    (task_read rule jobs c.in-Some.place job (c.index-jobs-place.is ∙ ap (λ js. get_or js c.in-Some.place job)
+    jobs_are))
     c.index_mut-slot.ensures.value
 
 pub begin-requires : goal.begin-requires

@@ -1,12 +1,14 @@
-use Rattle.std.proofs.Common.{◌≡◌, ◌<◌, length, get_or, Some, refl, sym, ap, ◌∙◌, arith}
+use Rattle.std.proofs.Common.{◌≡◌, ◌<◌, length, get_or, Some, refl, sym, ap, ◌∙◌, arith, map}
+use Rattle.std.proofs.lemmas.List.{length-map}
 use Rattle.std.specs.Arc.{arc_value}
 use Rattle.std.proofs.lemmas.Result.{IfOk-weaker, on_ok_weaker, on_err_weaker}
 use Rattle.job_steps.specs.declared.event.Event.TheVariants.{Collect}
 use Rattle.job_steps.specs.Standings.{of_job}
 use Rattle.job_slots.specs.Answers.{is_ended}
+use Rattle.job_steps.specs.States.{ruled}
 use Rattle.job_machine.specs.Machines.{is_over}
 use Rattle.job_slots.specs.Slots.{standing_of}
-use Rattle.job_machine.proofs.TurnLemmas.{HasTurn, has_turn, within_jobs, turn_shows, turn_sound, turn_state}
+use Rattle.job_machine.proofs.TurnLemmas.{HasTurn, has_turn, task_read, within_jobs, turn_shows, turn_sound, turn_state}
 use Rattle.job_machine.proofs.TurnLemmas.{turn_still, no_turn}
 use Rattle.job_machine.proofs.machine.Machine.collect.Given.{Over}
 use Rattle.job_machine.proofs.machine.Machine.collect.Goals as goal
@@ -15,8 +17,13 @@ use Rattle.job_machine.proofs.machine.Machine.collect.Goals.{In-Some, After-coll
 -- the place is that of a job
 within : (g : Over) (c : goal.In-Some g) → c.in-Some.place < length (arc_value c.self.inside.jobs).items
 within g c =
-    within_jobs c.self.inside.blocks (arc_value c.self.inside.jobs).items c.self.inside.slots.items c.args.self.now
-    c.args.job c.in-Some.place c.place.result c.self.invariant c.self.view_is c.place.ensures c.in-Some.is
+    omega (
+      arith,
+      within_jobs c.self.inside.blocks (map (ruled c.self.inside.rule) (arc_value c.self.inside.jobs).items)
+          c.self.inside.slots.items c.args.self.now c.args.job c.in-Some.place c.place.result
+          c.self.invariant c.self.view_is c.place.ensures c.in-Some.is,
+      length-map (arc_value c.self.inside.jobs).items (ruled c.self.inside.rule),
+    )
 
 pub index_mut-slot-requires : goal.index_mut-slot-requires
 index_mut-slot-requires g c =
@@ -25,6 +32,7 @@ index_mut-slot-requires g c =
       within g (goal.at.index_mut-slot-requires g c).In-Some,
       c.self.invariant.slots_are,
       c.self.inside.slots.ok,
+      length-map (arc_value c.self.inside.jobs).items (ruled c.self.inside.rule),
     )
 
 pub offset_bounds-jobs-place : goal.offset_bounds-jobs-place
@@ -45,14 +53,20 @@ bounds-jobs-place g c =
 
 -- the job has the turn
 turn : (g : Over) (c : goal.After-collect-arg-1 g) →
-    HasTurn (arc_value c.self.inside.jobs).items c.self.inside.slots.items c.args.self.now c.args.job c.in-Some.place
-    c.index-jobs-place.result c.index_mut-slot.result.now
+    HasTurn (map (ruled c.self.inside.rule) (arc_value c.self.inside.jobs).items) c.self.inside.slots.items
+    c.args.self.now c.args.job c.in-Some.place
+    (ruled c.self.inside.rule c.index-jobs-place.result) c.index_mut-slot.result.now
 turn g c =
+    let rule = c.self.inside.rule in
+    let jobs = (arc_value c.self.inside.jobs).items in
     let jobs_are = c.as_slice-jobs.ensures.value ∙ ap (λ v. v.items) c.deref.ensures in
-    let task = c.index-jobs-place.result in
-    has_turn c.self.inside.blocks (arc_value c.self.inside.jobs).items c.self.inside.slots.items c.args.self.now
-    c.args.job c.in-Some.place c.place.result task c.index_mut-slot.result.now c.self.invariant c.self.view_is
-    c.place.ensures c.in-Some.is (c.index-jobs-place.is ∙ ap (λ ts. get_or ts c.in-Some.place task) jobs_are)
+    let job = c.index-jobs-place.result in
+    has_turn c.self.inside.blocks (map (ruled rule) jobs) c.self.inside.slots.items c.args.self.now
+    c.args.job c.in-Some.place c.place.result (ruled rule job) c.index_mut-slot.result.now c.self.invariant
+    c.self.view_is
+    c.place.ensures c.in-Some.is
+    (task_read rule jobs c.in-Some.place job (c.index-jobs-place.is ∙ ap (λ js. get_or js c.in-Some.place job)
+    jobs_are))
     c.index_mut-slot.ensures.value
 
 pub collect-requires : goal.collect-requires
@@ -94,7 +108,7 @@ returns-clause-returned g c =
     let turn = turn g (goal.at.returns-clause-returned g c).After-collect-arg-1 in
     on_err_weaker c.collect.result
     (λ is. record {
-      task = c.index-jobs-place.result;
+      task = ruled c.self.inside.rule c.index-jobs-place.result;
       task_is = turn.shown_task;
       ended = turn.shown_standing ∙ ap (λ s. Some s) is.0;
       returned = is.1;
@@ -104,5 +118,6 @@ returns-clause-returned g c =
 pub returns-in_default-clause-state : goal.returns-in_default-clause-state
 returns-in_default-clause-state g c =
     no_turn c.turn_laws.ensures.missing c.turn_laws.ensures.closed c.self.inside.blocks
-    (arc_value c.self.inside.jobs).items c.self.inside.slots.items c.args.self.now (Collect c.args.job) c.args.job
+    (map (ruled c.self.inside.rule) (arc_value c.self.inside.jobs).items) c.self.inside.slots.items c.args.self.now
+    (Collect c.args.job) c.args.job
     c.place.result c.self.invariant c.self.view_is refl c.place.ensures c.in_default.is

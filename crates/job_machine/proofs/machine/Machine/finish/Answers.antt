@@ -1,8 +1,10 @@
-use Rattle.std.proofs.Common.{◌<◌, length, get_or, ap, ◌∙◌, arith}
+use Rattle.std.proofs.Common.{◌<◌, length, get_or, ap, ◌∙◌, arith, map}
+use Rattle.std.proofs.lemmas.List.{length-map}
 use Rattle.std.specs.Arc.{arc_value}
 use Rattle.job_steps.specs.declared.event.Event.TheVariants.{Finish}
+use Rattle.job_steps.specs.States.{ruled}
 use Rattle.job_machine.specs.Machines.{machine_after, after_finished}
-use Rattle.job_machine.proofs.TurnLemmas.{HasTurn, has_turn, within_jobs, turn_shows, turn_sound, finishes_in}
+use Rattle.job_machine.proofs.TurnLemmas.{HasTurn, has_turn, task_read, within_jobs, turn_shows, turn_sound, finishes_in}
 use Rattle.job_machine.proofs.TurnLemmas.{finished_state, numbers_left, finishes_none, slot_missing}
 use Rattle.job_machine.proofs.machine.Machine.finish.Given.{Over}
 use Rattle.job_machine.proofs.machine.Machine.finish.Goals as goal
@@ -11,8 +13,13 @@ use Rattle.job_machine.proofs.machine.Machine.finish.Goals.{In-Some, After-finis
 -- the place is that of a job
 within : (g : Over) (c : goal.In-Some g) → c.in-Some.place < length (arc_value c.self.inside.jobs).items
 within g c =
-    within_jobs c.self.inside.blocks (arc_value c.self.inside.jobs).items c.self.inside.slots.items c.args.self.now
-    c.job-job.result c.in-Some.place c.place.result c.self.invariant c.self.view_is c.place.ensures c.in-Some.is
+    omega (
+      arith,
+      within_jobs c.self.inside.blocks (map (ruled c.self.inside.rule) (arc_value c.self.inside.jobs).items)
+          c.self.inside.slots.items c.args.self.now c.job-job.result c.in-Some.place c.place.result
+          c.self.invariant c.self.view_is c.place.ensures c.in-Some.is,
+      length-map (arc_value c.self.inside.jobs).items (ruled c.self.inside.rule),
+    )
 
 pub index_mut-slot-requires : goal.index_mut-slot-requires
 index_mut-slot-requires g c =
@@ -21,6 +28,7 @@ index_mut-slot-requires g c =
       within g (goal.at.index_mut-slot-requires g c).In-Some,
       c.self.invariant.slots_are,
       c.self.inside.slots.ok,
+      length-map (arc_value c.self.inside.jobs).items (ruled c.self.inside.rule),
     )
 
 pub offset_bounds-jobs-place : goal.offset_bounds-jobs-place
@@ -41,14 +49,20 @@ bounds-jobs-place g c =
 
 -- the job has the turn
 turn : (g : Over) (c : goal.After-finish-arg-1 g) →
-    HasTurn (arc_value c.self.inside.jobs).items c.self.inside.slots.items c.args.self.now c.job-job.result
-    c.in-Some.place c.index-jobs-place.result c.index_mut-slot.result.now
+    HasTurn (map (ruled c.self.inside.rule) (arc_value c.self.inside.jobs).items) c.self.inside.slots.items
+    c.args.self.now c.job-job.result
+    c.in-Some.place (ruled c.self.inside.rule c.index-jobs-place.result) c.index_mut-slot.result.now
 turn g c =
+    let rule = c.self.inside.rule in
+    let jobs = (arc_value c.self.inside.jobs).items in
     let jobs_are = c.as_slice-jobs.ensures.value ∙ ap (λ v. v.items) c.deref.ensures in
-    let task = c.index-jobs-place.result in
-    has_turn c.self.inside.blocks (arc_value c.self.inside.jobs).items c.self.inside.slots.items c.args.self.now
-    c.job-job.result c.in-Some.place c.place.result task c.index_mut-slot.result.now c.self.invariant c.self.view_is
-    c.place.ensures c.in-Some.is (c.index-jobs-place.is ∙ ap (λ ts. get_or ts c.in-Some.place task) jobs_are)
+    let job = c.index-jobs-place.result in
+    has_turn c.self.inside.blocks (map (ruled rule) jobs) c.self.inside.slots.items c.args.self.now
+    c.job-job.result c.in-Some.place c.place.result (ruled rule job) c.index_mut-slot.result.now c.self.invariant
+    c.self.view_is
+    c.place.ensures c.in-Some.is
+    (task_read rule jobs c.in-Some.place job (c.index-jobs-place.is ∙ ap (λ js. get_or js c.in-Some.place job)
+    jobs_are))
     c.index_mut-slot.ensures.value
 
 pub finish-requires-clause-shows : goal.finish-requires-clause-shows
@@ -62,7 +76,8 @@ invariant_of-self g c =
 
 pub finish-requires-clause-numbers : goal.finish-requires-clause-numbers
 finish-requires-clause-numbers g c =
-    numbers_left c.shown_is_alone.ensures c.self.inside.blocks (arc_value c.self.inside.jobs).items
+    numbers_left c.shown_is_alone.ensures c.self.inside.blocks
+    (map (ruled c.self.inside.rule) (arc_value c.self.inside.jobs).items)
     c.self.inside.slots.items c.self.invariant c.used-used.ensures.tidy
 
 pub returns-clause-answer : goal.returns-clause-answer
@@ -81,5 +96,6 @@ returns-clause-state g c =
 pub returns-in_default-clause-answer : goal.returns-in_default-clause-answer
 returns-in_default-clause-answer g c =
     finishes_none c.args.filled c.job-job.result c.job-job.ensures c.args.self.now
-    (slot_missing c.self.inside.blocks (arc_value c.self.inside.jobs).items c.self.inside.slots.items c.args.self.now
+    (slot_missing c.self.inside.blocks (map (ruled c.self.inside.rule) (arc_value c.self.inside.jobs).items)
+    c.self.inside.slots.items c.args.self.now
     c.job-job.result c.place.result c.self.invariant c.self.view_is c.place.ensures c.in_default.is).no_task

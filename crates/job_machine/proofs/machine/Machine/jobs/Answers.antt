@@ -1,8 +1,8 @@
-use Rattle.std.proofs.Common.{◌≤◌, length, All, ap, subst, arith}
+use Rattle.std.proofs.Common.{◌≤◌, length, All, ap, subst, arith, map}
 use Rattle.std.specs.Arc.{arc_value}
 use Rattle.vcode_base.specs.declared.limits.TheConstants.{MOST_JOBS}
 use Rattle.job_steps.specs.EventLaws.{IsVerified, AreKept}
-use Rattle.job_steps.specs.States.{Task}
+use Rattle.job_steps.specs.States.{Task, ruled}
 use Rattle.job_machine.specs.Machines.{MachineState}
 use Rattle.job_machine.proofs.TurnLemmas.{are_kept, all_verified}
 use Rattle.job_machine.proofs.machine.Machine.jobs.Goals as goal
@@ -18,7 +18,8 @@ returns-clause-few g c =
 pub returns-clause-verified : goal.returns-clause-verified
 returns-clause-verified g c =
     subst (λ (m : MachineState). All IsVerified m.tasks) c.self.view_is
-    (all_verified c.self.inside.blocks (arc_value c.self.inside.jobs).items c.self.inside.slots.items c.self.invariant)
+    (all_verified c.self.inside.blocks (map (ruled c.self.inside.rule) (arc_value c.self.inside.jobs).items)
+    c.self.inside.slots.items c.self.invariant)
 
 pub returns-clause-fitting : goal.returns-clause-fitting
 returns-clause-fitting g c =
@@ -28,5 +29,6 @@ returns-clause-fitting g c =
 pub returns-clause-kept : goal.returns-clause-kept
 returns-clause-kept g c =
     subst (λ (m : MachineState). AreKept m.region m.tasks m.standings) c.self.view_is
-    (are_kept c.shown_is_alone.ensures c.self.inside.blocks (arc_value c.self.inside.jobs).items
+    (are_kept c.shown_is_alone.ensures c.self.inside.blocks
+    (map (ruled c.self.inside.rule) (arc_value c.self.inside.jobs).items)
     c.self.inside.slots.items c.self.invariant c.used-used.ensures.tidy c.granted-granted.ensures.within)

@@ -1,7 +1,7 @@
-use Rattle.std.proofs.Common.{refl, sym, ap, ◌∙◌}
+use Rattle.std.proofs.Common.{refl, sym, ap, ◌∙◌, map}
 use Rattle.std.specs.Arc.{arc_value}
 use Rattle.job_steps.specs.declared.event.Event.TheVariants.{Recall}
-use Rattle.job_steps.specs.States.{Task}
+use Rattle.job_steps.specs.States.{Task, ruled}
 use Rattle.job_machine.specs.Machines.{is_flying}
 use Rattle.job_slots.specs.Slots.{standing_of}
 use Rattle.job_machine.proofs.TurnLemmas.{HasTurn, some_turn, turn_shows, turn_sound, turn_state, no_turn}
@@ -12,10 +12,12 @@ use Rattle.job_machine.proofs.machine.Machine.recall.Goals.{After-recall}
 
 -- the job has the turn
 turn : (g : Over) (c : goal.After-recall g) →
-    (task : Task) × HasTurn (arc_value c.self.inside.jobs).items c.self.inside.slots.items c.args.self.now c.args.job
+    (task : Task) × HasTurn (map (ruled c.self.inside.rule) (arc_value c.self.inside.jobs).items)
+    c.self.inside.slots.items c.args.self.now c.args.job
     c.in-Some.place task c.index_mut.result.now
 turn g c =
-    some_turn c.self.inside.blocks (arc_value c.self.inside.jobs).items c.self.inside.slots.items c.args.self.now
+    some_turn c.self.inside.blocks (map (ruled c.self.inside.rule) (arc_value c.self.inside.jobs).items)
+    c.self.inside.slots.items c.args.self.now
     c.args.job c.in-Some.place c.place.result c.index_mut.result.now c.self.invariant c.self.view_is c.place.ensures
     c.in-Some.is c.index_mut.ensures.value
 
@@ -31,7 +33,8 @@ invariant_of-self g c =
 pub returns-in_default-clause-state : goal.returns-in_default-clause-state
 returns-in_default-clause-state g c =
     no_turn c.turn_laws.ensures.missing c.turn_laws.ensures.closed c.self.inside.blocks
-    (arc_value c.self.inside.jobs).items c.self.inside.slots.items c.args.self.now (Recall c.args.job) c.args.job
+    (map (ruled c.self.inside.rule) (arc_value c.self.inside.jobs).items) c.self.inside.slots.items c.args.self.now
+    (Recall c.args.job) c.args.job
     c.place.result c.self.invariant c.self.view_is refl c.place.ensures c.in_default.is
 
 pub returns-clause-answer : goal.returns-clause-answer

@@ -1,11 +1,12 @@
 use Rattle.std.proofs.Common.{sym, subst}
+use Rattle.job_steps.specs.States.{ruled}
 use Rattle.job_slots.specs.Slots.{SlotState, Shows}
 use Rattle.job_slots.proofs.Slots.{live, shows_admitted}
 use Rattle.job_slots.proofs.slot.Slot.admit.Goals as goal
 
 pub returns-clause-shows : goal.returns-clause-shows
 returns-clause-shows g c =
-    let job = c.args.job.now in
+    let job = ruled c.args.rule c.args.job.now in
     let number = c.args.number in
     let slot = c.args.self.now in
     subst (λ (s : SlotState). Shows number c.grant.new.self job (live s)) (sym c.self.view_is)

@@ -1,10 +1,11 @@
 use Rattle.std.proofs.Common.{◌≡◌, ◌≤◌, Some, sym, ◌∙◌, subst, ap, arith}
 use Rattle.vcode_base.specs.declared.limits.Limits.{Limits}
 use Rattle.job_steps.specs.Standings.{InFlight}
+use Rattle.job_steps.specs.States.{ruled}
 use Rattle.job_slots.specs.declared.status.Status.TheVariants as status
 use Rattle.job_slots.specs.Answers.{IsAskedOf, early_end_at}
 use Rattle.job_slots.specs.Slots.{SlotState, Shows}
-use Rattle.job_slots.proofs.Started.{flying, ends, is_ticket, shows_flying, stands_flying, next_of, stands_ended}
+use Rattle.job_slots.proofs.Started.{flying, has_grant, ends, is_ticket, shows_flying, stands_flying, next_of, stands_ended}
 use Rattle.job_slots.proofs.slot.Slot.begin.Given.{Over}
 use Rattle.job_slots.proofs.slot.Slot.begin.Goals as goal
 use Rattle.job_slots.proofs.slot.Slot.begin.Goals.{In-Live, In-Ok, In-Err}
@@ -12,25 +13,32 @@ use Rattle.job_slots.proofs.slot.Slot.begin.Goals.{In-Live, In-Ok, In-Err}
 live : (g : Over) (c : goal.In-Live g) → c.args.self.now.status ≡ status.Live
 live g c = sym (ap (λ (s : SlotState). s.status) c.self.view_is) ∙ c.in-Live.is
 
+pub ticket_of-requires-clause-has_grant : goal.ticket_of-requires-clause-has_grant
+ticket_of-requires-clause-has_grant g c =
+    has_grant c.args.number c.args.blocks.now (ruled c.args.rule c.args.job.now) c.args.self.now c.requires
+    (live g (goal.at.ticket_of-requires-clause-has_grant g c).In-Live)
+
 -- ---- the job ends
 
 halts : (g : Over) (c : goal.In-Err g) →
-    early_end_at c.args.job.now c.args.self.now.trace.executed ≡ Some c.in-Err.halted.ending
+    early_end_at (ruled c.args.rule c.args.job.now) c.args.self.now.trace.executed ≡ Some c.in-Err.halted.ending
 halts g c =
-    subst (λ (s : SlotState). early_end_at c.args.job.now s.trace.executed ≡ Some c.in-Err.halted.ending)
+    subst (λ (s : SlotState). early_end_at (ruled c.args.rule c.args.job.now) s.trace.executed ≡ Some
+    c.in-Err.halted.ending)
     c.self.view_is c.in-Err.ensures.0
 
 pub end-requires-clause-ending : goal.end-requires-clause-ending
 end-requires-clause-ending g c =
     let at = goal.at.end-requires-clause-ending g c in
-    ends c.early_ends_end.ensures c.args.number c.args.blocks.now c.args.job.now c.args.self.now
+    ends c.early_ends_end.ensures c.args.number c.args.blocks.now (ruled c.args.rule c.args.job.now) c.args.self.now
     c.in-Err.halted.ending c.requires (live g at.In-Live) (halts g at.In-Err)
 
 pub returns-in-Err-clause-answer : goal.returns-in-Err-clause-answer
 returns-in-Err-clause-answer g c =
     let at = goal.at.returns-in-Err-clause-answer g c in
     let next =
-    next_of c.args.number c.args.blocks.now c.args.job.now c.args.self.now (Some c.in-Err.halted.ending) c.requires
+    next_of c.args.number c.args.blocks.now (ruled c.args.rule c.args.job.now) c.args.self.now
+    (Some c.in-Err.halted.ending) c.requires
     (live g at.In-Live) (halts g at.In-Err) in
     let enough : c.args.job.now.limits.words ≤ c.args.desk =
     omega (arith, ap (λ (l : Limits). l.words) c.limits.ensures) in
@@ -39,33 +47,38 @@ returns-in-Err-clause-answer g c =
 pub returns-in-Err-clause-standing : goal.returns-in-Err-clause-standing
 returns-in-Err-clause-standing g c =
     let at = goal.at.returns-in-Err-clause-standing g c in
-    stands_ended c.args.number c.args.blocks.now c.args.job.now c.args.self.now c.end.new.self
+    stands_ended c.args.number c.args.blocks.now (ruled c.args.rule c.args.job.now) c.args.self.now c.end.new.self
     c.in-Err.halted.ending c.requires (live g at.In-Live) (halts g at.In-Err) c.end.ensures.ended
 
 -- ---- the step begins
 
 asked : (g : Over) (c : goal.In-Ok g) →
-    IsAskedOf c.args.number c.args.desk c.args.job.now c.args.self.now.trace.executed c.in-Ok.ticket
+    IsAskedOf c.args.number c.args.desk (ruled c.args.rule c.args.job.now) c.args.self.now.trace.executed c.in-Ok.ticket
 asked g c =
-    subst (λ (s : SlotState). IsAskedOf c.args.number c.args.desk c.args.job.now s.trace.executed c.in-Ok.ticket)
+    subst (λ (s : SlotState). IsAskedOf c.args.number c.args.desk (ruled c.args.rule c.args.job.now) s.trace.executed
+    c.in-Ok.ticket)
     c.self.view_is c.in-Ok.ensures
 
 pub returns-in-Ok-clause-answer : goal.returns-in-Ok-clause-answer
 returns-in-Ok-clause-answer g c =
     let at = goal.at.returns-in-Ok-clause-answer g c in
-    is_ticket c.args.number c.args.desk c.args.blocks.now c.args.job.now c.args.self.now c.in-Ok.ticket c.requires
-    (live g at.In-Live) (asked g at.In-Ok)
+    is_ticket c.args.number c.args.desk c.args.blocks.now (ruled c.args.rule c.args.job.now) c.args.self.now
+    c.in-Ok.ticket c.requires
+    (live g at.In-Live) (asked g at.In-Ok) (omega (arith, ap (λ (l : Limits). l.words) c.limits.ensures))
 
 pub returns-in-Ok-clause-shows : goal.returns-in-Ok-clause-shows
 returns-in-Ok-clause-shows g c =
     let at = goal.at.returns-in-Ok-clause-shows g c in
-    subst (λ (s : SlotState). Shows c.args.number c.args.blocks.now c.args.job.now (flying s)) (sym c.self.view_is)
-    (shows_flying c.args.number c.args.blocks.now c.args.job.now c.args.self.now c.requires (live g at.In-Live)
+    subst (λ (s : SlotState). Shows c.args.number c.args.blocks.now (ruled c.args.rule c.args.job.now) (flying s))
+    (sym c.self.view_is)
+    (shows_flying c.args.number c.args.blocks.now (ruled c.args.rule c.args.job.now) c.args.self.now c.requires
+    (live g at.In-Live)
     (asked g at.In-Ok).goes_on)
 
 pub returns-in-Ok-clause-standing : goal.returns-in-Ok-clause-standing
 returns-in-Ok-clause-standing g c =
     let at = goal.at.returns-in-Ok-clause-standing g c in
     ap (λ (s : SlotState). InFlight s.trace.executed) c.self.view_is
-    ∙ stands_flying c.args.number c.args.blocks.now c.args.job.now c.args.self.now c.requires (live g at.In-Live)
+    ∙ stands_flying c.args.number c.args.blocks.now (ruled c.args.rule c.args.job.now) c.args.self.now c.requires
+    (live g at.In-Live)
     (asked g at.In-Ok).goes_on

@@ -1,4 +1,5 @@
 use Rattle.std.proofs.Common.{ap}
+use Rattle.job_steps.specs.States.{ruled}
 use Rattle.job_slots.specs.Slots.{SlotState, standing_of}
 use Rattle.job_slots.proofs.Committed.{FaultCommits, IsCommitted, fault_commits, ended_standing, executed_inside}
 use Rattle.job_slots.proofs.Committed.{committed}
@@ -9,9 +10,11 @@ use Rattle.job_slots.proofs.slot.Slot.commit.Goals.{After-line_of_next-line}
 -- ---- a value fault
 
 fault_ends_job : (g : Over) (c : goal.After-line_of_next-line g) →
-    FaultCommits c.args.number c.args.job.now c.args.self.now c.in-Err.fault c.line_of_next-line.result
+    FaultCommits c.args.number (ruled c.args.rule c.args.job.now) c.args.self.now c.in-Err.fault
+    c.line_of_next-line.result
 fault_ends_job g c =
-    fault_commits c.others_are_ready.ensures c.end_is_own.ensures c.args.number c.args.blocks.now c.args.job.now
+    fault_commits c.others_are_ready.ensures c.end_is_own.ensures c.args.number c.args.blocks.now
+    (ruled c.args.rule c.args.job.now)
     c.args.self.now c.args.filled.now c.self.inside.track c.in-Err.fault c.line_of_next-line.result c.requires.shows
     c.requires.flying c.requires.fits (ap (λ (s : SlotState). s.trace) c.self.view_is) c.in-Err.ensures
     c.line_of_next-line.ensures
@@ -28,13 +31,15 @@ returns-in-Err-clause-answer g c = (
 
 pub returns-in-Err-clause-standing : goal.returns-in-Err-clause-standing
 returns-in-Err-clause-standing g c =
-    ended_standing c.args.number c.args.job.now (standing_of c.args.self.now) c.end.new.self c.end.ensures.ended
+    ended_standing c.args.number (ruled c.args.rule c.args.job.now) (standing_of c.args.self.now) c.end.new.self
+    c.end.ensures.ended
     (fault_ends_job g (goal.at.returns-in-Err-clause-standing g c).After-line_of_next-line).next
 
 -- ---- results
 
 instruction_commits : (g : Over) (c : goal.After-go_on g) →
-    IsCommitted c.args.number c.args.job.now (standing_of c.args.self.now) c.args.filled.now c.execute.new.blocks
+    IsCommitted c.args.number (ruled c.args.rule c.args.job.now) (standing_of c.args.self.now) c.args.filled.now
+    c.execute.new.blocks
     c.go_on.result c.go_on.new.self
 instruction_commits g c =
     let mid : SlotState = record {
@@ -42,10 +47,12 @@ instruction_commits g c =
       trace = c.execute.new.track;
       outcome = c.self-in-Ok.inside.outcome;
     } in
-    let executed = executed_inside c.args.number c.args.job.now c.args.self.now c.self-in-Ok.inside.track
+    let executed = executed_inside c.args.number (ruled c.args.rule c.args.job.now) c.args.self.now
+    c.self-in-Ok.inside.track
     c.execute.new.track c.args.blocks.now _ (ap (λ (s : SlotState). s.trace) c.self-in-Ok.view_is)
     c.execute.ensures.after c.execute.ensures.limits c.execute.ensures.others c.execute.ensures.same_grant in
-    committed c.reached.ensures c.end_is_own.ensures c.args.number c.args.job.now c.args.self.now c.args.filled.now
+    committed c.reached.ensures c.end_is_own.ensures c.args.number (ruled c.args.rule c.args.job.now) c.args.self.now
+    c.args.filled.now
     c.args.blocks.now _ c.requires.shows c.requires.flying c.requires.fits mid executed
     c.go_on.result c.go_on.new.self (record {
       done = c.go_on.ensures.done;

@@ -1,4 +1,4 @@
-use Rattle.std.proofs.Common.{sym, subst}
+use Rattle.std.proofs.Common.{sym, subst, arith}
 use Rattle.job_memory.specs.JobBlocks.{own_slots}
 use Rattle.job_slots.specs.Holdings.{HoldSomeStack}
 use Rattle.job_slots.specs.Slots.{SlotState}
@@ -16,8 +16,9 @@ holds g c =
 
 pub release_all-requires-clause-own : goal.release_all-requires-clause-own
 release_all-requires-clause-own g c =
-    own_released c.args.number c.args.blocks.now c.self.inside.track.cells c.cells.result.now
-    (holds g (goal.at.release_all-requires-clause-own g c).After-cells) c.cells.ensures
+    let own = own_released c.args.number c.args.blocks.now c.self.inside.track.cells c.cells.result.now
+    (holds g (goal.at.release_all-requires-clause-own g c).After-cells) c.cells.ensures in
+    λ id. omega (arith, own id)
 
 lets_go : (g : Over) (c : goal.After-used-used g) →
     HoldSomeStack (own_slots c.args.number c.args.blocks.now) c.self.inside.track.cells →

@@ -1,0 +1,103 @@
+use Rattle.std.proofs.Common.{◌≡◌, ◌∙◌, ◌+◌, ◌≤◌, ℕ, List, length, reverse, sym, ap, subst, arith}
+use Rattle.std.proofs.lemmas.List.{reverse-reverse}
+use Rattle.vcode_base.specs.declared.kind.Kind.{Kind}
+use Rattle.vcode_base.specs.declared.rule.Rule.{Rule}
+use Rattle.job_memory.specs.JobBlocks.{AreOwn, grant_of, held_words, words_of}
+use Rattle.job_steps.specs.Motions.{operand_count, top_entries}
+use Rattle.job_slots.specs.Commits.{held_under, taken_ids, with_releases}
+use Rattle.job_slots.proofs.Exchanges.{HasExchanged, own_still, placed_and_released, released_and_placed}
+use Rattle.job_slots.proofs.commit.exchange.Given.{Over}
+use Rattle.job_slots.proofs.commit.exchange.Goals as goal
+use Rattle.job_slots.proofs.commit.exchange.Goals.{After-top-operands, After-release_all, After-exchange}
+
+operands_are : (g : Over) (c : goal.After-top-operands g) →
+    c.top-operands.result.now ≡ taken_ids c.args.op c.args.track.now.cells
+operands_are g c =
+    c.top-operands.ensures
+    ∙ (ap (λ (ks : List Kind). top_entries (length ks) (reverse c.cells.result.now)) c.operand_kinds.ensures
+    ∙ (ap (λ (ids : List ℕ). top_entries (operand_count c.args.op) (reverse ids)) c.cells.ensures
+    ∙ ap (λ (ids : List ℕ). top_entries (operand_count c.args.op) ids) (reverse-reverse c.args.track.now.cells)))
+
+-- ---- placed, then released
+
+pub place-id-requires-clause-room : goal.place-id-requires-clause-room
+place-id-requires-clause-room g c =
+    subst (λ (rule : Rule). held_under rule c.args.number c.args.op c.args.track.now.cells c.args.blocks.now
+    + length c.args.words.now ≤ words_of (grant_of c.args.blocks.now c.args.number)) c.in-First.is c.requires.room
+
+pub release_all-requires-clause-own : goal.release_all-requires-clause-own
+release_all-requires-clause-own g c =
+    let at = goal.at.release_all-requires-clause-own g c in
+    let taken : List ℕ = taken_ids c.args.op c.args.track.now.cells in
+    let still = own_still c.args.number c.args.blocks.now c.place-id.new.blocks c.place-id.result c.args.words.now taken
+    c.place-id.ensures.fresh.1 c.place-id.ensures.placed c.requires.own in
+    let own : AreOwn c.args.number c.place-id.new.blocks c.top-operands.result.now =
+    subst (λ (ids : List ℕ). AreOwn c.args.number c.place-id.new.blocks ids)
+    (sym (operands_are g at.After-top-operands))
+    still in
+    λ id. omega (arith, own id)
+
+first : (g : Over) (c : goal.After-release_all g) →
+    HasExchanged c.args.rule c.args.number (taken_ids c.args.op c.args.track.now.cells) c.place-id.result
+    c.args.words.now c.args.blocks.now c.release_all.new.self
+first g c =
+    placed_and_released (record {
+      only_free = c.releases_only_free.ensures;
+      only_their_job = c.releases_change_only_their_job.ensures;
+    }) c.args.rule c.args.number (taken_ids c.args.op c.args.track.now.cells) c.top-operands.result.now
+    c.place-id.result
+    c.args.words.now c.args.blocks.now c.place-id.new.blocks c.release_all.new.self c.in-First.is
+    c.place-id.ensures.fresh.0 c.place-id.ensures.fresh.1 c.place-id.ensures.placed
+    (operands_are g (goal.at.returns-in-First-clause-held g c).After-top-operands) c.release_all.ensures c.requires.own
+
+pub returns-in-First-clause-exchanged : goal.returns-in-First-clause-exchanged
+returns-in-First-clause-exchanged g c = (first g c).is
+
+pub returns-in-First-clause-held : goal.returns-in-First-clause-held
+returns-in-First-clause-held g c = (first g c).held
+
+pub returns-in-First-clause-count : goal.returns-in-First-clause-count
+returns-in-First-clause-count g c = (first g c).count
+
+pub returns-in-First-clause-numbers : goal.returns-in-First-clause-numbers
+returns-in-First-clause-numbers g c = (first g c).numbers
+
+-- ---- released, then placed
+
+pub exchange-requires-clause-own : goal.exchange-requires-clause-own
+exchange-requires-clause-own g c =
+    subst (λ (ids : List ℕ). AreOwn c.args.number c.args.blocks.now ids)
+    (sym (operands_are g (goal.at.exchange-requires-clause-own g c).After-top-operands)) c.requires.own
+
+pub exchange-requires-clause-room : goal.exchange-requires-clause-room
+exchange-requires-clause-room g c =
+    subst (λ (ids : List ℕ). held_words c.args.number (with_releases ids c.args.blocks.now) + length c.args.words.now
+    ≤ words_of (grant_of c.args.blocks.now c.args.number))
+    (sym (operands_are g (goal.at.exchange-requires-clause-room g c).After-top-operands))
+    (subst (λ (rule : Rule). held_under rule c.args.number c.args.op c.args.track.now.cells c.args.blocks.now
+    + length c.args.words.now ≤ words_of (grant_of c.args.blocks.now c.args.number)) c.in-Second.is c.requires.room)
+
+second : (g : Over) (c : goal.After-exchange g) →
+    HasExchanged c.args.rule c.args.number (taken_ids c.args.op c.args.track.now.cells) c.exchange.result
+    c.args.words.now c.args.blocks.now c.exchange.new.self
+second g c =
+    released_and_placed (record {
+      only_free = c.releases_only_free.ensures;
+      only_their_job = c.releases_change_only_their_job.ensures;
+    }) c.args.rule c.args.number (taken_ids c.args.op c.args.track.now.cells) c.top-operands.result.now
+    c.exchange.result
+    c.args.words.now c.args.blocks.now c.exchange.new.self c.in-Second.is c.exchange.ensures.fresh.0
+    c.exchange.ensures.fresh.1 (operands_are g (goal.at.returns-in-Second-clause-held g c).After-top-operands)
+    c.exchange.ensures.exchanged c.requires.own
+
+pub returns-in-Second-clause-exchanged : goal.returns-in-Second-clause-exchanged
+returns-in-Second-clause-exchanged g c = (second g c).is
+
+pub returns-in-Second-clause-held : goal.returns-in-Second-clause-held
+returns-in-Second-clause-held g c = (second g c).held
+
+pub returns-in-Second-clause-count : goal.returns-in-Second-clause-count
+returns-in-Second-clause-count g c = (second g c).count
+
+pub returns-in-Second-clause-numbers : goal.returns-in-Second-clause-numbers
+returns-in-Second-clause-numbers g c = (second g c).numbers

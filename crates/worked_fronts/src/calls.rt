@@ -1,0 +1,29 @@
+//! A gate that counts.
+
+use std::sync::atomic::{AtomicU64, Ordering};
+use step_scheduler::Gate;
+
+/// Counts the steps that pass.
+#[derive(Drop)]
+pub struct Calls {
+    count: AtomicU64,
+}
+
+impl Calls {
+    pub(crate) fn new() -> Calls {
+        Calls {
+            count: AtomicU64::new(0),
+        }
+    }
+
+    /// How many steps have passed.
+    pub(crate) fn count(&self) -> u64 {
+        self.count.load(Ordering::SeqCst)
+    }
+}
+
+impl Gate for Calls {
+    fn between(&self, _job: usize, _step: u64) {
+        self.count.fetch_add(1, Ordering::SeqCst);
+    }
+}
