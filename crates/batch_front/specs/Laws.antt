@@ -7,7 +7,7 @@ use Rattle.batch_reader.specs.Batches.{JobText, RuledJobs, jobs_of}
 use Rattle.batch_reader.specs.Fates.{JobEntry, IsBatch, IsEntry}
 use Rattle.batch_front.specs.Reports.{entry_text, ruled_entry}
 
--- the job of this text at this place under this rule, whatever it comes to: its lines are the same
+-- two answers to the text of a job at one place under one rule have the same lines
 abbrev pub OwnLines : Type 0
 OwnLines =
     (region place : ℕ) (rule : Rule) (job : JobText) (first second : JobEntry) → IsEntry region job first →

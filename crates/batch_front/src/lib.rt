@@ -2,10 +2,10 @@
 //!
 //! [`run_alone`] reads a batch, runs its jobs on the calling thread and writes the report; [`run`] has worker threads run
 //! the jobs. [`read_line`] reads the command line of the program, and [`arguments_fault`] says why there is none.
-//! [`parse_schedule`] reads in which order the jobs are to take their turns on the calling thread; what they come to
-//! depends neither on it nor on the workers. What a batch comes to is defined below, by `batch_reader`, one answer for
-//! each text and region; `Reports` in `specs/` says what is printed of it, and the status. What a job's lines of the
-//! report depend on stands in [`laws`]. `Seats` has the jobs of a batch as they stand on a machine, `Schedules` the items
+//! [`parse_schedule`] reads in which order the jobs are to take their turns on the calling thread; their ends
+//! depend neither on it nor on the workers. `batch_reader`, below, defines the answer to a batch, which is one for each
+//! text and region; `Reports` in `specs/` says what is printed of it, and the status. [`laws`] says what a job's
+//! lines of the report depend on. `Seats` has the jobs of a batch as they stand on a machine, `Schedules` the items
 //! that a text has.
 #![tactic(auto)]
 

@@ -82,7 +82,7 @@ one_fate region job (Refused line fault) (Refused other again) h k =
 entry : List ℕ → Fate JobValue → JobEntry
 entry name fate = record { name = name; fate = fate }
 
--- a job's text comes to one entry
+-- a job's text has one entry
 pub one_entry : OneEntry
 unfolding entry
 one_entry region job x y h k =

@@ -139,7 +139,7 @@ batch_at room [] = Ok (First, [])
 batch_at room (l ∷ ls) =
     if is_second_rule l.heading then under Second (jobs_in room ls) else under First (jobs_in room (l ∷ ls))
 
--- what all lines of a batch come to, where so many jobs may stand
+-- the rule and the jobs in all lines of a batch, of at most `room` jobs, or its refusal
 unfoldable pub batch_in : ℕ → List BatchLine → Result RuledJobs Refusal
 batch_in room ls = batch_at room (lines_behind_blanks ls)
 

@@ -23,8 +23,8 @@ use Rattle.batch_reader.specs.Lines.{batch_words}
 
 -- ---- in texts
 
--- before the first line that isn't blank; between jobs; behind a JOB line; in a part of a job, whose text is known so
--- far; behind a job's END; behind what refuses the batch
+-- before the first line that isn't blank; between jobs; after a JOB line; in a part of a job, whose text is known so
+-- far; after a job's END; after what refuses the batch
 pub data Standing : Type 0 where
   Fresh : Standing
   Between : Standing
@@ -34,8 +34,8 @@ pub data Standing : Type 0 where
   Ended : (job : JobText) → Standing
   Refused : (refusal : Refusal) → Standing
 
--- what the lines from there on come to under this rule, where so many jobs more may begin; the rule counts once a line
--- that isn't blank has come
+-- the answer to the lines from there on under this rule, in which that many more jobs may begin; the rule counts once
+-- a line that isn't blank has come
 abbrev pub jobs_from : Rule → ℕ → Standing → List BatchLine → Result RuledJobs Refusal
 jobs_from rule room Fresh ls = batch_in room ls
 jobs_from rule room Between ls = under rule (jobs_in room ls)

@@ -8,7 +8,7 @@ pub fn one_batch()
     ensures { OneBatch }
 {}
 
-/// Whatever else a batch holds, the text of a job comes to one entry over a region.
+/// Whatever else a batch holds, the text of a job has one entry over a region.
 pub fn one_entry()
     ensures { OneEntry }
 {}

@@ -24,9 +24,9 @@
 //! the region's, told at its JOB line; else the first fault of its signatures; else the first of its code; else the
 //! first of its kinds.
 //!
-//! [`Feed`] takes the pieces. That a batch comes to one answer stands in [`laws`]. `specs/Batches` has the rule of a
-//! batch and its jobs as texts, or what refuses it; `specs/Fates` what becomes of each job, and what a batch comes
-//! to; `specs/Standings` and `specs/Feeds` what is kept of a batch whose end hasn't come.
+//! [`Feed`] takes the pieces. [`laws`] says that a batch has one answer. `specs/Batches` has the rule of a
+//! batch and its jobs as texts, or what refuses it; `specs/Fates` what becomes of each job, and the answer to a
+//! batch; `specs/Standings` and `specs/Feeds` what is kept of a batch whose end hasn't come.
 #![tactic(auto)]
 
 mod batch_line;

@@ -76,7 +76,7 @@ pub fn descriptor<A: Allocator>(
     Ok(lengths)
 }
 
-/// So many flags, half of them T.
+/// Flags, half of them T.
 pub fn flags<A: Allocator>(
     alloc: A,
     random: &mut Random,
@@ -145,7 +145,7 @@ pub fn numbers<A: Allocator>(alloc: A, count: usize) -> Result<Vec<i64, A>, Allo
     Ok(numbers)
 }
 
-/// So many shifts of 0 to 5 places, or all of 3.
+/// Shifts of 0 to 5 places, or all of 3.
 pub fn shifts<A: Allocator>(alloc: A, count: usize, alike: bool) -> Result<Vec<i64, A>, AllocError>
     ensures { IfOk result (λ s. length s.items ≡ count) }
 {
