@@ -1,0 +1,42 @@
+#!/usr/bin/env python3
+"""Compares the report of each example with the one that `models/` give, and its results with those of the example's own program in Python.
+
+    python3 models/examples.py
+
+The modules of this folder follow the rules of the language. The program beside an example, as `examples/histogram.py`, doesn't know them.
+"""
+import subprocess
+import sys
+from pathlib import Path
+
+from batches import report
+
+TOP = Path(__file__).resolve().parent.parent
+REGION = 1_048_576
+KINDS = ("INT", "BOOL", "SEGDES")
+
+
+def results(text):
+    return [line for line in text.splitlines() if line.split()[0] in KINDS]
+
+
+def differences(batch):
+    wanted = batch.with_suffix(".report").read_text()
+    if report(batch.read_bytes(), REGION)[0] != wanted:
+        yield f"{batch.stem}: the models give another report"
+    program = batch.with_suffix(".py")
+    if program.exists():
+        ran = subprocess.run([sys.executable, program], capture_output=True, text=True, check=True)
+        if ran.stdout.splitlines() != results(wanted):
+            yield f"{batch.stem}: {program.name} gives other results"
+
+
+def main():
+    batches = sorted((TOP / "examples").glob("*.vcode"))
+    found = [difference for batch in batches for difference in differences(batch)]
+    print(*found, f"examples: {len(batches)} batches, {len(found)} differences", sep="\n")
+    sys.exit(bool(found))
+
+
+if __name__ == "__main__":
+    main()
