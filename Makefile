@@ -49,6 +49,7 @@ bench: all
 	python3 bench/steps.py
 	python3 bench/workers.py
 	python3 bench/processes.py
+	python3 bench/admission.py
 	python3 bench/ops.py
 	python3 bench/memory.py
 	python3 bench/kinds.py
@@ -60,6 +61,7 @@ models: all
 	cd crates/worked_texts && rt run < stdin > /dev/null
 	cd crates/worked_vectors && rt run < stdin > /dev/null
 	cd crates/worked_regions && rt run < stdin > /dev/null
+	cd crates/worked_machine && rt run < stdin > /dev/null
 	python3 models/examples.py
 	python3 models/compare.py
 

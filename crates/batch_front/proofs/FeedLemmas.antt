@@ -1,6 +1,11 @@
 -- What was read of a reader and fed.
-use Rattle.std.proofs.Common.{◌≡◌, ℕ, ◌+◌, ◌-◌, ◌≤◌, List, [], ◌++◌, length, take, None, Some, subst, arith}
-use Rattle.std.specs.Prelude.{Result, Ok, Err}
+use Rattle.std.proofs.Common.{◌≡◌, ◌⊎◌, ℕ, ◌+◌, ◌-◌, ◌≤◌, Bool, true, false, List, [], ◌++◌, length, take, None, Some}
+use Rattle.std.proofs.Common.{subst, arith, ◌∙◌, sym, ap, refl, inl, inr}
+use Rattle.std.specs.Prelude.{Result, Ok, Err, IfOk, OnOk, OnErr, IsErrOf}
+use Rattle.std.proofs.lemmas.Bool.{false≢true}
+use Rattle.batch_front.specs.declared.fault.FrontFault.TheVariants.{Read, Write, Memory, Mixed}
+use Rattle.batch_front.specs.declared.device.Device.{Device}
+use Rattle.batch_front.specs.Devices.{IsAtFault}
 use Rattle.batch_front.specs.declared.fault.FrontFault.{FrontFault}
 use Rattle.std.specs.declared.option.Option.{Option}
 use Rattle.std.specs.Io.KnownBytes.{Appends, Consumes, Keeps, IsAtEnd}
@@ -13,7 +18,7 @@ use Rattle.batch_reader.specs.Fates.{JobEntry, IsBatch}
 use Rattle.batch_front.specs.declared.status.Status.{Status}
 use Rattle.batch_front.specs.Inputs.{AreFirstBytes, IsBatchIn, ReadsFirstBytes, ReadsNoFurther}
 use Rattle.batch_front.specs.Reports.{report_of, status_of}
-use Rattle.batch_front.specs.Runs.{WritesReport, WritesFront}
+use Rattle.batch_front.specs.Runs.{WritesReport, WritesFront, WritesWhole}
 use Rattle.batch_front.proofs.Bytes.{front_at_stop, front_when_full, reads_more, reads_none}
 use Rattle.batch_front.proofs.Bytes.{rest_at_stop, rest_is_some, rest_when_full, some_rest, consumes_nothing}
 
@@ -130,7 +135,75 @@ front_of_input region None batch before after n h w = tt
 front_of_input region (Some input) batch before after n h w =
     (batch, subst (λ bytes. IsBatch region bytes batch) h.first h.comes, n, w)
 
+-- all of its report was written
+pub whole_of_input : (region : ℕ) (old : Option (List ℕ)) (batch : Batch (List JobEntry)) (before after : Option (List ℕ))
+    → IsBatchIn region old batch → Appends before after (report_of batch) → WritesWhole region old before after
+whole_of_input region None batch before after h w = tt
+whole_of_input region (Some input) batch before after h w =
+    (batch, subst (λ bytes. IsBatch region bytes batch) h.first h.comes, w)
+
+-- what is known of a text and a status that are those of the batch
+pub record IsTold (region : ℕ) (old : Option (List ℕ)) (text : List ℕ) (is : Status) : Type 0 where
+  pub batch : Batch (List JobEntry)
+  pub comes : IsBatchIn region old batch
+  pub report : text ≡ report_of batch
+  pub status : is ≡ status_of batch
+
+pub report_told : (region : ℕ) (old : Option (List ℕ)) (text : List ℕ) (is : Status) (before after : Option (List ℕ))
+    (result : Result Status FrontFault) → IsTold region old text is → IfOk result (λ status. status ≡ is)
+    → OnOk result (Appends before after text) → IfOk result (WritesReport region old before after)
+report_told region old text is before after (Ok status) told same all =
+    report_of_input region old told.batch before after status told.comes
+    (subst (λ (l : List ℕ). Appends before after l) told.report all) (same ∙ told.status)
+report_told region old text is before after (Err fault) told same all = tt
+
+pub front_told : (region : ℕ) (old : Option (List ℕ)) (text : List ℕ) (is : Status) (before after : Option (List ℕ))
+    → IsTold region old text is → ((n : ℕ) × Appends before after (take n text)) → WritesFront region old before after
+front_told region old text is before after told front =
+    front_of_input region old told.batch before after front.0 told.comes
+    (subst (λ (l : List ℕ). Appends before after (take front.0 l)) told.report front.1)
+
+at_err : {P : Type 0} (result : Result Status FrontFault) (fault : FrontFault) → result ≡ Err fault → OnErr result P → P
+at_err (Ok status) fault e p = cc
+at_err (Err other) fault e p = p
+
+pub whole_told : {F : Type 0} (region : ℕ) (old : Option (List ℕ)) (text : List ℕ) (is : Status)
+    (before after : Option (List ℕ)) (result : Result Status FrontFault) (fault : FrontFault) → IsTold region old text is
+    → OnErr result (F → Appends before after text) → result ≡ Err fault → F → WritesWhole region old before after
+whole_told region old text is before after result fault told all e flushing =
+    whole_of_input region old told.batch before after told.comes
+    (subst (λ (l : List ℕ). Appends before after l) told.report (at_err result fault e all flushing))
+
 pub batch_in : (region : ℕ) (old : Option (List ℕ)) (feed : FeedState) (batch : Batch (List JobEntry))
     → (bytes : List ℕ) × HasCome feed bytes × AreFirstBytes old bytes
     → ((bytes : List ℕ) → HasCome feed bytes → IsBatch region bytes batch) → IsBatchIn region old batch
 batch_in region old feed batch h f = record { bytes = h.0; first = h.2; comes = f h.0 h.1 }
+
+-- ---- a fault of the writer
+
+abbrev is_write : FrontFault → Bool
+is_write Write = true
+is_write fault = false
+
+abbrev is_no_other : {T : Type 0} → Result T FrontFault → Bool
+is_no_other (Ok v) = true
+is_no_other (Err fault) = is_write fault
+
+no_other : {T P : Type 0} (r : Result T FrontFault) (other : FrontFault) → is_write other ≡ false →
+    OnErr r (IsErrOf r Write) → IsErrOf r other → P
+no_other {T = T} r other isnt alone e =
+    let write : IsErrOf r Write = subst (λ (k : Result T FrontFault). OnErr k (IsErrOf r Write)) e alone in
+    absurd (false≢true (sym isnt ∙ ap (λ (k : Result T FrontFault). is_no_other k) (sym e ∙ write)))
+
+-- a fault that is none but of the writer is no other
+pub only_at_write : {T P : Type 0} (r : Result T FrontFault) → OnErr r (IsErrOf r Write) →
+    IsErrOf r Read ⊎ IsErrOf r Memory ⊎ IsErrOf r Mixed → P
+only_at_write r alone (inl e) = no_other r Read refl alone e
+only_at_write r alone (inr (inl e)) = no_other r Memory refl alone e
+only_at_write r alone (inr (inr e)) = no_other r Mixed refl alone e
+
+-- the fault of a writer, by the interruptions of the whole run
+pub fault_at_write : {T D : Type 0} (r : Result T FrontFault) (writer : Device D) (count all : ℕ) → count ≡ all →
+    OnErr r (IsAtFault writer count) → IsErrOf r Write → IsAtFault writer all
+fault_at_write {T = T} r writer count all same fault e =
+    subst (λ n. IsAtFault writer n) same (subst (λ (k : Result T FrontFault). OnErr k (IsAtFault writer count)) e fault)

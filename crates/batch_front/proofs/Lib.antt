@@ -1,6 +1,7 @@
 pub mod Bytes
 pub mod FeedLemmas
 pub mod LineLemmas
+pub mod PageLemmas
 pub mod ReportLemmas
 pub mod RunLemmas
 pub mod ScheduleLemmas

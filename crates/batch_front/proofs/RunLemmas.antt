@@ -1,13 +1,16 @@
 -- A machine that has run out.
 use Rattle.std.proofs.Common.{◌≡◌, ℕ, zero, suc, ◌+◌, ◌<◌, ◌≤◌, take, get_or, List, [], ◌∷◌, length, Some}
-use Rattle.std.proofs.Common.{refl, ap, arith}
+use Rattle.std.proofs.Common.{◌++◌, ◌∙◌, Option, None, refl, ap, arith}
 use Rattle.std.specs.Prelude.{All, slice_get, option_map}
 use Rattle.std.proofs.lemmas.List.Elements.{All-head, All-more, All-tail, All-weaker}
+use Rattle.std.proofs.lemmas.Option.{same_Some}
+use Rattle.vcode_base.specs.declared.outcome.Outcome.{Outcome}
 use Rattle.job_steps.specs.Runs.{outcome, executed_count, peak}
 use Rattle.job_steps.specs.Standings.{Standing, Collected, of_job, executed_at, peak_at, outcome_at}
-use Rattle.job_steps.specs.States.{Task}
+use Rattle.job_steps.specs.States.{Task, Vector}
 use Rattle.job_machine.specs.Machines.{MachineState, told, told_by, outcome_by, outcome_in}
-use Rattle.batch_front.specs.Seats.{HasRunOut}
+use Rattle.batch_front.specs.Reports.{outcome_text, used_text}
+use Rattle.batch_front.specs.Seats.{HasRunOut, IsTask, told_text}
 
 -- a job that there is has its standing
 told_out : {T : Type 0} (of : Task → Standing → T) (tasks : List Task) (standings : List Standing) (place : ℕ)
@@ -42,6 +45,17 @@ executed_told m (suc place) h = told_out executed_at m.tasks m.standings place h
 pub peak_told : (m : MachineState) (job : ℕ) → HasRunOut m → told peak_at job m ≡ option_map peak (of_job job m.tasks)
 peak_told m zero h = refl
 peak_told m (suc place) h = told_out peak_at m.tasks m.standings place h.same_length h.collected
+
+-- the lines on a job that there is
+pub told_as : (task : Option Task) (ending : Outcome (List Vector)) (instructions words : ℕ) → IsTask task
+    → Some ending ≡ option_map outcome task → Some instructions ≡ option_map executed_count task
+    → Some words ≡ option_map peak task → outcome_text ending ++ used_text instructions words ≡ told_text task
+told_as None ending instructions words there e f g = absurd there
+told_as (Some task) ending instructions words there e f g =
+    ap (λ (o : Outcome (List Vector)). outcome_text o ++ used_text instructions words) (same_Some ending (outcome task) e)
+    ∙ (ap (λ (n : ℕ). outcome_text (outcome task) ++ used_text n words)
+    (same_Some instructions (executed_count task) f)
+    ∙ ap (λ (n : ℕ). outcome_text (outcome task) ++ used_text (executed_count task) n) (same_Some words (peak task) g))
 
 -- ---- words
 

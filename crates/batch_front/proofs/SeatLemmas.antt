@@ -12,6 +12,7 @@ use Rattle.std.proofs.lemmas.Option.{none-some, same_Some}
 use Rattle.vcode_base.specs.declared.rule.Rule.{Rule}
 use Rattle.job_steps.specs.Standings.{of_job}
 use Rattle.job_steps.specs.States.{JobValue, Task, ruled}
+use Rattle.job_machine.specs.Machines.{MachineState}
 use Rattle.batch_reader.specs.declared.entry.Entry.{Entry}
 use Rattle.batch_reader.specs.declared.entry.Fate.{Fate}
 use Rattle.batch_reader.specs.declared.entry.Fate.TheVariants.{Ready, Refused}
@@ -23,7 +24,8 @@ use Rattle.batch_front.specs.declared.status.Status.TheVariants.{AllReturned, So
 use Rattle.batch_front.specs.Reports.{TaskEntry, ruled_entries, ruled_fate}
 use Rattle.batch_front.specs.Reports.{end_text, entries_text, entry_text, fate_text, has_returned, is_refused}
 use Rattle.batch_front.specs.Reports.{job_text, jobs_status, jobs_text, refused_count}
-use Rattle.batch_front.specs.Seats.{AreAmong, AreSeated, AreSeatsOf, BatchFits, EntriesFit, FateFits, IsAmong}
+use Rattle.batch_front.specs.Answers.{IsRunOut}
+use Rattle.batch_front.specs.Seats.{AreAmong, AreSeated, AreSeatsOf, BatchFits, EntriesFit, FateFits, HasRunOut, IsAmong}
 use Rattle.batch_front.specs.Seats.{IsFateOn, IsSeatOf, Seat}
 use Rattle.batch_front.specs.Seats.{fate_tasks, fate_text_on, has_returned_on, have_returned_on, report_text}
 use Rattle.batch_front.specs.Seats.{seat_text, seats_status}
@@ -215,17 +217,14 @@ one_told_more tasks number (s ∷ ss) (suc place) any h =
     ∙ ap (λ n. (seat_text tasks number s ++ seats_text tasks (number + 1) (take place ss))
     ++ seat_text tasks n (get_or ss place any)) same
 
--- the same of a report
-pub report_with : (tasks : List Task) (seats : List Seat) (place : ℕ) (seat : Seat) (old before new : List ℕ)
-    → place < length seats → seat ≡ get_or seats place seat → before ≡ old ++ seats_text tasks 1 (take place seats)
-    → new ≡ before ++ seat_text tasks (place + 1) seat → new ≡ old ++ seats_text tasks 1 (take (place + 1) seats)
-report_with tasks seats place seat old before new l e f h =
+pub seats_with_one : (tasks : List Task) (seats : List Seat) (place : ℕ) (seat : Seat) → place < length seats
+    → seat ≡ get_or seats place seat
+    → seats_text tasks 1 (take place seats) ++ seat_text tasks (place + 1) seat ≡ seats_text tasks 1 (take (place + 1) seats)
+seats_with_one tasks seats place seat l e =
     let number : place + 1 ≡ 1 + place = omega arith in
-    h ∙ ap (λ t. t ++ seat_text tasks (place + 1) seat) f
-    ∙ append_assoc old (seats_text tasks 1 (take place seats)) (seat_text tasks (place + 1) seat)
-    ∙ ap (λ n. old ++ (seats_text tasks 1 (take place seats) ++ seat_text tasks n seat)) number
-    ∙ ap (λ (s : Seat). old ++ (seats_text tasks 1 (take place seats) ++ seat_text tasks (1 + place) s)) e
-    ∙ ap (λ t. old ++ t) (sym (one_told_more tasks 1 seats place seat l))
+    ap (λ n. seats_text tasks 1 (take place seats) ++ seat_text tasks n seat) number
+    ∙ ap (λ (s : Seat). seats_text tasks 1 (take place seats) ++ seat_text tasks (1 + place) s) e
+    ∙ sym (one_told_more tasks 1 seats place seat l)
 
 same_count : (tasks : List Task) (seats : List Seat) (entries : List TaskEntry) → AreSeatsOf tasks seats entries
     → length seats ≡ length entries
@@ -275,6 +274,17 @@ told tasks seats entries h e =
 pub told_of : (tasks : List Task) (seats : List Seat) (entries : List TaskEntry) → AreSeated tasks seats entries
     → IsTold tasks seats entries
 told_of tasks seats entries h = told tasks seats entries h.seats_are h.tasks_are
+
+-- a machine that has run out, with the seats of the entries
+pub run_out_of : (m : MachineState) (seats shown : List Seat) (entries : List TaskEntry) → shown ≡ seats → HasRunOut m
+    → AreSeated m.tasks seats entries → IsRunOut m shown
+run_out_of m seats shown entries e out h =
+    let is = told_of m.tasks seats entries h in
+    record {
+      out = out;
+      there = subst (λ (ss : List Seat). AreAmong m.tasks ss) (sym e) is.among;
+      fewer = subst (λ (ss : List Seat). length m.tasks ≤ length ss) (sym e) is.fewer;
+    }
 
 -- ---- under the rule of the batch
 

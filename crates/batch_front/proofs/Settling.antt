@@ -1,30 +1,30 @@
 -- What lets a machine settle, and keeps it so.
-use Rattle.std.proofs.Common.{◌≡◌, ◌≢◌, ◌⊎◌, ℕ, zero, suc, ◌+◌, ◌<◌, ◌≤◌, true, false, not, Bool, cond}
-use Rattle.std.proofs.Common.{List, [], ◌∷◌, length, length-set, set, slice_get, position, Option, Some, None, is_some}
+use Rattle.std.proofs.Common.{◌≡◌, ◌≢◌, ◌⊎◌, ℕ, zero, suc, ◌+◌, ◌<◌, ◌≤◌, ◌&&◌, true, false, Bool, cond}
+use Rattle.std.proofs.Common.{List, [], ◌∷◌, length, set, slice_get, Option, Some, None, is_some}
 use Rattle.std.proofs.Common.{refl, sym, ◌∙◌, ap, subst, arith, inl, inr}
-use Rattle.std.specs.Prelude.{if◌then◌else◌, nat_lt}
-use Rattle.std.specs.List.{prefix_len}
+use Rattle.std.specs.Prelude.{if◌then◌else◌, nat_le}
 use Rattle.std.proofs.lemmas.Bool.{false≢true, cases_eq}
 use Rattle.std.proofs.lemmas.Option.{none-some, same_Some, slice_get_within}
+use Rattle.vcode_base.specs.declared.limits.TheConstants.{MOST_PASSES}
 use Rattle.job_steps.specs.declared.event.Event.{Event}
 use Rattle.job_steps.specs.declared.event.Event.TheVariants.{Admit, Begin, Finish, Collect}
 use Rattle.job_steps.specs.EventLaws.{AdmittedHaveRoom, ClosedChangeNothing, EventsChangeTheirJob, OthersStay}
 use Rattle.job_steps.specs.Events.{early_end, standing_after_begin, standing_after, next_standing, next_standing_in}
-use Rattle.job_steps.specs.Events.{next_standing_of, job_of, is_open, with_next, after_event}
+use Rattle.job_steps.specs.Events.{next_standing_of, job_of, is_open, passes_after, with_next, after_event}
 use Rattle.job_steps.specs.Runs.{state_after}
-use Rattle.job_steps.specs.Standings.{Standing, Waiting, Live, InFlight, Ended, Collected, of_job, with_standing}
+use Rattle.job_steps.specs.Standings.{Standing, Waiting, Live, InFlight, Ended, Collected, Queue, of_job, with_standing}
 use Rattle.job_steps.specs.Standings.{first_standings, is_waiting, reserved_words, granted_words, has_room}
-use Rattle.job_steps.specs.Standings.{admission, admission_at}
+use Rattle.job_steps.specs.Standings.{is_passed_enough, admission_from, admission}
 use Rattle.job_steps.specs.States.{Task}
 use Rattle.job_steps.specs.Steps.{Progress, Running, Over, Stuck}
-use Rattle.job_machine.specs.Machines.{MachineState, is_over, machine_after, with_standings}
+use Rattle.job_machine.specs.Machines.{MachineState, queue_of, with_queue, is_over, machine_after}
 use Rattle.batch_front.specs.Turns.{after_admissions, after_collections, settled, NoneEnded, IsSettled, IsSettledBut}
 
 -- ---- an event that is passed over
 
 passed : ClosedChangeNothing → (event : Event) (m : MachineState) →
-    is_open m.region m.tasks event m.standings ≡ false → machine_after event m ≡ m
-passed closed event m e = ap (with_standings m) (closed m.region m.tasks event m.standings e)
+    is_open m.region m.tasks event (queue_of m) ≡ false → machine_after event m ≡ m
+passed closed event m e = ap (with_queue m) (closed m.region m.tasks event (queue_of m) e)
 
 not_ended : (job : ℕ) (task : Option Task) (standing : Option Standing) → is_over standing ≡ false →
     next_standing_in (Collect job) task standing ≡ None
@@ -38,13 +38,13 @@ not_ended job (Some task) (Some Collected) e = refl
 
 -- the collection of a job that hasn't ended
 collect_closed : (job : ℕ) (m : MachineState) → is_over (of_job job m.standings) ≡ false →
-    is_open m.region m.tasks (Collect job) m.standings ≡ false
+    is_open m.region m.tasks (Collect job) (queue_of m) ≡ false
 unfolding is_open
 collect_closed job m e = ap is_some (not_ended job (of_job job m.tasks) (of_job job m.standings) e)
 
 -- an admission where none fits
-admit_closed : (m : MachineState) → admission m.region m.tasks m.standings ≡ None →
-    is_open m.region m.tasks Admit m.standings ≡ false
+admit_closed : (m : MachineState) → admission m.region m.tasks (queue_of m) ≡ None →
+    is_open m.region m.tasks Admit (queue_of m) ≡ false
 unfolding is_open
 admit_closed m none = ap (λ job. is_some (next_standing_of m.tasks Admit m.standings job)) none
 
@@ -56,7 +56,7 @@ collections_none closed (suc n) m none =
     ap (machine_after (Collect (suc n))) (collections_none closed n m none)
     ∙ passed closed (Collect (suc n)) m (collect_closed (suc n) m (none (suc n)))
 
-admissions_none : ClosedChangeNothing → (n : ℕ) (m : MachineState) → admission m.region m.tasks m.standings ≡ None →
+admissions_none : ClosedChangeNothing → (n : ℕ) (m : MachineState) → admission m.region m.tasks (queue_of m) ≡ None →
     after_admissions n m ≡ m
 admissions_none closed zero m none = refl
 admissions_none closed (suc n) m none =
@@ -67,7 +67,7 @@ pub settled_same : ClosedChangeNothing → (m : MachineState) → IsSettled m �
 unfolding settled
 settled_same closed m s =
     ap (after_admissions (length m.tasks)) (collections_none closed (length m.tasks) m s.none_ended)
-    ∙ admissions_none closed (length m.tasks) m s.none_fits
+    ∙ admissions_none closed (length m.tasks) m s.none_admitted
 
 -- where none has ended, all that have room are admitted
 pub settled_waiting : ClosedChangeNothing → (m : MachineState) → NoneEnded m →
@@ -80,10 +80,10 @@ settled_waiting closed m none =
 
 -- it leaves other jobs where they stood
 other_same : OthersStay → (event : Event) (job other : ℕ) (m : MachineState) →
-    job_of m.region m.tasks event m.standings ≡ Some job → other ≢ job →
+    job_of m.region m.tasks event (queue_of m) ≡ Some job → other ≢ job →
     of_job other (machine_after event m).standings ≡ of_job other m.standings
 other_same stay event job other m is ne =
-    stay m.region m.tasks event m.standings other (λ k. ne (same_Some other job (sym k ∙ is)))
+    stay m.region m.tasks event (queue_of m) other (λ k. ne (same_Some other job (sym k ∙ is)))
 
 -- it neither admits the job nor gives its words back
 pub record SameGrant (task : Task) (old new : Standing) : Type 0 where
@@ -126,22 +126,6 @@ finish_keeps job task (InFlight n) new e =
 finish_keeps job task Ended new e = absurd (none-some new e)
 finish_keeps job task Collected new e = absurd (none-some new e)
 
-first_set : (ss : List Standing) (i : ℕ) (old new : Standing) → slice_get ss i ≡ Some old →
-    is_waiting new ≡ is_waiting old →
-    prefix_len (λ (s : Standing). not (is_waiting s)) (set ss i new) ≡ prefix_len (λ (s : Standing). not (is_waiting s)) ss
-first_set [] i old new e same = absurd (none-some old e)
-first_set (s ∷ ss) zero old new e same =
-    ap (λ b. cond (not b) (1 + prefix_len (λ (s : Standing). not (is_waiting s)) ss) 0)
-    (same ∙ ap is_waiting (sym (same_Some s old e)))
-first_set (s ∷ ss) (suc i) old new e same =
-    ap (λ n. cond (not (is_waiting s)) (1 + n) 0) (first_set ss i old new e same)
-
-position_set : (ss : List Standing) (i : ℕ) (old new : Standing) → slice_get ss i ≡ Some old →
-    is_waiting new ≡ is_waiting old → position is_waiting (set ss i new) ≡ position is_waiting ss
-position_set ss i old new e same =
-    λ k. cond (nat_lt (first_set ss i old new e same k) (length-set ss i new k))
-    (Some (first_set ss i old new e same k)) None
-
 granted_set : (ts : List Task) (ss : List Standing) (i : ℕ) (task : Task) (old new : Standing) →
     slice_get ts i ≡ Some task → slice_get ss i ≡ Some old → reserved_words task new ≡ reserved_words task old →
     granted_words ts (set ss i new) ≡ granted_words ts ss
@@ -154,78 +138,101 @@ granted_set (x ∷ ts) (y ∷ ss) zero task old new t s same =
 granted_set (x ∷ ts) (y ∷ ss) (suc i) task old new t s same =
     ap (λ n. reserved_words x y + n) (granted_set ts ss i task old new t s same)
 
-admission_same_at : (region : ℕ) (tasks : List Task) (old new : List Standing) (place : Option ℕ) →
-    granted_words tasks new ≡ granted_words tasks old →
-    admission_at region tasks new place ≡ admission_at region tasks old place
-admission_same_at region tasks old new None granted = refl
-admission_same_at region tasks old new (Some place) granted =
-    ap (λ g. if has_room region g (slice_get tasks place) then Some (suc place) else None) granted
+-- who is admitted doesn't change with a job that waits as before
+walk_set : (first : ℕ) (fits : Task → Bool) (tasks : List Task) (ss : List Standing) (passes : List ℕ) (i : ℕ)
+    (old new : Standing) → slice_get ss i ≡ Some old → is_waiting new ≡ is_waiting old →
+    admission_from first fits tasks (set ss i new) passes ≡ admission_from first fits tasks ss passes
+walk_set first fits tasks [] passes i old new s same = absurd (none-some old s)
+walk_set first fits [] (y ∷ ss) passes zero old new s same = refl
+walk_set first fits [] (y ∷ ss) passes (suc i) old new s same = refl
+walk_set first fits (x ∷ ts) (y ∷ ss) [] zero old new s same = refl
+walk_set first fits (x ∷ ts) (y ∷ ss) [] (suc i) old new s same = refl
+walk_set first fits (x ∷ ts) (y ∷ ss) (k ∷ passes) zero old new s same =
+    ap (λ b. cond (b && fits x) (Some first)
+    (cond (b && nat_le MOST_PASSES k) None (admission_from (suc first) fits ts ss passes)))
+    (same ∙ ap is_waiting (sym (same_Some y old s)))
+walk_set first fits (x ∷ ts) (y ∷ ss) (k ∷ passes) (suc i) old new s same =
+    ap (λ o. cond (is_waiting y && fits x) (Some first) (cond (is_passed_enough y k) None o))
+    (walk_set (suc first) fits ts ss passes i old new s same)
 
-admission_set : (region : ℕ) (tasks : List Task) (ss : List Standing) (i : ℕ) (task : Task) (old new : Standing) →
-    slice_get tasks i ≡ Some task → slice_get ss i ≡ Some old → SameGrant task old new →
-    admission region tasks (set ss i new) ≡ admission region tasks ss
+admission_set : (region : ℕ) (tasks : List Task) (ss : List Standing) (passes : List ℕ) (i : ℕ) (task : Task)
+    (old new : Standing) → slice_get tasks i ≡ Some task → slice_get ss i ≡ Some old → SameGrant task old new →
+    admission region tasks (record { standings = set ss i new; passes = passes })
+    ≡ admission region tasks (record { standings = ss; passes = passes })
 unfolding admission
-admission_set region tasks ss i task old new t s same =
-    ap (admission_at region tasks (set ss i new)) (position_set ss i old new s same.waiting)
-    ∙ admission_same_at region tasks ss (set ss i new) (position is_waiting ss)
+admission_set region tasks ss passes i task old new t s same =
+    ap (λ g. admission_from 1 (has_room region g) tasks (set ss i new) passes)
     (granted_set tasks ss i task old new t s same.reserved)
+    ∙ walk_set 1 (has_room region (granted_words tasks ss)) tasks ss passes i old new s same.waiting
 
-admission_next : (region : ℕ) (tasks : List Task) (ss : List Standing) (event : Event) → KeepsGrant event →
-    (i : ℕ) (task : Task) (old : Standing) → slice_get tasks i ≡ Some task → slice_get ss i ≡ Some old →
+-- an event that passes by nobody, and leaves the words and the waiting of its job, leaves who is admitted
+record LeavesNext (event : Event) : Type 0 where
+  keeps : KeepsGrant event
+  passes : (job : ℕ) (queue : Queue) → passes_after event job queue ≡ queue.passes
+
+admission_next : (region : ℕ) (tasks : List Task) (queue : Queue) (event : Event) → LeavesNext event →
+    (i : ℕ) (task : Task) (old : Standing) → slice_get tasks i ≡ Some task → slice_get queue.standings i ≡ Some old →
     (next : Option Standing) → next_standing event task old ≡ next →
-    admission region tasks (with_next (Some (suc i)) next ss) ≡ admission region tasks ss
-admission_next region tasks ss event keeps i task old t s None e = refl
-admission_next region tasks ss event keeps i task old t s (Some new) e =
-    admission_set region tasks ss i task old new t s (keeps task old new e)
+    admission region tasks (with_next event (Some (suc i)) next queue) ≡ admission region tasks queue
+admission_next region tasks queue event leaves i task old t s None e = refl
+admission_next region tasks queue event leaves i task old t s (Some new) e =
+    ap
+    (λ passes. admission region tasks (record { standings = set queue.standings i new; passes = passes }))
+    (leaves.passes (suc i) queue)
+    ∙ admission_set region tasks queue.standings queue.passes i task old new t s (leaves.keeps task old new e)
 
-admission_by : (region : ℕ) (tasks : List Task) (ss : List Standing) (event : Event) → KeepsGrant event → (i : ℕ) →
-    (task : Option Task) → slice_get tasks i ≡ task → (old : Option Standing) → slice_get ss i ≡ old →
-    admission region tasks (with_next (Some (suc i)) (next_standing_in event task old) ss) ≡ admission region tasks ss
-admission_by region tasks ss event keeps i None t old s = refl
-admission_by region tasks ss event keeps i (Some task) t None s = refl
-admission_by region tasks ss event keeps i (Some task) t (Some old) s =
-    admission_next region tasks ss event keeps i task old t s (next_standing event task old) refl
+admission_by : (region : ℕ) (tasks : List Task) (queue : Queue) (event : Event) → LeavesNext event → (i : ℕ) →
+    (task : Option Task) → slice_get tasks i ≡ task → (old : Option Standing) → slice_get queue.standings i ≡ old →
+    admission region tasks (with_next event (Some (suc i)) (next_standing_in event task old) queue)
+    ≡ admission region tasks queue
+admission_by region tasks queue event leaves i None t old s = refl
+admission_by region tasks queue event leaves i (Some task) t None s = refl
+admission_by region tasks queue event leaves i (Some task) t (Some old) s =
+    admission_next region tasks queue event leaves i task old t s (next_standing event task old) refl
 
-admission_of : (region : ℕ) (tasks : List Task) (ss : List Standing) (event : Event) → KeepsGrant event →
+admission_of : (region : ℕ) (tasks : List Task) (queue : Queue) (event : Event) → LeavesNext event →
     (job : Option ℕ) →
-    admission region tasks (with_next job (next_standing_of tasks event ss job) ss) ≡ admission region tasks ss
-admission_of region tasks ss event keeps None = refl
-admission_of region tasks ss event keeps (Some zero) = refl
-admission_of region tasks ss event keeps (Some (suc i)) =
-    admission_by region tasks ss event keeps i (slice_get tasks i) refl (slice_get ss i) refl
+    admission region tasks (with_next event job (next_standing_of tasks event queue.standings job) queue)
+    ≡ admission region tasks queue
+admission_of region tasks queue event leaves None = refl
+admission_of region tasks queue event leaves (Some zero) = refl
+admission_of region tasks queue event leaves (Some (suc i)) =
+    admission_by region tasks queue event leaves i (slice_get tasks i) refl (slice_get queue.standings i) refl
 
-admission_same : (event : Event) (m : MachineState) → KeepsGrant event →
-    admission m.region m.tasks (after_event m.region m.tasks event m.standings)
-    ≡ admission m.region m.tasks m.standings
+admission_same : (event : Event) (m : MachineState) → LeavesNext event →
+    admission m.region m.tasks (after_event m.region m.tasks event (queue_of m))
+    ≡ admission m.region m.tasks (queue_of m)
 unfolding after_event
-admission_same event m keeps =
-    admission_of m.region m.tasks m.standings event keeps (job_of m.region m.tasks event m.standings)
+admission_same event m leaves =
+    admission_of m.region m.tasks (queue_of m) event leaves (job_of m.region m.tasks event (queue_of m))
 
-but_one : OthersStay → (event : Event) (job : ℕ) (m : MachineState) → KeepsGrant event →
-    job_of m.region m.tasks event m.standings ≡ Some job → IsSettledBut job m → IsSettledBut job (machine_after event m)
-but_one stay event job m keeps is s = record {
+but_one : OthersStay → (event : Event) (job : ℕ) (m : MachineState) → LeavesNext event →
+    job_of m.region m.tasks event (queue_of m) ≡ Some job → IsSettledBut job m → IsSettledBut job (machine_after event m)
+but_one stay event job m leaves is s = record {
   none_ended = λ other ne. ap is_over (other_same stay event job other m is ne) ∙ s.none_ended other ne;
-  none_fits = admission_same event m keeps ∙ s.none_fits;
+  none_admitted = admission_same event m leaves ∙ s.none_admitted;
 }
 
 -- a begin or a finish may end that job alone
 pub after_begin : OthersStay → (job : ℕ) (m : MachineState) → IsSettledBut job m →
     IsSettledBut job (machine_after (Begin job) m)
-after_begin stay job m s = but_one stay (Begin job) job m (begin_keeps job) refl s
+after_begin stay job m s =
+    but_one stay (Begin job) job m (record { keeps = begin_keeps job; passes = λ k queue. refl }) refl s
 
 pub after_finish : OthersStay → (job : ℕ) (m : MachineState) → IsSettledBut job m →
     IsSettledBut job (machine_after (Finish job) m)
-after_finish stay job m s = but_one stay (Finish job) job m (finish_keeps job) refl s
+after_finish stay job m s =
+    but_one stay (Finish job) job m (record { keeps = finish_keeps job; passes = λ k queue. refl }) refl s
 
 pub settled_but : (job : ℕ) (m : MachineState) → IsSettled m → IsSettledBut job m
-settled_but job m s = record { none_ended = λ other ne. s.none_ended other; none_fits = s.none_fits }
+settled_but job m s = record { none_ended = λ other ne. s.none_ended other; none_admitted = s.none_admitted }
 
 -- ---- a job that may have ended
 
 -- where it hasn't, all is settled
 pub settled_by : (job : ℕ) (m : MachineState) → IsSettledBut job m → is_over (of_job job m.standings) ≡ false →
     IsSettled m
-settled_by job m s e = record { none_ended = λ other. by other (cases_eq other job); none_fits = s.none_fits }
+settled_by job m s e = record { none_ended = λ other. by other (cases_eq other job); none_admitted = s.none_admitted }
   where
     by : (other : ℕ) → (other ≡ job) ⊎ (other ≡ job → ⊥) → is_over (of_job other m.standings) ≡ false
     by other (inl same) = ap (λ k. is_over (of_job k m.standings)) same ∙ e
@@ -278,8 +285,8 @@ collected change zero m same e = absurd (none-some Ended e)
 collected change (suc i) m same e =
     let task = beside m.standings m.tasks same i Ended e in
     let job = suc i in
-    ap (of_job job)
-    ((change m.region m.tasks (Collect job) m.standings job task.0 Ended refl task.1 e).changed Collected refl)
+    ap (λ (q : Queue). of_job job q.standings)
+    ((change m.region m.tasks (Collect job) (queue_of m) job task.0 Ended refl task.1 e).changed Collected refl)
     ∙ get-set_same m.standings i Ended Collected e
 
 pub ended_is : (s : Option Standing) → is_over s ≡ true → s ≡ Some Ended
@@ -371,17 +378,18 @@ waiting_with (suc i) ss e = waiting_set ss i e
 
 -- an admission leaves one fewer waiting
 fewer_waiting : AdmittedHaveRoom → EventsChangeTheirJob → (job : ℕ) (m : MachineState) →
-    admission m.region m.tasks m.standings ≡ Some job →
+    admission m.region m.tasks (queue_of m) ≡ Some job →
     waiting_count (machine_after Admit m).standings + 1 ≡ waiting_count m.standings
 fewer_waiting have change job m is =
-    let room = have m.region m.tasks m.standings job is in
-    let changes = change m.region m.tasks Admit m.standings job room.task Waiting is room.task_is room.waits in
-    ap (λ ss. waiting_count ss + 1) (changes.changed (Live 0) refl) ∙ waiting_with job m.standings room.waits
+    let room = have m.region m.tasks (queue_of m) job is in
+    let changes = change m.region m.tasks Admit (queue_of m) job room.task Waiting is room.task_is room.waits in
+    ap (λ (q : Queue). waiting_count q.standings + 1) (changes.changed (Live 0) refl)
+    ∙ waiting_with job m.standings room.waits
 
--- so many admissions leave none that fits, or as many fewer waiting
+-- so many admissions leave none that can be admitted, or as many fewer waiting
 abbrev CountsDown : ℕ → MachineState → MachineState → Type 0
 CountsDown n m new =
-    (admission new.region new.tasks new.standings ≡ None)
+    (admission new.region new.tasks (queue_of new) ≡ None)
     ⊎ (waiting_count new.standings + n ≤ waiting_count m.standings)
 
 counts_down : ClosedChangeNothing → AdmittedHaveRoom → EventsChangeTheirJob → (n : ℕ) (m : MachineState) →
@@ -392,29 +400,29 @@ counts_down closed have change (suc n) m = next (counts_down closed have change 
     here : MachineState
     here = after_admissions n m
 
-    stays : admission here.region here.tasks here.standings ≡ None → CountsDown (suc n) m (machine_after Admit here)
+    stays : admission here.region here.tasks (queue_of here) ≡ None → CountsDown (suc n) m (machine_after Admit here)
     stays none =
-        inl (subst (λ (k : MachineState). admission k.region k.tasks k.standings ≡ None)
+        inl (subst (λ (k : MachineState). admission k.region k.tasks (queue_of k) ≡ None)
         (sym (passed closed Admit here (admit_closed here none))) none)
 
-    fewer : (o : Option ℕ) → admission here.region here.tasks here.standings ≡ o →
+    fewer : (o : Option ℕ) → admission here.region here.tasks (queue_of here) ≡ o →
         waiting_count here.standings + n ≤ waiting_count m.standings → CountsDown (suc n) m (machine_after Admit here)
     fewer None is few = stays is
     fewer (Some job) is few = let one = fewer_waiting have change job here is in inr (omega (arith, one, few))
 
     next : CountsDown n m here → CountsDown (suc n) m (machine_after Admit here)
     next (inl none) = stays none
-    next (inr few) = fewer (admission here.region here.tasks here.standings) refl few
+    next (inr few) = fewer (admission here.region here.tasks (queue_of here)) refl few
 
--- as many admissions as wait leave none that fits
-none_fits : ClosedChangeNothing → AdmittedHaveRoom → EventsChangeTheirJob → (n : ℕ) (m : MachineState) →
+-- as many admissions as wait leave none that can be admitted
+none_admitted : ClosedChangeNothing → AdmittedHaveRoom → EventsChangeTheirJob → (n : ℕ) (m : MachineState) →
     waiting_count m.standings ≤ n → (new : MachineState) → CountsDown n m new →
-    admission new.region new.tasks new.standings ≡ None
-none_fits closed have change n m few new (inl none) = none
-none_fits closed have change n m few new (inr left) = by (admission new.region new.tasks new.standings) refl
+    admission new.region new.tasks (queue_of new) ≡ None
+none_admitted closed have change n m few new (inl none) = none
+none_admitted closed have change n m few new (inr left) = by (admission new.region new.tasks (queue_of new)) refl
   where
-    by : (o : Option ℕ) → admission new.region new.tasks new.standings ≡ o →
-        admission new.region new.tasks new.standings ≡ None
+    by : (o : Option ℕ) → admission new.region new.tasks (queue_of new) ≡ o →
+        admission new.region new.tasks (queue_of new) ≡ None
     by None is = is
     by (Some job) is = let one = fewer_waiting have change job new is in absurd (omega (arith, one, few, left))
 
@@ -426,30 +434,32 @@ ended_set (s ∷ ss) zero (suc j) new e h = h
 ended_set (s ∷ ss) (suc i) zero new e h = h
 ended_set (s ∷ ss) (suc i) (suc j) new e h = ended_set ss i j new e h
 
-admitted_live : (task : Option Task) (standing : Option Standing) (job other : ℕ) (ss : List Standing) →
-    is_over (of_job other ss) ≡ false →
-    is_over (of_job other (with_next (Some job) (next_standing_in Admit task standing) ss)) ≡ false
-admitted_live None standing job other ss h = h
-admitted_live (Some task) None job other ss h = h
-admitted_live (Some task) (Some Waiting) zero other ss h = h
-admitted_live (Some task) (Some Waiting) (suc i) zero ss h = h
-admitted_live (Some task) (Some Waiting) (suc i) (suc j) ss h = ended_set ss i j (Live 0) refl h
-admitted_live (Some task) (Some (Live n)) job other ss h = h
-admitted_live (Some task) (Some (InFlight n)) job other ss h = h
-admitted_live (Some task) (Some Ended) job other ss h = h
-admitted_live (Some task) (Some Collected) job other ss h = h
+admitted_live : (task : Option Task) (standing : Option Standing) (job other : ℕ) (queue : Queue) →
+    is_over (of_job other queue.standings) ≡ false →
+    is_over (of_job other (with_next Admit (Some job) (next_standing_in Admit task standing) queue).standings) ≡ false
+admitted_live None standing job other queue h = h
+admitted_live (Some task) None job other queue h = h
+admitted_live (Some task) (Some Waiting) zero other queue h = h
+admitted_live (Some task) (Some Waiting) (suc i) zero queue h = h
+admitted_live (Some task) (Some Waiting) (suc i) (suc j) queue h = ended_set queue.standings i j (Live 0) refl h
+admitted_live (Some task) (Some (Live n)) job other queue h = h
+admitted_live (Some task) (Some (InFlight n)) job other queue h = h
+admitted_live (Some task) (Some Ended) job other queue h = h
+admitted_live (Some task) (Some Collected) job other queue h = h
 
-none_ended_by : (tasks : List Task) (job : Option ℕ) (other : ℕ) (ss : List Standing) →
-    is_over (of_job other ss) ≡ false →
-    is_over (of_job other (with_next job (next_standing_of tasks Admit ss job) ss)) ≡ false
-none_ended_by tasks None other ss h = h
-none_ended_by tasks (Some job) other ss h = admitted_live (of_job job tasks) (of_job job ss) job other ss h
+none_ended_by : (tasks : List Task) (job : Option ℕ) (other : ℕ) (queue : Queue) →
+    is_over (of_job other queue.standings) ≡ false →
+    is_over (of_job other (with_next Admit job (next_standing_of tasks Admit queue.standings job) queue).standings)
+    ≡ false
+none_ended_by tasks None other queue h = h
+none_ended_by tasks (Some job) other queue h =
+    admitted_live (of_job job tasks) (of_job job queue.standings) job other queue h
 
 -- an admission ends no job
 none_ended_after : (m : MachineState) → NoneEnded m → NoneEnded (machine_after Admit m)
 unfolding after_event
 none_ended_after m none job =
-    none_ended_by m.tasks (job_of m.region m.tasks Admit m.standings) job m.standings (none job)
+    none_ended_by m.tasks (job_of m.region m.tasks Admit (queue_of m)) job (queue_of m) (none job)
 
 none_ended_all : (n : ℕ) (m : MachineState) → NoneEnded m → NoneEnded (after_admissions n m)
 none_ended_all zero m none = none
@@ -466,8 +476,8 @@ has_settled closed have change m new same none is =
     let count = length m.tasks in
     let waiting = waiting_within m.standings in
     let few : waiting_count m.standings ≤ count = omega (arith, waiting, same) in
-    let fits = none_fits closed have change count m few (after_admissions count m)
+    let fits = none_admitted closed have change count m few (after_admissions count m)
     (counts_down closed have change count m) in
     let all : IsSettled (after_admissions count m) =
-    record { none_ended = none_ended_all count m none; none_fits = fits } in
+    record { none_ended = none_ended_all count m none; none_admitted = fits } in
     record { state = is ∙ sym (settled_waiting closed m none); settled = subst IsSettled (sym is) all }

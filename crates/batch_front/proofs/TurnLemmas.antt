@@ -6,11 +6,11 @@ use Rattle.std.proofs.lemmas.List.{take_more}
 use Rattle.vcode_base.specs.declared.rule.Rule.{Rule}
 use Rattle.job_steps.specs.declared.event.Event.TheVariants as event
 use Rattle.job_steps.specs.Events.{recalled_standings}
-use Rattle.job_steps.specs.Standings.{Waiting, first_standings}
+use Rattle.job_steps.specs.Standings.{Waiting, first_standings, first_queue}
 use Rattle.job_steps.specs.States.{Task}
 use Rattle.job_machine.specs.declared.hands.Hand.{Hand}
 use Rattle.job_machine.specs.Hands.{HandsFit}
-use Rattle.job_machine.specs.Machines.{MachineState, HasNoStep, Leads, machine_after, recalled, with_standings}
+use Rattle.job_machine.specs.Machines.{MachineState, HasNoStep, Leads, machine_after, recalled, with_queue}
 use Rattle.batch_front.specs.declared.schedule.Item.{Item}
 use Rattle.batch_front.specs.Seats.{Seat}
 use Rattle.batch_front.specs.Turns.{after_admissions, after_item, after_items}
@@ -22,7 +22,13 @@ waiting [] = refl
 waiting (task ∷ tasks) = ap (λ standings. Waiting ∷ standings) (waiting tasks)
 
 pub all_wait : (m : MachineState) (rule : Rule) (region : ℕ) (tasks : List Task)
-    → m ≡ record { rule = rule; region = region; tasks = tasks; standings = first_standings tasks }
+    → m ≡ record {
+      rule = rule;
+      region = region;
+      tasks = tasks;
+      standings = first_standings tasks;
+      passes = (first_queue tasks).passes;
+    }
     → m.standings ≡ first_standings m.tasks
 all_wait m rule region tasks e = ap (λ k. k.standings) e ∙ ap (λ k. first_standings k.tasks) (sym e)
 
@@ -32,7 +38,9 @@ no_step_first m e = ap recalled_standings e ∙ waiting m.tasks ∙ sym e
 -- where no step has begun, none is given up
 pub hands_fit : {A : Type 0} (m : MachineState) (hands : List (Hand A)) → m.standings ≡ first_standings m.tasks
     → HandsFit (recalled m) hands → HandsFit m hands
-hands_fit m hands wait h = subst (λ standings. HandsFit (with_standings m standings) hands) (no_step_first m wait) h
+hands_fit m hands wait h =
+    subst (λ standings. HandsFit (with_queue m (record { standings = standings; passes = m.passes })) hands)
+    (no_step_first m wait) h
 
 -- what leads from a machine leads from the same one, if it is known
 pub led_from : {V : Type 0} (o : Option V) (from_v : V → MachineState) (mid new : MachineState)

@@ -21,6 +21,10 @@ interrupts_of device = device.interrupts
 abbrev pub is_flushed : {D : Type 0} → Device D → Bool
 is_flushed device = device.flushed
 
+-- whether a device was asked to flush, and nothing was written since
+abbrev pub is_flushing : {D : Type 0} → Device D → Bool
+is_flushing device = device.flushing
+
 -- a device that was not used
 pub record IsFresh {D : Type 0} (device : Device D) : Type 0 where
   pub not_failed : has_failed device ≡ false

@@ -1,8 +1,10 @@
+pub mod Answers
 pub mod CommandLines
 pub mod Devices
 pub mod Exits
 pub mod Inputs
 pub mod Laws
+pub mod Pages
 pub mod Reports
 pub mod Runs
 pub mod Schedules

@@ -16,3 +16,8 @@ WritesReport region input old new status = IfSome input (λ bytes. (batch : Batc
 abbrev pub WritesFront : ℕ → Option (List ℕ) → Option (List ℕ) → Option (List ℕ) → Type 0
 WritesFront region input old new = IfSome input (λ bytes. (batch : Batch (List JobEntry)) ×
     IsBatch region (first_bytes bytes) batch × (n : ℕ) × Appends old new (take n (report_of batch)))
+
+-- all of that report stands after what the output held
+abbrev pub WritesWhole : ℕ → Option (List ℕ) → Option (List ℕ) → Option (List ℕ) → Type 0
+WritesWhole region input old new = IfSome input (λ bytes. (batch : Batch (List JobEntry)) ×
+    IsBatch region (first_bytes bytes) batch × Appends old new (report_of batch))

@@ -2,7 +2,7 @@
 use Rattle.std.specs.Prelude.{◌≡◌, ◌≢◌, ℕ, zero, suc, false, List, [], ◌∷◌, length, Option, Some, None}
 use Rattle.job_steps.specs.declared.event.Event.TheVariants as event
 use Rattle.job_steps.specs.Standings.{of_job, admission}
-use Rattle.job_machine.specs.Machines.{MachineState, is_over, machine_after}
+use Rattle.job_machine.specs.Machines.{MachineState, queue_of, is_over, machine_after}
 use Rattle.batch_reader.specs.declared.entry.Fate.{Fate}
 use Rattle.batch_reader.specs.declared.entry.Fate.TheVariants.{Ready, Refused}
 use Rattle.batch_front.specs.declared.schedule.Item.{Item}
@@ -17,12 +17,12 @@ abbrev pub after_collections : ℕ → MachineState → MachineState
 after_collections zero m = m
 after_collections (suc n) m = machine_after (event.Collect (suc n)) (after_collections n m)
 
--- the machine when so many jobs are admitted, as far as they wait and have room
+-- the machine after so many admissions, as far as a job can be admitted
 abbrev pub after_admissions : ℕ → MachineState → MachineState
 after_admissions zero m = m
 after_admissions (suc n) m = machine_after event.Admit (after_admissions n m)
 
--- all jobs that have ended are collected, and then as many are admitted as have room
+-- all jobs that have ended are collected, and then as many are admitted as can be
 unfoldable pub settled : MachineState → MachineState
 settled m = after_admissions (length m.tasks) (after_collections (length m.tasks) m)
 
@@ -30,15 +30,15 @@ settled m = after_admissions (length m.tasks) (after_collections (length m.tasks
 abbrev pub NoneEnded : MachineState → Type 0
 NoneEnded m = (job : ℕ) → is_over (of_job job m.standings) ≡ false
 
--- no job has ended, nor has one room that waits
+-- no job has ended, and none can be admitted
 pub record IsSettled (m : MachineState) : Type 0 where
   pub none_ended : NoneEnded m
-  pub none_fits : admission m.region m.tasks m.standings ≡ None
+  pub none_admitted : admission m.region m.tasks (queue_of m) ≡ None
 
 -- the same, but that this job may have ended
 pub record IsSettledBut (job : ℕ) (m : MachineState) : Type 0 where
   pub none_ended : (other : ℕ) → other ≢ job → is_over (of_job other m.standings) ≡ false
-  pub none_fits : admission m.region m.tasks m.standings ≡ None
+  pub none_admitted : admission m.region m.tasks (queue_of m) ≡ None
 
 -- ---- turns
 

@@ -2,16 +2,16 @@
 
 ghost use Rattle.std.specs.Prelude.{◌≡◌, ◌⊎◌, ◌+◌, true, IfOk, OnOk, IsErrOf, IsSome};
 ghost use Rattle.std.specs.Io.KnownBytes.{Keeps};
-ghost use Rattle.batch_front.specs.Devices.{inner_of, interrupts_of, is_flushed, IsFresh, HasWorked, IsAtFault};
+ghost use Rattle.batch_front.specs.Devices.{inner_of, interrupts_of, is_flushed, is_flushing, IsFresh, HasWorked, IsAtFault};
 ghost use Rattle.batch_front.specs.Inputs.{ReadsFirstBytes, ReadsNoFurther};
-ghost use Rattle.batch_front.specs.Runs.{WritesReport, WritesFront};
+ghost use Rattle.batch_front.specs.Runs.{WritesReport, WritesFront, WritesWhole};
 
-use crate::answer::{answer_of_caller, answer_of_workers};
+use crate::answer::{answer_of_caller, answer_of_workers, write_answer};
 use crate::device::{Device, MOST_INTERRUPTIONS};
 use crate::fault::FrontFault;
 use crate::options::Options;
 use crate::status::Status;
-use crate::transfer::{read_batch, write_all};
+use crate::transfer::read_batch;
 use std::alloc::Allocator;
 use std::io::{Read, Write};
 use std::sync::Wait;
@@ -23,13 +23,15 @@ use vcode_base::limits::MOST_BATCH_BYTES;
 ///
 /// Of the reader no more is read than one byte more than a batch may have, [`MOST_BATCH_BYTES`]. Neither device was used
 /// before. The jobs take the turns of the schedule first, if there is one, and are run out then; the report is the same
-/// with any schedule or none. An interruption is no fault by itself: the call is made again, but for the interruption
-/// that passes [`MOST_INTERRUPTIONS`] in this run.
+/// with any schedule or none. All outcomes are known before the first byte of the report is written, and the report takes
+/// no memory as a whole. An interruption is no fault by itself: the call is made again, but for the interruption that
+/// passes [`MOST_INTERRUPTIONS`] in this run.
 ///
 /// # Errors
 ///
 /// [`FrontFault::Read`] and [`FrontFault::Memory`] come before the first write, and how much was read until then is not
-/// said. At [`FrontFault::Write`] the writer has the first bytes of the report, perhaps none and perhaps all of them.
+/// said. At [`FrontFault::Write`] the writer has the first bytes of the report, perhaps none and perhaps all of them. It
+/// has all of them if the fault was at the flush, which [`Device::flushing`] tells.
 pub fn run_alone<A: Allocator + Copy, R: Read, W: Write>(
     alloc: A,
     reader: &mut Device<R>,
@@ -57,6 +59,9 @@ pub fn run_alone<A: Allocator + Copy, R: Read, W: Write>(
     // A part of the report from its front was written.
     ensures front_written { IsErrOf result FrontFault.Write → WritesFront options.now.region (R.remaining (inner_of reader.old))
         (W.contents (inner_of writer.old)) (W.contents (inner_of writer.new)) }
+    // All of the report was written, if the fault was at the flush.
+    ensures whole_written { IsErrOf result FrontFault.Write → is_flushing writer.new ≡ true → WritesWhole options.now.region
+        (R.remaining (inner_of reader.old)) (W.contents (inner_of writer.old)) (W.contents (inner_of writer.new)) }
     ensures nothing_written { IsErrOf result FrontFault.Read ⊎ IsErrOf result FrontFault.Memory →
         Keeps (W.contents (inner_of writer.old)) (W.contents (inner_of writer.new)) }
     ensures never_mixed { IsErrOf result FrontFault.Mixed → ⊥ }
@@ -68,14 +73,13 @@ pub fn run_alone<A: Allocator + Copy, R: Read, W: Write>(
         → IsAtFault writer.new (interrupts_of reader.new + interrupts_of writer.new) }
 {
     let batch = read_batch(alloc, reader, options.region)?;
-    let (report, status) = answer_of_caller(alloc, batch, options)?;
-    write_all(writer, report.as_slice(), reader.interrupts())?;
-    Ok(status)
+    let answer = answer_of_caller(alloc, batch, options)?;
+    write_answer(writer, &answer, reader.interrupts())
 }
 
-/// The same as [`run_alone`] where a schedule is given. Else the jobs are run by the worker threads that `options` asks
-/// for: each calls the gate between the begin and the finish of every step, and holds no lock then. The report is the
-/// same for any number of workers.
+/// The same as [`run_alone`] if a schedule is given. Else the jobs are run by at most as many worker threads as `options`
+/// says. Each calls the gate between the begin and the finish of each of its steps, and holds no lock then. What the workers
+/// leave is run out on the calling thread, which calls no gate. The report is the same for any number of workers.
 ///
 /// The devices are used as [`run_alone`] uses them.
 ///
@@ -119,6 +123,9 @@ where
     // A part of the report from its front was written.
     ensures front_written { IsErrOf result FrontFault.Write → WritesFront options.now.region (I.remaining (inner_of reader.old))
         (O.contents (inner_of writer.old)) (O.contents (inner_of writer.new)) }
+    // All of the report was written, if the fault was at the flush.
+    ensures whole_written { IsErrOf result FrontFault.Write → is_flushing writer.new ≡ true → WritesWhole options.now.region
+        (I.remaining (inner_of reader.old)) (O.contents (inner_of writer.old)) (O.contents (inner_of writer.new)) }
     ensures nothing_written { IsErrOf result FrontFault.Read ⊎ IsErrOf result FrontFault.Memory ⊎ IsErrOf result FrontFault.Mixed →
         Keeps (O.contents (inner_of writer.old)) (O.contents (inner_of writer.new)) }
     // Only workers can hand back other jobs, and none is started beside a schedule.
@@ -134,7 +141,6 @@ where
         return run_alone(alloc, reader, writer, options);
     }
     let batch = read_batch(alloc, reader, options.region)?;
-    let (report, status) = answer_of_workers(rt, alloc, batch, options, gate)?;
-    write_all(writer, report.as_slice(), reader.interrupts())?;
-    Ok(status)
+    let answer = answer_of_workers(rt, alloc, batch, options, gate)?;
+    write_answer(writer, &answer, reader.interrupts())
 }

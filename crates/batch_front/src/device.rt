@@ -1,5 +1,5 @@
 //! A reader or a writer of std that keeps count of its interruptions.
-ghost use Rattle.std.specs.Prelude.{◌≡◌, ◌<◌, ◌≤◌, ◌↔◌, true, length, IfOk, OnOk, MatchResult};
+ghost use Rattle.std.specs.Prelude.{◌≡◌, ◌<◌, ◌≤◌, ◌↔◌, true, false, length, IfOk, OnOk, MatchResult};
 ghost use Rattle.std.specs.Io.KnownBytes.{Keeps, ReadConsumes, WriteAppends};
 
 use std::io::{ErrorKind, Read, Write};
@@ -16,17 +16,20 @@ pub(crate) enum Trouble {
     Failed,
 }
 
-/// A reader or a writer, whether it has failed, how often it was interrupted, and whether it was flushed at last.
+/// A reader or a writer, whether it has failed, and how often it was interrupted. Of a writer also whether its last call
+/// was a flush, and whether that flush gave no error.
 #[derive(Drop)]
 pub struct Device<D> {
     inner: D,
     failed: bool,
     interrupts: u64,
+    flushing: bool,
     flushed: bool,
 }
 
 impl<D> Device<D> {
-    ghost use Rattle.batch_front.specs.Devices.{inner_of, has_failed, interrupts_of, is_flushed, IsFresh, IsTroubled};
+    ghost use Rattle.batch_front.specs.Devices.{inner_of, has_failed, interrupts_of, is_flushed, is_flushing};
+    ghost use Rattle.batch_front.specs.Devices.{IsFresh, IsTroubled};
 
     /// A device that was not used, over a reader or a writer.
     pub fn new(inner: D) -> Device<D>
@@ -37,6 +40,7 @@ impl<D> Device<D> {
             inner,
             failed: false,
             interrupts: 0,
+            flushing: false,
             flushed: false,
         }
     }
@@ -62,6 +66,13 @@ impl<D> Device<D> {
         self.flushed
     }
 
+    /// Whether a flush was called, and nothing was written since. That flush may have failed.
+    pub fn flushing(&self) -> bool
+        ensures { result ≡ is_flushing self.now }
+    {
+        self.flushing
+    }
+
     /// The reader or the writer.
     pub fn into_inner(self) -> D
         ensures { result ≡ inner_of self }
@@ -70,6 +81,7 @@ impl<D> Device<D> {
             inner,
             failed: _,
             interrupts: _,
+            flushing: _,
             flushed: _,
         } = self;
         inner
@@ -78,6 +90,7 @@ impl<D> Device<D> {
     /// Keeps in mind that it failed.
     fn fail(&mut self) -> Trouble
         ensures inner { inner_of self.new ≡ inner_of self.old }
+        ensures flushing { is_flushing self.new ≡ is_flushing self.old }
         ensures trouble { result ≡ Trouble.Failed }
         ensures state { IsTroubled self.old self.new result }
     {
@@ -88,6 +101,7 @@ impl<D> Device<D> {
     /// Keeps in mind that it gave an error of this kind.
     fn note(&mut self, kind: ErrorKind) -> Trouble
         ensures inner { inner_of self.new ≡ inner_of self.old }
+        ensures flushing { is_flushing self.new ≡ is_flushing self.old }
         ensures state { IsTroubled self.old self.new result }
         ensures trouble { (result ≡ Trouble.Interrupted) ↔ (kind ≡ ErrorKind.Interrupted) }
     {
@@ -117,15 +131,17 @@ impl<R: Read> Device<R> {
 }
 
 impl<W: Write> Device<W> {
-    ghost use Rattle.batch_front.specs.Devices.{inner_of, is_flushed, IsSteady, IsTroubled};
+    ghost use Rattle.batch_front.specs.Devices.{inner_of, is_flushed, is_flushing, IsSteady, IsTroubled};
 
     /// One write of some bytes.
     pub(crate) fn write(&mut self, buf: &[u8]) -> Result<usize, Trouble>
         requires { 0 < length buf.now }
         ensures bytes { WriteAppends (W.contents (inner_of self.old)) (W.contents (inner_of self.new)) result buf.now }
         ensures within { IfOk result (λ n. (0 < n) × (n ≤ length buf.now)) }
+        ensures writing { is_flushing self.new ≡ false }
         ensures state { MatchResult result (λ _. IsSteady self.old self.new) (λ t. IsTroubled self.old self.new t) }
     {
+        self.flushing = false;
         self.flushed = false;
         match self.inner.write(buf) {
             Ok(0) => Err(self.fail()),
@@ -138,8 +154,10 @@ impl<W: Write> Device<W> {
     pub(crate) fn flush(&mut self) -> Result<(), Trouble>
         ensures bytes { Keeps (W.contents (inner_of self.old)) (W.contents (inner_of self.new)) }
         ensures state { MatchResult result (λ _. IsSteady self.old self.new) (λ t. IsTroubled self.old self.new t) }
+        ensures flushing { is_flushing self.new ≡ true }
         ensures flushed { OnOk result (is_flushed self.new ≡ true) }
     {
+        self.flushing = true;
         match self.inner.flush() {
             Ok(()) => {
                 self.flushed = true;

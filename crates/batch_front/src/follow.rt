@@ -15,7 +15,7 @@ use job_steps::laws::{
 };
 use std::alloc::{AllocError, Allocator};
 
-/// Admits jobs in their order, as many as have room, where none has ended.
+/// Admits one job after another, as many as can be admitted, where none has ended.
 fn admit_all<A: Allocator + Clone>(
     machine: &mut Machine<A>,
     hands: &mut Hands<A>,
@@ -47,7 +47,7 @@ fn has_ended<A: Allocator>(machine: &Machine<A>, job: usize) -> bool
     }
 }
 
-/// Collects the job of this number, if it has ended, and admits as many as have room then.
+/// Collects the job of this number, if it has ended, and admits as many as can be admitted then.
 fn settle<A: Allocator + Clone>(
     machine: &mut Machine<A>,
     hands: &mut Hands<A>,
@@ -89,8 +89,8 @@ fn take_turn<A: Allocator + Clone>(
     others_stay();
     match item {
         Item::Step(_) => {
-            machine.play(Event::Begin(job), hands)?;
-            machine.play(Event::Finish(job), hands)
+            machine.play_step(job, hands);
+            Ok(())
         }
         Item::Begin(_) => machine.play(Event::Begin(job), hands),
         Item::Finish(_) => machine.play(Event::Finish(job), hands),

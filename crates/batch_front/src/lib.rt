@@ -19,6 +19,7 @@ mod follow;
 pub mod laws;
 mod machine_run;
 mod options;
+mod page;
 mod report;
 mod schedule;
 mod seats;

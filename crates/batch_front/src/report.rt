@@ -1,36 +1,33 @@
 //! The report, line by line.
 
-ghost use Rattle.std.specs.Prelude.{◌≡◌, ◌∷◌, ◌++◌, decimal, map, OnOk};
+ghost use Rattle.std.specs.Prelude.{◌≡◌, decimal, map};
 ghost use Rattle.std.specs.Fmt.{signed_decimal};
 ghost use Rattle.std.specs.List.{flat_map, join_with_byte};
+ghost use Rattle.batch_front.specs.Pages.{Puts};
 ghost use Rattle.batch_front.specs.Reports.{count_text, end_text, fault_text, job_text, kind_text};
 ghost use Rattle.batch_front.specs.Reports.{next_word_text, outcome_text, used_text, value_text, word_text};
 
+use crate::device::Device;
+use crate::page::{Page, put};
 use itoa::Buffer;
-use std::alloc::{AllocError, Allocator};
-use vcode_base::{Kind, Outcome, Value, Values, Words};
+use std::alloc::Allocator;
+use std::io::Write;
+use vcode_base::{Kind, Outcome, SharedWords, Value, Values};
 
-/// Appends bytes.
-fn put<A: Allocator>(report: &mut Vec<u8, A>, text: &[u8]) -> Result<(), AllocError>
-    ensures { OnOk result (report.new.items ≡ report.old.items ++ text.now) }
-{
-    report.extend_from_slice(text)
-}
-
-/// Appends a number.
-fn put_number<A: Allocator>(report: &mut Vec<u8, A>, number: u64) -> Result<(), AllocError>
-    ensures { OnOk result (report.new.items ≡ report.old.items ++ decimal number) }
+/// Puts a number.
+fn put_number<W: Write>(page: &mut Page, writer: &mut Device<W>, number: u64)
+    ensures { Puts W.contents page.old writer.old page.new writer.new (decimal number) }
 {
     let mut buffer = Buffer::new();
-    report.extend_from_slice(buffer.format(number).as_bytes())
+    put(page, writer, buffer.format(number).as_bytes());
 }
 
-/// Appends a number with its sign.
-fn put_signed<A: Allocator>(report: &mut Vec<u8, A>, number: i64) -> Result<(), AllocError>
-    ensures { OnOk result (report.new.items ≡ report.old.items ++ signed_decimal number) }
+/// Puts a number with its sign.
+fn put_signed<W: Write>(page: &mut Page, writer: &mut Device<W>, number: i64)
+    ensures { Puts W.contents page.old writer.old page.new writer.new (signed_decimal number) }
 {
     let mut buffer = Buffer::new();
-    report.extend_from_slice(buffer.format(number).as_bytes())
+    put(page, writer, buffer.format(number).as_bytes());
 }
 
 /// The word that begins the line of a result.
@@ -44,178 +41,156 @@ fn kind_text(kind: Kind) -> &'static str
     }
 }
 
-/// Appends a word of a vector of this kind.
-fn put_word<A: Allocator>(report: &mut Vec<u8, A>, kind: Kind, word: i64) -> Result<(), AllocError>
-    ensures { OnOk result (report.new.items ≡ report.old.items ++ word_text kind word) }
+/// Puts a word of a vector of this kind.
+fn put_word<W: Write>(page: &mut Page, writer: &mut Device<W>, kind: Kind, word: i64)
+    ensures { Puts W.contents page.old writer.old page.new writer.new (word_text kind word) }
 {
     match kind {
-        Kind::Int | Kind::Segdes => put_signed(report, word),
+        Kind::Int | Kind::Segdes => put_signed(page, writer, word),
         Kind::Bool => {
             if word == 1 {
-                put(report, b"T")
+                put(page, writer, b"T")
             } else {
-                put(report, b"F")
+                put(page, writer, b"F")
             }
         }
     }
 }
 
-/// Appends a blank and a word of a vector of this kind.
-fn put_next_word<A: Allocator>(
-    report: &mut Vec<u8, A>,
-    kind: Kind,
-    word: i64,
-) -> Result<(), AllocError>
-    ensures { OnOk result (report.new.items ≡ report.old.items ++ next_word_text kind word) }
+/// Puts a blank and a word of a vector of this kind.
+fn put_next_word<W: Write>(page: &mut Page, writer: &mut Device<W>, kind: Kind, word: i64)
+    ensures { Puts W.contents page.old writer.old page.new writer.new (next_word_text kind word) }
 {
-    put(report, b" ")?;
-    put_word(report, kind, word)
+    put(page, writer, b" ");
+    put_word(page, writer, kind, word);
 }
 
-/// Appends the words of a vector behind its first, each behind a blank.
-fn put_other_words<A: Allocator>(
-    report: &mut Vec<u8, A>,
-    kind: Kind,
-    words: &[i64],
-) -> Result<(), AllocError>
-    ensures { OnOk result (report.new.items ≡ report.old.items ++ flat_map (next_word_text kind) words.now) }
+/// Puts the words of a vector after its first, each after a blank.
+fn put_other_words<W: Write>(page: &mut Page, writer: &mut Device<W>, kind: Kind, words: &[i64])
+    ensures { Puts W.contents page.old writer.old page.new writer.new (flat_map (next_word_text kind) words.now) }
 {
     for word in words {
-        put_next_word(report, kind, *word)?;
+        put_next_word(page, writer, kind, *word);
     }
-    Ok(())
 }
 
-/// Appends the words of a vector of this kind, with a blank between each two.
-fn put_words<A: Allocator>(
-    report: &mut Vec<u8, A>,
-    kind: Kind,
-    words: &[i64],
-) -> Result<(), AllocError>
-    ensures { OnOk result (report.new.items ≡ report.old.items ++ join_with_byte 32 (map (word_text kind) words.now)) }
+/// Puts the words of a vector of this kind, with a blank between each two.
+fn put_words<W: Write>(page: &mut Page, writer: &mut Device<W>, kind: Kind, words: &[i64])
+    ensures { Puts W.contents page.old writer.old page.new writer.new (join_with_byte 32 (map (word_text kind) words.now)) }
 {
     let Some((first, others)) = words.split_first() else {
-        return Ok(());
+        return;
     };
-    put_word(report, kind, *first)?;
-    put_other_words(report, kind, others)?;
-    Ok(())
+    put_word(page, writer, kind, *first);
+    put_other_words(page, writer, kind, others);
 }
 
-/// Appends the line of a result.
-fn put_value<A: Allocator>(
-    report: &mut Vec<u8, A>,
-    value: &Value<Words<A>>,
-) -> Result<(), AllocError>
-    ensures { OnOk result (report.new.items ≡ report.old.items ++ value_text value.now) }
+/// Puts the line of a result.
+fn put_value<A: Allocator, W: Write>(
+    page: &mut Page,
+    writer: &mut Device<W>,
+    value: &Value<SharedWords<A>>,
+)
+    ensures { Puts W.contents page.old writer.old page.new writer.new (value_text value.now) }
 {
-    put(report, kind_text(value.kind).as_bytes())?;
-    put(report, b" (")?;
-    put_words(report, value.kind, value.words.as_slice())?;
-    put(report, b")\n")
+    put(page, writer, kind_text(value.kind).as_bytes());
+    put(page, writer, b" (");
+    put_words(page, writer, value.kind, value.words.as_slice());
+    put(page, writer, b")\n");
 }
 
-/// Appends the lines of results, from the bottom of the stack to its top.
-fn put_values<A: Allocator>(
-    report: &mut Vec<u8, A>,
-    values: &[Value<Words<A>>],
-) -> Result<(), AllocError>
-    ensures { OnOk result (report.new.items ≡ report.old.items ++ flat_map value_text values.now) }
+/// Puts the lines of results, from the bottom of the stack to its top.
+fn put_values<A: Allocator, W: Write>(
+    page: &mut Page,
+    writer: &mut Device<W>,
+    values: &[Value<SharedWords<A>>],
+)
+    ensures { Puts W.contents page.old writer.old page.new writer.new (flat_map value_text values.now) }
 {
     for value in values {
-        put_value(report, value)?;
+        put_value(page, writer, value);
     }
-    Ok(())
 }
 
-/// Appends a line of this head, where a fault stands, and its name.
-pub(crate) fn put_fault<A: Allocator>(
-    report: &mut Vec<u8, A>,
+/// Puts a line of this head, where a fault stands, and its name.
+pub(crate) fn put_fault<W: Write>(
+    page: &mut Page,
+    writer: &mut Device<W>,
     head: &[u8],
     line: u64,
     name: &str,
-) -> Result<(), AllocError>
-    ensures { OnOk result (report.new.items ≡ report.old.items ++ fault_text head.now line name.now) }
+)
+    ensures { Puts W.contents page.old writer.old page.new writer.new (fault_text head.now line name.now) }
 {
-    put(report, head)?;
-    put(report, b"line ")?;
-    put_number(report, line)?;
-    put(report, b" ")?;
-    put(report, name.as_bytes())?;
-    put(report, b"\n")
+    put(page, writer, head);
+    put(page, writer, b"line ");
+    put_number(page, writer, line);
+    put(page, writer, b" ");
+    put(page, writer, name.as_bytes());
+    put(page, writer, b"\n");
 }
 
-/// Appends a blank, a number and what it counts.
-fn put_count<A: Allocator>(
-    report: &mut Vec<u8, A>,
-    number: u64,
-    unit: &str,
-) -> Result<(), AllocError>
-    ensures { OnOk result (report.new.items ≡ report.old.items ++ count_text number unit.now) }
+/// Puts a blank, a number and what it counts.
+fn put_count<W: Write>(page: &mut Page, writer: &mut Device<W>, number: u64, unit: &str)
+    ensures { Puts W.contents page.old writer.old page.new writer.new (count_text number unit.now) }
 {
-    put(report, b" ")?;
-    put_number(report, number)?;
-    put(report, b" ")?;
-    put(report, unit.as_bytes())
+    put(page, writer, b" ");
+    put_number(page, writer, number);
+    put(page, writer, b" ");
+    put(page, writer, unit.as_bytes());
 }
 
-/// Appends how a job ended.
-pub(crate) fn put_outcome<A: Allocator>(
-    report: &mut Vec<u8, A>,
+/// Puts how a job ended.
+pub(crate) fn put_outcome<A: Allocator, W: Write>(
+    page: &mut Page,
+    writer: &mut Device<W>,
     outcome: &Outcome<Values<A>>,
-) -> Result<(), AllocError>
-    ensures { OnOk result (report.new.items ≡ report.old.items ++ outcome_text outcome.now) }
+)
+    ensures { Puts W.contents page.old writer.old page.new writer.new (outcome_text outcome.now) }
 {
     match outcome {
         Outcome::Returned(values) => {
-            put(report, b"RETURNED\n")?;
-            put_values(report, values.as_slice())
+            put(page, writer, b"RETURNED\n");
+            put_values(page, writer, values.as_slice())
         }
-        Outcome::Fault(fault, line) => put_fault(report, b"FAULT ", *line, fault.text()),
-        Outcome::Memory(fault, line) => put_fault(report, b"MEMORY ", *line, fault.text()),
-        Outcome::Budget => put(report, b"BUDGET\n"),
+        Outcome::Fault(fault, line) => put_fault(page, writer, b"FAULT ", *line, fault.text()),
+        Outcome::Memory(fault, line) => put_fault(page, writer, b"MEMORY ", *line, fault.text()),
+        Outcome::Budget => put(page, writer, b"BUDGET\n"),
     }
 }
 
-/// Appends what a job used.
-pub(crate) fn put_used<A: Allocator>(
-    report: &mut Vec<u8, A>,
+/// Puts what a job used.
+pub(crate) fn put_used<W: Write>(
+    page: &mut Page,
+    writer: &mut Device<W>,
     instructions: u64,
     words: usize,
-) -> Result<(), AllocError>
-    ensures { OnOk result (report.new.items ≡ report.old.items ++ used_text instructions words) }
+)
+    ensures { Puts W.contents page.old writer.old page.new writer.new (used_text instructions words) }
 {
-    put(report, b"USED")?;
-    put_count(report, instructions, "instructions")?;
-    put_count(report, words as u64, "words")?;
-    put(report, b"\n")
+    put(page, writer, b"USED");
+    put_count(page, writer, instructions, "instructions");
+    put_count(page, writer, words as u64, "words");
+    put(page, writer, b"\n");
 }
 
-/// Appends what begins the lines of a job.
-pub(crate) fn put_job<A: Allocator>(
-    report: &mut Vec<u8, A>,
-    number: u64,
-    name: &[u8],
-) -> Result<(), AllocError>
-    ensures { OnOk result (report.new.items ≡ report.old.items ++ job_text number name.now) }
+/// Puts what begins the lines of a job.
+pub(crate) fn put_job<W: Write>(page: &mut Page, writer: &mut Device<W>, number: u64, name: &[u8])
+    ensures { Puts W.contents page.old writer.old page.new writer.new (job_text number name.now) }
 {
-    put(report, b"JOB ")?;
-    put_number(report, number)?;
-    put(report, b" ")?;
-    put(report, name)?;
-    put(report, b" ")
+    put(page, writer, b"JOB ");
+    put_number(page, writer, number);
+    put(page, writer, b" ");
+    put(page, writer, name);
+    put(page, writer, b" ");
 }
 
-/// Appends the last line.
-pub(crate) fn put_end<A: Allocator>(
-    report: &mut Vec<u8, A>,
-    jobs: u64,
-    refused: u64,
-) -> Result<(), AllocError>
-    ensures { OnOk result (report.new.items ≡ report.old.items ++ end_text jobs refused) }
+/// Puts the last line.
+pub(crate) fn put_end<W: Write>(page: &mut Page, writer: &mut Device<W>, jobs: u64, refused: u64)
+    ensures { Puts W.contents page.old writer.old page.new writer.new (end_text jobs refused) }
 {
-    put(report, b"END")?;
-    put_count(report, jobs, "jobs")?;
-    put_count(report, refused, "refused")?;
-    put(report, b"\n")
+    put(page, writer, b"END");
+    put_count(page, writer, jobs, "jobs");
+    put_count(page, writer, refused, "refused");
+    put(page, writer, b"\n");
 }

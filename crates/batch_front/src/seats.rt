@@ -2,16 +2,19 @@
 
 ghost use Rattle.std.specs.Prelude.{◌≡◌, ◌++◌, [], IfOk, OnOk};
 ghost use Rattle.job_steps.specs.Standings.{of_job};
-ghost use Rattle.batch_front.specs.Reports.{end_text};
+ghost use Rattle.batch_front.specs.Pages.{Puts};
 ghost use Rattle.batch_front.specs.Seats.{AreAmong, AreSeatsOf, HasRunOut, IsAmong, IsFateOn, IsSeatOf, IsTask};
 ghost use Rattle.batch_front.specs.Seats.{fate_tasks, fate_text_on, has_returned_on, have_returned_on};
 ghost use Rattle.batch_front.specs.Seats.{seat_text, seats_text, tasks_of, told_text};
 ghost use Rattle.batch_front.specs.Turns.{number_of};
 
+use crate::device::Device;
+use crate::page::Page;
 use crate::report::{put_fault, put_job, put_outcome, put_used};
 use batch_reader::{Entry, Fate, JobEntry};
 use job_machine::{Job, JobName, Machine};
 use std::alloc::{AllocError, Allocator};
+use std::io::Write;
 use vcode_base::Outcome;
 
 /// A job's name, and its number on a machine where it may run.
@@ -73,69 +76,72 @@ pub(crate) fn number_of<A: Allocator>(seats: &[Seat<A>], place: usize) -> Option
     }
 }
 
-/// Appends how a job on a machine ended and what it used.
+/// Puts how a job on a machine ended and what it used.
 #[tactic(auto, using(crate::proofs::RunLemmas::outcome_told, crate::proofs::RunLemmas::executed_told, crate::proofs::RunLemmas::peak_told))]
-fn put_told<A: Allocator>(
-    report: &mut Vec<u8, A>,
+fn put_told<A: Allocator, W: Write>(
+    page: &mut Page,
+    writer: &mut Device<W>,
     machine: &Machine<A>,
     job: usize,
-) -> Result<(), AllocError>
+)
     requires out { HasRunOut machine.now }
     requires there { IsTask (of_job job machine.now.tasks) }
-    ensures { OnOk result (report.new.items ≡ report.old.items ++ told_text (of_job job machine.now.tasks)) }
+    ensures { Puts W.contents page.old writer.old page.new writer.new (told_text (of_job job machine.now.tasks)) }
 {
     let outcome = machine.outcome(job).unwrap();
-    put_outcome(report, outcome)?;
+    put_outcome(page, writer, outcome);
     let instructions = machine.executed(job).unwrap();
     let words = machine.peak(job).unwrap();
-    put_used(report, instructions, words)
+    put_used(page, writer, instructions, words);
 }
 
-/// Appends what became of a job, behind what begins its lines.
-fn put_fate<A: Allocator>(
-    report: &mut Vec<u8, A>,
+/// Puts what became of a job, after what begins its lines.
+fn put_fate<A: Allocator, W: Write>(
+    page: &mut Page,
+    writer: &mut Device<W>,
     machine: &Machine<A>,
     fate: &Fate<usize>,
-) -> Result<(), AllocError>
+)
     requires out { HasRunOut machine.now }
     requires there { IsAmong machine.now.tasks fate.now }
-    ensures { OnOk result (report.new.items ≡ report.old.items ++ fate_text_on machine.now.tasks fate.now) }
+    ensures { Puts W.contents page.old writer.old page.new writer.new (fate_text_on machine.now.tasks fate.now) }
 {
     match fate {
-        Fate::Ready(job) => put_told(report, machine, *job),
-        Fate::Refused(line, fault) => put_fault(report, b"REFUSED ", *line, fault.text()),
+        Fate::Ready(job) => put_told(page, writer, machine, *job),
+        Fate::Refused(line, fault) => put_fault(page, writer, b"REFUSED ", *line, fault.text()),
     }
 }
 
-/// Appends the lines of the job of this number.
-fn put_seat<A: Allocator>(
-    report: &mut Vec<u8, A>,
+/// Puts the lines of the job of this number.
+fn put_seat<A: Allocator, W: Write>(
+    page: &mut Page,
+    writer: &mut Device<W>,
     machine: &Machine<A>,
     number: u64,
     seat: &Seat<A>,
-) -> Result<(), AllocError>
+)
     requires out { HasRunOut machine.now }
     requires there { IsAmong machine.now.tasks seat.now.fate }
-    ensures { OnOk result (report.new.items ≡ report.old.items ++ seat_text machine.now.tasks number seat.now) }
+    ensures { Puts W.contents page.old writer.old page.new writer.new (seat_text machine.now.tasks number seat.now) }
 {
-    put_job(report, number, seat.name.as_slice())?;
-    put_fate(report, machine, &seat.fate)
+    put_job(page, writer, number, seat.name.as_slice());
+    put_fate(page, writer, machine, &seat.fate);
 }
 
-/// Appends the lines of the jobs of a batch, in order.
-pub(crate) fn put_seats<A: Allocator>(
-    report: &mut Vec<u8, A>,
+/// Puts the lines of the jobs of a batch, in order.
+pub(crate) fn put_seats<A: Allocator, W: Write>(
+    page: &mut Page,
+    writer: &mut Device<W>,
     machine: &Machine<A>,
     seats: &[Seat<A>],
-) -> Result<(), AllocError>
+)
     requires out { HasRunOut machine.now }
     requires there { AreAmong machine.now.tasks seats.now }
-    ensures { OnOk result (report.new.items ≡ report.old.items ++ seats_text machine.now.tasks 1 seats.now) }
+    ensures { Puts W.contents page.old writer.old page.new writer.new (seats_text machine.now.tasks 1 seats.now) }
 {
     for (place, seat) in seats.iter().enumerate() {
-        put_seat(report, machine, place as u64 + 1, seat)?;
+        put_seat(page, writer, machine, place as u64 + 1, seat);
     }
-    Ok(())
 }
 
 /// Whether a job returned.

@@ -3,7 +3,7 @@
 ghost use Rattle.std.specs.Prelude.{◌≡◌, ◌⊎◌, ℕ, ◌+◌, ◌≤◌, true, false, List, [], take, IfOk, OnOk, OnErr, IsErrOf};
 ghost use Rattle.std.specs.Io.KnownBytes.{Appends, Keeps};
 ghost use Rattle.batch_front.specs.declared.device.TheConstants.{MOST_INTERRUPTIONS};
-ghost use Rattle.batch_front.specs.Devices.{inner_of, has_failed, interrupts_of, is_flushed, IsFresh, HasWorked, IsAtFault};
+ghost use Rattle.batch_front.specs.Devices.{inner_of, has_failed, interrupts_of, is_flushed, is_flushing, IsFresh, HasWorked, IsAtFault};
 ghost use Rattle.batch_reader.specs.Feeds.{HasCome, HasFewJobs};
 ghost use Rattle.batch_front.specs.Seats.{BatchFits};
 ghost use Rattle.batch_front.specs.Inputs.{AreFirstBytes, IsBatchIn, ReadsFirstBytes, ReadsNoFurther};
@@ -81,14 +81,19 @@ pub(crate) fn read_batch<A: Allocator + Copy, R: Read>(
     }
 }
 
-/// Writes all the bytes. `spent` interruptions are spent already.
-fn write_bytes<W: Write>(writer: &mut Device<W>, bytes: &[u8], spent: u64) -> Result<(), FrontFault>
-    requires fresh { IsFresh writer.old }
-    requires spent { spent ≤ MOST_INTERRUPTIONS }
+/// Writes all the bytes. `spent` interruptions are spent already, beside those of the writer.
+pub(crate) fn write_bytes<W: Write>(
+    writer: &mut Device<W>,
+    bytes: &[u8],
+    spent: u64,
+) -> Result<(), FrontFault>
+    requires not_failed { has_failed writer.old ≡ false }
+    requires spent { interrupts_of writer.old + spent ≤ MOST_INTERRUPTIONS }
     ensures all_written { OnOk result (Appends (W.contents (inner_of writer.old)) (W.contents (inner_of writer.new)) bytes.now) }
     ensures front_written { (n : ℕ) × Appends (W.contents (inner_of writer.old)) (W.contents (inner_of writer.new)) (take n bytes.now) }
     ensures writer_worked { OnOk result (HasWorked writer.new (interrupts_of writer.new + spent)) }
     ensures write_fault { OnErr result (IsAtFault writer.new (interrupts_of writer.new + spent)) }
+    ensures at_write { OnErr result (is_flushing writer.new ≡ false) }
     ensures write_alone { OnErr result (IsErrOf result FrontFault.Write) }
 {
     let mut done = 0;
@@ -107,10 +112,11 @@ fn write_bytes<W: Write>(writer: &mut Device<W>, bytes: &[u8], spent: u64) -> Re
 }
 
 /// Flushes. `spent` interruptions are spent already, beside those of the writer.
-fn flush<W: Write>(writer: &mut Device<W>, spent: u64) -> Result<(), FrontFault>
+pub(crate) fn flush<W: Write>(writer: &mut Device<W>, spent: u64) -> Result<(), FrontFault>
     requires not_failed { has_failed writer.old ≡ false }
     requires spent { interrupts_of writer.old + spent ≤ MOST_INTERRUPTIONS }
     ensures nothing_written { Keeps (W.contents (inner_of writer.old)) (W.contents (inner_of writer.new)) }
+    ensures flushing { is_flushing writer.new ≡ true }
     ensures flushed { OnOk result (is_flushed writer.new ≡ true) }
     ensures writer_worked { OnOk result (HasWorked writer.new (interrupts_of writer.new + spent)) }
     ensures write_fault { OnErr result (IsAtFault writer.new (interrupts_of writer.new + spent)) }
@@ -127,23 +133,4 @@ fn flush<W: Write>(writer: &mut Device<W>, spent: u64) -> Result<(), FrontFault>
             Err(Trouble::Failed) => return Err(FrontFault::Write),
         }
     }
-}
-
-/// Writes all the bytes and flushes. `spent` interruptions are spent already.
-pub(crate) fn write_all<W: Write>(
-    writer: &mut Device<W>,
-    bytes: &[u8],
-    spent: u64,
-) -> Result<(), FrontFault>
-    requires fresh { IsFresh writer.old }
-    requires spent { spent ≤ MOST_INTERRUPTIONS }
-    ensures all_written { OnOk result (Appends (W.contents (inner_of writer.old)) (W.contents (inner_of writer.new)) bytes.now) }
-    ensures flushed { OnOk result (is_flushed writer.new ≡ true) }
-    ensures front_written { (n : ℕ) × Appends (W.contents (inner_of writer.old)) (W.contents (inner_of writer.new)) (take n bytes.now) }
-    ensures writer_worked { OnOk result (HasWorked writer.new (interrupts_of writer.new + spent)) }
-    ensures write_fault { OnErr result (IsAtFault writer.new (interrupts_of writer.new + spent)) }
-    ensures write_alone { OnErr result (IsErrOf result FrontFault.Write) }
-{
-    write_bytes(writer, bytes, spent)?;
-    flush(writer, spent)
 }

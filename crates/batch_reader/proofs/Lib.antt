@@ -1,5 +1,6 @@
 pub mod FateLemmas
 pub mod FeedLemmas
+pub mod HeadingLemmas
 pub mod JobLineLemmas
 pub mod LineLemmas
 pub mod ReaderLemmas

@@ -11,7 +11,7 @@ use Rattle.batch_reader.specs.declared.entry.Fate.{Fate}
 use Rattle.batch_reader.specs.declared.entry.Fate.TheVariants.{Ready, Refused}
 use Rattle.batch_reader.specs.declared.fault.BatchFault.{BatchFault}
 use Rattle.batch_reader.specs.Batches.{JobText, RuledJobs}
-use Rattle.batch_reader.specs.Fates.{AreEntries, IsEntry, IsFate, IsReady, JobEntry, JobRefusal, SignedProgram}
+use Rattle.batch_reader.specs.Fates.{AreEntries, IsFate, IsReady, JobEntry, JobRefusal, SignedProgram}
 use Rattle.batch_reader.specs.Laws.{OneBatch, OneEntry}
 
 one_ok : {A E : Type 0} (x y : A) → (let r : Result A E = Ok x in r) ≡ Ok y → x ≡ y

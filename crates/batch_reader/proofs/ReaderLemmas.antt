@@ -364,3 +364,41 @@ pub long_line_stands : (s : LinesState) (come : ByLines) (kept : JobStage)
 long_line_stands s come kept same isnt h =
     subst (λ (k : JobStage). RefusesLongLine s (state_with s s.number s.left s.rule k s.entries) come) (sym same)
     (long_line_refuses s come isnt h)
+
+-- what stands once a line is taken, where its number is known by an equation
+pub stands_taken_at : (s : LinesState) (come : ByLines) (text : List ℕ) (heading : Heading) (step : JobStep)
+    (here number left ended : ℕ) (rule : Rule) (first kept next : JobStage) (entries : List JobEntry)
+    → here ≡ s.number → first ≡ s.stage → rule ≡ rule_by step s.rule → ended ≡ length s.entries
+    → heading ≡ heading_of (batch_words text) → kept ≡ next
+    → ((room : ℕ) (standing : Standing) → Shows s.region first standing → HasRoom ended room standing
+    → Turns s.region ended room standing (record {
+      number = here;
+      text = text;
+      heading = heading;
+      is_past = false;
+    }) step)
+    → Keeps step s.entries entries next → Stands s come
+    → Stands (state_with s number left rule kept entries) (λ ls. come (line_of here text ∷ ls))
+stands_taken_at s come text heading step here number left ended rule first kept next entries same same_stage same_rule
+    same_count same_heading same_next turns keeps h =
+    let all : (n : ℕ) → s.number ≡ n
+    → ((room : ℕ) (standing : Standing) → Shows s.region first standing → HasRoom ended room standing
+    → Turns s.region ended room standing (record {
+      number = n;
+      text = text;
+      heading = heading;
+      is_past = false;
+    }) step)
+    → Stands (state_with s number left rule kept entries) (λ ls. come (line_of n text ∷ ls)) =
+    λ n e. subst (λ (m : ℕ). ((room : ℕ) (standing : Standing) → Shows s.region first standing
+    → HasRoom ended room standing
+    → Turns s.region ended room standing (record {
+      number = m;
+      text = text;
+      heading = heading;
+      is_past = false;
+    }) step)
+    → Stands (state_with s number left rule kept entries) (λ ls. come (line_of m text ∷ ls))) e
+    (λ turns. stands_taken s come text heading step number left ended rule first kept next entries same_stage
+    same_rule same_count same_heading same_next turns keeps h) in
+    all here (sym same) turns

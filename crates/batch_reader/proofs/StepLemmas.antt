@@ -24,7 +24,7 @@ use Rattle.batch_reader.specs.JobLines.{JobLine, job_line_of}
 use Rattle.batch_reader.specs.Lines.{batch_words}
 use Rattle.batch_reader.specs.Standings.{Standing, Fresh, Between, Headed, InSignatures, InCode, Ended, Refused}
 use Rattle.batch_reader.specs.Standings.{HasRoom}
-use Rattle.batch_reader.specs.Standings.{JobStage, CodePart}
+use Rattle.batch_reader.specs.Standings.{JobStage, CodePart, SignaturesPart, ShowsCode, ShowsSignatures, Stays}
 use Rattle.batch_reader.specs.Standings.{JobStep, Shows, SaysJob, Turns, jobs_from, with_signatures}
 use Rattle.batch_reader.specs.Standings.{with_code, with_code_line}
 
@@ -496,3 +496,45 @@ turns_of_fresh region ended l s turns room (InSignatures job) shown has = absurd
 turns_of_fresh region ended l s turns room (InCode job) shown has = absurd shown
 turns_of_fresh region ended l s turns room (Ended job) shown has = absurd shown
 turns_of_fresh region ended l s turns room (Refused refusal) shown has = absurd shown
+
+-- ---- in place
+
+-- the same of a line that stays among signatures
+turns_of_signatures : (region ended : ℕ) (kept : Head (List ℕ)) (part : SignaturesPart) (l : BatchLine) (s : JobStep)
+    → ((room : ℕ) (job : JobText) → Shows region (stage.Signatures kept part) (InSignatures job)
+    → HasRoom ended room (InSignatures job) → Turns region ended room (InSignatures job) l s)
+    → (room : ℕ) (standing : Standing) → Shows region (stage.Signatures kept part) standing
+    → HasRoom ended room standing → Turns region ended room standing l s
+turns_of_signatures region ended kept part l s turns room Fresh shown has = absurd shown
+turns_of_signatures region ended kept part l s turns room Between shown has = absurd shown
+turns_of_signatures region ended kept part l s turns room (Headed head line) shown has = absurd shown
+turns_of_signatures region ended kept part l s turns room (InSignatures job) shown has = turns room job shown has
+turns_of_signatures region ended kept part l s turns room (InCode job) shown has = absurd shown
+turns_of_signatures region ended kept part l s turns room (Ended job) shown has = absurd shown
+turns_of_signatures region ended kept part l s turns room (Refused refusal) shown has = absurd shown
+
+pub stays_in_code : (kept : Head (List ℕ)) (old new : CodePart) (was : JobStage) (l : BatchLine) → l.is_past ≡ false
+    → was ≡ stage.Code kept old → Stays was l.heading
+    → ((region : ℕ) (job : JobText) → ShowsCode region old job → ShowsCode region new (with_code job l.text))
+    → (region ended room : ℕ) (standing : Standing) → Shows region was standing → HasRoom ended room standing
+    → Turns region ended room standing l (To (stage.Code kept new))
+stays_in_code kept old new was l past is stays goes region ended room standing shown has =
+    turns_of_code region ended kept old l (To (stage.Code kept new)) (λ room job shown has. turns_in_code region ended
+    room job l (stage.Code kept new) past (rw is at stays) has (
+      record { name = shown.0.name; limits = shown.0.limits; line = shown.0.line },
+      goes region job shown.1,
+    )) room standing (rw is at shown) has
+
+pub stays_in_signatures : (kept : Head (List ℕ)) (old new : SignaturesPart) (was : JobStage) (l : BatchLine)
+    → l.is_past ≡ false → was ≡ stage.Signatures kept old → Stays was l.heading
+    → ((region : ℕ) (job : JobText) → ShowsSignatures region old job
+    → ShowsSignatures region new (with_signatures job l.text))
+    → (region ended room : ℕ) (standing : Standing) → Shows region was standing → HasRoom ended room standing
+    → Turns region ended room standing l (To (stage.Signatures kept new))
+stays_in_signatures kept old new was l past is stays goes region ended room standing shown has =
+    turns_of_signatures region ended kept old l (To (stage.Signatures kept new)) (λ room job shown has.
+    turns_in_signatures region ended room job l (stage.Signatures kept new) past (rw is at stays) has (
+      record { name = shown.0.name; limits = shown.0.limits; line = shown.0.line },
+      goes region job shown.1,
+      shown.2,
+    )) room standing (rw is at shown) has

@@ -1,7 +1,8 @@
 -- What a line of a batch is by itself, and the lines of a batch in order.
-use Rattle.std.specs.Prelude.{ℕ, ◌+◌, ◌-◌, nat_lt, Bool, true, false, ◌&&◌, if◌then◌else◌, List, [], ◌∷◌, codes}
-use Rattle.std.specs.Prelude.{length}
+use Rattle.std.specs.Prelude.{ℕ, ◌+◌, ◌-◌, ◌==◌, nat_lt, Bool, true, false, ◌&&◌, ◌||◌, if◌then◌else◌, List, [], ◌∷◌}
+use Rattle.std.specs.Prelude.{codes, length}
 use Rattle.std.specs.Str.{bytes_eq}
+use Rattle.vcode_base.specs.LineWords.{is_separator}
 use Rattle.vcode_base.specs.declared.limits.TheConstants.{MOST_BATCH_BYTES}
 use Rattle.batch_reader.specs.declared.heading.Heading.{Heading}
 use Rattle.batch_reader.specs.declared.heading.Heading.TheVariants.{Blank, SecondRule, Signatures, Code, End, Other}
@@ -18,6 +19,10 @@ marker_of w =
 -- a line of these two words
 abbrev pub pair_of : List ℕ → List ℕ → Heading
 pair_of w v = if bytes_eq w (codes "BATCH") && bytes_eq v (codes "2") then SecondRule else Other
+
+-- the byte stands between words, or begins the first word of a line that marks something
+abbrev pub may_begin_heading : ℕ → Bool
+may_begin_heading b = is_separator b || b == 66 || b == 67 || b == 69 || b == 83
 
 -- a line of these words
 abbrev pub heading_of : List (List ℕ) → Heading

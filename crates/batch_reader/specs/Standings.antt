@@ -17,7 +17,9 @@ use Rattle.batch_reader.specs.declared.batch_line.BatchLine.{BatchLine as CodeLi
 use Rattle.batch_reader.specs.Batches.{Refusal, JobText, job_from_code, job_from_signatures, whole_job, jobs_after}
 use Rattle.batch_reader.specs.Batches.{RuledJobs, batch_in, job_and_later, jobs_in, under}
 use Rattle.batch_reader.specs.Fates.{JobEntry, IsEntry, limits_within, signatures_of}
+use Rattle.batch_reader.specs.Blocks.{ends_signatures, is_end}
 use Rattle.batch_reader.specs.Headings.{BatchLine, is_blank}
+use Rattle.batch_reader.specs.declared.heading.Heading.{Heading}
 use Rattle.batch_reader.specs.JobLines.{JobLine, job_line_of}
 use Rattle.batch_reader.specs.Lines.{batch_words}
 
@@ -167,3 +169,9 @@ abbrev pub StepFits : ℕ → JobStep → Type 0
 StepFits number (To s) = StageFits number s
 StepFits number (Ends entry) = Unit {0}
 StepFits number (Begins rule s) = StageFits number s
+
+-- a line of this heading is one more of the signatures or of the code
+abbrev pub Stays : JobStage → Heading → Type 0
+Stays (stage.Signatures kept part) h = ends_signatures h ≡ false
+Stays (stage.Code kept part) h = is_end h ≡ false
+Stays _ h = ⊥

@@ -1,8 +1,9 @@
 //! What a line of a batch is by itself.
 
-ghost use Rattle.std.specs.Prelude.{◌≡◌};
-ghost use Rattle.batch_reader.specs.Headings.{heading_of, marker_of, pair_of};
+ghost use Rattle.std.specs.Prelude.{◌≡◌, ◌∷◌, List, false, ℕ};
+ghost use Rattle.batch_reader.specs.Headings.{heading_of, marker_of, may_begin_heading, pair_of};
 ghost use Rattle.batch_reader.specs.Lines.{batch_words};
+ghost use Rattle.batch_reader.specs.declared.heading.Heading.TheVariants.{Other};
 
 use vcode_base::{LineWords, Parentheses};
 
@@ -27,10 +28,16 @@ pub(crate) enum Heading {
 pub(crate) fn heading_of(line: &[u8]) -> Heading
     ensures { result ≡ heading_of (batch_words line.now) }
 {
+    if !may_be_heading(line) {
+        return Heading::Other;
+    }
     let mut words = LineWords::new(line, Parentheses::StandInWords);
     let Some(word) = words.next() else {
         return Heading::Blank;
     };
+    if !begins_heading(word) {
+        return Heading::Other;
+    }
     let Some(second) = words.next() else {
         return marker(word);
     };
@@ -38,6 +45,36 @@ pub(crate) fn heading_of(line: &[u8]) -> Heading
         None => pair(word, second),
         Some(_) => Heading::Other,
     }
+}
+
+/// Whether a line may be a heading, or have no word, as its first byte says. Few lines of code may.
+fn may_be_heading(line: &[u8]) -> bool
+    ensures { result ≡ false → heading_of (batch_words line.now) ≡ Other }
+{
+    if line.is_empty() {
+        return true;
+    }
+    may_begin_heading(line[0])
+}
+
+/// Whether a byte stands between words, or begins the first word of a heading.
+fn may_begin_heading(byte: u8) -> bool
+    ensures { result ≡ may_begin_heading byte }
+{
+    matches!(
+        byte,
+        b' ' | b'\t' | b'\r' | b'\n' | b'B' | b'C' | b'E' | b'S'
+    )
+}
+
+/// Whether a heading has this first word.
+fn begins_heading(word: &[u8]) -> bool
+    ensures { result ≡ false → (words : List (List ℕ)) → heading_of (word.now ∷ words) ≡ Other }
+{
+    word == b"CODE".as_slice()
+        || word == b"END".as_slice()
+        || word == b"SIGNATURES".as_slice()
+        || word == b"BATCH".as_slice()
 }
 
 /// What a line of this only word is.

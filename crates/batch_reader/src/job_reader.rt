@@ -5,16 +5,18 @@ ghost use Rattle.vcode_base.specs.Lines.{line_feeds};
 ghost use Rattle.vcode_base.specs.declared.limits.TheConstants.{MOST_BATCH_BYTES};
 ghost use Rattle.batch_reader.specs.Feeds.{AnswersLines, ByLines, HasFailed, HasFewJobs, IsFirstLine, IsOutside, Keeps};
 ghost use Rattle.batch_reader.specs.Feeds.{RefusesLongLine, Stands, is_settled};
-ghost use Rattle.batch_reader.specs.Headings.{line_of};
-ghost use Rattle.batch_reader.specs.Standings.{rule_by};
+ghost use Rattle.batch_reader.specs.Headings.{heading_of, line_of};
+ghost use Rattle.batch_reader.specs.Lines.{batch_words};
+ghost use Rattle.batch_reader.specs.Standings.{Stays, rule_by};
 ghost use Rattle.batch_reader.specs.declared.heading.Heading.TheVariants as headings;
+ghost use Rattle.batch_reader.specs.declared.stage.Stage.TheVariants as stages;
 
 use crate::batch_line::BatchLine;
 use crate::entry::{Batch, JobEntries};
 use crate::fault::BatchFault;
 use crate::heading::{Heading, heading_of};
 use crate::stage::{JobStage, JobStep, Stage, Step};
-use crate::step::step;
+use crate::step::{step, step_inside};
 use std::alloc::{AllocError, Allocator};
 use std::marker::Model;
 use std::mem;
@@ -98,7 +100,7 @@ impl<A: Allocator + Copy> JobReader<A> {
         ensures region { self.new.region ≡ self.old.region }
         ensures left { self.new.left ≡ self.old.left }
     {
-        set_stage(&mut self.stage, Stage::Failed);
+        fail_stage(&mut self.stage);
     }
 
     /// Takes the next line, which is within the limit of a batch.
@@ -130,12 +132,45 @@ impl<A: Allocator + Copy> JobReader<A> {
             text,
             heading,
         };
+        if stays(&self.stage, heading) {
+            if let Err(refused) = step_inside(&mut self.stage, line) {
+                fail_stage(&mut self.stage);
+                return Err(refused);
+            }
+            self.number += 1;
+            self.left -= text.len();
+            return Ok(());
+        }
+        self.take_other(line)
+    }
+
+    /// Takes the next line, which may make another stage. It has this reader's number and its own heading.
+    ///
+    /// # Errors
+    ///
+    /// [`AllocError`] if memory is refused. The reader has then failed.
+    #[inline(never)]
+    fn take_other(&mut self, line: BatchLine<'_>) -> Result<(), AllocError>
+        requires within { length line.text.now ≤ self.old.left }
+        requires some { 1 ≤ length line.text.now }
+        requires number { line.number ≡ self.old.number }
+        requires heading { line.heading ≡ heading_of (batch_words line.text.now) }
+        ensures taken { OnOk result ((come : ByLines) → Stands self.old come
+            → Stands self.new (λ ls. come (line_of line.entry.number line.entry.text.now ∷ ls))) }
+        ensures number { OnOk result (self.new.number ≡ self.old.number + 1) }
+        ensures left { OnOk result (self.new.left + length line.entry.text.now ≡ self.old.left) }
+        ensures unread { OnErr result (self.new.left ≡ self.old.left) }
+        ensures region { self.new.region ≡ self.old.region }
+        ensures failed { OnErr result (HasFailed self.new) }
+        ensures again { HasFailed self.old → IsErr result }
+    {
+        let len = line.text.len();
         let stage = mem::replace(&mut self.stage, Stage::Failed);
         let step = step(self.alloc, self.region, self.entries.len(), stage, line)?;
         let next = stage_behind(step, &mut self.entries, &mut self.rule)?;
         set_stage(&mut self.stage, next);
         self.number += 1;
-        self.left -= text.len();
+        self.left -= len;
         Ok(())
     }
 
@@ -203,6 +238,26 @@ fn passes_over<A: Allocator>(stage: &JobStage<A>, heading: Heading) -> bool
         (stage, heading),
         (Stage::Fresh | Stage::Between, Heading::Blank)
     )
+}
+
+/// Memory was refused: the stage has failed. It is a function of its own, so that a line is taken without room for a
+/// stage.
+#[inline(never)]
+fn fail_stage<A: Allocator>(stage: &mut JobStage<A>)
+    ensures { stage.new ≡ stages.Failed }
+{
+    *stage = Stage::Failed;
+}
+
+/// Whether a line of this heading is one more of the signatures or of the code.
+fn stays<A: Allocator>(stage: &JobStage<A>, heading: Heading) -> bool
+    ensures { IsTrue result → Stays stage.now heading }
+{
+    match stage {
+        Stage::Code(..) => !matches!(heading, Heading::End),
+        Stage::Signatures(..) => !matches!(heading, Heading::End | Heading::Code),
+        _ => false,
+    }
 }
 
 /// The stage after a step, with the rule that it gives; a job that ends goes after the others.

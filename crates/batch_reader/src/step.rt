@@ -10,7 +10,8 @@ ghost use Rattle.batch_reader.specs.JobLines.{JobLine as JobLineOf};
 ghost use Rattle.batch_reader.specs.Standings.{Fresh, Between, Headed, InSignatures, InCode, Standing};
 ghost use Rattle.batch_reader.specs.Standings.{HasRoom, Shows, ShowsHead};
 ghost use Rattle.batch_reader.specs.Standings.{ShowsSignatures, ShowsCode, SaysJob, SignaturesFit, CodeFits, StageFits};
-ghost use Rattle.batch_reader.specs.Standings.{StepFits, Turns, shown_line, with_signatures, with_code_line, with_code};
+ghost use Rattle.batch_reader.specs.Standings.{Stays, StepFits, Turns, shown_line, with_signatures, with_code_line};
+ghost use Rattle.batch_reader.specs.Standings.{with_code};
 
 use crate::batch_line::BatchLine;
 use crate::fate::job_entry;
@@ -236,6 +237,28 @@ fn step_in_code<A: Allocator + Copy>(
             more_code(&mut part, line)?;
             Ok(Step::To(Stage::Code(head, part)))
         }
+    }
+}
+
+/// Takes one line more of the signatures or of the code, and leaves the stage where it is.
+///
+/// # Errors
+///
+/// [`AllocError`] if memory is refused. The stage then says nothing of the lines so far.
+pub(crate) fn step_inside<A: Allocator + Copy>(
+    stage: &mut JobStage<A>,
+    line: BatchLine<'_>,
+) -> Result<(), AllocError>
+    requires fits { StageFits line.number stage.old }
+    requires stays { Stays stage.old line.heading }
+    ensures fits { OnOk result (StageFits (line.entry.number + 1) stage.new) }
+    ensures turns { OnOk result ((region ended room : ℕ) (standing : Standing) → Shows region stage.old standing
+        → HasRoom ended room standing → Turns region ended room standing (shown_line line.entry) (To stage.new)) }
+{
+    match stage {
+        Stage::Code(_, part) => more_code(part, line),
+        Stage::Signatures(_, part) => more_signatures(part, line),
+        _ => Ok(()),
     }
 }
 

@@ -4,6 +4,7 @@ ghost use Rattle.std.specs.Prelude.{◌≡◌, ◌+◌, ◌≤◌, All, length};
 ghost use Rattle.bench_memory.specs.Spans.{AreApart};
 
 use holes::Holes;
+use holes::laws::no_more_holes_than_words;
 use std::alloc::{AllocError, Allocator};
 
 /// The words `place..place + len`.
@@ -31,7 +32,7 @@ impl<A: Allocator + Clone> Spans<A> {
     /// A region of `size` words, of which no number has any.
     pub fn new(alloc: A, size: usize, numbers: usize) -> Result<Self, AllocError> {
         let spans = vec![in alloc.clone()?; Span::NONE; numbers]?;
-        let most = numbers.saturating_add(1);
+        let most = size.saturating_add(1);
         let holes = Holes::new(alloc, size, most)?;
         Ok(Self { holes, spans })
     }
@@ -42,9 +43,10 @@ impl<A: Allocator + Clone> Spans<A> {
             return;
         };
         let Span { place, len } = *span;
-        if len == 0 || self.holes.count() >= self.holes.most() {
+        if len == 0 || self.holes.free() >= self.holes.most() {
             return;
         }
+        no_more_holes_than_words();
         self.holes.give(place, len);
         self.spans[number] = Span::NONE;
     }

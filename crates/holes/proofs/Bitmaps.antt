@@ -1,6 +1,6 @@
 -- The words of a bitmap after its lowest words were shifted out.
 use Rattle.std.proofs.Common.{◌≡◌, ℕ, ◌+◌, ◌-◌, ◌*◌, ◌/◌, ◌%◌, ◌^◌, ◌<◌, ◌≤◌, max, Bool, true, false, eqb}
-use Rattle.std.proofs.Common.{List, [], ◌∷◌, ◌++◌, length, refl, sym, ◌∙◌, ap, subst, inl, inr, arith, zero}
+use Rattle.std.proofs.Common.{cond, List, [], ◌∷◌, ◌++◌, length, refl, sym, ◌∙◌, ap, subst, inl, inr, arith, zero}
 use Rattle.std.proofs.Common.{suc}
 use Rattle.std.specs.Prelude.{replicate}
 use Rattle.std.specs.Int.{bit_at, bit_not, w64, trailing_zeros, trailing_ones, leading_ones}
@@ -13,7 +13,7 @@ use Rattle.std.proofs.lemmas.Nat.Bits.{bit_at_ones, bit_at_not, bit_at-lt}
 use Rattle.holes.specs.FreeWords.{front_run, widest}
 use Rattle.holes.specs.Tree.{is_set, words_from, words_of_bits, all_free, back_run, lowest_fit, summary, nothing_free}
 use Rattle.holes.proofs.Runs.{front_all, front-le-widest, widest-le-length, front-append, back-append}
-use Rattle.holes.proofs.Runs.{all_free-append, widest-append, back_all, lowest-append_left}
+use Rattle.holes.proofs.Runs.{all_free-append, widest-append, back_all, lowest-append_left, same_summary}
 use Rattle.holes.proofs.Runs.{lowest-append_right, lowest_later, lowest_front}
 use Rattle.holes.proofs.Bits.{same_words_from, words_from-add, all_words, length-words}
 
@@ -68,11 +68,11 @@ pub widest_behind : (free : List Bool) (n : ℕ) → widest (free ++ replicate n
 widest_behind free n =
     omega (arith, widest-append free (replicate n false), widest_none n, front_none n, back-le-widest free)
 
-widest_before : (n : ℕ) (free : List Bool) → widest (replicate n false ++ free) ≡ widest free
+pub widest_before : (n : ℕ) (free : List Bool) → widest (replicate n false ++ free) ≡ widest free
 widest_before n free =
     omega (arith, widest-append (replicate n false) free, widest_none n, back_none n, front-le-widest free)
 
-lowest_before : (len n : ℕ) (free : List Bool) → 1 ≤ len →
+pub lowest_before : (len n : ℕ) (free : List Bool) → 1 ≤ len →
     lowest_fit len (replicate n false ++ free) ≡ n + lowest_fit len free
 lowest_before len zero free some = omega arith
 lowest_before len (suc n) free some =
@@ -386,5 +386,57 @@ step bits ones some small is = subst (Step bits) (sym is) (step_of bits some sma
 pub gap_within : (bits : ℕ) → 0 < bits → bits < 2 ^ 64 → trailing_zeros w64 bits < 64
 gap_within bits some small = (gap bits some small).within
 
-pub summary_of_zero : summary (words_of_bits 0) ≡ nothing_free
-summary_of_zero = ap summary words_of_zero
+-- The lowest free word.
+free_front : (each : ℕ → Bool) (len : ℕ) → 1 ≤ len → each 0 ≡ true → 1 ≤ front_run (words_from each 0 len)
+free_front each zero some free = absurd (omega arith)
+free_front each (suc len) some free =
+    omega (arith, ap (λ b. front_run (b ∷ words_from each (0 + 1) len)) free)
+
+pub record LowestWord (bits : ℕ) : Type 0 where
+  pub within : trailing_zeros w64 bits < 64
+  pub some : 1 ≤ widest (words_of_bits bits)
+  pub lowest : lowest_fit 1 (words_of_bits bits) ≡ trailing_zeros w64 bits
+
+pub lowest_word : (bits : ℕ) → 0 < bits → bits < 2 ^ 64 → LowestWord bits
+unfolding words_of_bits
+lowest_word bits some small =
+    let g = gap bits some small in
+    let rest = bits / 2 ^ trailing_zeros w64 bits in
+    let front : 1 ≤ front_run (words_of_bits rest) = free_front (is_set rest) 64 (omega arith) (ap (λ b. eqb b 1) g.free) in
+    let wide : 1 ≤ widest (words_of_bits bits) =
+    omega (arith, g.same_widest, front, front-le-widest (words_of_bits rest)) in
+    record {
+      within = g.within;
+      some = wide;
+      lowest = omega (arith, g.same_lowest 1 (omega arith) wide, lowest_front 1 (words_of_bits rest) front);
+    }
+
+-- the words before the lowest free one
+pub none_before_lowest : (bits word : ℕ) → bits < 2 ^ 64 → word < trailing_zeros w64 bits → is_set bits word ≡ false
+none_before_lowest bits word small lt = elim (cases_lt 0 bits) [
+  | inl some ↦ ap (λ b. eqb b 1) ((bit_at-trailing_zeros w64 bits some small).2 word lt)
+  | inr none ↦ ap (λ b. eqb b 1) (ap (λ n. bit_at n word) (let e : bits ≡ 0 = omega arith in e) ∙ bit_at-zero word)
+]
+
+-- a leaf of which all words are free, or none is
+pub summary_all : (n : ℕ) (value : Bool) → 1 ≤ n → summary (replicate n value)
+    ≡ cond value (record { front = n; back = n; longest = n; whole = true }) nothing_free
+summary_all zero value some = absurd (omega arith)
+summary_all (suc n) true some =
+    same_summary (front_run (replicate (suc n) true)) (suc n) (back_run (replicate (suc n) true)) (suc n)
+    (widest (replicate (suc n) true)) (suc n) (all_free (replicate (suc n) true)) true (front_free (suc n))
+    (back_free (suc n)) (widest_free (suc n)) (all_free-true (suc n))
+summary_all (suc n) false some =
+    same_summary (front_run (replicate (suc n) false)) 0 (back_run (replicate (suc n) false)) 0
+    (widest (replicate (suc n) false)) 0 (all_free (replicate (suc n) false)) false (front_none (suc n))
+    (back_none (suc n)) (widest_none (suc n)) refl
+
+-- the lowest free word of a bitmap, or its end
+pub trailing_most : (bits : ℕ) → bits < 2 ^ 64 → trailing_zeros w64 bits ≤ 64
+unfolding lib.Count.count_trailing_zeros
+trailing_most bits small = elim (cases_lt 0 bits) [
+  | inl some ↦ omega (arith, gap_within bits some small)
+  | inr none ↦
+      let zero : trailing_zeros w64 bits ≡ 64 = ap (trailing_zeros w64) (let e : bits ≡ 0 = omega arith in e) in
+      omega arith
+]

@@ -1,9 +1,12 @@
 -- How many holes there are after a range was taken or given, by the words right before and right behind it.
-use Rattle.std.proofs.Common.{◌≡◌, ℕ, ◌+◌, ◌-◌, ◌<◌, ◌≤◌, Bool, true, false, cond, eqb, List, [], ◌∷◌, ◌++◌}
+use Rattle.std.proofs.Common.{◌≡◌, ℕ, ◌+◌, ◌-◌, ◌<◌, ◌≤◌, Bool, true, false, not, ◌&&◌, cond, eqb, List, [], ◌∷◌, ◌++◌}
 use Rattle.std.proofs.Common.{length, take, drop, refl, sym, ◌∙◌, ap, arith, zero, suc}
 use Rattle.std.specs.Prelude.{replicate}
 use Rattle.std.proofs.lemmas.Bool.{ne_eqb}
 use Rattle.std.proofs.lemmas.List.{get_or-drop}
+use Rattle.std.specs.Int.{from_bool}
+use Rattle.holes.specs.Tree.{words_from}
+use Rattle.holes.proofs.Bits.{words_from-add}
 use Rattle.holes.specs.FreeWords.{is_free, set_range, free_from, hole_count_after, hole_count}
 use Rattle.holes.proofs.Ranges.{last_of, hole_count_after-append, hole_count_after-false, hole_count_after_true-true}
 
@@ -94,3 +97,29 @@ count_some (suc n) =
 
 pub hole_count_from : (place size : ℕ) → hole_count (free_from place size) ≡ cond (eqb (size - place) 0) 0 1
 hole_count_from place size = count_all_from place (size - place) ∙ count_some (size - place)
+
+-- One word more.
+pub next_word : (each : ℕ → Bool) (n : ℕ) → words_from each 0 (n + 1) ≡ words_from each 0 n ++ each n ∷ []
+next_word each n =
+    words_from-add each 0 n 1
+    ∙ ap (λ k. words_from each 0 n ++ each k ∷ []) (let e : 0 + n ≡ n = omega arith in e)
+
+one_more : (before free : Bool) → hole_count_after before (free ∷ []) ≡ from_bool (free && not before)
+one_more true true = refl
+one_more false true = refl
+one_more true false = refl
+one_more false false = refl
+
+pub count_next : (each : ℕ → Bool) (n : ℕ) → hole_count (words_from each 0 (n + 1))
+    ≡ hole_count (words_from each 0 n) + from_bool (each n && not (last_of false (words_from each 0 n)))
+count_next each n =
+    ap hole_count (next_word each n)
+    ∙ (hole_count_after-append false (words_from each 0 n) (each n ∷ [])
+    ∙ ap (λ k. hole_count (words_from each 0 n) + k) (one_more (last_of false (words_from each 0 n)) (each n)))
+
+pub last_next : (each : ℕ → Bool) (n : ℕ) → last_of false (words_from each 0 (n + 1)) ≡ each n
+last_next each n = ap (last_of false) (next_word each n) ∙ last-append false (words_from each 0 n) (each n ∷ [])
+
+pub at_most_one : (b : Bool) → from_bool b ≤ 1
+at_most_one true = omega arith
+at_most_one false = omega arith

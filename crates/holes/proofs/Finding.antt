@@ -1,50 +1,45 @@
 -- Going down a tree to the lowest fit.
-use Rattle.std.proofs.Common.{◌≡◌, ℕ, true, false, drop, sym, inl, inr, ◌+◌, ◌-◌, ◌*◌, ◌/◌, ◌^◌, ◌<◌, ◌≤◌}
-use Rattle.std.proofs.Common.{max, List, ◌++◌, length, get_or, ◌∙◌, ap, arith, Bool}
-use Rattle.std.proofs.lemmas.List.{get_or_default}
-use Rattle.std.proofs.lemmas.Nat.{pow_pos}
+use Rattle.std.proofs.Common.{◌≡◌, ℕ, false, drop, sym, inl, inr, ◌+◌, ◌-◌, ◌*◌, ◌/◌, ◌^◌, ◌<◌, ◌≤◌}
+use Rattle.std.proofs.Common.{refl, max, List, ◌++◌, length, ◌∙◌, ap, arith, Bool}
 use Rattle.holes.specs.declared.summary.Summary.{Summary}
 use Rattle.holes.specs.FreeWords.{is_free, front_run, widest}
-use Rattle.holes.specs.Tree.{words_of_bits, words_of, node_at, nothing_free, back_run, lowest_fit, word_at}
+use Rattle.holes.specs.Tree.{words_between, words_of, node_at, back_run, lowest_fit}
+use Rattle.holes.specs.Tree.{word_at, leaf_count}
 use Rattle.holes.specs.Tree.{NoneBelow, IsTree}
-use Rattle.holes.proofs.Runs.{run-le-widest, word_run, fit_before, fit_here, run_free, front-le-length}
+use Rattle.holes.proofs.Runs.{word_run, fit_before, front-le-length}
 use Rattle.holes.proofs.Runs.{back-le-length, widest-append, lowest-append_left, lowest-append_between}
 use Rattle.holes.proofs.Runs.{lowest-append_right}
 use Rattle.std.proofs.lemmas.Bool.{cases_lt, cases_Bool}
 use Rattle.holes.proofs.Bits.{word_in}
 use Rattle.holes.proofs.Nodes.{word_past, width, first_leaf, node_words, IsNode, length-node_words, node_is}
 use Rattle.holes.proofs.Nodes.{root_is, root_words, first_leaf-root, width-pow, inner_index, parts, leaf_of}
+use Rattle.holes.proofs.Nodes.{between_leaf}
 
 -- the lowest fit is that of the node at an index, whose words begin at a place
-pub record At (bits : List ℕ) (len height index place wide : ℕ) : Type 0 where
-  pub is_node : IsNode (length bits) height index
-  pub place_is : place ≡ 64 * (first_leaf height index - length bits)
-  pub wide_is : wide ≡ 64 * width height
-  pub fits : len ≤ widest (node_words bits height index)
-  pub lowest : lowest_fit len (words_of bits) ≡ place + lowest_fit len (node_words bits height index)
+pub record At (bits : List ℕ) (leaves len height index place wide : ℕ) : Type 0 where
+  pub is_node : IsNode leaves height index
+  pub place_is : place ≡ 256 * (first_leaf height index - leaves)
+  pub wide_is : wide ≡ 256 * width height
+  pub fits : len ≤ widest (node_words bits leaves height index)
+  pub lowest : lowest_fit len (words_of bits) ≡ place + lowest_fit len (node_words bits leaves height index)
 
 pub root_longest : (bits : List ℕ) (nodes : List Summary) → IsTree bits nodes →
     (node_at nodes 1).longest ≡ widest (words_of bits)
 root_longest bits nodes tree =
-    ap (λ (node : Summary). node.longest) (node_is bits nodes tree.height 1 tree (root_is bits tree.height tree.leaves))
-    ∙ ap widest (root_words bits tree.height tree.leaves)
-
--- the root as it is read
-pub root_read : (bits : List ℕ) (nodes : List Summary) (other : Summary) → IsTree bits nodes →
-    (get_or nodes 1 other).longest ≡ widest (words_of bits)
-root_read bits nodes other tree =
-    ap (λ (node : Summary). node.longest) (get_or_default nodes 1 other nothing_free
-    (omega (arith, tree.node_count, tree.leaves, pow_pos tree.height)))
-    ∙ root_longest bits nodes tree
+    let power : leaf_count nodes ≡ 2 ^ tree.height = omega (arith, tree.node_count) in
+    ap (λ (node : Summary). node.longest) (node_is bits nodes tree.height 1 tree
+    (root_is (leaf_count nodes) tree.height power))
+    ∙ ap widest (root_words bits (leaf_count nodes) tree.height power (omega (arith, tree.bitmaps)))
 
 pub at_root : (bits : List ℕ) (nodes : List Summary) (len : ℕ) (tree : IsTree bits nodes) →
-    len ≤ (node_at nodes 1).longest → At bits len tree.height 1 0 (length bits * 64)
+    len ≤ (node_at nodes 1).longest → At bits (leaf_count nodes) len tree.height 1 0 (leaf_count nodes * 256)
 at_root bits nodes len tree fits =
-    let words = root_words bits tree.height tree.leaves in
+    let power : leaf_count nodes ≡ 2 ^ tree.height = omega (arith, tree.node_count) in
+    let words = root_words bits (leaf_count nodes) tree.height power (omega (arith, tree.bitmaps)) in
     record {
-      is_node = root_is bits tree.height tree.leaves;
-      place_is = omega (arith, first_leaf-root tree.height, width-pow tree.height, tree.leaves);
-      wide_is = omega (arith, width-pow tree.height, tree.leaves);
+      is_node = root_is (leaf_count nodes) tree.height power;
+      place_is = omega (arith, first_leaf-root tree.height, width-pow tree.height);
+      wide_is = omega (arith, width-pow tree.height);
       fits = omega (arith, root_longest bits nodes tree, ap widest words);
       lowest = omega (arith, ap (lowest_fit len) words);
     }
@@ -56,23 +51,24 @@ pub record Below (bits : List ℕ) (nodes : List Summary) (len index place wide 
   pub back_within : (node_at nodes (2 * index)).back ≤ wide / 2
   pub small : (node_at nodes (2 * index)).back + (node_at nodes (2 * index + 1)).front < 2 ^ 64
   pub next_small : place + wide / 2 < 2 ^ 64
-  pub left : len ≤ (node_at nodes (2 * index)).longest → At bits len lower (2 * index) place (wide / 2)
+  pub left : len ≤ (node_at nodes (2 * index)).longest →
+      At bits (leaf_count nodes) len lower (2 * index) place (wide / 2)
   pub between : (node_at nodes (2 * index)).longest < len →
       len ≤ (node_at nodes (2 * index)).back + (node_at nodes (2 * index + 1)).front →
       place + (wide / 2 - (node_at nodes (2 * index)).back) ≡ lowest_fit len (words_of bits)
   pub right : (node_at nodes (2 * index)).longest < len →
       (node_at nodes (2 * index)).back + (node_at nodes (2 * index + 1)).front < len →
-      At bits len lower (2 * index + 1) (place + wide / 2) (wide / 2)
+      At bits (leaf_count nodes) len lower (2 * index + 1) (place + wide / 2) (wide / 2)
 
 pub below : (bits : List ℕ) (nodes : List Summary) (len height index place wide : ℕ) → IsTree bits nodes → 1 ≤ len →
-    At bits len height index place wide → index < length bits → Below bits nodes len index place wide
+    At bits (leaf_count nodes) len height index place wide → index < leaf_count nodes → Below bits nodes len index place wide
 below bits nodes len height index place wide tree one at lt =
     let p = parts bits nodes height index tree at.is_node lt in
-    let left_words = node_words bits p.lower (2 * index) in
-    let right_words = node_words bits p.lower (2 * index + 1) in
-    let left_len : length left_words ≡ 64 * width p.lower = length-node_words bits p.lower (2 * index) in
-    let right_len : length right_words ≡ 64 * width p.lower = length-node_words bits p.lower (2 * index + 1) in
-    let half : wide / 2 ≡ 64 * width p.lower = omega (arith, at.wide_is, p.width_is) in
+    let left_words = node_words bits (leaf_count nodes) p.lower (2 * index) in
+    let right_words = node_words bits (leaf_count nodes) p.lower (2 * index + 1) in
+    let left_len : length left_words ≡ 256 * width p.lower = length-node_words bits (leaf_count nodes) p.lower (2 * index) in
+    let right_len : length right_words ≡ 256 * width p.lower = length-node_words bits (leaf_count nodes) p.lower (2 * index + 1) in
+    let half : wide / 2 ≡ 256 * width p.lower = omega (arith, at.wide_is, p.width_is) in
     let back : (node_at nodes (2 * index)).back ≡ back_run left_words = ap (λ (n : Summary). n.back) p.left_is in
     let front : (node_at nodes (2 * index + 1)).front ≡ front_run right_words =
     ap (λ (n : Summary). n.front) p.right_is in
@@ -83,7 +79,7 @@ below bits nodes len height index place wide tree one at lt =
     let lowest : lowest_fit len (words_of bits) ≡ place + lowest_fit len (left_words ++ right_words) =
     at.lowest ∙ ap (λ (words : List Bool). place + lowest_fit len words) p.words in
     record {
-      some = inner_index (length bits) height index at.is_node lt;
+      some = inner_index (leaf_count nodes) height index at.is_node lt;
       lower = p.lower;
       back_within = omega (arith, back, back-le-length left_words);
       small = omega (
@@ -97,6 +93,8 @@ below bits nodes len height index place wide tree one at lt =
         p.left.from,
         p.left.to,
         tree.small,
+        tree.bitmaps,
+        tree.node_count,
       );
       next_small = omega (
         arith,
@@ -106,6 +104,8 @@ below bits nodes len height index place wide tree one at lt =
         p.some,
         at.is_node.from,
         tree.small,
+        tree.bitmaps,
+        tree.node_count,
       );
       left = λ wide_enough. record {
         is_node = p.left;
@@ -133,23 +133,22 @@ below bits nodes len height index place wide tree one at lt =
       };
     }
 
--- what is known at a bitmap
-pub record AtBitmap (bits : List ℕ) (len index place : ℕ) : Type 0 where
-  pub within : index - length bits < length bits
-  pub fits : len ≤ widest (words_of_bits (get_or bits (index - length bits) 0))
-  pub lowest : lowest_fit len (words_of bits) ≡
-      place + lowest_fit len (words_of_bits (get_or bits (index - length bits) 0))
-  pub small : place + 64 ≤ 64 * length bits
+-- what is known at a leaf, whose bitmaps begin at an index
+pub record AtLeaf (bits : List ℕ) (len first : ℕ) : Type 0 where
+  pub within : first + 4 ≤ length bits
+  pub fits : len ≤ widest (words_between bits first (first + 4))
+  pub lowest : lowest_fit len (words_of bits) ≡ 64 * first + lowest_fit len (words_between bits first (first + 4))
 
-pub at_bitmap : (bits : List ℕ) (len height index place wide : ℕ) → At bits len height index place wide →
-    length bits ≤ index → AtBitmap bits len index place
-at_bitmap bits len height index place wide at ge =
-    let leaf = leaf_of bits height index at.is_node ge in
+pub at_leaf : (bits : List ℕ) (leaves len height index place wide first : ℕ) → length bits ≡ 4 * leaves →
+    At bits leaves len height index place wide → leaves ≤ index → first ≡ (index - leaves) * 4 → AtLeaf bits len first
+at_leaf bits leaves len height index place wide first count at ge is =
+    let leaf = leaf_of bits leaves height index at.is_node ge in
+    let same : node_words bits leaves height index ≡ words_between bits first (first + 4) =
+    leaf.words ∙ sym (between_leaf bits (index - leaves) first (first + 4) (omega arith) refl) in
     record {
-      within = leaf.within;
-      fits = omega (arith, at.fits, ap widest leaf.words);
-      lowest = at.lowest ∙ ap (λ (words : List Bool). place + lowest_fit len words) leaf.words;
-      small = omega (arith, at.place_is, leaf.first, leaf.within);
+      within = omega (arith, leaf.within);
+      fits = omega (arith, at.fits, ap widest same);
+      lowest = omega (arith, at.lowest, at.place_is, leaf.first, ap (lowest_fit len) same);
     }
 
 -- The lowest free word.
@@ -169,13 +168,3 @@ not_free bits word none = elim (cases_lt word (64 * length bits)) [
 
 pub none_below_lowest : (bits : List ℕ) → NoneBelow bits (lowest_fit 1 (words_of bits))
 none_below_lowest bits word lt = not_free bits word (fit_before 1 word (words_of bits) lt)
-
-pub none_at_all : (bits : List ℕ) (low : ℕ) → widest (words_of bits) < 1 → NoneBelow bits low
-none_at_all bits low none word lt = not_free bits word (omega (arith, run-le-widest word (words_of bits)))
-
-pub lowest_is_free : (bits : List ℕ) → 1 ≤ widest (words_of bits) → lowest_fit 1 (words_of bits) < 64 * length bits →
-    word_at bits (lowest_fit 1 (words_of bits)) ≡ true
-lowest_is_free bits some lt =
-    sym (word_free bits (lowest_fit 1 (words_of bits)) lt)
-    ∙ run_free (words_of bits) (lowest_fit 1 (words_of bits)) 1 (fit_here 1 (words_of bits) (omega arith) some)
-    (lowest_fit 1 (words_of bits)) (omega arith) (omega arith)

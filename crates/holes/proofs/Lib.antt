@@ -10,3 +10,4 @@ pub mod Regions
 pub mod Layouts
 pub mod Listed
 pub mod Long
+pub mod Filling

@@ -1,31 +1,120 @@
 -- Long ranges: bitmaps that are alike, and the nodes above them.
-use Rattle.std.proofs.Common.{◌≡◌, ℕ, ◌+◌, ◌-◌, ◌*◌, ◌/◌, ◌^◌, ◌<◌, ◌≤◌, Bool, List, length, get_or, set, ◌⊎◌}
+use Rattle.std.proofs.Common.{◌≡◌, ℕ, ◌+◌, ◌-◌, ◌*◌, ◌/◌, ◌^◌, ◌<◌, ◌≤◌, Bool, List, length, set, ◌⊎◌}
 use Rattle.std.proofs.Common.{sym, ◌∙◌, ap, inl, inr, arith, zero, suc}
 use Rattle.std.specs.Prelude.{replicate}
-use Rattle.std.proofs.lemmas.Bool.{cases_lt}
+use Rattle.std.proofs.lemmas.Bool.{cases_lt, cases_eq}
 use Rattle.std.proofs.lemmas.List.{length-set, get_or-set_same, get_or-set_other}
 use Rattle.holes.specs.declared.summary.Summary.{Summary}
-use Rattle.holes.specs.Tree.{is_set, words_of_bits, word_at, node_at, nothing_free, summary, join, AreLeaves}
-use Rattle.holes.specs.Tree.{AreAlike, AreSameBeside, AreJoinedBeside, IsJoined, IsFilled, IsLevel, IsWritten}
+use Rattle.holes.specs.Tree.{word_at, leaf_words, leaf_count, node_at, nothing_free, summary, join, AreLeaves}
+use Rattle.holes.specs.Tree.{AreAlike, AreAllBetween, AreSameBeside, AreJoinedBeside, IsJoined, IsLevel, IsWritten}
+use Rattle.holes.specs.Tree.{AreLeavesBeside, AreSameBesideLeaves}
 use Rattle.holes.proofs.Bits.{all_words}
-use Rattle.holes.proofs.Nodes.{leaf_words}
 
--- the nodes between the outermost bitmaps of a range are all alike
-pub alike_filled : (old bits : List ℕ) (nodes : List Summary) (place len whole : ℕ) (part : Summary) (value : Bool) →
-    place + len ≤ 64 * length old → ((word : ℕ) → word < 64 → is_set whole word ≡ value) →
-    part ≡ summary (words_of_bits whole) → IsFilled old bits place len value → AreLeaves bits nodes →
-    AreAlike nodes (length old + place / 64) (length old + (place + len - 1) / 64) part
-unfolding words_of_bits
-alike_filled old bits nodes place len whole part value within all is filled leaves index above below =
-    let leaf = index - length old in
-    let at : length bits + leaf ≡ index = omega (arith, filled.same_length) in
-    let bitmap : words_of_bits (get_or bits leaf 0) ≡ replicate 64 value =
-    leaf_words bits leaf ∙ all_words (word_at bits) (64 * leaf) 64 value
-    (λ word lt. filled.inside (64 * leaf + word) (omega arith) (omega arith)) in
-    let alike : words_of_bits whole ≡ replicate 64 value =
-    all_words (is_set whole) 0 64 value (λ word lt. all (0 + word) (omega arith)) in
+-- a leaf of which all words are free, or none is
+pub leaf_alike : (bits : List ℕ) (first last leaf : ℕ) (value : Bool) → AreAllBetween bits first last value →
+    first < leaf → leaf < last → leaf_words bits leaf ≡ replicate 256 value
+leaf_alike bits first last leaf value all from to =
+    all_words (word_at bits) (256 * leaf) 256 value (λ word lt. all (256 * leaf + word) (omega arith) (omega arith))
+
+-- the nodes between two leaves whose words are all alike
+pub alike_between : (bits : List ℕ) (nodes : List Summary) (leaves first last : ℕ) (part : Summary) (value : Bool) →
+    leaves ≡ leaf_count nodes → last < leaves → AreAllBetween bits first last value →
+    part ≡ summary (replicate 256 value) → AreLeaves bits nodes → AreAlike nodes (leaves + first) (leaves + last) part
+alike_between bits nodes leaves first last part value count within all is told index above below =
+    let leaf = index - leaves in
+    let at : leaf_count nodes + leaf ≡ index = omega arith in
     sym (ap (node_at nodes) at)
-    ∙ (leaves leaf (omega (arith, filled.same_length)) ∙ (ap summary (bitmap ∙ sym alike) ∙ sym is))
+    ∙ (told leaf (omega arith) ∙ (ap summary (leaf_alike bits first last leaf value all (omega arith) (omega arith))
+    ∙ sym is))
+
+-- the nodes of the leaves between two are written alike, and then those of the two
+pub record AreLongLeaves (bits : List ℕ) (old middle : List Summary) (first last : ℕ) (value : Bool)
+    (left right : Summary) : Type 0 where
+  pub order : first < last
+  pub within : last < leaf_count old
+  pub leaves : AreLeavesBeside bits old first (last + 1)
+  pub all : AreAllBetween bits first last value
+  pub written : IsWritten old middle (leaf_count old + first + 1) (leaf_count old + last)
+      (summary (replicate 256 value))
+  pub left_is : left ≡ summary (leaf_words bits first)
+  pub right_is : right ≡ summary (leaf_words bits last)
+
+long_node : (bits : List ℕ) (old middle : List Summary) (first last : ℕ) (value : Bool) (left right : Summary)
+    (leaf : ℕ) → AreLongLeaves bits old middle first last value left right → leaf < leaf_count old →
+    node_at (set (set middle (leaf_count old + first) left) (leaf_count old + last) right) (leaf_count old + leaf)
+    ≡ summary (leaf_words bits leaf)
+long_node bits old middle first last value left right leaf is lt =
+    let leaves = leaf_count old in
+    let one = set middle (leaves + first) left in
+    let len_one : length one ≡ length middle = length-set middle (leaves + first) left in
+    elim (cases_eq leaf last) [
+      | inl at ↦ ap (node_at (set one (leaves + last) right)) (let e : leaves + leaf ≡ leaves + last = omega arith in e)
+          ∙ (get_or-set_same one (leaves + last) right nothing_free
+          (omega (arith, len_one, is.written.same_length, is.within)) ∙ (is.right_is
+          ∙ ap (λ k. summary (leaf_words bits k)) (sym at)))
+      | inr not_last ↦ get_or-set_other one (leaves + last) (leaves + leaf) right nothing_free
+          (λ e. absurd (not_last (omega arith))) ∙ elim (cases_eq leaf first) [
+            | inl at ↦ ap (node_at one) (let e : leaves + leaf ≡ leaves + first = omega arith in e)
+                ∙ (get_or-set_same middle (leaves + first) left nothing_free
+                (omega (arith, is.written.same_length, is.within, is.order)) ∙ (is.left_is
+                ∙ ap (λ k. summary (leaf_words bits k)) (sym at)))
+            | inr not_first ↦ get_or-set_other middle (leaves + first) (leaves + leaf) left nothing_free
+                (λ e. absurd (not_first (omega arith))) ∙ elim (cases_lt leaf first) [
+                  | inl below ↦ is.written.outside (leaves + leaf) nothing_free (inl (omega arith))
+                      ∙ is.leaves leaf lt (inl below)
+                  | inr from ↦ elim (cases_lt last leaf) [
+                    | inl above ↦ is.written.outside (leaves + leaf) nothing_free (inr (omega arith))
+                        ∙ is.leaves leaf lt (inr (omega arith))
+                    | inr to ↦
+                        let after : first < leaf = elim (cases_lt first leaf) [
+                          | inl more ↦ more
+                          | inr le ↦ absurd (not_first (omega arith))
+                        ] in
+                        let before : leaf < last = elim (cases_lt leaf last) [
+                          | inl less ↦ less
+                          | inr ge ↦ absurd (not_last (omega arith))
+                        ] in
+                        is.written.inside (leaves + leaf) nothing_free (omega arith) (omega arith)
+                        ∙ sym (ap summary (leaf_alike bits first last leaf value is.all after before))
+                  ]
+                ]
+          ]
+    ]
+
+pub long_leaves : (bits : List ℕ) (old middle : List Summary) (first last : ℕ) (value : Bool) (left right : Summary) →
+    AreLongLeaves bits old middle first last value left right →
+    AreLeaves bits (set (set middle (leaf_count old + first) left) (leaf_count old + last) right)
+long_leaves bits old middle first last value left right is leaf lt =
+    let leaves = leaf_count old in
+    let one = set middle (leaves + first) left in
+    let new = set one (leaves + last) right in
+    let len : length new ≡ length old =
+    length-set one (leaves + last) right ∙ (length-set middle (leaves + first) left ∙ is.written.same_length) in
+    ap (λ n. node_at new (n / 2 + leaf)) len
+    ∙ long_node bits old middle first last value left right leaf is (omega arith)
+
+pub long_beside : (bits : List ℕ) (old middle : List Summary) (first last : ℕ) (value : Bool) (left right : Summary) →
+    AreLongLeaves bits old middle first last value left right →
+    AreSameBesideLeaves old (set (set middle (leaf_count old + first) left) (leaf_count old + last) right) first
+    (last + 1)
+long_beside bits old middle first last value left right is index out =
+    let leaves = leaf_count old in
+    let one = set middle (leaves + first) left in
+    let order = is.order in
+    elim out [
+      | inl below ↦ get_or-set_other one (leaves + last) index right nothing_free (λ e. absurd (omega arith))
+          ∙ (get_or-set_other middle (leaves + first) index left nothing_free (λ e. absurd (omega arith))
+          ∙ is.written.outside index nothing_free (inl (omega arith)))
+      | inr above ↦ get_or-set_other one (leaves + last) index right nothing_free (λ e. absurd (omega arith))
+          ∙ (get_or-set_other middle (leaves + first) index left nothing_free (λ e. absurd (omega arith))
+          ∙ is.written.outside index nothing_free (inr (omega arith)))
+    ]
+
+-- the leaves of one tree are of one depth
+pub leaf_level : (leaves height first last : ℕ) → leaves ≡ 2 ^ height → first ≤ last → last < leaves →
+    IsLevel (leaves + first) (leaves + last)
+leaf_level leaves height first last power order within =
+    record { depth = height; from = omega arith; order = omega arith; to = omega arith }
 
 -- the nodes from an index to another are those of what their parts were
 pub record IsLevelJoined (old new : List Summary) (first last : ℕ) : Type 0 where

@@ -1,145 +1,188 @@
--- Looking for the lowest fit in the bitmaps from the lowest free word on.
-use Rattle.std.proofs.Common.{◌≡◌, ℕ, ◌+◌, ◌-◌, ◌*◌, ◌<◌, ◌≤◌, Bool, false, cond, List, ◌++◌, length, get_or}
-use Rattle.std.proofs.Common.{sym, ◌∙◌, ap, arith}
+-- Looking for the lowest fit in some bitmaps that follow one another.
+use Rattle.std.proofs.Common.{◌≡◌, ℕ, ◌+◌, ◌-◌, ◌*◌, ◌<◌, ◌≤◌, Bool, true, false, cond, List, ◌++◌, length, get_or}
+use Rattle.std.proofs.Common.{Option, Some, None, IsNone, IfSome, sym, ◌∙◌, ap, arith, inl, inr, ◌^◌}
 use Rattle.std.specs.Prelude.{replicate}
-use Rattle.std.proofs.lemmas.Nat.{pow_pos}
+use Rattle.std.proofs.lemmas.Bool.{cases_lt, true≢false}
 use Rattle.holes.specs.declared.summary.Summary.{Summary}
 use Rattle.holes.specs.FreeWords.{front_run, widest}
-use Rattle.holes.specs.Tree.{words_from, words_of_bits, word_at, words_of, node_at, all_free, back_run}
-use Rattle.holes.specs.Tree.{lowest_fit, summary, join, NoneBelow, IsTreeBeside}
+use Rattle.holes.specs.Tree.{words_from, words_of_bits, word_at, words_of, words_between, all_free, back_run}
+use Rattle.holes.specs.Tree.{lowest_fit, summary, join, NoneBelow}
 use Rattle.holes.proofs.Runs.{back-le-length, widest-append, back-append, summary-append, lowest-append_left}
 use Rattle.holes.proofs.Runs.{lowest-append_between, lowest-append_right}
 use Rattle.holes.proofs.Bits.{length-words, words_from-add, all_words}
-use Rattle.holes.proofs.Bitmaps.{length-bits, widest_none, back_none}
-use Rattle.holes.proofs.Nodes.{leaf_words}
+use Rattle.holes.proofs.Bitmaps.{length-bits, widest_before, lowest_before}
+use Rattle.holes.proofs.Nodes.{bitmap_words}
 
--- the words of the bitmaps below an index
-abbrev pub words_below : List ℕ → ℕ → List Bool
-words_below bits index = words_from (word_at bits) 0 (64 * index)
+-- no hole of the bitmaps up to an index is wide enough, and so many words are free right before it
+pub record Passed (bits : List ℕ) (len first index run : ℕ) : Type 0 where
+  pub short : widest (words_between bits first index) < len
+  pub back : back_run (words_between bits first index) ≡ run
 
--- no hole below an index is wide enough, and so many words are free right before it
-pub record Passed (bits : List ℕ) (len index run : ℕ) : Type 0 where
-  pub short : widest (words_below bits index) < len
-  pub back : back_run (words_below bits index) ≡ run
+no_bitmaps : (bits : List ℕ) (first : ℕ) → words_between bits first first ≡ words_from (word_at bits) (64 * first) 0
+no_bitmaps bits first = ap (words_from (word_at bits) (64 * first)) (let e : 64 * (first - first) ≡ 0 = omega arith in e)
 
-pub passed_none : (bits : List ℕ) (len index low : ℕ) → 1 ≤ len → 64 * index ≤ low →
-    NoneBelow bits low → Passed bits len index 0
-passed_none bits len index low some le none =
-    let words : words_from (word_at bits) 0 (64 * index) ≡ replicate (64 * index) false =
-    all_words (word_at bits) 0 (64 * index) false (λ word lt. none (0 + word) (omega arith)) in
+pub passed_none : (bits : List ℕ) (len first : ℕ) → 1 ≤ len → Passed bits len first first 0
+passed_none bits len first some =
+    let none = no_bitmaps bits first in
+    record { short = omega (arith, ap widest none); back = ap back_run none }
+
+pub length-between : (bits : List ℕ) (first end : ℕ) → length (words_between bits first end) ≡ 64 * (end - first)
+length-between bits first end = length-words (word_at bits) (64 * first) (64 * (end - first))
+
+pub between_split : (bits : List ℕ) (first index end : ℕ) → first ≤ index → index ≤ end →
+    words_between bits first end ≡ words_between bits first index ++ words_between bits index end
+between_split bits first index end from to =
+    ap (words_from (word_at bits) (64 * first))
+    (let e : 64 * (end - first) ≡ 64 * (index - first) + 64 * (end - index) = omega arith in e)
+    ∙ (words_from-add (word_at bits) (64 * first) (64 * (index - first)) (64 * (end - index))
+    ∙ ap (λ p. words_between bits first index ++ words_from (word_at bits) p (64 * (end - index)))
+    (let e : 64 * first + 64 * (index - first) ≡ 64 * index = omega arith in e))
+
+pub one_bitmap : (bits : List ℕ) (index : ℕ) →
+    words_between bits index (index + 1) ≡ words_of_bits (get_or bits index 0)
+one_bitmap bits index =
+    ap (words_from (word_at bits) (64 * index)) (let e : 64 * ((index + 1) - index) ≡ 64 = omega arith in e)
+    ∙ sym (bitmap_words bits index)
+
+between_next : (bits : List ℕ) (first index : ℕ) → first ≤ index →
+    words_between bits first (index + 1) ≡ words_between bits first index ++ words_of_bits (get_or bits index 0)
+between_next bits first index from =
+    between_split bits first index (index + 1) from (omega arith)
+    ∙ ap (λ (words : List Bool). words_between bits first index ++ words) (one_bitmap bits index)
+
+-- the lowest fit of some bitmaps
+pub record Found (bits : List ℕ) (len first end place : ℕ) : Type 0 where
+  pub fits : len ≤ widest (words_between bits first end)
+  pub lowest : place ≡ 64 * first + lowest_fit len (words_between bits first end)
+
+found_before : (bits : List ℕ) (len first index end place : ℕ) → 1 ≤ len → first ≤ index → index ≤ end →
+    len ≤ widest (words_between bits first index) →
+    place ≡ 64 * first + lowest_fit len (words_between bits first index) → Found bits len first end place
+found_before bits len first index end place some from to fits is =
+    let before = words_between bits first index in
+    let rest = words_between bits index end in
+    let all = between_split bits first index end from to in
     record {
-      short = omega (arith, ap widest words, widest_none (64 * index));
-      back = ap back_run words ∙ back_none (64 * index);
+      fits = omega (arith, ap widest all, widest-append before rest);
+      lowest = omega (arith, is, ap (lowest_fit len) all, lowest-append_left len before rest some fits);
     }
-
-below_next : (bits : List ℕ) (index : ℕ) →
-    words_below bits (index + 1) ≡ words_below bits index ++ words_of_bits (get_or bits index 0)
-below_next bits index =
-    ap (words_from (word_at bits) 0) (let e : 64 * (index + 1) ≡ 64 * index + 64 = omega arith in e)
-    ∙ (words_from-add (word_at bits) 0 (64 * index) 64
-    ∙ ap (λ (words : List Bool). words_from (word_at bits) 0 (64 * index) ++ words)
-    (ap (λ p. words_from (word_at bits) p 64) (let e : 0 + 64 * index ≡ 64 * index = omega arith in e)
-    ∙ sym (leaf_words bits index)))
-
-below_all : (bits : List ℕ) (index : ℕ) → index ≤ length bits → words_of bits
-    ≡ words_below bits index ++ words_from (word_at bits) (0 + 64 * index) (64 * length bits - 64 * index)
-below_all bits index le =
-    ap (words_from (word_at bits) 0)
-    (let e : 64 * length bits ≡ 64 * index + (64 * length bits - 64 * index) = omega arith in e)
-    ∙ words_from-add (word_at bits) 0 (64 * index) (64 * length bits - 64 * index)
-
--- the lowest fit of the words below an index is that of all
-pub record Found (bits : List ℕ) (len place : ℕ) : Type 0 where
-  pub fits : len ≤ widest (words_of bits)
-  pub lowest : place ≡ lowest_fit len (words_of bits)
-
-found_below : (bits : List ℕ) (len index place : ℕ) → 1 ≤ len → index ≤ length bits →
-    len ≤ widest (words_below bits index) → place ≡ lowest_fit len (words_below bits index) → Found bits len place
-found_below bits len index place some le fits is =
-    let rest = words_from (word_at bits) (0 + 64 * index) (64 * length bits - 64 * index) in
-    let all = below_all bits index le in
-    record {
-      fits = omega (arith, ap widest all, widest-append (words_below bits index) rest);
-      lowest = is ∙ sym (ap (lowest_fit len) all ∙ lowest-append_left len (words_below bits index) rest some fits);
-    }
-
-length-below : (bits : List ℕ) (index : ℕ) → length (words_below bits index) ≡ 64 * index
-length-below bits index = length-words (word_at bits) 0 (64 * index)
 
 -- it begins right before a bitmap
-pub found_between : (bits : List ℕ) (len index run : ℕ) → 1 ≤ len → index < length bits → Passed bits len index run →
-    len ≤ run + front_run (words_of_bits (get_or bits index 0)) → Found bits len (64 * index - run)
-found_between bits len index run some lt passed fits =
-    let before = words_below bits index in
+pub found_between : (bits : List ℕ) (len first end index run : ℕ) → 1 ≤ len → first ≤ index → index < end →
+    Passed bits len first index run → len ≤ run + front_run (words_of_bits (get_or bits index 0)) →
+    Found bits len first end (64 * index - run)
+found_between bits len first end index run some from lt passed fits =
+    let before = words_between bits first index in
     let here = words_of_bits (get_or bits index 0) in
-    let next = below_next bits index in
-    found_below bits len (index + 1) (64 * index - run) some (omega arith)
+    let next = between_next bits first index from in
+    found_before bits len first (index + 1) end (64 * index - run) some (omega arith) (omega arith)
     (omega (arith, ap widest next, widest-append before here, passed.back))
-    (sym (ap (lowest_fit len) next ∙ omega (
+    (omega (
       arith,
+      ap (lowest_fit len) next,
       lowest-append_between len before here passed.short (omega (arith, passed.back)),
       passed.back,
-      length-below bits index,
-    )))
+      length-between bits first index,
+      back-le-length before,
+    ))
 
 -- it begins in a bitmap
-pub found_inside : (bits : List ℕ) (len index run place : ℕ) → 1 ≤ len → index < length bits →
-    Passed bits len index run → run + front_run (words_of_bits (get_or bits index 0)) < len →
+pub found_inside : (bits : List ℕ) (len first end index run place : ℕ) → 1 ≤ len → first ≤ index → index < end →
+    Passed bits len first index run → run + front_run (words_of_bits (get_or bits index 0)) < len →
     len ≤ widest (words_of_bits (get_or bits index 0)) →
-    place ≡ lowest_fit len (words_of_bits (get_or bits index 0)) → Found bits len (64 * index + place)
-found_inside bits len index run place some lt passed apart fits is =
-    let before = words_below bits index in
+    place ≡ lowest_fit len (words_of_bits (get_or bits index 0)) → Found bits len first end (64 * index + place)
+found_inside bits len first end index run place some from lt passed apart fits is =
+    let before = words_between bits first index in
     let here = words_of_bits (get_or bits index 0) in
-    let next = below_next bits index in
-    found_below bits len (index + 1) (64 * index + place) some (omega arith)
+    let next = between_next bits first index from in
+    found_before bits len first (index + 1) end (64 * index + place) some (omega arith) (omega arith)
     (omega (arith, ap widest next, widest-append before here))
-    (sym (ap (lowest_fit len) next ∙ omega (
+    (omega (
       arith,
+      is,
+      ap (lowest_fit len) next,
       lowest-append_right len before here passed.short (omega (arith, passed.back)),
-      length-below bits index,
-    )))
+      length-between bits first index,
+    ))
 
 -- it stands behind a bitmap
-pub passed_more : (bits : List ℕ) (len index run next_run : ℕ) → Passed bits len index run →
-    run + front_run (words_of_bits (get_or bits index 0)) < len →
+pub passed_more : (bits : List ℕ) (len first index run next_run : ℕ) → first ≤ index →
+    Passed bits len first index run → run + front_run (words_of_bits (get_or bits index 0)) < len →
     widest (words_of_bits (get_or bits index 0)) < len →
     next_run ≡ cond (all_free (words_of_bits (get_or bits index 0)))
     (back_run (words_of_bits (get_or bits index 0)) + run) (back_run (words_of_bits (get_or bits index 0))) →
-    Passed bits len (index + 1) next_run
-passed_more bits len index run next_run passed apart short is =
-    let before = words_below bits index in
+    Passed bits len first (index + 1) next_run
+passed_more bits len first index run next_run from passed apart short is =
+    let before = words_between bits first index in
     let here = words_of_bits (get_or bits index 0) in
-    let next = below_next bits index in
+    let next = between_next bits first index from in
     record {
       short = omega (arith, ap widest next, widest-append before here, passed.back, passed.short);
       back = ap back_run next ∙ (back-append before here
           ∙ (ap (λ n. cond (all_free here) (back_run here + n) (back_run here)) passed.back ∙ sym is));
     }
 
-pub run_within : (bits : List ℕ) (len index run : ℕ) → Passed bits len index run → run ≤ 64 * index
-run_within bits len index run passed =
-    omega (arith, passed.back, back-le-length (words_below bits index), length-below bits index)
+pub run_within : (bits : List ℕ) (len first index run : ℕ) → Passed bits len first index run →
+    run ≤ 64 * (index - first)
+run_within bits len first index run passed =
+    omega (arith, passed.back, back-le-length (words_between bits first index), length-between bits first index)
 
--- The summary of all words, bitmap after bitmap.
-pub first_summary : (bits : List ℕ) (nodes : List Summary) (first last : ℕ) → IsTreeBeside bits nodes first last →
-    node_at nodes (length bits) ≡ summary (words_below bits 1)
-first_summary bits nodes first last tree =
-    let some : 0 < length bits = omega (arith, tree.leaves, pow_pos tree.height) in
-    let at : length bits ≡ length bits + 0 = omega arith in
-    ap (node_at nodes) at ∙ (tree.are_leaves 0 some ∙ ap summary (leaf_words bits 0))
+-- Where no word is free before the first of the bitmaps.
+pub found_near : (bits : List ℕ) (len near end place : ℕ) → 1 ≤ len → near ≤ end → end ≤ length bits →
+    NoneBelow bits (64 * near) → Found bits len near end place →
+    (len ≤ widest (words_of bits)) × (place ≡ lowest_fit len (words_of bits))
+found_near bits len near end place some from to none found =
+    let here = words_between bits near end in
+    let rest = words_between bits end (length bits) in
+    let all : words_of bits ≡ replicate (64 * near) false ++ (here ++ rest) =
+    ap (λ n. words_from (word_at bits) 0 n) (let e : 64 * length bits ≡ 64 * near + 64 * (length bits - near) = omega arith in e)
+    ∙ (words_from-add (word_at bits) 0 (64 * near) (64 * (length bits - near))
+    ∙ (ap (λ p. words_from (word_at bits) 0 (64 * near) ++ words_from (word_at bits) p (64 * (length bits - near)))
+    (let e : 0 + 64 * near ≡ 64 * near = omega arith in e)
+    ∙ (ap (λ (words : List Bool). words ++ words_between bits near (length bits))
+    (all_words (word_at bits) 0 (64 * near) false (λ word lt. none (0 + word) (omega arith)))
+    ∙ ap (λ (words : List Bool). replicate (64 * near) false ++ words)
+    (between_split bits near end (length bits) from to)))) in (
+      omega (arith, found.fits, ap widest all, widest_before (64 * near) (here ++ rest), widest-append here rest),
+      omega (
+        arith,
+        found.lowest,
+        ap (lowest_fit len) all,
+        lowest_before len (64 * near) (here ++ rest) some,
+        lowest-append_left len here rest some found.fits,
+      ),
+    )
 
-pub next_summary : (bits : List ℕ) (nodes : List Summary) (first last leaf : ℕ) (all : Summary) →
-    IsTreeBeside bits nodes first last → leaf < length bits → all ≡ summary (words_below bits leaf) →
-    join all (node_at nodes (length bits + leaf)) ≡ summary (words_below bits (leaf + 1))
-next_summary bits nodes first last leaf all tree lt is =
-    let before = words_below bits leaf in
-    let here = words_of_bits (get_or bits leaf 0) in
-    ap (λ (s : Summary). join s (node_at nodes (length bits + leaf))) is
-    ∙ (ap (join (summary before)) (tree.are_leaves leaf lt)
+pub found_near_if : (found : Option ℕ) (bits : List ℕ) (len near end : ℕ) → 1 ≤ len → near ≤ end →
+    end ≤ length bits → NoneBelow bits (64 * near) →
+    (widest (words_between bits near end) < len → IsNone found) →
+    IfSome found (λ place. place ≡ 64 * near + lowest_fit len (words_between bits near end)) →
+    IfSome found (λ place. len ≤ widest (words_of bits)) × IfSome found (λ place. place ≡ lowest_fit len (words_of bits))
+found_near_if None bits len near end some from to none short lowest = (tt, tt)
+found_near_if (Some place) bits len near end some from to none short lowest =
+    elim (cases_lt (widest (words_between bits near end)) len) [
+      | inl lt ↦ absurd (true≢false (short lt))
+      | inr fits ↦ found_near bits len near end place some from to none (record { fits = fits; lowest = lowest })
+    ]
+
+-- The summary of some bitmaps, one after another.
+pub first_summary : (bits : List ℕ) (first : ℕ) →
+    ◌≡◌ {A = Summary} (record { front = 0; back = 0; longest = 0; whole = true }) (summary (words_between bits first first))
+first_summary bits first = sym (ap summary (no_bitmaps bits first))
+
+pub next_summary : (bits : List ℕ) (first index : ℕ) (all : Summary) → first ≤ index → index < length bits →
+    64 * length bits < 2 ^ 64 → all ≡ summary (words_between bits first index) →
+    join all (summary (words_of_bits (get_or bits index 0))) ≡ summary (words_between bits first (index + 1))
+next_summary bits first index all from lt small is =
+    let before = words_between bits first index in
+    let here = words_of_bits (get_or bits index 0) in
+    ap (λ (s : Summary). join s (summary here)) is
     ∙ (sym (summary-append before here (omega (
       arith,
-      length-below bits leaf,
-      length-bits (get_or bits leaf 0),
-      tree.small,
+      length-between bits first index,
+      length-bits (get_or bits index 0),
     )))
-    ∙ sym (ap summary (below_next bits leaf))))
+    ∙ sym (ap summary (between_next bits first index from)))
+
+pub all_between : (bits : List ℕ) (end : ℕ) → end ≡ length bits → words_between bits 0 end ≡ words_of bits
+all_between bits end is = ap (words_from (word_at bits) 0) (let e : 64 * (end - 0) ≡ 64 * length bits = omega arith in e)

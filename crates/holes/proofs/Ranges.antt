@@ -290,3 +290,13 @@ widest_alone [] few = refl
 widest_alone (false ∷ free) few = omega (arith, widest_alone free few, free_count_no free)
 widest_alone (true ∷ free) few =
     omega (arith, front_alone free (omega arith), (widest-le-free_count free).0, free_count_yes free)
+
+-- each hole has a free word
+holes_within : (free : List Bool) (before : Bool) → hole_count_after before free ≤ free_count free
+holes_within [] before = omega arith
+holes_within (false ∷ free) before = omega (arith, holes_within free false, free_count_no free)
+holes_within (true ∷ free) true = omega (arith, holes_within free true, free_count_yes free)
+holes_within (true ∷ free) false = omega (arith, holes_within free true, free_count_yes free)
+
+pub few_holes : (free : List Bool) → hole_count free ≤ free_count free
+few_holes free = holes_within free false

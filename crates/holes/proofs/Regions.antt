@@ -1,27 +1,28 @@
 -- The words of a region, which are the first of its bitmaps' words.
-use Rattle.std.proofs.Common.{◌≡◌, ℕ, ◌+◌, ◌-◌, ◌*◌, ◌/◌, ◌%◌, ◌<◌, ◌≤◌, Bool, true, false, not, cond, eqb}
-use Rattle.std.proofs.Common.{ltb, List, ◌++◌, ◌^◌, length, take, get_or, Option, Some, None, IsNone, IfSome}
+use Rattle.std.proofs.Common.{◌≡◌, ℕ, ◌+◌, ◌-◌, ◌*◌, ◌/◌, ◌%◌, ◌<◌, ◌≤◌, Bool, true, false, cond, eqb}
+use Rattle.std.proofs.Common.{List, ◌++◌, ◌^◌, length, take, get_or, Option, Some, None, IsNone, IfSome}
 use Rattle.std.proofs.Common.{refl, sym, ◌∙◌, ap, subst, inl, inr, arith, zero, suc}
 use Rattle.std.specs.Prelude.{replicate}
-use Rattle.std.specs.Int.{bit_at, from_bool}
+use Rattle.std.specs.Int.{bit_at}
 use Rattle.holes.specs.declared.summary.Summary.{Summary}
 use Rattle.holes.specs.declared.tree.Changed.{Changed}
-use Rattle.std.proofs.lemmas.Bool.{true≢false, cases_lt, cases_eq, eq-eqb, ne_eqb, lt-ltb}
+use Rattle.std.proofs.lemmas.Bool.{true≢false, cases_lt}
 use Rattle.std.proofs.lemmas.List.{get_or_past, get_or-replicate, length-replicate}
+use Rattle.std.proofs.lemmas.Nat.{pow_pos}
 use Rattle.std.proofs.lemmas.Nat.Bits.{bit_at-zero}
 use Rattle.holes.specs.FreeWords.{Region, is_free, AllFree, NoneFree, IsLowestFit, set_range, free_from}
 use Rattle.holes.specs.FreeWords.{free_count, hole_count, widest}
-use Rattle.holes.specs.Tree.{words_from, words_of_bits, word_at, word_before, words_of, lowest_fit}
-use Rattle.holes.specs.Tree.{nothing_free, summary, join, node_at, NoneBelow, IsFilled, IsTree, IsTreeBeside}
-use Rattle.holes.specs.Tree.{IsHoles, IsPowerOfTwo}
+use Rattle.holes.specs.Tree.{words_from, word_at, words_of, lowest_fit, nothing_free, summary, join, node_at}
+use Rattle.holes.specs.Tree.{leaf_count, NoneBelow, NoneBelowBeside, IsFilled, IsTree, IsTreeBeside, IsHoles}
+use Rattle.holes.specs.Tree.{IsPowerOfTwo}
 use Rattle.holes.proofs.Ranges.{last_of, free_count_given, free_count-le-length, free_count-false}
 use Rattle.holes.proofs.Ranges.{free_count-free_from, hole_count_after-false, set_range_same}
 use Rattle.holes.proofs.Ranges.{length-set_range, set_range_inside, set_range_before, set_range_behind}
 use Rattle.holes.proofs.Ranges.{same_words, length-free_from, free_from_below, free_from_above}
 use Rattle.holes.proofs.Runs.{lowest-append_left, lowest_is_lowest, lowest_within}
 use Rattle.holes.proofs.Bits.{length-words, word_in, words_from-add, all_words}
-use Rattle.holes.proofs.Bitmaps.{widest_behind, summary_of_zero}
-use Rattle.holes.proofs.Nodes.{word_past, beside_of_tree}
+use Rattle.holes.proofs.Bitmaps.{widest_behind, summary_all}
+use Rattle.holes.proofs.Nodes.{beside_of_tree}
 use Rattle.holes.proofs.Counts.{last_taken, hole_count_changed, hole_count_from}
 
 -- no word is free from a place on
@@ -82,32 +83,6 @@ filled_none_from old new size place len value range filled none word ge lt =
     filled.behind word (omega arith) (omega (arith, filled.same_length)) ∙ none word ge
     (omega (arith, filled.same_length))
 
--- a word of the region, or the one right behind it
-pub word_is : (bits : List ℕ) (size word : ℕ) → NoneFrom bits size → word ≤ size →
-    is_free (words_from (word_at bits) 0 size) word ≡ word_at bits word
-word_is bits size word none within = elim (cases_lt word size) [
-  | inl lt ↦ word_in (word_at bits) 0 size word lt ∙ ap (word_at bits) (let e : 0 + word ≡ word = omega arith in e)
-  | inr ge ↦ get_or_past (words_from (word_at bits) 0 size) word false (omega (
-    arith,
-    length-words (word_at bits) 0
-        size,
-  ))
-      ∙ sym (elim (cases_lt word (64 * length bits)) [
-        | inl lt ↦ none word ge lt
-        | inr past ↦ word_past bits word past
-      ])
-]
-
-pub before_is : (bits : List ℕ) (size place : ℕ) → place ≤ size →
-    last_of false (take place (words_from (word_at bits) 0 size)) ≡ word_before (word_at bits) place
-before_is bits size zero within = refl
-before_is bits size (suc place) within =
-    last_taken false (words_from (word_at bits) 0 size) place (omega (arith, length-words (word_at bits) 0 size))
-    ∙ (word_in (word_at bits) 0 size place (omega arith)
-    ∙ (ap (word_at bits) (let e : 0 + place ≡ suc place - 1 = omega arith in e)
-    ∙ sym (ap (λ (b : Bool). cond b false (word_at bits (suc place - 1))) (ne_eqb (suc place) 0 (λ e. absurd
-    (omega arith))))))
-
 -- the words after the first were taken and the others given
 pub reset_words : (old middle new : List ℕ) (size from : ℕ) → size ≤ 64 * length old → from ≤ size →
     IsFilled old middle 0 from false → IsFilled middle new from (size - from) true →
@@ -129,14 +104,6 @@ pub same_region : (xs ys : List Bool) (m n : ℕ) → xs ≡ ys → m ≡ n →
     ◌≡◌ {A = Region} (record { free = xs; most = m }) (record { free = ys; most = n })
 same_region xs ys m n words most = cc
 
-one_or_other : (b : Bool) → cond b 1 0 + cond b 0 1 ≡ 1
-one_or_other true = refl
-one_or_other false = refl
-
-pub at_most_one : (b : Bool) → cond b 0 1 ≤ 1
-at_most_one true = omega arith
-at_most_one false = omega arith
-
 zero_at : (n k : ℕ) → get_or {A = ℕ} (replicate n 0) k 0 ≡ 0
 zero_at n k = elim (cases_lt k n) [
   | inl lt ↦ get_or-replicate {A = ℕ} n k 0 0 lt
@@ -151,51 +118,46 @@ none_at n k = elim (cases_lt k n) [
 
 -- A range that is taken or given.
 pub holes_after : (bits new_bits : List ℕ) (nodes new_nodes : List Summary) (changed new_changed : Changed)
-    (low new_low size free count most place len new_free new_count : ℕ) (value : Bool) →
-    IsHoles bits nodes changed low size free count most →
-    IsTreeBeside new_bits new_nodes new_changed.first new_changed.last → IsFilled bits new_bits place len value →
-    place + len ≤ size → NoneBelow new_bits new_low →
+    (near new_near size free most place len new_free : ℕ) (value : Bool) → IsHoles bits nodes changed near size free most →
+    IsTreeBeside new_bits new_nodes new_changed → IsFilled bits new_bits place len value → place + len ≤ size →
+    new_near < length bits → NoneBelow new_bits (64 * new_near) →
     new_free ≡ free_count (set_range (words_from (word_at bits) 0 size) place len value) →
-    new_count ≡ hole_count (set_range (words_from (word_at bits) 0 size) place len value) → new_count ≤ most →
-    IsHoles new_bits new_nodes new_changed new_low size new_free new_count most
-holes_after bits new_bits nodes new_nodes changed new_changed low new_low size free count most place len new_free
-    new_count
-    value is tree filled range none_below free_is count_is few =
+    hole_count (set_range (words_from (word_at bits) 0 size) place len value) ≤ most →
+    IsHoles new_bits new_nodes new_changed new_near size new_free most
+holes_after bits new_bits nodes new_nodes changed new_changed near new_near size free most place len new_free value is
+    tree filled range near_within none_below free_is few =
     let words = filled_words bits new_bits size place len value is.within range filled in
     record {
       tree = tree;
+      near_within = omega (arith, filled.same_length);
       none_below = none_below;
       within = omega (arith, is.within, filled.same_length);
       behind = filled_none_from bits new_bits size place len value range filled is.behind;
       free_is = free_is ∙ sym (ap free_count words);
-      count_is = count_is ∙ sym (ap hole_count words);
-      few = few;
+      few = omega (arith, ap hole_count words);
       some = is.some;
     }
 
 -- the place below which no word is free, after words were taken
-pub taken_low : (old new : List ℕ) (low new_low place len : ℕ) → IsFilled old new place len false → NoneBelow old low →
-    new_low ≡ cond (eqb low place) (place + len) low → NoneBelow new new_low
-taken_low old new low new_low place len filled none is word lt = elim (cases_eq low place) [
-  | inl same ↦
-      let end : new_low ≡ place + len = is ∙ ap (λ b. cond b (place + len) low) (eq-eqb low place same) in
-      elim (cases_lt word place) [
-        | inl below ↦ filled.before word below ∙ none word (omega arith)
-        | inr from ↦ filled.inside word from (omega arith)
-      ]
-  | inr other ↦
-      let end : new_low ≡ low = is ∙ ap (λ b. cond b (place + len) low) (ne_eqb low place other) in
-      elim (cases_lt word place) [
-        | inl below ↦ filled.before word below ∙ none word (omega arith)
-        | inr from ↦ elim (cases_lt word (place + len)) [
-          | inl inside ↦ filled.inside word from inside
-          | inr behind ↦ elim (cases_lt word (64 * length old)) [
-            | inl within ↦ filled.behind word behind within ∙ none word (omega arith)
-            | inr past ↦ word_past new word (omega (arith, filled.same_length))
-          ]
-        ]
-      ]
+pub taken_low : (old new : List ℕ) (low place len : ℕ) → low ≤ 64 * length old → IsFilled old new place len false →
+    NoneBelowBeside old low place len → NoneBelow new low
+taken_low old new low place len within filled none word lt = elim (cases_lt word place) [
+  | inl below ↦ elim (none word lt) [
+    | inl taken ↦ filled.before word below ∙ taken
+    | inr inside ↦ absurd (omega (arith, inside.0))
+  ]
+  | inr from ↦ elim (cases_lt word (place + len)) [
+    | inl inside ↦ filled.inside word from inside
+    | inr behind ↦ elim (none word lt) [
+      | inl taken ↦ filled.behind word behind (omega arith) ∙ taken
+      | inr inside ↦ absurd (omega (arith, inside.1))
+    ]
+  ]
 ]
+
+-- where none was free before, those that are taken don't matter
+pub none_beside : (bits : List ℕ) (low place len : ℕ) → NoneBelow bits low → NoneBelowBeside bits low place len
+none_beside bits low place len none word lt = inl (none word lt)
 
 -- after words were given
 pub given_low : (old new : List ℕ) (low new_low place len : ℕ) → IsFilled old new place len true → NoneBelow old low →
@@ -232,99 +194,101 @@ takes bits size len place within none some fits is =
       before = last_before words place (omega (arith, length-words (word_at bits) 0 size)) lowest.hole.before;
     }
 
--- how many holes there are when they were taken
-pub takes_count : (bits : List ℕ) (size len place less : ℕ) → NoneFrom bits size → 1 ≤ len → Takes bits size len place →
-    less ≡ cond (word_at bits (place + len)) 0 1 →
-    hole_count (words_from (word_at bits) 0 size)
-    ≡ hole_count (set_range (words_from (word_at bits) 0 size) place len false) + less
-takes_count bits size len place less none some t is =
+cond_most : (b : Bool) → (cond b 1 0 ≤ 1) × (cond b 0 1 ≤ 1)
+cond_most true = (omega arith, omega arith)
+cond_most false = (omega arith, omega arith)
+
+-- there are no more holes when they were taken
+pub takes_few : (bits : List ℕ) (size len place : ℕ) → 1 ≤ len → Takes bits size len place →
+    hole_count (set_range (words_from (word_at bits) 0 size) place len false)
+    ≤ hole_count (words_from (word_at bits) 0 size)
+takes_few bits size len place some t =
     let words = words_from (word_at bits) 0 size in
     let same : set_range words place len true ≡ words =
     set_range_same words place len true (omega (arith, t.within, length-words (word_at bits) 0 size)) t.all in
-    let changed = hole_count_changed words place len some in
-    let behind : ◌≡◌ {A = ℕ} (cond (is_free words (place + len)) 1 0) (cond (word_at bits (place + len)) 1 0) =
-    ap {B = ℕ} (λ (b : Bool). cond b 1 0) (word_is bits size (place + len) none t.within) in
     let one : ◌≡◌ {A = ℕ} (cond (last_of false (take place words)) 0 1) 1 = ap {B = ℕ} (λ (b : Bool). cond b 0 1)
     t.before in
     omega (
       arith,
       ap hole_count same,
-      changed,
-      behind,
+      hole_count_changed words place len some,
       one,
-      is,
-      one_or_other (word_at bits (place + len)),
+      (cond_most (is_free words (place + len))).0,
     )
 
--- how many holes there are when words were given
-pub gives_count : (bits : List ℕ) (size len place more less : ℕ) → NoneFrom bits size → 1 ≤ len → place + len ≤ size →
-    NoneFree (words_from (word_at bits) 0 size) place len → more ≡ cond (word_before (word_at bits) place) 0 1 →
-    less ≡ cond (word_at bits (place + len)) 1 0 →
-    hole_count (set_range (words_from (word_at bits) 0 size) place len true) + less
-    ≡ hole_count (words_from (word_at bits) 0 size) + more
-gives_count bits size len place more less none some within taken more_is less_is =
+-- there is at most one more when words were given
+pub gives_few : (bits : List ℕ) (size len place : ℕ) → 1 ≤ len → place + len ≤ size →
+    NoneFree (words_from (word_at bits) 0 size) place len →
+    hole_count (set_range (words_from (word_at bits) 0 size) place len true)
+    ≤ hole_count (words_from (word_at bits) 0 size) + 1
+gives_few bits size len place some within taken =
     let words = words_from (word_at bits) 0 size in
     let same : set_range words place len false ≡ words =
     set_range_same words place len false (omega (arith, length-words (word_at bits) 0 size)) taken in
-    let behind : ◌≡◌ {A = ℕ} (cond (is_free words (place + len)) 1 0) (cond (word_at bits (place + len)) 1 0) =
-    ap {B = ℕ} (λ (b : Bool). cond b 1 0) (word_is bits size (place + len) none within) in
-    let before : ◌≡◌ {A = ℕ} (cond (last_of false (take place words)) 0 1)
-    (cond (word_before (word_at bits) place) 0 1) =
-    ap {B = ℕ} (λ (b : Bool). cond b 0 1) (before_is bits size place (omega arith)) in
-    omega (arith, ap hole_count same, hole_count_changed words place len some, behind, before, more_is, less_is)
+    omega (
+      arith,
+      ap hole_count same,
+      hole_count_changed words place len some,
+      (cond_most (last_of false (take place words))).1,
+    )
 
 -- A region without a free word.
 pub no_words : (leaves word : ℕ) → word_at (replicate leaves 0) word ≡ false
 no_words leaves word = ap (λ b. eqb b 1) (ap (λ n. bit_at n (word % 64)) (zero_at leaves (word / 64))
     ∙ bit_at-zero (word % 64))
 
-pub tree_of_none : (leaves : ℕ) → IsPowerOfTwo leaves → 64 * leaves < 2 ^ 64 →
-    IsTree (replicate leaves 0) (replicate (2 * leaves) nothing_free)
+pub tree_of_none : (leaves : ℕ) → IsPowerOfTwo leaves → 256 * leaves < 2 ^ 64 →
+    IsTree (replicate (4 * leaves) 0) (replicate (2 * leaves) nothing_free)
 tree_of_none leaves power small =
-    let len : length {A = ℕ} (replicate leaves 0) ≡ leaves = length-replicate {A = ℕ} leaves 0 in
+    let bits : List ℕ = replicate (4 * leaves) 0 in
+    let nodes = replicate (2 * leaves) nothing_free in
+    let len : length bits ≡ 4 * leaves = length-replicate {A = ℕ} (4 * leaves) 0 in
     record {
       height = power.0;
-      leaves = len ∙ power.1;
+      bitmaps = omega (arith, power.1);
       small = omega arith;
-      node_count = omega (arith, length-replicate (2 * leaves) nothing_free);
-      are_leaves = λ leaf lt. none_at (2 * leaves) (length (replicate leaves 0) + leaf)
-          ∙ sym (ap (λ b. summary (words_of_bits b)) (zero_at leaves leaf) ∙ summary_of_zero);
+      node_count = omega (arith, length-replicate (2 * leaves) nothing_free, power.1);
+      are_leaves = λ leaf lt.
+          none_at (2 * leaves) (leaf_count nodes + leaf)
+          ∙ sym (ap summary (all_words (word_at bits) (256 * leaf) 256 false
+          (λ word lt. no_words (4 * leaves) (256 * leaf + word))) ∙ summary_all 256 false (omega arith));
       joined = λ index some parts.
           none_at (2 * leaves) index ∙ sym (ap (λ (n : Summary). join n (node_at (replicate (2 * leaves) nothing_free)
           (2 * index + 1))) (none_at (2 * leaves) (2 * index)) ∙ ap (join nothing_free)
           (none_at (2 * leaves) (2 * index + 1)));
     }
 
-pub holes_of_none : (leaves first size most : ℕ) → IsPowerOfTwo leaves → 64 * leaves < 2 ^ 64 → size ≤ 64 * leaves →
-    1 ≤ most → IsHoles (replicate leaves 0) (replicate (2 * leaves) nothing_free)
-    (record { first = first; last = 0 }) 0 size
-    0 0 most
-holes_of_none leaves first size most power small within some =
-    let words : words_from (word_at (replicate leaves 0)) 0 size ≡ replicate size false =
-    all_words (word_at (replicate leaves 0)) 0 size false (λ word lt. no_words leaves (0 + word)) in
+pub holes_of_none : (leaves size most : ℕ) → IsPowerOfTwo leaves → 256 * leaves < 2 ^ 64 → size ≤ 256 * leaves →
+    1 ≤ most → IsHoles (replicate (4 * leaves) 0) (replicate (2 * leaves) nothing_free)
+    (record { first = 0; end = 0 }) 0 size 0 most
+holes_of_none leaves size most power small within some =
+    let bits : List ℕ = replicate (4 * leaves) 0 in
+    let len : length bits ≡ 4 * leaves = length-replicate {A = ℕ} (4 * leaves) 0 in
+    let words : words_from (word_at bits) 0 size ≡ replicate size false =
+    all_words (word_at bits) 0 size false (λ word lt. no_words (4 * leaves) (0 + word)) in
     record {
-      tree = beside_of_tree (replicate leaves 0) (replicate (2 * leaves) nothing_free) first
-          (tree_of_none leaves power small);
-      none_below = λ word lt. no_words leaves word;
-      within = omega (arith, length-replicate {A = ℕ} leaves 0);
-      behind = λ word ge lt. no_words leaves word;
+      tree = beside_of_tree bits (replicate (2 * leaves) nothing_free) 0 0 (tree_of_none leaves power small)
+          (omega arith) (omega arith);
+      near_within = omega (arith, power.1, pow_pos power.0);
+      none_below = λ word lt. no_words (4 * leaves) word;
+      within = omega arith;
+      behind = λ word ge lt. no_words (4 * leaves) word;
       free_is = sym (ap free_count words ∙ free_count-false size);
-      count_is = sym (ap hole_count words ∙ hole_count_after-false false size);
-      few = omega arith;
+      few = omega (arith, ap hole_count words, hole_count_after-false false size);
       some = some;
     }
 
--- the same words where the nodes above those that changed were joined
-pub holes_joined : (bits : List ℕ) (nodes new : List Summary) (changed : Changed) (first low size free count most : ℕ) →
-    IsHoles bits nodes changed low size free count most → IsTree bits new →
-    IsHoles bits new (record { first = first; last = 0 }) low size free count most
-holes_joined bits nodes new changed first low size free count most is tree = record {
-  tree = beside_of_tree bits new first tree;
-  none_below = is.none_below;
+-- the same words where the nodes were joined, and none is free before another bitmap
+pub holes_joined : (bits : List ℕ) (nodes new : List Summary) (changed : Changed) (near new_near size free most : ℕ) →
+    IsHoles bits nodes changed near size free most → IsTree bits new → new_near < length bits →
+    NoneBelow bits (64 * new_near) → IsHoles bits new (record { first = 0; end = 0 }) new_near size free most
+holes_joined bits nodes new changed near new_near size free most is tree within none = record {
+  tree = beside_of_tree bits new 0 0 tree (omega arith) (omega arith);
+  near_within = within;
+  none_below = none;
   within = is.within;
   behind = is.behind;
   free_is = is.free_is;
-  count_is = is.count_is;
   few = is.few;
   some = is.some;
 }
@@ -379,48 +343,39 @@ takes_seen bits size most len place region within none some is long lowest =
 
 -- Exactly the words from a place on.
 pub holes_reset : (bits middle new : List ℕ) (nodes new_nodes : List Summary) (changed new_changed : Changed)
-    (low size free count most from new_count : ℕ) → IsHoles bits nodes changed low size free count most →
-    IsTreeBeside new new_nodes new_changed.first new_changed.last → from ≤ size → IsFilled bits middle 0 from false →
-    IsFilled middle new from (size - from) true → new_count ≡ cond (eqb (size - from) 0) 0 1 →
-    IsHoles new new_nodes new_changed from size (size - from) new_count most
-holes_reset bits middle new nodes new_nodes changed new_changed low size free count most from new_count is tree le first
-    second count_is =
+    (near new_near size free most from : ℕ) → IsHoles bits nodes changed near size free most →
+    IsTreeBeside new new_nodes new_changed → from ≤ size → IsFilled bits middle 0 from false →
+    IsFilled middle new from (size - from) true → new_near < length bits → 64 * new_near ≤ from →
+    IsHoles new new_nodes new_changed new_near size (size - from) most
+holes_reset bits middle new nodes new_nodes changed new_changed near new_near size free most from is tree le first
+    second near_within before =
     let words = reset_words bits middle new size from is.within le first second in
     let first_none = filled_none_from bits middle size 0 from false (omega arith) first is.behind in
     record {
       tree = tree;
-      none_below = λ word lt. second.before word lt ∙ first.inside word (omega arith) (omega arith);
+      near_within = omega (arith, first.same_length, second.same_length);
+      none_below = λ word lt. second.before word (omega arith) ∙ first.inside word (omega arith) (omega arith);
       within = omega (arith, is.within, first.same_length, second.same_length);
       behind = filled_none_from middle new size from (size - from) true (omega arith) second first_none;
       free_is = sym (ap free_count words ∙ free_count-free_from from size);
-      count_is = count_is ∙ sym (ap hole_count words ∙ hole_count_from from size);
-      few = omega (arith, is.some, at_most_one (eqb (size - from) 0), count_is);
+      few = omega (arith, is.some, (cond_most (eqb (size - from) 0)).1, ap hole_count words, hole_count_from from size);
       some = is.some;
     }
 
--- a flag as a number
-pub flag_of_not : (b : Bool) → from_bool (not b) ≡ cond b 0 1
-flag_of_not true = refl
-flag_of_not false = refl
-
-pub flag_of : (b : Bool) → from_bool b ≡ cond b 1 0
-flag_of true = refl
-flag_of false = refl
-
 -- what is known of a range that is given
-pub record Gives (bits : List ℕ) (size free count most place len : ℕ) : Type 0 where
+pub record Gives (bits : List ℕ) (size free most place len : ℕ) : Type 0 where
   pub within : place + len ≤ size
   pub taken : NoneFree (words_from (word_at bits) 0 size) place len
   pub free_is : free + len ≡ free_count (set_range (words_from (word_at bits) 0 size) place len true)
   pub free_within : free + len ≤ size
-  pub room : count < most
+  pub few : hole_count (set_range (words_from (word_at bits) 0 size) place len true) ≤ most
 
-pub gives : (bits : List ℕ) (nodes : List Summary) (changed : Changed) (low size free count most place len : ℕ)
-    (region : Region) → IsHoles bits nodes changed low size free count most →
-    ◌≡◌ {A = Region} (record { free = words_from (word_at bits) 0 size; most = most }) region →
+pub gives : (bits : List ℕ) (nodes : List Summary) (changed : Changed) (near size free most place len : ℕ)
+    (region : Region) → IsHoles bits nodes changed near size free most →
+    ◌≡◌ {A = Region} (record { free = words_from (word_at bits) 0 size; most = most }) region → 1 ≤ len →
     place + len ≤ length region.free → NoneFree region.free place len → hole_count region.free < region.most →
-    Gives bits size free count most place len
-gives bits nodes changed low size free count most place len region is view within none room =
+    Gives bits size free most place len
+gives bits nodes changed near size free most place len region is view some within none room =
     let words = words_from (word_at bits) 0 size in
     let all : length words ≡ size = length-words (word_at bits) 0 size in
     let range : place + len ≤ size = omega (arith, view_length bits size most region view) in
@@ -436,16 +391,25 @@ gives bits nodes changed low size free count most place len region is view withi
         free_count-le-length (set_range words place len true),
         length-set_range words place len true (omega arith),
       );
-      room = omega (
+      few = omega (
         arith,
-        is.count_is,
+        gives_few bits size len place some range taken,
         ap (λ (r : Region). hole_count r.free) view,
         ap (λ (r : Region). r.most) view,
       );
     }
 
-pub flag_of_some : (n : ℕ) → from_bool (ltb 0 n) ≡ cond (eqb n 0) 0 1
-flag_of_some zero = refl
-flag_of_some (suc n) =
-    ap from_bool (lt-ltb 0 (suc n) (omega arith))
-    ∙ sym (ap (λ (b : Bool). cond b 0 1) (ne_eqb (suc n) 0 (λ e. absurd (omega arith))))
+-- a tree of the same bitmaps and nodes
+pub same_tree : (bits other_bits : List ℕ) (nodes other_nodes : List Summary) → bits ≡ other_bits →
+    nodes ≡ other_nodes → IsTree bits nodes → IsTree other_bits other_nodes
+same_tree bits other_bits nodes other_nodes same_bits same_nodes tree =
+    subst (λ (list : List ℕ). IsTree list other_nodes) same_bits
+    (subst (λ (list : List Summary). IsTree bits list) same_nodes tree)
+
+-- holes of the same bitmaps and nodes
+pub same_holes : (bits other_bits : List ℕ) (nodes other_nodes : List Summary) (changed : Changed)
+    (near size free most : ℕ) → other_bits ≡ bits → other_nodes ≡ nodes →
+    IsHoles bits nodes changed near size free most → IsHoles other_bits other_nodes changed near size free most
+same_holes bits other_bits nodes other_nodes changed near size free most same_bits same_nodes is =
+    subst (λ (list : List ℕ). IsHoles list other_nodes changed near size free most) (sym same_bits)
+    (subst (λ (list : List Summary). IsHoles bits list changed near size free most) (sym same_nodes) is)

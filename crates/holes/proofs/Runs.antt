@@ -1,8 +1,10 @@
 -- The free words at the front and at the end of some words, the widest hole and the lowest fit, also of words that
 -- stand before others.
-use Rattle.std.proofs.Common.{◌≡◌, ℕ, ◌+◌, ◌-◌, ◌<◌, ◌≤◌, ◌^◌, min, max, Bool, true, false, cond, List, []}
+use Rattle.std.proofs.Common.{◌≡◌, ℕ, ◌+◌, ◌-◌, ◌<◌, ◌≤◌, ◌^◌, min, max, Bool, true, false, ◌&&◌, cond, List, []}
 use Rattle.std.proofs.Common.{◌∷◌, ◌++◌, length, drop, refl, sym, ◌∙◌, ap, inl, inr, arith, zero, suc}
-use Rattle.std.proofs.lemmas.Bool.{cases_lt, cases_Bool, false≢true, le-leb, lt-leb, cond-true, cond-false}
+use Rattle.std.specs.Prelude.{nat_eq}
+use mathlib.Core.Bool.{beq}
+use Rattle.std.proofs.lemmas.Bool.{cases_lt, cases_Bool, false≢true, le-leb, lt-leb, cond-true, cond-false, eqb-true}
 use Rattle.std.proofs.lemmas.List.{length-append, length-drop, get_or-drop}
 use Rattle.holes.specs.declared.summary.Summary.{Summary}
 use Rattle.holes.specs.FreeWords.{is_free, AllFree, IsLowestFit, front_run, widest}
@@ -98,6 +100,26 @@ pub same_summary : (f1 f2 b1 b2 l1 l2 : ℕ) (w1 w2 : Bool) → f1 ≡ f2 → b1
     ◌≡◌ {A = Summary} (record { front = f1; back = b1; longest = l1; whole = w1 })
     (record { front = f2; back = b2; longest = l2; whole = w2 })
 same_summary f1 f2 b1 b2 l1 l2 w1 w2 f b l w = cc
+
+same_bools : (x y : Bool) → beq x y ≡ true → x ≡ y
+same_bools true true e = refl
+same_bools true false e = absurd (false≢true e)
+same_bools false true e = absurd (false≢true e)
+same_bools false false e = refl
+
+-- where the derived `==` is true
+pub equal_summaries : (a b : Summary) → (nat_eq a.front b.front && (nat_eq a.back b.back &&
+    (nat_eq a.longest b.longest && beq a.whole b.whole))) ≡ true → a ≡ b
+equal_summaries a b e =
+    let one = both_true (nat_eq a.front b.front) _ e in
+    let two = both_true (nat_eq a.back b.back) _ one.1 in
+    let three = both_true (nat_eq a.longest b.longest) _ two.1 in
+    same_summary a.front b.front a.back b.back a.longest b.longest a.whole b.whole (eqb-true a.front b.front one.0)
+    (eqb-true a.back b.back two.0) (eqb-true a.longest b.longest three.0) (same_bools a.whole b.whole three.1)
+  where
+    both_true : (x y : Bool) → (x && y) ≡ true → (x ≡ true) × (y ≡ true)
+    both_true true y h = (refl, h)
+    both_true false y h = absurd (false≢true h)
 
 sum_fits : (all : Bool) (n a b : ℕ) → a + b < 2 ^ 64 → n ≡ cond all (a + b) a →
     n ≡ cond all (min (a + b) (2 ^ 64 - 1)) a

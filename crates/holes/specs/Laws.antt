@@ -47,3 +47,7 @@ pub record IsWidest (free : List Bool) (most : ℕ) : Type 0 where
 
 abbrev pub WidestIsGreatest : Type 0
 WidestIsGreatest = (free : List Bool) → IsWidest free (widest free)
+
+-- there are no more holes than free words
+abbrev pub NoMoreHolesThanWords : Type 0
+NoMoreHolesThanWords = (free : List Bool) → hole_count free ≤ free_count free

@@ -60,13 +60,17 @@ words_of_bits bits = words_from (is_set bits) 0 64
 abbrev pub word_at : List ℕ → ℕ → Bool
 word_at bits word = is_set (slice_index_or bits (word / 64) 0) (word % 64)
 
--- whether the word right before a place is free, of words told so
-abbrev pub word_before : (ℕ → Bool) → ℕ → Bool
-word_before each place = if nat_eq place 0 then false else each (place - 1)
-
 -- all words of some bitmaps
 abbrev pub words_of : List ℕ → List Bool
 words_of bits = words_from (word_at bits) 0 (64 * length bits)
+
+-- the words of the bitmaps from an index up to another
+abbrev pub words_between : List ℕ → ℕ → ℕ → List Bool
+words_between bits first end = words_from (word_at bits) (64 * first) (64 * (end - first))
+
+-- the 256 words of a leaf
+abbrev pub leaf_words : List ℕ → ℕ → List Bool
+leaf_words bits leaf = words_from (word_at bits) (256 * leaf) 256
 
 -- the bitmaps with the words of place..place + len free, or not free, and the others as they were
 pub record IsFilled (old new : List ℕ) (place len : ℕ) (value : Bool) : Type 0 where
@@ -86,11 +90,27 @@ pub record IsWritten {A : Type 0} (old new : List A) (first end : ℕ) (value : 
 abbrev pub node_at : List Summary → ℕ → Summary
 node_at nodes index = slice_index_or nodes index nothing_free
 
--- the nodes of the leaves are those of their bitmaps
+-- how many leaves there are below some nodes
+abbrev pub leaf_count : List Summary → ℕ
+leaf_count nodes = length nodes / 2
+
+-- the node of a leaf is that of its words
+abbrev pub IsLeaf : List ℕ → List Summary → ℕ → Type 0
+IsLeaf bits nodes leaf = node_at nodes (leaf_count nodes + leaf) ≡ summary (leaf_words bits leaf)
+
+-- the nodes of the leaves are those of their words
 abbrev pub AreLeaves : List ℕ → List Summary → Type 0
-AreLeaves bits nodes =
-    (leaf : ℕ) → leaf < length bits →
-    node_at nodes (length bits + leaf) ≡ summary (words_of_bits (slice_index_or bits leaf 0))
+AreLeaves bits nodes = (leaf : ℕ) → leaf < leaf_count nodes → IsLeaf bits nodes leaf
+
+-- the nodes of the leaves are those of their words, but for the leaves from one up to another
+abbrev pub AreLeavesBeside : List ℕ → List Summary → ℕ → ℕ → Type 0
+AreLeavesBeside bits nodes first end =
+    (leaf : ℕ) → leaf < leaf_count nodes → (leaf < first) ⊎ (end ≤ leaf) → IsLeaf bits nodes leaf
+
+-- all words of the leaves strictly between two are free, or none is
+abbrev pub AreAllBetween : List ℕ → ℕ → ℕ → Bool → Type 0
+AreAllBetween bits first last value =
+    (word : ℕ) → 256 * (first + 1) ≤ word → word < 256 * last → word_at bits word ≡ value
 
 -- the node at an index is that of its two parts
 abbrev pub IsJoined : List Summary → ℕ → Type 0
@@ -114,10 +134,11 @@ abbrev pub AreSameBeside : List Summary → List Summary → ℕ → ℕ → Typ
 AreSameBeside old new first last =
     (index : ℕ) → (index < first) ⊎ (last < index) → node_at new index ≡ node_at old index
 
--- the nodes are the same, but for those of the bitmaps with the words of place..place + len
-abbrev pub AreSameBesideWords : List Summary → List Summary → ℕ → ℕ → ℕ → Type 0
-AreSameBesideWords old new leaves place len =
-    AreSameBeside old new (leaves + place / 64) (leaves + (place + len - 1) / 64)
+-- the nodes are the same, but for those of the leaves from one up to another
+abbrev pub AreSameBesideLeaves : List Summary → List Summary → ℕ → ℕ → Type 0
+AreSameBesideLeaves old new first end =
+    (index : ℕ) → (index < leaf_count old + first) ⊎ (leaf_count old + end ≤ index) →
+    node_at new index ≡ node_at old index
 
 -- the nodes strictly between two indices are all alike
 abbrev pub AreAlike : List Summary → ℕ → ℕ → Summary → Type 0
@@ -130,40 +151,53 @@ pub record IsLevel (first last : ℕ) : Type 0 where
   pub order : first ≤ last
   pub to : last < 2 * 2 ^ depth
 
+-- each node is that of its parts, but for those above the leaves from one up to another
+abbrev pub AreJoinedBesideLeaves : List Summary → ℕ → ℕ → Type 0
+AreJoinedBesideLeaves nodes first end =
+    (index : ℕ) → 1 ≤ index → 2 * index + 1 < length nodes →
+    (2 * index + 1 < leaf_count nodes + first) ⊎ (leaf_count nodes + end ≤ 2 * index) → IsJoined nodes index
+
 -- the nodes of the tree over some bitmaps
 pub record IsTree (bits : List ℕ) (nodes : List Summary) : Type 0 where
   pub height : ℕ
-  pub leaves : length bits ≡ 2 ^ height
+  pub bitmaps : length bits ≡ 4 * 2 ^ height
   pub small : 64 * length bits < 2 ^ 64
-  pub node_count : length nodes ≡ 2 * length bits
+  pub node_count : length nodes ≡ 2 * 2 ^ height
   pub are_leaves : AreLeaves bits nodes
   pub joined : AreJoined nodes
 
--- the nodes of a tree over some bitmaps, where those above the nodes from an index to another needn't be joined
-pub record IsTreeBeside (bits : List ℕ) (nodes : List Summary) (first last : ℕ) : Type 0 where
+-- the nodes of a tree over some bitmaps, but for the nodes of the leaves that changed, and those above them, which needn't
+-- be joined
+pub record IsTreeBeside (bits : List ℕ) (nodes : List Summary) (changed : Changed) : Type 0 where
   pub height : ℕ
-  pub leaves : length bits ≡ 2 ^ height
+  pub bitmaps : length bits ≡ 4 * 2 ^ height
   pub small : 64 * length bits < 2 ^ 64
-  pub node_count : length nodes ≡ 2 * length bits
-  pub are_leaves : AreLeaves bits nodes
-  pub within : last < length nodes
-  pub joined : AreJoinedBeside nodes (first / 2) (last / 2)
+  pub node_count : length nodes ≡ 2 * 2 ^ height
+  pub order : changed.first ≤ changed.end
+  pub within : changed.end ≤ 2 ^ height
+  pub are_leaves : AreLeavesBeside bits nodes changed.first changed.end
+  pub joined : AreJoinedBesideLeaves nodes changed.first changed.end
 
 -- no word is free below a place
 abbrev pub NoneBelow : List ℕ → ℕ → Type 0
 NoneBelow bits low = (word : ℕ) → word < low → word_at bits word ≡ false
 
+-- no word is free below a place, but for those of place..place + len
+abbrev pub NoneBelowBeside : List ℕ → ℕ → ℕ → ℕ → Type 0
+NoneBelowBeside bits low place len =
+    (word : ℕ) → word < low → (word_at bits word ≡ false) ⊎ ((place ≤ word) × (word < place + len))
+
 abbrev pub IsPowerOfTwo : ℕ → Type 0
 IsPowerOfTwo n = (exponent : ℕ) × (n ≡ 2 ^ exponent)
 
--- the free words of a region of so many, of which so many are free in so many holes, with room for so many holes
-pub record IsHoles (bits : List ℕ) (nodes : List Summary) (changed : Changed) (low size free count most : ℕ) :
-    Type 0 where
-  pub tree : IsTreeBeside bits nodes changed.first changed.last
-  pub none_below : NoneBelow bits low
+-- the free words of a region of so many, none of them before a bitmap, of which so many are free, with room for so many
+-- holes
+pub record IsHoles (bits : List ℕ) (nodes : List Summary) (changed : Changed) (near size free most : ℕ) : Type 0 where
+  pub tree : IsTreeBeside bits nodes changed
+  pub near_within : near < length bits
+  pub none_below : NoneBelow bits (64 * near)
   pub within : size ≤ 64 * length bits
   pub behind : (word : ℕ) → size ≤ word → word < 64 * length bits → word_at bits word ≡ false
   pub free_is : free ≡ free_count (words_from (word_at bits) 0 size)
-  pub count_is : count ≡ hole_count (words_from (word_at bits) 0 size)
-  pub few : count ≤ most
+  pub few : hole_count (words_from (word_at bits) 0 size) ≤ most
   pub some : 1 ≤ most

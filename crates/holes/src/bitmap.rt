@@ -1,6 +1,6 @@
 //! Bitmaps of 64 words, the lowest bit the first word, where a set bit is a free word.
 
-ghost use Rattle.std.specs.Prelude.{◌≡◌, ℕ, ◌+◌, ◌-◌, ◌<◌, ◌≤◌, true, false, if◌then◌else◌, nat_le, nat_lt};
+ghost use Rattle.std.specs.Prelude.{◌≡◌, ◌≢◌, ℕ, ◌+◌, ◌-◌, ◌<◌, ◌≤◌, true, false, if◌then◌else◌, nat_le, nat_lt};
 ghost use Rattle.holes.specs.FreeWords.{front_run, widest};
 ghost use Rattle.holes.specs.Tree.{lowest_fit, summary, is_set, words_of_bits, back_run};
 
@@ -9,8 +9,24 @@ use crate::summary::Summary;
 /// The words of a bitmap.
 pub const WORDS: usize = 64;
 
+/// How many words are free in a row from the front of a bitmap on.
+#[inline(always)]
+pub(crate) fn front(bits: u64) -> usize
+    ensures { result ≡ front_run (words_of_bits bits) }
+{
+    bits.trailing_ones() as usize
+}
+
+/// How many words are free in a row up to the end of a bitmap.
+#[inline(always)]
+pub(crate) fn back(bits: u64) -> usize
+    ensures { result ≡ back_run (words_of_bits bits) }
+{
+    bits.leading_ones() as usize
+}
+
 /// The number of words of the widest hole of a bitmap.
-fn longest_run(bits: u64) -> usize
+pub(crate) fn longest(bits: u64) -> usize
     ensures { result ≡ widest (words_of_bits bits) }
 {
     if bits == u64::MAX {
@@ -32,9 +48,9 @@ pub(crate) fn summary(bits: u64) -> Summary
     ensures { result ≡ summary (words_of_bits bits) }
 {
     Summary {
-        front: bits.trailing_ones() as usize,
-        back: bits.leading_ones() as usize,
-        longest: longest_run(bits),
+        front: front(bits),
+        back: back(bits),
+        longest: longest(bits),
         whole: bits == u64::MAX,
     }
 }
@@ -77,9 +93,16 @@ pub(crate) fn with_range(bits: u64, from: usize, to: usize, value: bool) -> u64
     if value { bits | mask } else { bits & !mask }
 }
 
-/// A bitmap of which all words are free or not free.
-pub(crate) fn whole(value: bool) -> u64
-    ensures { (word : ℕ) → word < 64 → is_set result word ≡ value }
+/// A bitmap with one word free or not free, and the others as they were.
+#[inline(always)]
+pub(crate) fn with_word(bits: u64, word: usize, value: bool) -> u64
+    requires { word < 64 }
+    ensures here { is_set result word ≡ value }
+    ensures others { (other : ℕ) → other < 64 → other ≢ word → is_set result other ≡ is_set bits other }
 {
-    if value { u64::MAX } else { 0 }
+    if value {
+        bits | (1 << word)
+    } else {
+        bits & !(1 << word)
+    }
 }

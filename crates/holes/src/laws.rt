@@ -1,7 +1,7 @@
 //! Laws of free words. Each function does nothing, and its contract is the law.
 
 ghost use Rattle.holes.specs.Laws.{OneHoleHasAll, TakingLowersCount, GivingRaisesCount};
-ghost use Rattle.holes.specs.Laws.{OneHoleMoreThanRanges, HolesAreCounted, WidestIsGreatest};
+ghost use Rattle.holes.specs.Laws.{OneHoleMoreThanRanges, HolesAreCounted, WidestIsGreatest, NoMoreHolesThanWords};
 
 /// Where there is at most one hole, it has all free words, so that every length up to their number fits.
 pub fn one_hole_has_all()
@@ -31,4 +31,9 @@ pub fn holes_are_counted()
 /// The widest hole is as long as the longest of the greatest ranges of free words.
 pub fn widest_is_greatest()
     ensures { WidestIsGreatest }
+{}
+
+/// There are no more holes than free words.
+pub fn no_more_holes_than_words()
+    ensures { NoMoreHolesThanWords }
 {}

@@ -5,8 +5,8 @@
 //! free words (at each place whether the word there is free), and not as a list of holes.
 #![tactic(auto)]
 
-ghost use Rattle.std.specs.Prelude.{◌≡◌, ◌+◌, ◌*◌, ◌^◌, ◌<◌, ◌≤◌, ◌↔◌, if◌then◌else◌, nat_eq, length};
-ghost use Rattle.std.specs.Prelude.{replicate, true, IfOk, IfSome, IsNone, IfNone};
+ghost use Rattle.std.specs.Prelude.{◌≡◌, ◌+◌, ◌*◌, ◌<◌, ◌≤◌, ◌↔◌, length, replicate, true};
+ghost use Rattle.std.specs.Prelude.{IfOk, IfSome, IsNone, IfNone, MatchBool};
 ghost use Rattle.holes.specs.FreeWords.{NoneFree, IsLowestFit, taken_from, given_to, free_from, free_count};
 ghost use Rattle.holes.specs.FreeWords.{hole_count, widest};
 ghost use Rattle.holes.specs.Tree.{IsPowerOfTwo, lowest_fit};
@@ -20,7 +20,7 @@ use bitmap::WORDS;
 use std::alloc::{AllocError, Allocator};
 use std::marker::Model;
 use summary::Summary;
-use tree::Changed;
+use tree::{Changed, LEAF, LEAF_WORDS};
 
 /// The free words of a region.
 ///
@@ -28,20 +28,18 @@ use tree::Changed;
 /// words are free at their two ends. Room for it is reserved once, when it is made, so no other call takes memory.
 #[derive(Debug, Drop)]
 pub struct Holes<A: Allocator> {
-    /// The free words, a power of two of bitmaps. None is free from `size` on.
+    /// The free words as bitmaps. None is free from `size` on.
     bits: Vec<u64, A>,
     /// The nodes of the tree over the bitmaps.
     nodes: Vec<Summary, A>,
-    /// Which of the bitmaps' nodes changed after the nodes above them were joined.
+    /// The leaves whose words may have changed after the nodes were joined.
     changed: Changed,
-    /// A place below which no word is free.
-    low: usize,
+    /// A bitmap before which no word is free.
+    near: usize,
     /// The words of the region.
     size: usize,
     /// How many of them are free.
     free: usize,
-    /// How many holes there are.
-    count: usize,
     /// How many holes there is room for.
     most: usize,
 }
@@ -55,51 +53,48 @@ impl<A: Allocator> Model for Holes<A> {
 
     ghost view = { λ a. record { free = words_from (word_at a.bits.items) 0 a.size; most = a.most } };
 
-    ghost invariant = { λ a. IsHoles a.bits.items a.nodes.items a.changed a.low a.size a.free a.count a.most };
+    ghost invariant = { λ a. IsHoles a.bits.items a.nodes.items a.changed a.near a.size a.free a.most };
 }
 
-/// The number of bitmaps for so many words, a power of two.
+/// The words of the longest region, a quarter of what an address can count.
+const LONGEST: usize = usize::MAX / 4;
+
+/// The number of leaves for so many words, a power of two.
 fn leaves_for(size: usize) -> usize
     ensures power { IsPowerOfTwo result }
-    ensures enough { size ≤ 64 * result }
-    ensures few { 32 * result < size + 64 }
+    ensures enough { size ≤ 256 * result }
+    ensures few { 128 * result < size + 256 }
 {
     let mut leaves = 1;
-    while leaves < size.div_ceil(WORDS) {
+    while leaves < size.div_ceil(LEAF_WORDS) {
         leaves *= 2;
     }
     leaves
 }
 
-/// A place below which no word is free after the words `place..place + len` were taken, where none was below `low`.
-fn low_after(low: usize, place: usize, len: usize) -> usize
-    requires { place + len < 2 ^ 64 }
-    ensures { result ≡ (if nat_eq low place then place + len else low) }
-{
-    if low == place { place + len } else { low }
-}
-
 impl<A: Allocator> Holes<A> {
     /// A region of `size` words, all free, with room for `most` holes.
     ///
-    /// An error means that the allocator refused the room.
+    /// An error means that the allocator refused the room, or that the region has more words than any memory.
     pub fn new(alloc: A, size: usize, most: usize) -> Result<Self, AllocError>
     where
         A: Clone,
         requires { 1 ≤ most }
         ensures { IfOk result (λ holes. holes ≡ record { free = replicate size true; most = most }) }
     {
+        if size > LONGEST {
+            return Err(AllocError);
+        }
         let leaves = leaves_for(size);
         let nodes = vec![in alloc.clone()?; Summary::TAKEN; 2 * leaves]?;
-        let bits = vec![in alloc; 0; tree::leaf_count(&nodes)]?;
+        let bits = vec![in alloc; 0; LEAF * leaves]?;
         let mut holes = Self {
             bits,
             nodes,
             changed: Changed::NONE,
-            low: 0,
+            near: 0,
             size,
             free: 0,
-            count: 0,
             most,
         };
         holes.reset(0);
@@ -113,20 +108,35 @@ impl<A: Allocator> Holes<A> {
         ensures lowest { IfSome result (λ place. place ≡ lowest_fit len self.old.free) }
         ensures unchanged { self.new ≡ self.old }
     {
-        if let Some(place) = tree::find_near(&self.bits, &self.nodes, self.low, len) {
+        if let Some(place) = tree::find_near(&self.bits, self.near, len) {
             return Some(place);
         }
         tree::join_changed(&self.bits, &mut self.nodes, self.changed);
         self.changed = Changed::NONE;
-        self.low = tree::lowest_free(&self.bits, &self.nodes);
+        self.near = tree::later_near(&self.bits, &self.nodes, self.near);
         tree::find(&self.bits, &self.nodes, len)
     }
 
-    /// First fit: takes `len` words from the front of the lowest hole that has as many, and answers
-    /// where they begin. Exactly these words stop being free.
-    ///
-    /// None exactly where every hole is shorter; then nothing changes.
-    pub fn take(&mut self, len: usize) -> Option<usize>
+    /// Takes the lowest free word if the bitmap `near` has it and its leaf changed, so that no node needs a change. Else
+    /// nothing changes.
+    #[inline(always)]
+    fn take_near(&mut self) -> Option<usize>
+        ensures fits { IfSome result (λ place. 1 ≤ widest self.old.free) }
+        ensures lowest { IfSome result (λ place. place ≡ lowest_fit 1 self.old.free) }
+        ensures taken { IfSome result (λ place. self.new ≡ taken_from self.old place 1) }
+        ensures unchanged { IfNone result (self.new ≡ self.old) }
+    {
+        if !self.changed.has(self.near / LEAF) {
+            return None;
+        }
+        let place = tree::take_lowest(&mut self.bits, self.near)?;
+        self.free -= 1;
+        Some(place)
+    }
+
+    /// What `take` does if no word is at hand: it looks at some bitmaps, and then at the tree.
+    #[inline(never)]
+    fn take_far(&mut self, len: usize) -> Option<usize>
         requires { 1 ≤ len }
         ensures lowest { IfSome result (IsLowestFit self.old.free len) }
         ensures within { IfSome result (λ place. place + len ≤ length self.old.free) }
@@ -136,7 +146,7 @@ impl<A: Allocator> Holes<A> {
         ensures unchanged { IfNone result (self.new ≡ self.old) }
     {
         let place = self.find(len)?;
-        self.count -= usize::from(!tree::is_free(&self.bits, place + len));
+        self.near = tree::near_after(&self.bits, self.near, place, len);
         self.changed = tree::fill(
             &mut self.bits,
             &mut self.nodes,
@@ -145,25 +155,59 @@ impl<A: Allocator> Holes<A> {
             len,
             false,
         );
-        self.low = low_after(self.low, place, len);
         self.free -= len;
         Some(place)
     }
 
-    /// Gives the words `place..place + len` back: they are free again, in one hole with the free
-    /// words right before and right behind them. No other word changes.
+    /// First fit: takes `len` words from the front of the lowest hole that has as many, and answers
+    /// where they begin. Exactly these words stop being free.
     ///
-    /// The range lies in the region, has at least one word and covers no free word. There is room
-    /// for one more hole, whether or not the range makes one.
-    pub fn give(&mut self, place: usize, len: usize)
+    /// None exactly where every hole is shorter; then nothing changes.
+    #[inline(always)]
+    pub fn take(&mut self, len: usize) -> Option<usize>
+        requires { 1 ≤ len }
+        ensures lowest { IfSome result (IsLowestFit self.old.free len) }
+        ensures within { IfSome result (λ place. place + len ≤ length self.old.free) }
+        ensures taken { IfSome result (λ place. self.new ≡ taken_from self.old place len) }
+
+        ensures none { IsNone result ↔ (widest self.old.free < len) }
+        ensures unchanged { IfNone result (self.new ≡ self.old) }
+    {
+        if len == 1 {
+            if let Some(place) = self.take_near() {
+                return Some(place);
+            }
+        }
+        self.take_far(len)
+    }
+
+    /// Gives one word back if its leaf changed, so that no node needs a change, and answers whether it did. Else nothing
+    /// changes.
+    #[inline(always)]
+    fn give_near(&mut self, place: usize) -> bool
+        requires within { place + 1 ≤ length self.old.free }
+        requires none_free { NoneFree self.old.free place 1 }
+        requires room { hole_count self.old.free < self.old.most }
+        ensures { MatchBool result (self.new ≡ given_to self.old place 1) (self.new ≡ self.old) }
+    {
+        if !self.changed.has(place / LEAF_WORDS) {
+            return false;
+        }
+        tree::give_word(&mut self.bits, place);
+        self.near = self.near.min(place / WORDS);
+        self.free += 1;
+        true
+    }
+
+    /// What `give` does with words that aren't one word at hand.
+    #[inline(never)]
+    fn give_far(&mut self, place: usize, len: usize)
         requires some { 1 ≤ len }
         requires within { place + len ≤ length self.old.free }
         requires none_free { NoneFree self.old.free place len }
         requires room { hole_count self.old.free < self.old.most }
         ensures { self.new ≡ given_to self.old place len }
     {
-        self.count += usize::from(!tree::is_free_before(&self.bits, place));
-        self.count -= usize::from(tree::is_free(&self.bits, place + len));
         self.changed = tree::fill(
             &mut self.bits,
             &mut self.nodes,
@@ -172,8 +216,27 @@ impl<A: Allocator> Holes<A> {
             len,
             true,
         );
-        self.low = self.low.min(place);
+        self.near = self.near.min(place / WORDS);
         self.free += len;
+    }
+
+    /// Gives the words `place..place + len` back: they are free again, in one hole with the free
+    /// words right before and right behind them. No other word changes.
+    ///
+    /// The range lies in the region, has at least one word and covers no free word. There is room
+    /// for one more hole, whether or not the range makes one.
+    #[inline(always)]
+    pub fn give(&mut self, place: usize, len: usize)
+        requires some { 1 ≤ len }
+        requires within { place + len ≤ length self.old.free }
+        requires none_free { NoneFree self.old.free place len }
+        requires room { hole_count self.old.free < self.old.most }
+        ensures { self.new ≡ given_to self.old place len }
+    {
+        if len == 1 && self.give_near(place) {
+            return;
+        }
+        self.give_far(place, len);
     }
 
     /// Makes exactly the words `from..size` free.
@@ -182,8 +245,7 @@ impl<A: Allocator> Holes<A> {
         ensures { self.new ≡ record { free = free_from from (length self.old.free); most = self.old.most } }
     {
         self.free = self.size - from;
-        self.count = usize::from(self.free > 0);
-        self.low = from;
+        self.near = (from / WORDS).min(self.bits.len() - 1);
         self.changed = tree::fill(
             &mut self.bits,
             &mut self.nodes,
@@ -214,7 +276,7 @@ impl<A: Allocator> Holes<A> {
     pub fn widest(&self) -> usize
         ensures { result ≡ widest self.now.free }
     {
-        tree::widest(&self.bits, &self.nodes, self.changed)
+        tree::summary(&self.bits, 0, self.bits.len()).longest
     }
 
     /// The number of holes.
@@ -222,7 +284,7 @@ impl<A: Allocator> Holes<A> {
         ensures value { result ≡ hole_count self.now.free }
         ensures within { result ≤ self.now.most }
     {
-        self.count
+        tree::count(&self.bits, self.size)
     }
 
     /// The number of words of the region, free or not.

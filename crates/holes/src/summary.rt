@@ -4,7 +4,7 @@ ghost use Rattle.std.specs.Prelude.{◌≡◌, List, Bool};
 ghost use Rattle.holes.specs.Tree.{join, nothing_free};
 
 /// The free words at the front and at the end of some words, and the longest range of free words among them.
-#[derive(Clone, Copy, Debug)]
+#[derive(Clone, Copy, PartialEq, Eq, Debug)]
 pub struct Summary {
     /// How many words are free in a row from the front on.
     pub front: usize,
@@ -17,6 +17,14 @@ pub struct Summary {
 }
 
 impl Summary {
+    /// There is no word.
+    pub const EMPTY: Summary = Summary {
+        front: 0,
+        back: 0,
+        longest: 0,
+        whole: true,
+    };
+
     /// No word is free.
     pub const TAKEN: Summary = Summary {
         front: 0,

@@ -1,85 +1,83 @@
 //! A tree of fixed height over the words of a region.
 //!
-//! The leaves are bitmaps, a power of two of them. The nodes stand in one list: the root at 1, the parts of the
-//! node at `index` at `2 * index` and `2 * index + 1`, and the bitmap at `k` in the node at `leaves + k`.
+//! A leaf has four bitmaps, and there is a power of two of leaves. The nodes stand in one list: the root at 1, the parts
+//! of the node at `index` at `2 * index` and `2 * index + 1`, and the node of the leaf at `k` at `leaves + k`. Some leaves
+//! that follow one another may have changed after the nodes were joined.
 
-ghost use Rattle.std.specs.Prelude.{◌≡◌, ℕ, ◌+◌, ◌-◌, ◌*◌, ◌/◌, ◌^◌, ◌<◌, ◌≤◌, ◌↔◌, ◌⊎◌, nat_eq, true};
-ghost use Rattle.std.specs.Prelude.{length, IfSome, IsNone};
-ghost use Rattle.holes.specs.FreeWords.{widest};
-ghost use Rattle.holes.specs.Tree.{IsTree, AreJoined, AreJoinedBeside, AreSameFrom, AreSameBeside};
-ghost use Rattle.holes.specs.Tree.{AreSameBesideWords, AreAlike, IsLevel, IsWritten, IsTreeBeside, NoneBelow};
-ghost use Rattle.holes.specs.Tree.{IsFilled, AreLeaves, lowest_fit, words_of, node_at, word_at, word_before};
+ghost use Rattle.std.specs.Prelude.{◌≡◌, ℕ, ◌+◌, ◌-◌, ◌*◌, ◌/◌, ◌^◌, ◌<◌, ◌≤◌, ◌↔◌, replicate, length};
+ghost use Rattle.std.specs.Prelude.{IfSome, IfNone, IsNone, IsTrue, true, false};
+ghost use Rattle.holes.specs.FreeWords.{widest, hole_count};
+ghost use Rattle.holes.specs.Tree.{IsTree, AreJoined, AreJoinedBeside, AreSameFrom, AreSameBesideLeaves, AreAlike};
+ghost use Rattle.holes.specs.Tree.{IsLevel, IsWritten, IsTreeBeside, NoneBelow, NoneBelowBeside, IsFilled};
+ghost use Rattle.holes.specs.Tree.{AreLeaves, AreLeavesBeside, AreAllBetween, leaf_count, lowest_fit, summary};
+ghost use Rattle.holes.specs.Tree.{words_of, words_between, words_from, word_at};
 
 use crate::bitmap::{self, WORDS};
 use crate::summary::Summary;
 
-/// How many bitmaps are looked at before the tree is, and how many may have changed before nodes are joined. A range of
-/// words over more bitmaps is long.
-const NEAR: usize = 4;
+/// The bitmaps of a leaf.
+pub(crate) const LEAF: usize = 4;
 
-/// Writes a value at the places `first..end`.
-fn write<T: Copy>(items: &mut [T], first: usize, end: usize, value: T)
+/// The words of a leaf.
+pub(crate) const LEAF_WORDS: usize = LEAF * WORDS;
+
+/// How many leaves may have changed before nodes are joined. A range of words over more leaves is long.
+const NEAR: usize = 2;
+
+/// Writes a node at the indices `first..end`.
+fn write(nodes: &mut [Summary], first: usize, end: usize, node: Summary)
     requires order { first ≤ end }
-    requires within { end ≤ length items.old }
-    ensures { IsWritten items.old items.new first end value }
+    requires within { end ≤ length nodes.old }
+    ensures { IsWritten nodes.old nodes.new first end node }
 {
+    let Summary {
+        front,
+        back,
+        longest,
+        whole,
+    } = node;
     for index in first..end {
-        items[index] = value;
+        nodes[index] = Summary {
+            front,
+            back,
+            longest,
+            whole,
+        };
     }
 }
 
-/// Makes the words `from..to` of one bitmap free or not free, and its node follows it.
-fn fill_leaf(
-    bits: &mut [u64],
-    nodes: &mut [Summary],
-    index: usize,
-    from: usize,
-    to: usize,
-    value: bool,
-)
+/// Makes the words `from..to` of one bitmap free or not free.
+fn fill_bitmap(bits: &mut [u64], index: usize, from: usize, to: usize, value: bool)
     requires some { from < to }
     requires within { to ≤ 64 }
     requires index { index < length bits.old }
     requires small { 64 * length bits.old < 2 ^ 64 }
-    requires nodes { length nodes.old ≡ 2 * length bits.old }
-    requires leaves { AreLeaves bits.old nodes.old }
-    ensures filled { IsFilled bits.old bits.new (64 * index + from) (to - from) value }
-    ensures leaves { AreLeaves bits.new nodes.new }
-    ensures beside { AreSameBeside nodes.old nodes.new (length bits.old + index) (length bits.old + index) }
+    ensures { IsFilled bits.old bits.new (64 * index + from) (to - from) value }
 {
-    let leaves = bits.len();
-    let bitmap = bitmap::with_range(bits[index], from, to, value);
-    bits[index] = bitmap;
-    nodes[leaves + index] = bitmap::summary(bitmap);
+    bits[index] = bitmap::with_range(bits[index], from, to, value);
 }
 
-/// Makes all words of the bitmaps `first..end` free or not free, and their nodes follow them.
-fn fill_whole(bits: &mut [u64], nodes: &mut [Summary], first: usize, end: usize, value: bool)
+/// Makes all words of the bitmaps `first..end` free or not free.
+fn fill_bitmaps(bits: &mut [u64], first: usize, end: usize, value: bool)
     requires order { first ≤ end }
     requires within { end ≤ length bits.old }
     requires small { 64 * length bits.old < 2 ^ 64 }
-    requires nodes { length nodes.old ≡ 2 * length bits.old }
-    requires leaves { AreLeaves bits.old nodes.old }
-    ensures filled { IsFilled bits.old bits.new (64 * first) (64 * (end - first)) value }
-    ensures leaves { AreLeaves bits.new nodes.new }
-    ensures beside { AreSameBeside nodes.old nodes.new (length bits.old + first) (length bits.old + end - 1) }
+    ensures { IsFilled bits.old bits.new (64 * first) (64 * (end - first)) value }
 {
-    let leaves = bits.len();
-    let bitmap = bitmap::whole(value);
-    write(bits, first, end, bitmap);
-    write(nodes, leaves + first, leaves + end, bitmap::summary(bitmap));
+    let bitmaps = &mut bits[first..end];
+    if value {
+        bitmaps.fill(u64::MAX);
+    } else {
+        bitmaps.fill(0);
+    }
 }
 
-/// Makes the words `place..place + len` free or not free in the bitmaps, and the leaves' nodes follow them.
-fn fill_leaves(bits: &mut [u64], nodes: &mut [Summary], place: usize, len: usize, value: bool)
+/// Makes the words `place..place + len` free or not free.
+fn fill_words(bits: &mut [u64], place: usize, len: usize, value: bool)
     requires some { 1 ≤ len }
     requires within { place + len ≤ 64 * length bits.old }
     requires small { 64 * length bits.old < 2 ^ 64 }
-    requires nodes { length nodes.old ≡ 2 * length bits.old }
-    requires leaves { AreLeaves bits.old nodes.old }
-    ensures filled { IsFilled bits.old bits.new place len value }
-    ensures leaves { AreLeaves bits.new nodes.new }
-    ensures beside { AreSameBesideWords nodes.old nodes.new (length bits.old) place len }
+    ensures { IsFilled bits.old bits.new place len value }
 {
     let end = place + len;
     let first = place / WORDS;
@@ -87,12 +85,117 @@ fn fill_leaves(bits: &mut [u64], nodes: &mut [Summary], place: usize, len: usize
     let from = place - first * WORDS;
     let to = end - last * WORDS;
     if first == last {
-        fill_leaf(bits, nodes, first, from, to, value);
+        fill_bitmap(bits, first, from, to, value);
         return;
     }
-    fill_leaf(bits, nodes, first, from, WORDS, value);
-    fill_whole(bits, nodes, first + 1, last, value);
-    fill_leaf(bits, nodes, last, 0, to, value);
+    fill_bitmap(bits, first, from, WORDS, value);
+    fill_bitmaps(bits, first + 1, last, value);
+    fill_bitmap(bits, last, 0, to, value);
+}
+
+/// Makes one word of a bitmap free or not free.
+#[inline(always)]
+fn fill_word(bits: &mut [u64], index: usize, word: usize, value: bool)
+    requires within { word < 64 }
+    requires index { index < length bits.old }
+    requires small { 64 * length bits.old < 2 ^ 64 }
+    ensures { IsFilled bits.old bits.new (64 * index + word) 1 value }
+{
+    bits[index] = bitmap::with_word(bits[index], word, value);
+}
+
+/// Makes one word free.
+#[inline(always)]
+pub(crate) fn give_word(bits: &mut [u64], place: usize)
+    requires within { place < 64 * length bits.old }
+    requires small { 64 * length bits.old < 2 ^ 64 }
+    ensures { IsFilled bits.old bits.new place 1 true }
+{
+    fill_word(bits, place / WORDS, place % WORDS, true);
+}
+
+/// Takes the lowest free word, where none is free before the bitmap `near`. None where this bitmap has no free word.
+#[inline(always)]
+pub(crate) fn take_lowest(bits: &mut [u64], near: usize) -> Option<usize>
+    requires index { near < length bits.old }
+    requires small { 64 * length bits.old < 2 ^ 64 }
+    requires none_below { NoneBelow bits.old (64 * near) }
+    ensures bitmap { IfSome result (λ place. place / 64 ≡ near) }
+    ensures free { IfSome result (λ place. 1 ≤ widest (words_of bits.old)) }
+    ensures lowest { IfSome result (λ place. place ≡ lowest_fit 1 (words_of bits.old)) }
+    ensures taken { IfSome result (λ place. IsFilled bits.old bits.new place 1 false) }
+    ensures unchanged { IfNone result (bits.new ≡ bits.old) }
+{
+    let bitmap = bits[near];
+    if bitmap == 0 {
+        return None;
+    }
+    let word = bitmap.trailing_zeros() as usize;
+    fill_word(bits, near, word, false);
+    Some(near * WORDS + word)
+}
+
+/// The summary of the words of the bitmaps `first..end`.
+pub(crate) fn summary(bits: &[u64], first: usize, end: usize) -> Summary
+    requires order { first ≤ end }
+    requires within { end ≤ length bits.now }
+    requires small { 64 * length bits.now < 2 ^ 64 }
+    ensures { result ≡ summary (words_between bits.now first end) }
+{
+    let mut all = Summary::EMPTY;
+    for index in first..end {
+        all = all.join(bitmap::summary(bits[index]));
+    }
+    all
+}
+
+/// The summary of a leaf of which all words are free or not free.
+fn alike(value: bool) -> Summary
+    ensures { result ≡ summary (replicate 256 value) }
+{
+    if value {
+        Summary {
+            front: LEAF_WORDS,
+            back: LEAF_WORDS,
+            longest: LEAF_WORDS,
+            whole: true,
+        }
+    } else {
+        Summary::TAKEN
+    }
+}
+
+/// The nodes of the leaves `first..end` follow their bitmaps.
+fn join_leaves(bits: &[u64], nodes: &mut [Summary], first: usize, end: usize)
+    requires within { end ≤ leaf_count nodes.old }
+    requires bitmaps { length bits.now ≡ 4 * leaf_count nodes.old }
+    requires small { 64 * length bits.now < 2 ^ 64 }
+    requires leaves { AreLeavesBeside bits.now nodes.old first end }
+    ensures leaves { AreLeaves bits.now nodes.new }
+    ensures beside { AreSameBesideLeaves nodes.old nodes.new first end }
+{
+    let leaves = nodes.len() / 2;
+    for leaf in first..end {
+        nodes[leaves + leaf] = summary(bits, leaf * LEAF, leaf * LEAF + LEAF);
+    }
+}
+
+/// The nodes of the leaves `first..=last` follow their bitmaps, where all words of the leaves between these two are free
+/// or not free.
+fn join_long_leaves(bits: &[u64], nodes: &mut [Summary], first: usize, last: usize, value: bool)
+    requires order { first < last }
+    requires within { last < leaf_count nodes.old }
+    requires bitmaps { length bits.now ≡ 4 * leaf_count nodes.old }
+    requires small { 64 * length bits.now < 2 ^ 64 }
+    requires between { AreAllBetween bits.now first last value }
+    requires leaves { AreLeavesBeside bits.now nodes.old first (last + 1) }
+    ensures leaves { AreLeaves bits.now nodes.new }
+    ensures beside { AreSameBesideLeaves nodes.old nodes.new first (last + 1) }
+{
+    let leaves = nodes.len() / 2;
+    write(nodes, leaves + first + 1, leaves + last, alike(value));
+    nodes[leaves + first] = summary(bits, first * LEAF, first * LEAF + LEAF);
+    nodes[leaves + last] = summary(bits, last * LEAF, last * LEAF + LEAF);
 }
 
 /// Joins the parts of each node of `first..=last`, the last node first.
@@ -107,7 +210,25 @@ fn join_nodes(nodes: &mut [Summary], first: usize, last: usize)
     }
 }
 
-/// Joins the parts of each node above those of `first..=last`, up to the root.
+/// Joins the parts of a node and of each above it, up to the first that doesn't change.
+fn join_path(nodes: &mut [Summary], index: usize)
+    requires within { 2 * index + 1 < length nodes.old }
+    requires joined { AreJoinedBeside nodes.old index index }
+    ensures joined { AreJoined nodes.new }
+    ensures below { AreSameFrom nodes.old nodes.new (index + 1) }
+{
+    let mut index = index;
+    while index > 0 {
+        let joined = nodes[2 * index].join(nodes[2 * index + 1]);
+        if nodes[index] == joined {
+            return;
+        }
+        nodes[index] = joined;
+        index /= 2;
+    }
+}
+
+/// Joins the parts of each node above those of `first..=last`, up to the root or to a node that doesn't change.
 fn join_above(nodes: &mut [Summary], first: usize, last: usize)
     requires within { 2 * (last / 2) + 1 < length nodes.old }
     requires joined { AreJoinedBeside nodes.old (first / 2) (last / 2) }
@@ -116,11 +237,12 @@ fn join_above(nodes: &mut [Summary], first: usize, last: usize)
 {
     let mut first = first / 2;
     let mut last = last / 2;
-    while last > 0 {
+    while first < last {
         join_nodes(nodes, first, last);
         first /= 2;
         last /= 2;
     }
+    join_path(nodes, last);
 }
 
 /// Joins the parts of each node of `first..=last`, where the parts between those of these two nodes are all alike,
@@ -163,52 +285,60 @@ fn join_long(nodes: &mut [Summary], first: usize, last: usize, part: Summary)
     join_above(nodes, first, last);
 }
 
-/// The nodes of leaves, `first..=last`, that changed after the nodes above them were joined.
+/// The leaves `first..end`, of which bitmaps may have changed after the nodes were joined.
 #[derive(Clone, Copy, Debug)]
 pub struct Changed {
     first: usize,
-    last: usize,
+    end: usize,
 }
 
 impl Changed {
-    /// No node changed.
-    pub const NONE: Changed = Changed {
-        first: usize::MAX,
-        last: 0,
-    };
+    /// No leaf changed.
+    pub const NONE: Changed = Changed { first: 0, end: 0 };
 
-    /// Whether no node changed.
-    fn is_none(self) -> bool
-        ensures { result ≡ nat_eq self.last 0 }
+    /// Whether a leaf is among them.
+    #[inline(always)]
+    pub(crate) fn has(self, leaf: usize) -> bool
+        ensures { IsTrue result → (self.first ≤ leaf) × (leaf < self.end) }
     {
-        self.last == 0
+        self.first <= leaf && leaf < self.end
     }
 }
 
-/// The changed nodes with some more. Where these lie too far from the others, the nodes above the others are joined.
-fn with_more(nodes: &mut [Summary], changed: Changed, more: Changed) -> Changed
-    requires order { more.first ≤ more.last }
-    requires within { 2 * (changed.last / 2) + 1 < length nodes.old }
-    requires more_within { 2 * (more.last / 2) + 1 < length nodes.old }
-    requires joined { AreJoinedBeside nodes.old (changed.first / 2) (changed.last / 2) }
-    ensures joined { AreJoinedBeside nodes.new (result.first / 2) (result.last / 2) }
+/// Joins the nodes of the leaves that changed, and those above them.
+pub(crate) fn join_changed(bits: &[u64], nodes: &mut [Summary], changed: Changed)
+    requires { IsTreeBeside bits.now nodes.old changed }
+    ensures { IsTree bits.now nodes.new }
+{
+    if changed.end == 0 {
+        return;
+    }
+    let leaves = nodes.len() / 2;
+    join_leaves(bits, nodes, changed.first, changed.end);
+    join_above(nodes, leaves + changed.first, leaves + changed.end - 1);
+}
+
+/// The leaves that changed with some more. Where these lie too far from the others, the others are joined.
+fn with_more(bits: &[u64], nodes: &mut [Summary], changed: Changed, more: Changed) -> Changed
+    requires order { more.first < more.end }
+    requires within { more.end ≤ leaf_count nodes.old }
+    requires tree { IsTreeBeside bits.now nodes.old changed }
+    ensures tree { IsTreeBeside bits.now nodes.new result }
     ensures first { result.first ≤ more.first }
-    ensures last { more.last ≤ result.last }
-    ensures within { result.last < length nodes.new }
-    ensures below { AreSameFrom nodes.old nodes.new (changed.last / 2 + 1) }
+    ensures end { more.end ≤ result.end }
 {
     let both = Changed {
         first: changed.first.min(more.first),
-        last: changed.last.max(more.last),
+        end: changed.end.max(more.end),
     };
-    if both.last - both.first < NEAR {
+    if both.end - both.first <= NEAR {
         return both;
     }
-    join_above(nodes, changed.first, changed.last);
+    join_changed(bits, nodes, changed);
     more
 }
 
-/// Makes the words `place..place + len` free or not free, and answers which nodes changed then. The nodes above a long
+/// Makes the words `place..place + len` free or not free, and answers which leaves changed then. The nodes above a long
 /// range are joined at once.
 pub(crate) fn fill(
     bits: &mut [u64],
@@ -219,82 +349,66 @@ pub(crate) fn fill(
     value: bool,
 ) -> Changed
     requires within { place + len ≤ 64 * length bits.old }
-    requires tree { IsTreeBeside bits.old nodes.old changed.first changed.last }
-    ensures tree { IsTreeBeside bits.new nodes.new result.first result.last }
+    requires tree { IsTreeBeside bits.old nodes.old changed }
+    ensures tree { IsTreeBeside bits.new nodes.new result }
     ensures filled { IsFilled bits.old bits.new place len value }
 {
     if len == 0 {
         return changed;
     }
-    let leaves = bits.len();
-    let more = Changed {
-        first: leaves + place / WORDS,
-        last: leaves + (place + len - 1) / WORDS,
-    };
-    if more.last - more.first < NEAR {
-        let changed = with_more(nodes, changed, more);
-        fill_leaves(bits, nodes, place, len, value);
+    let first = place / LEAF_WORDS;
+    let last = (place + len - 1) / LEAF_WORDS;
+    if last - first < NEAR {
+        let end = last + 1;
+        let changed = with_more(bits, nodes, changed, Changed { first, end });
+        fill_words(bits, place, len, value);
         return changed;
     }
-    join_above(nodes, changed.first, changed.last);
-    fill_leaves(bits, nodes, place, len, value);
-    let part = bitmap::summary(bitmap::whole(value));
-    join_long(nodes, more.first, more.last, part);
+    join_changed(bits, nodes, changed);
+    fill_words(bits, place, len, value);
+    let leaves = nodes.len() / 2;
+    join_long_leaves(bits, nodes, first, last, value);
+    join_long(nodes, leaves + first, leaves + last, alike(value));
     Changed::NONE
 }
 
-/// Joins the nodes above those that changed.
-pub(crate) fn join_changed(bits: &[u64], nodes: &mut [Summary], changed: Changed)
-    requires { IsTreeBeside bits.now nodes.old changed.first changed.last }
-    ensures { IsTree bits.now nodes.new }
-{
-    let _leaves = bits.len();
-    join_above(nodes, changed.first, changed.last);
-}
-
-/// The number of words of the widest hole.
-pub(crate) fn widest(bits: &[u64], nodes: &[Summary], changed: Changed) -> usize
-    requires { IsTreeBeside bits.now nodes.now changed.first changed.last }
-    ensures { result ≡ widest (words_of bits.now) }
-{
-    if changed.is_none() {
-        return nodes[1].longest;
-    }
-    let mut all = nodes[bits.len()];
-    for leaf in 1..bits.len() {
-        all = all.join(nodes[bits.len() + leaf]);
-    }
-    all.longest
-}
-
-/// Where the lowest hole of at least `len` words begins, where a look at a few bitmaps from `low` on tells it.
-pub(crate) fn find_near(bits: &[u64], nodes: &[Summary], low: usize, len: usize) -> Option<usize>
+/// Where the lowest hole of at least `len` words begins that the words of the bitmaps `first..end` have.
+fn find_in(bits: &[u64], first: usize, end: usize, len: usize) -> Option<usize>
     requires some { 1 ≤ len }
-    requires leaves { AreLeaves bits.now nodes.now }
-    requires count { length nodes.now ≡ 2 * length bits.now }
+    requires order { first ≤ end }
+    requires within { end ≤ length bits.now }
     requires small { 64 * length bits.now < 2 ^ 64 }
-    requires none_below { NoneBelow bits.now low }
-    ensures fits { IfSome result (λ place. len ≤ widest (words_of bits.now)) }
-    ensures lowest { IfSome result (λ place. place ≡ lowest_fit len (words_of bits.now)) }
+    ensures none { IsNone result ↔ (widest (words_between bits.now first end) < len) }
+    ensures lowest { IfSome result (λ place. place ≡ 64 * first + lowest_fit len (words_between bits.now first end)) }
 {
-    let leaves = bits.len();
-    let first = low / WORDS;
     let mut run = 0;
-    for index in first..leaves.min(first + NEAR) {
-        let node = nodes[leaves + index];
-        if len <= run + node.front {
+    for index in first..end {
+        let bitmap = bits[index];
+        if len <= run + bitmap::front(bitmap) {
             return Some(index * WORDS - run);
         }
-        if len <= node.longest {
-            return Some(index * WORDS + bitmap::lowest_fit(bits[index], len));
+        if len <= bitmap::longest(bitmap) {
+            return Some(index * WORDS + bitmap::lowest_fit(bitmap, len));
         }
-        run = if node.whole {
-            node.back + run
+        run = if bitmap == u64::MAX {
+            run + WORDS
         } else {
-            node.back
+            bitmap::back(bitmap)
         };
     }
     None
+}
+
+/// Where the lowest hole of at least `len` words begins, where a look at as many bitmaps as a leaf has, from `near` on, tells it.
+pub(crate) fn find_near(bits: &[u64], near: usize, len: usize) -> Option<usize>
+    requires some { 1 ≤ len }
+    requires index { near < length bits.now }
+    requires small { 64 * length bits.now < 2 ^ 64 }
+    requires none_below { NoneBelow bits.now (64 * near) }
+    ensures fits { IfSome result (λ place. len ≤ widest (words_of bits.now)) }
+    ensures lowest { IfSome result (λ place. place ≡ lowest_fit len (words_of bits.now)) }
+{
+    find_in(bits, near, bits.len().min(near + LEAF), len)
 }
 
 /// Where the lowest hole of at least `len` words begins.
@@ -307,10 +421,10 @@ pub(crate) fn find(bits: &[u64], nodes: &[Summary], len: usize) -> Option<usize>
     if nodes[1].longest < len {
         return None;
     }
-    let leaves = bits.len();
+    let leaves = nodes.len() / 2;
     let mut index = 1;
     let mut place = 0;
-    let mut width = leaves * WORDS;
+    let mut width = leaves * LEAF_WORDS;
     while index < leaves {
         width /= 2;
         let left = nodes[2 * index];
@@ -324,18 +438,51 @@ pub(crate) fn find(bits: &[u64], nodes: &[Summary], len: usize) -> Option<usize>
             index = 2 * index + 1;
         }
     }
-    Some(place + bitmap::lowest_fit(bits[index - leaves], len))
+    let first = (index - leaves) * LEAF;
+    find_in(bits, first, first + LEAF, len)
 }
 
-/// The place of the lowest free word, or of the word behind the last bitmap where none is free.
-pub(crate) fn lowest_free(bits: &[u64], nodes: &[Summary]) -> usize
+/// The first bitmap that has a free word, or the first of all where no word is free.
+fn first_free(bits: &[u64], nodes: &[Summary]) -> usize
     requires { IsTree bits.now nodes.now }
-    ensures none_below { NoneBelow bits.now result }
-    ensures free { result < 64 * length bits.now → word_at bits.now result ≡ true }
+    ensures none_below { NoneBelow bits.now (64 * result) }
+    ensures within { result < length bits.now }
 {
     match find(bits, nodes, 1) {
-        Some(place) => place,
-        None => bits.len() * WORDS,
+        Some(place) => place / WORDS,
+        None => 0,
+    }
+}
+
+/// A bitmap before which no word is free, where none is before `near`. It has a free word if there is any.
+pub(crate) fn later_near(bits: &[u64], nodes: &[Summary], near: usize) -> usize
+    requires index { near < length bits.now }
+    requires tree { IsTree bits.now nodes.now }
+    requires none_below { NoneBelow bits.now (64 * near) }
+    ensures none_below { NoneBelow bits.now (64 * result) }
+    ensures within { result < length bits.now }
+{
+    if bits[near] == 0 {
+        first_free(bits, nodes)
+    } else {
+        near
+    }
+}
+
+/// A bitmap before which no word is free once the words `place..place + len` were taken, where none was before `near`.
+pub(crate) fn near_after(bits: &[u64], near: usize, place: usize, len: usize) -> usize
+    requires index { near < length bits.now }
+    requires some { 1 ≤ len }
+    requires range { place + len ≤ 64 * length bits.now }
+    requires small { 64 * length bits.now < 2 ^ 64 }
+    requires none_below { NoneBelow bits.now (64 * near) }
+    ensures within { result < length bits.now }
+    ensures none_beside { NoneBelowBeside bits.now (64 * result) place len }
+{
+    if place == near * WORDS + bits[near].trailing_zeros() as usize {
+        (place + len - 1) / WORDS
+    } else {
+        near
     }
 }
 
@@ -349,20 +496,16 @@ pub(crate) fn is_free(bits: &[u64], word: usize) -> bool
     }
 }
 
-/// Whether the word right before a place is free. None is before the first.
-pub(crate) fn is_free_before(bits: &[u64], place: usize) -> bool
-    ensures { result ≡ word_before (word_at bits.now) place }
+/// How many holes begin in the first `size` words.
+pub(crate) fn count(bits: &[u64], size: usize) -> usize
+    ensures { result ≡ hole_count (words_from (word_at bits.now) 0 size) }
 {
-    if place == 0 {
-        return false;
+    let mut count = 0;
+    let mut before = false;
+    for word in 0..size {
+        let free = is_free(bits, word);
+        count += usize::from(free & !before);
+        before = free;
     }
-    is_free(bits, place - 1)
-}
-
-/// The number of bitmaps below a list of nodes.
-pub(crate) fn leaf_count(nodes: &[Summary]) -> usize
-    ensures value { result ≡ length nodes.now / 2 }
-    ensures small { 64 * result < 2 ^ 64 }
-{
-    nodes.len() / 2
+    count
 }

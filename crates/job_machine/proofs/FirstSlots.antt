@@ -6,14 +6,14 @@ use Rattle.std.specs.Prelude.{sum_by, nat_lt}
 use Rattle.std.proofs.lemmas.List.Folds.{sum_by-replicate}
 use Rattle.std.proofs.lemmas.Option.{none-some, same_Some, slice_get_within}
 use Rattle.std.proofs.lemmas.List.{length-map, length-replicate}
-use Rattle.std.proofs.lemmas.List.Elements.{All-map}
+use Rattle.std.proofs.lemmas.List.Elements.{All-nil, All-cons, All-map}
 use Rattle.std.proofs.lemmas.List.Sums.{sum_by-cons}
-use Rattle.vcode_base.specs.declared.limits.TheConstants.{MOST_JOBS, MOST_WORDS}
+use Rattle.vcode_base.specs.declared.limits.TheConstants.{MOST_JOBS, MOST_PASSES, MOST_WORDS}
 use Rattle.vcode_base.specs.declared.rule.Rule.{Rule}
 use Rattle.refcounts.specs.SharedState.{Slot, empty_slot, words_in, blocks_in}
 use Rattle.refcounts.specs.Owners.{slot_seen_by}
 use Rattle.job_memory.specs.JobBlocks.{JobBlocks, own_slots}
-use Rattle.job_steps.specs.Standings.{Waiting, first_standings}
+use Rattle.job_steps.specs.Standings.{AreFew, Waiting, first_standings}
 use Rattle.job_steps.specs.States.{JobValue, Task, ruled}
 use Rattle.job_slots.specs.declared.status.Status.{Status}
 use Rattle.job_slots.specs.Laws.{NewIsShown}
@@ -67,17 +67,30 @@ job_at rule [] place task e = absurd (none-some task e)
 job_at rule (j ∷ jobs) zero task e = (j, refl, same_Some (ruled rule j) task e)
 job_at rule (j ∷ jobs) (suc place) task e = job_at rule jobs place task e
 
+none_passed : (n : ℕ) → AreFew (replicate n 0)
+none_passed zero = All-nil (λ (k : ℕ). k ≤ MOST_PASSES)
+none_passed (suc n) = All-cons (λ (k : ℕ). k ≤ MOST_PASSES) 0 (replicate n 0) (omega arith) (none_passed n)
+
+-- before the first event none was passed by
+pub no_passes : (rule : Rule) (jobs : List JobValue) →
+    replicate {A = ℕ} (length jobs) 0 ≡ map (λ (task : Task). 0) (map (ruled rule) jobs)
+no_passes rule [] = refl
+no_passes rule (j ∷ jobs) = ap (λ (ks : List ℕ). 0 ∷ ks) (no_passes rule jobs)
+
 sound_at_first : NewIsShown → (rule : Rule) (region most : ℕ) (jobs : List JobValue) (slots : List SlotState) →
     most ≡ sum_by (λ (task : Task). task.limits.cells) (map (ruled rule) jobs) + 2 →
     length slots ≡ length (map (ruled rule) jobs) → length (map (ruled rule) jobs) ≤ MOST_JOBS → 1 ≤ region →
     region ≤ MOST_WORDS → All (λ (task : Task). task.limits.words ≤ region) (map (ruled rule) jobs) →
     AreNewSlots jobs slots →
     IsSound (first_blocks region most (length (map (ruled rule) jobs))) (map (ruled rule) jobs) slots
+    (replicate {A = ℕ} (length (map (ruled rule) jobs)) 0)
 sound_at_first shown rule region most jobs slots most_is same few least greatest fitting new =
     let tasks : List Task = map (ruled rule) jobs in
     record {
       jobs = length-replicate (length tasks) None;
       slots_are = same;
+      passes_are = length-replicate {A = ℕ} (length tasks) 0;
+      few_passes = none_passed (length tasks);
       few = few;
       least = least;
       most = greatest;
@@ -124,7 +137,7 @@ pub first_is_sound : NewIsShown → (rule : Rule) (blocks : JobBlocks) (region m
     most ≡ sum_by (λ (job : JobValue). job.limits.cells) jobs + 2 → length slots ≡ length jobs →
     length jobs ≤ MOST_JOBS → 1 ≤ region → region ≤ MOST_WORDS →
     All (λ (job : JobValue). job.limits.words ≤ region) jobs → AreNewSlots jobs slots →
-    IsSound blocks (map (ruled rule) jobs) slots
+    IsSound blocks (map (ruled rule) jobs) slots (replicate count 0)
 first_is_sound shown rule blocks region most count jobs slots memory grants count_is most_is same few least greatest
     fitting new =
     let tasks : List Task = map (ruled rule) jobs in
@@ -133,11 +146,14 @@ first_is_sound shown rule blocks region most count jobs slots memory grants coun
     grants ∙ ap (λ (n : ℕ). replicate n None) (count_is ∙ sym long) in
     let are : first_blocks region most (length tasks) ≡ blocks =
     λ i. record { memory = sym memory i; grants = sym grants_are i } in
-    subst (λ (bs : JobBlocks). IsSound bs tasks slots) are
+    let passes_are : replicate {A = ℕ} (length tasks) 0 ≡ replicate {A = ℕ} count 0 =
+    ap (λ (n : ℕ). replicate {A = ℕ} n 0) (long ∙ sym count_is) in
+    subst (λ (bs : JobBlocks). IsSound bs tasks slots (replicate count 0)) are
+    (subst (IsSound (first_blocks region most (length tasks)) tasks slots) passes_are
     (sound_at_first shown rule region most jobs slots (most_is ∙ ap (λ n. n + 2) (sum_cells rule jobs))
     (same ∙ sym long)
     (omega (arith, few, long)) least greatest
-    (All-map (λ (task : Task). task.limits.words ≤ region) (ruled rule) jobs fitting) new)
+    (All-map (λ (task : Task). task.limits.words ≤ region) (ruled rule) jobs fitting) new))
 
 -- jobs whose slots are new wait
 pub all_wait : (rule : Rule) (jobs : List JobValue) (slots : List SlotState) → length slots ≡ length jobs →

@@ -9,21 +9,24 @@ use Rattle.job_steps.specs.declared.event.Event.TheVariants.{Admit, Begin, Finis
 use Rattle.job_steps.specs.EventLaws.{OthersStay}
 use Rattle.job_steps.specs.Events.{next_standing, job_of, next_standing_in, standing_after}
 use Rattle.job_steps.specs.Runs.{state_after}
-use Rattle.job_steps.specs.Standings.{Standing, Waiting, Live, InFlight, Ended, Collected, of_job}
+use Rattle.job_steps.specs.Standings.{Standing, Waiting, Live, InFlight, Ended, Collected, Queue, of_job}
 use Rattle.job_steps.specs.States.{Task}
 use Rattle.job_steps.specs.Steps.{Progress, Running, Over, Stuck}
 use Rattle.job_steps.specs.Tickets.{Asked}
 use Rattle.job_slots.specs.declared.answer.Begun.{Begun}
 use Rattle.job_slots.specs.declared.answer.Begun.TheVariants as begun
 use Rattle.job_slots.specs.declared.answer.Finished.{Finished}
-use Rattle.job_slots.specs.Answers.{Begins, is_in_flight, is_live}
+use Rattle.job_slots.specs.declared.answer.Stepped.{Stepped}
+use Rattle.job_slots.specs.declared.answer.Stepped.TheVariants as stepped
+use Rattle.job_slots.specs.Answers.{Begins, Steps, is_in_flight, is_live, standing_after_step, after_stepped}
 use Rattle.job_machine.specs.declared.hands.Hand.{Hand}
 use Rattle.job_machine.specs.declared.hands.Hand.TheVariants as hand
-use Rattle.job_machine.specs.Machines.{MachineState, machine_after, BeginsIn, FinishesIn, after_begun, after_finished}
+use Rattle.job_machine.specs.Machines.{MachineState, queue_of, with_queue, machine_after, BeginsIn, FinishesIn}
+use Rattle.job_machine.specs.Machines.{StepsIn, OthersStand, after_begun, after_finished, after_step}
 use Rattle.job_machine.specs.Hands.{with_hand, Takes, hand_after, HandFits, FitsIn, HandsFit}
 use Rattle.job_machine.proofs.RunningOut.{Happens, Passed, Opened, happens, of_with}
 use Rattle.job_machine.proofs.Places.{get-set_same, get-set_other, set_back}
-use Rattle.job_machine.proofs.Stepping.{changed, finished_by}
+use Rattle.job_machine.proofs.Stepping.{after_open, after_both, finished_by}
 
 -- ---- lists of hands
 
@@ -96,56 +99,66 @@ stays_fit m new job h tasks same f = record {
   fits = f.fits;
 }
 
-is_apart : (region : ℕ) (tasks : List Task) (event : Event) (standings : List Standing) (job other : ℕ) →
-    job_of region tasks event standings ≡ Some job → (other ≡ job → ⊥) →
-    job_of region tasks event standings ≡ Some other → ⊥
-is_apart region tasks event standings job other job_is ne other_is =
+is_apart : (region : ℕ) (tasks : List Task) (event : Event) (queue : Queue) (job other : ℕ) →
+    job_of region tasks event queue ≡ Some job → (other ≡ job → ⊥) →
+    job_of region tasks event queue ≡ Some other → ⊥
+is_apart region tasks event queue job other job_is ne other_is =
     ne (same_Some other job (sym other_is ∙ job_is))
 
-hand_by : {A : Type 0} (stay : OthersStay) (event : Event) (m : MachineState) (hands : List (Hand A)) (job : ℕ)
-    (own new : Hand A) → HandsFit m hands → of_job job hands ≡ Some own →
-    job_of m.region m.tasks event m.standings ≡ Some job → FitsIn (machine_after event m) job new → (other : ℕ) →
-    (h : Hand A) → of_job other (with_hand job new hands) ≡ Some h → (other ≡ job) ⊎ (other ≡ job → ⊥) →
-    FitsIn (machine_after event m) other h
-hand_by stay event m hands job own new fit own_is job_is f other h h_is (inl here) =
+hand_by : {A : Type 0} (m after : MachineState) (hands : List (Hand A)) (job : ℕ) (own new : Hand A) →
+    HandsFit m hands → of_job job hands ≡ Some own → after.tasks ≡ m.tasks → OthersStand job m after →
+    FitsIn after job new → (other : ℕ) → (h : Hand A) → of_job other (with_hand job new hands) ≡ Some h →
+    (other ≡ job) ⊎ (other ≡ job → ⊥) → FitsIn after other h
+hand_by m after hands job own new fit own_is tasks others f other h h_is (inl here) =
     let new_is : of_job other (with_hand job new hands) ≡ Some new =
     ap (λ k. of_job k (with_hand job new hands)) here ∙ of_with_hand job hands own new own_is in
-    subst (λ k. FitsIn (machine_after event m) k h) (sym here)
-    (subst (λ k. FitsIn (machine_after event m) job k) (same_Some new h (sym new_is ∙ h_is)) f)
-hand_by stay event m hands job own new fit own_is job_is f other h h_is (inr apart) =
-    stays_fit m (machine_after event m) other h refl
-    (stay m.region m.tasks event m.standings other
-    (is_apart m.region m.tasks event m.standings job other job_is apart))
+    subst (λ k. FitsIn after k h) (sym here)
+    (subst (λ k. FitsIn after job k) (same_Some new h (sym new_is ∙ h_is)) f)
+hand_by m after hands job own new fit own_is tasks others f other h h_is (inr apart) =
+    stays_fit m after other h tasks (others other apart)
     (fit.each other h (sym (other_with_hand job other hands new apart) ∙ h_is))
+
+-- events of a job, whose hand changes so that it fits
+hands_with : {A : Type 0} (m after : MachineState) (hands : List (Hand A)) (job : ℕ) (own new : Hand A) →
+    HandsFit m hands → of_job job hands ≡ Some own → after.tasks ≡ m.tasks → OthersStand job m after →
+    FitsIn after job new → HandsFit after (with_hand job new hands)
+hands_with m after hands job own new fit own_is tasks others f = record {
+  count = count_with job new hands ∙ (fit.count ∙ sym (ap length tasks));
+  each = λ other h h_is. hand_by m after hands job own new fit own_is tasks others f other h h_is (cases_eq other job);
+}
+
+others_stand : (stay : OthersStay) (event : Event) (m : MachineState) (job : ℕ) →
+    job_of m.region m.tasks event (queue_of m) ≡ Some job → OthersStand job m (machine_after event m)
+others_stand stay event m job job_is other apart =
+    stay m.region m.tasks event (queue_of m) other
+    (is_apart m.region m.tasks event (queue_of m) job other job_is apart)
 
 -- an event of a job, whose hand changes so that it fits
 pub hands_after : {A : Type 0} (stay : OthersStay) (event : Event) (m : MachineState) (hands : List (Hand A)) (job : ℕ)
     (own new : Hand A) → HandsFit m hands → of_job job hands ≡ Some own →
-    job_of m.region m.tasks event m.standings ≡ Some job → FitsIn (machine_after event m) job new →
+    job_of m.region m.tasks event (queue_of m) ≡ Some job → FitsIn (machine_after event m) job new →
     HandsFit (machine_after event m) (with_hand job new hands)
-hands_after stay event m hands job own new fit own_is job_is f = record {
-  count = count_with job new hands ∙ fit.count;
-  each = λ other h h_is. hand_by stay event m hands job own new fit own_is job_is f other h h_is (cases_eq other job);
-}
+hands_after stay event m hands job own new fit own_is job_is f =
+    hands_with m (machine_after event m) hands job own new fit own_is refl (others_stand stay event m job job_is) f
 
 -- ---- an event that isn't open
 
 -- a closed event of a job leaves all as it was
-pub passed : (event : Event) (m : MachineState) (job : ℕ) → job_of m.region m.tasks event m.standings ≡ Some job →
+pub passed : (event : Event) (m : MachineState) (job : ℕ) → job_of m.region m.tasks event (queue_of m) ≡ Some job →
     next_standing_in event (of_job job m.tasks) (of_job job m.standings) ≡ None → machine_after event m ≡ m
 passed event m job job_is closed =
-    passed_by event m job closed (happens m.region m.tasks event m.standings job job_is)
+    passed_by event m job closed (happens m.region m.tasks event (queue_of m) job job_is)
   where
     passed_by : (event : Event) (m : MachineState) (job : ℕ) →
         next_standing_in event (of_job job m.tasks) (of_job job m.standings) ≡ None →
-        Happens m.region m.tasks event m.standings job → machine_after event m ≡ m
-    passed_by event m job closed (Passed after none) = ap (λ ss. record m { standings = ss }) after
+        Happens m.region m.tasks event (queue_of m) job → machine_after event m ≡ m
+    passed_by event m job closed (Passed after none) = ap (with_queue m) after
     passed_by event m job closed (Opened o) =
         absurd (none-some o.new
         (sym closed ∙ ((λ i. next_standing_in event (o.task_is i) (o.old_is i)) ∙ o.new_is)))
 
 closed_hand : {A : Type 0} (event : Event) (m : MachineState) (job : ℕ) (h : Hand A) (f : FitsIn m job h) →
-    job_of m.region m.tasks event m.standings ≡ Some job → next_standing event f.task f.standing ≡ None →
+    job_of m.region m.tasks event (queue_of m) ≡ Some job → next_standing event f.task f.standing ≡ None →
     FitsIn (machine_after event m) job h
 closed_hand event m job h f job_is closed =
     subst (λ (k : MachineState). FitsIn k job h)
@@ -154,7 +167,7 @@ closed_hand event m job h f job_is closed =
 
 opened_hand : {A : Type 0} (event : Event) (m : MachineState) (job : ℕ) (task : Task) (old new : Standing)
     (h : Hand A) →
-    job_of m.region m.tasks event m.standings ≡ Some job → of_job job m.tasks ≡ Some task →
+    job_of m.region m.tasks event (queue_of m) ≡ Some job → of_job job m.tasks ≡ Some task →
     of_job job m.standings ≡ Some old → next_standing event task old ≡ Some new → HandFits job task new h →
     FitsIn (machine_after event m) job h
 opened_hand event m job task old new h job_is task_is old_is next fits = record {
@@ -162,7 +175,7 @@ opened_hand event m job task old new h job_is task_is old_is next fits = record 
   standing = new;
   task_is = task_is;
   standing_is =
-      ap (of_job job) (changed m.region m.tasks event m.standings job task old new job_is task_is old_is next).after
+      ap (of_job job) (after_open m.region m.tasks event (queue_of m) job task old new job_is task_is old_is next)
       ∙ of_with job m.standings old new old_is;
   fits = fits;
 }
@@ -207,7 +220,7 @@ turned {A} event m new hands after state fit same = record {
 
 -- an event that isn't open, with the hands as they were
 still : {A : Type 0} (event : Event) (m new : MachineState) (hands after : List (Hand A)) (job : ℕ) →
-    HandsFit m hands → job_of m.region m.tasks event m.standings ≡ Some job → after ≡ hands →
+    HandsFit m hands → job_of m.region m.tasks event (queue_of m) ≡ Some job → after ≡ hands →
     next_standing_in event (of_job job m.tasks) (of_job job m.standings) ≡ None → new ≡ machine_after event m →
     Played event m new after
 still event m new hands after job fit job_is same closed is =
@@ -346,7 +359,7 @@ landed n Stuck = refl
 -- the step that the hand holds is over, and its desk is free again
 freed : {A : Type 0} (stay : OthersStay) (event : Event) (m new : MachineState) (hands between after : List (Hand A))
     (job desk : ℕ) (filled : Asked) (late : Task → Standing) → HandsFit m hands →
-    Takes hand.Holds job hands between (Some filled) → job_of m.region m.tasks event m.standings ≡ Some job →
+    Takes hand.Holds job hands between (Some filled) → job_of m.region m.tasks event (queue_of m) ≡ Some job →
     ((task : Task) → next_standing event task (InFlight filled.step) ≡ Some (late task)) →
     ((task : Task) → is_in_flight (late task) ≡ false) → desk ≡ filled.words → new ≡ machine_after event m →
     after ≡ with_hand job (hand.Free desk) between → Played event m new after
@@ -399,6 +412,70 @@ plays_finish stay m new hands between after job desk filled answer fit taken ans
     (λ task. landed (filled.step + 1) (state_after task (filled.step + 1))) desk_is
     (finishes m new hands job filled answer fit taken.0 answers new_is) after_is
 
+-- ---- a step in one go
+
+-- the hand of a job after a step
+record IsSteppedBy (A : Type 0) (m : MachineState) (job desk : ℕ) (answer : Stepped) : Type 0 where
+  state : after_stepped answer m (after_step job m) ≡ after_step job m
+  fits : FitsIn {A = A} (after_step job m) job (hand.Free desk)
+
+-- the job went on or ended, and its desk is free
+went : {A : Type 0} (m : MachineState) (job desk : ℕ) (f : FitsIn {A = A} m job (hand.Free desk)) (after : Standing) →
+    standing_after_step job f.task f.standing ≡ after → is_in_flight after ≡ false →
+    FitsIn {A = A} (after_step job m) job (hand.Free desk)
+went m job desk f after after_is lands = record {
+  task = f.task;
+  standing = after;
+  task_is = f.task_is;
+  standing_is =
+      ap (of_job job) (after_both m job f.task f.standing f.task_is f.standing_is)
+      ∙ of_with job m.standings f.standing (standing_after_step job f.task f.standing) f.standing_is
+      ∙ ap (λ (s : Standing). Some s) after_is;
+  fits = (f.fits.0, lands);
+}
+
+-- neither a begin nor a finish is open
+not_stepped : {A : Type 0} (m : MachineState) (job desk : ℕ) (f : FitsIn {A = A} m job (hand.Free desk)) →
+    is_live f.standing ≡ false → after_step job m ≡ m
+not_stepped {A} m job desk f e =
+    let own : Hand A = hand.Free desk in
+    ap (machine_after (Finish job))
+    (passed (Begin job) m job refl (closed_by (Begin job) m job own f (not_live job f.task f.standing e)))
+    ∙ passed (Finish job) m job refl (closed_by (Finish job) m job own f (no_finish job f.task f.standing f.fits.1))
+
+steps : {A : Type 0} (m : MachineState) (job desk : ℕ) (f : FitsIn {A = A} m job (hand.Free desk)) (answer : Stepped) →
+    Steps job desk f.task f.standing answer → IsSteppedBy A m job desk answer
+steps m job desk f stepped.Done is =
+    record { state = refl; fits = went m job desk f (Live (is.1.step + 1)) is.1.next refl }
+steps m job desk f stepped.Ended is = record { state = refl; fits = went m job desk f Ended is.1 refl }
+steps {A} m job desk f stepped.NotReady is =
+    let same = not_stepped m job desk f is in
+    record { state = sym same; fits = subst (λ (k : MachineState). FitsIn {A = A} k job (hand.Free desk)) (sym same) f }
+steps m job desk f stepped.SmallDesk is =
+    let small = is.1 in let words = f.fits.0 in absurd (omega (arith, small, words))
+
+pub plays_step : {A : Type 0} (stay : OthersStay) (m new : MachineState) (hands between after : List (Hand A))
+    (job desk used : ℕ) (answer : Stepped) → HandsFit m hands → Takes hand.Free job hands between (Some desk) →
+    StepsIn job desk (of_job job m.tasks) (of_job job m.standings) answer →
+    new ≡ after_stepped answer m (after_step job m) → used ≡ desk → after ≡ with_hand job (hand.Free used) between →
+    Played (Finish job) (machine_after (Begin job) m) new after
+plays_step {A} stay m new hands between after job desk used answer fit taken answers new_is same after_is =
+    let free : Hand A = hand.Free desk in
+    let f = fit.each job free taken.0 in
+    let here : Steps job desk f.task f.standing answer =
+    subst (λ (s : Option Standing). StepsIn job desk (Some f.task) s answer) f.standing_is
+    (subst (λ (t : Option Task). StepsIn job desk t (of_job job m.standings) answer) f.task_is answers) in
+    let s = steps m job desk f answer here in
+    let between_begin : MachineState = machine_after (Begin job) m in
+    let others : OthersStand job m (after_step job m) =
+    λ other apart. others_stand stay (Finish job) between_begin job refl other apart
+    ∙ others_stand stay (Begin job) m job refl other apart in
+    turned (Finish job) between_begin new (with_hand job free hands) after (new_is ∙ s.state)
+    (hands_with m (after_step job m) hands job free free fit taken.0 refl others s.fits)
+    (after_is
+    ∙ (ap (λ (d : ℕ). with_hand job (hand.Free d) between) same
+    ∙ (ap (with_hand job free) taken.1 ∙ hand_twice job hand.Empty free hands)))
+
 -- ---- an event of no step
 
 -- the event moves no job whose step has begun, and begins none
@@ -422,7 +499,7 @@ collects_no_step job task Ended new e = (refl, ap is_in_flight (sym (same_Some C
 collects_no_step job task Collected new e = absurd (none-some new e)
 
 still_fits : {A : Type 0} (event : Event) (m : MachineState) (job : ℕ) (h : Hand A) → IsOfNoStep event →
-    job_of m.region m.tasks event m.standings ≡ Some job → (f : FitsIn m job h) → (next : Option Standing) →
+    job_of m.region m.tasks event (queue_of m) ≡ Some job → (f : FitsIn m job h) → (next : Option Standing) →
     next_standing event f.task f.standing ≡ next → FitsIn (machine_after event m) job h
 still_fits event m job h rests job_is f None next_is = closed_hand event m job h f job_is next_is
 still_fits event m job (hand.Free desk) rests job_is f (Some new) next_is =
@@ -433,11 +510,11 @@ still_fits event m job (hand.Holds filled) rests job_is f (Some new) next_is =
 still_fits event m job hand.Empty rests job_is f (Some new) next_is = absurd f.fits
 
 still_at : {A : Type 0} (stay : OthersStay) (event : Event) (m : MachineState) (job : ℕ) (h : Hand A) →
-    IsOfNoStep event → (own : Option ℕ) → job_of m.region m.tasks event m.standings ≡ own → FitsIn m job h →
+    IsOfNoStep event → (own : Option ℕ) → job_of m.region m.tasks event (queue_of m) ≡ own → FitsIn m job h →
     FitsIn (machine_after event m) job h
 still_at stay event m job h rests None own_is f =
     stays_fit m (machine_after event m) job h refl
-    (stay m.region m.tasks event m.standings job (λ is. none-some job (sym own_is ∙ is))) f
+    (stay m.region m.tasks event (queue_of m) job (λ is. none-some job (sym own_is ∙ is))) f
 still_at stay event m job h rests (Some own) own_is f = still_by (cases_eq job own)
   where
     still_by : (job ≡ own) ⊎ (job ≡ own → ⊥) → FitsIn (machine_after event m) job h
@@ -446,15 +523,15 @@ still_at stay event m job h rests (Some own) own_is f = still_by (cases_eq job o
         (next_standing event f.task f.standing) refl
     still_by (inr apart) =
         stays_fit m (machine_after event m) job h refl
-        (stay m.region m.tasks event m.standings job
-        (is_apart m.region m.tasks event m.standings own job own_is apart)) f
+        (stay m.region m.tasks event (queue_of m) job
+        (is_apart m.region m.tasks event (queue_of m) own job own_is apart)) f
 
 still_fit : {A : Type 0} (stay : OthersStay) (event : Event) (m new : MachineState) (hands : List (Hand A)) →
     IsOfNoStep event → HandsFit m hands → new ≡ machine_after event m → HandsFit new hands
 still_fit {A} stay event m new hands rests fit new_is =
     let all : HandsFit (machine_after event m) hands = record {
       count = fit.count;
-      each = λ job h is. still_at stay event m job h rests (job_of m.region m.tasks event m.standings) refl
+      each = λ job h is. still_at stay event m job h rests (job_of m.region m.tasks event (queue_of m)) refl
           (fit.each job h is);
     } in
     subst (λ (k : MachineState). HandsFit k hands) (sym new_is) all

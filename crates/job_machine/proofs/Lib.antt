@@ -1,3 +1,5 @@
+mod Admissions
+mod Admitting
 mod FirstSlots
 mod FreshHands
 mod HandLemmas

@@ -1,6 +1,6 @@
 -- Events of a machine's jobs, one after another.
-use Rattle.std.proofs.Common.{◌≡◌, ◌⊎◌, ℕ, zero, suc, ◌≤◌, true, false, List, [], ◌∷◌, ◌++◌, length, map, set}
-use Rattle.std.proofs.Common.{slice_get, position, All, Option, Some, None, is_some, refl, sym, ◌∙◌, ap, subst, arith}
+use Rattle.std.proofs.Common.{◌≡◌, ◌⊎◌, ℕ, zero, suc, ◌≤◌, Bool, true, false, List, [], ◌∷◌, ◌++◌, length, map, set}
+use Rattle.std.proofs.Common.{slice_get, All, Option, Some, None, is_some, refl, sym, ◌∙◌, ap, subst, arith}
 use Rattle.std.proofs.Common.{inl, inr}
 use Rattle.std.proofs.lemmas.Bool.{false≢true}
 use Rattle.std.proofs.lemmas.List.{set-set}
@@ -13,13 +13,12 @@ use Rattle.job_steps.specs.Events.{next_standing, job_of, next_standing_in, next
 use Rattle.job_steps.specs.Events.{after_event, after_events, recalled_standing, recalled_standings, all_recalls}
 use Rattle.job_steps.specs.Events.{LeadTo}
 use Rattle.job_steps.specs.Events.{is_recall, all_events_left}
-use Rattle.job_steps.specs.Standings.{Standing, Waiting, Live, InFlight, Ended, Collected, of_job, with_standing}
-use Rattle.job_steps.specs.Standings.{is_waiting, admission, admission_at}
+use Rattle.job_steps.specs.Standings.{Standing, Waiting, Live, InFlight, Ended, Collected, Queue, of_job}
+use Rattle.job_steps.specs.Standings.{with_standing, admission}
 use Rattle.job_steps.specs.States.{Task}
-use Rattle.job_machine.specs.declared.machine.Admission.{Admission}
 use Rattle.job_machine.specs.declared.machine.Admission.TheVariants.{Admitted}
-use Rattle.job_machine.specs.Machines.{MachineState, with_standings, machine_after, Leads, OthersStand, HasNoStep}
-use Rattle.job_machine.specs.Machines.{GoesOn}
+use Rattle.job_machine.specs.Machines.{MachineState, queue_of, with_queue, machine_after, recalled, Leads, OthersStand}
+use Rattle.job_machine.specs.Machines.{HasNoStep, GoesOn, any_waits}
 use Rattle.job_machine.specs.Machines.{IsWaitingOrCollected, IsDone, admission_by, admission_in, is_running}
 use Rattle.job_machine.proofs.Places.{get-set_same, get-set_other}
 
@@ -95,37 +94,37 @@ not_flying standings (suc i) s none e = recalled_here standings i s none e
 -- ---- one event
 
 -- an event that is open, with its job
-pub record Opens (region : ℕ) (tasks : List Task) (event : Event) (standings : List Standing) (job : ℕ) : Type 0 where
+pub record Opens (region : ℕ) (tasks : List Task) (event : Event) (queue : Queue) (job : ℕ) : Type 0 where
   pub task : Task
   pub old : Standing
   pub new : Standing
   pub task_is : of_job job tasks ≡ Some task
-  pub old_is : of_job job standings ≡ Some old
+  pub old_is : of_job job queue.standings ≡ Some old
   pub new_is : next_standing event task old ≡ Some new
-  pub can : is_open region tasks event standings ≡ true
-  pub after : after_event region tasks event standings ≡ with_standing job new standings
+  pub can : is_open region tasks event queue ≡ true
+  pub after : (after_event region tasks event queue).standings ≡ with_standing job new queue.standings
 
 -- what an event does
-pub data Happens (region : ℕ) (tasks : List Task) (event : Event) (standings : List Standing) (job : ℕ) : Type 0 where
-  Passed : after_event region tasks event standings ≡ standings →
-      next_standing_in event (of_job job tasks) (of_job job standings) ≡ None →
-      Happens region tasks event standings job
-  Opened : Opens region tasks event standings job → Happens region tasks event standings job
+pub data Happens (region : ℕ) (tasks : List Task) (event : Event) (queue : Queue) (job : ℕ) : Type 0 where
+  Passed : after_event region tasks event queue ≡ queue →
+      next_standing_in event (of_job job tasks) (of_job job queue.standings) ≡ None →
+      Happens region tasks event queue job
+  Opened : Opens region tasks event queue job → Happens region tasks event queue job
 
-happens_by : (region : ℕ) (tasks : List Task) (event : Event) (standings : List Standing) (job : ℕ) →
-    (t : Option Task) → of_job job tasks ≡ t → (s : Option Standing) → of_job job standings ≡ s →
+happens_by : (region : ℕ) (tasks : List Task) (event : Event) (queue : Queue) (job : ℕ) →
+    (t : Option Task) → of_job job tasks ≡ t → (s : Option Standing) → of_job job queue.standings ≡ s →
     (next : Option Standing) → next_standing_in event t s ≡ next →
-    is_open region tasks event standings ≡ is_some next →
-    after_event region tasks event standings ≡ with_next (Some job) next standings →
-    Happens region tasks event standings job
-happens_by region tasks event standings job t t_is s s_is None next_is can after =
+    is_open region tasks event queue ≡ is_some next →
+    after_event region tasks event queue ≡ with_next event (Some job) next queue →
+    Happens region tasks event queue job
+happens_by region tasks event queue job t t_is s s_is None next_is can after =
     Passed after ((λ i. next_standing_in event (t_is i) (s_is i)) ∙ next_is)
-happens_by region tasks event standings job None t_is s s_is (Some new) next_is can after =
+happens_by region tasks event queue job None t_is s s_is (Some new) next_is can after =
     absurd (none-some new next_is)
-happens_by region tasks event standings job (Some task) t_is None s_is (Some new) next_is can after =
+happens_by region tasks event queue job (Some task) t_is None s_is (Some new) next_is can after =
     absurd (none-some new next_is)
-happens_by region tasks event standings job (Some task) t_is (Some old) s_is (Some new) next_is can after =
-    let o : Opens region tasks event standings job = record {
+happens_by region tasks event queue job (Some task) t_is (Some old) s_is (Some new) next_is can after =
+    let o : Opens region tasks event queue job = record {
       task = task;
       old = old;
       new = new;
@@ -133,19 +132,19 @@ happens_by region tasks event standings job (Some task) t_is (Some old) s_is (So
       old_is = s_is;
       new_is = next_is;
       can = can;
-      after = after;
+      after = ap (λ (q : Queue). q.standings) after;
     } in
     Opened o
 
-pub happens : (region : ℕ) (tasks : List Task) (event : Event) (standings : List Standing) (job : ℕ) →
-    job_of region tasks event standings ≡ Some job → Happens region tasks event standings job
+pub happens : (region : ℕ) (tasks : List Task) (event : Event) (queue : Queue) (job : ℕ) →
+    job_of region tasks event queue ≡ Some job → Happens region tasks event queue job
 unfolding is_open after_event
-happens region tasks event standings job job_is =
-    let next : Option Standing = next_standing_in event (of_job job tasks) (of_job job standings) in
-    let here : next_standing_of tasks event standings (job_of region tasks event standings) ≡ next =
-    ap (next_standing_of tasks event standings) job_is in
-    happens_by region tasks event standings job (of_job job tasks) refl (of_job job standings) refl next refl
-    (ap is_some here) (λ i. with_next (job_is i) (here i) standings)
+happens region tasks event queue job job_is =
+    let next : Option Standing = next_standing_in event (of_job job tasks) (of_job job queue.standings) in
+    let here : next_standing_of tasks event queue.standings (job_of region tasks event queue) ≡ next =
+    ap (next_standing_of tasks event queue.standings) job_is in
+    happens_by region tasks event queue job (of_job job tasks) refl (of_job job queue.standings) refl next refl
+    (ap is_some here) (λ i. with_next event (job_is i) (here i) queue)
 
 -- ---- one job's events
 
@@ -160,26 +159,26 @@ stays job m = record { leads = (refl, refl, ([], refl), refl); others = λ other
 pub leads_one : (event : Event) (m : MachineState) → Leads m (machine_after event m)
 leads_one event m = (refl, refl, (event ∷ [], refl), refl)
 
-pub others_by : (event : Event) (job : ℕ) (m : MachineState) → Happens m.region m.tasks event m.standings job →
+pub others_by : (event : Event) (job : ℕ) (m : MachineState) → Happens m.region m.tasks event (queue_of m) job →
     OthersStand job m (machine_after event m)
-others_by event job m (Passed after none) other ne = ap (of_job other) after
+others_by event job m (Passed after none) other ne = ap (λ (q : Queue). of_job other q.standings) after
 others_by event job m (Opened o) other ne = ap (of_job other) o.after ∙ of_with_other job other m.standings o.new ne
 
-pub moves : (event : Event) (job : ℕ) (m : MachineState) → job_of m.region m.tasks event m.standings ≡ Some job →
+pub moves : (event : Event) (job : ℕ) (m : MachineState) → job_of m.region m.tasks event (queue_of m) ≡ Some job →
     Moves job m (machine_after event m)
 moves event job m job_is = record {
   leads = leads_one event m;
-  others = others_by event job m (happens m.region m.tasks event m.standings job job_is);
+  others = others_by event job m (happens m.region m.tasks event (queue_of m) job job_is);
 }
 
 pub leads_on : LeadsJoin → (old between new : MachineState) → Leads old between → Leads between new → Leads old new
 leads_on join old between new first second =
-    let again : LeadTo old.region old.tasks between.standings new.standings =
-    subst (λ (r : ℕ). LeadTo r old.tasks between.standings new.standings) first.0
-    (subst (λ (ts : List Task). LeadTo between.region ts between.standings new.standings) first.1 second.2) in (
+    let again : LeadTo old.region old.tasks (queue_of between) (queue_of new) =
+    subst (λ (r : ℕ). LeadTo r old.tasks (queue_of between) (queue_of new)) first.0
+    (subst (λ (ts : List Task). LeadTo between.region ts (queue_of between) (queue_of new)) first.1 second.2) in (
       second.0 ∙ first.0,
       second.1 ∙ first.1,
-      join old.region old.tasks old.standings between.standings new.standings first.2 again,
+      join old.region old.tasks (queue_of old) (queue_of between) (queue_of new) first.2 again,
       second.3 ∙ first.3,
     )
 
@@ -199,15 +198,15 @@ goes_on_on join job old between new first second = record {
 }
 
 pub all_kept : EventsKeep → (old new : MachineState) → All IsVerified old.tasks →
-    AreKept old.region old.tasks old.standings → Leads old new → AreKept old.region old.tasks new.standings
+    AreKept old.region old.tasks (queue_of old) → Leads old new → AreKept old.region old.tasks (queue_of new)
 all_kept keep old new verified kept leads =
     subst (AreKept old.region old.tasks) leads.2.1
-    (keep old.region old.tasks verified leads.2.0 old.standings kept)
+    (keep old.region old.tasks verified leads.2.0 (queue_of old) kept)
 
 -- ---- an event that names its job, by where the job stands
 
 done_by : (event : Event) (job : ℕ) (m : MachineState) (new : Standing) → HasNoStep m →
-    recalled_standing new ≡ new → after_event m.region m.tasks event m.standings ≡ with_standing job new m.standings →
+    recalled_standing new ≡ new → (after_event m.region m.tasks event (queue_of m)).standings ≡ with_standing job new m.standings →
     HasNoStep (machine_after event m)
 done_by event job m new none same after =
     subst (λ (ss : List Standing). recalled_standings ss ≡ ss) (sym after)
@@ -216,20 +215,20 @@ done_by event job m new none same after =
 -- an event that leaves no step leaves none
 pub no_step_after : (event : Event) (job : ℕ) (m : MachineState) → HasNoStep m →
     ((task : Task) (old new : Standing) → next_standing event task old ≡ Some new → recalled_standing new ≡ new) →
-    Happens m.region m.tasks event m.standings job → HasNoStep (machine_after event m)
+    Happens m.region m.tasks event (queue_of m) job → HasNoStep (machine_after event m)
 no_step_after event job m none same (Passed after closed) =
-    subst (λ (ss : List Standing). recalled_standings ss ≡ ss) (sym after) none
+    subst (λ (q : Queue). recalled_standings q.standings ≡ q.standings) (sym after) none
 no_step_after event job m none same (Opened o) =
     done_by event job m o.new none (same o.task o.old o.new o.new_is) o.after
 
 pub fewer_after : EventsUseUp → (event : Event) (job : ℕ) (m : MachineState) → All IsVerified m.tasks →
-    AreKept m.region m.tasks m.standings → is_recall event ≡ false →
-    Happens m.region m.tasks event m.standings job →
-    all_events_left m.tasks (after_event m.region m.tasks event m.standings) ≤ all_events_left m.tasks m.standings
+    AreKept m.region m.tasks (queue_of m) → is_recall event ≡ false →
+    Happens m.region m.tasks event (queue_of m) job →
+    all_events_left m.tasks (after_event m.region m.tasks event (queue_of m)).standings ≤ all_events_left m.tasks m.standings
 fewer_after use_up event job m verified kept other (Passed after closed) =
-    let same = ap (all_events_left m.tasks) after in omega (arith, same)
+    let same = ap (λ (q : Queue). all_events_left m.tasks q.standings) after in omega (arith, same)
 fewer_after use_up event job m verified kept other (Opened o) =
-    let less = use_up m.region m.tasks verified event m.standings kept other o.can in omega (arith, less)
+    let less = use_up m.region m.tasks verified event (queue_of m) kept other o.can in omega (arith, less)
 
 -- ---- a collection
 
@@ -278,13 +277,13 @@ idle_in job m same none (Some s) s_is live closed =
     idle_by job task.0 s live (not_flying m.standings job s none s_is) closed_here
 
 pub done_after : (job : ℕ) (m : MachineState) → length m.standings ≡ length m.tasks → HasNoStep m →
-    is_running (of_job job m.standings) ≡ false → Happens m.region m.tasks (Collect job) m.standings job →
-    IsDone (of_job job (after_event m.region m.tasks (Collect job) m.standings))
+    is_running (of_job job m.standings) ≡ false → Happens m.region m.tasks (Collect job) (queue_of m) job →
+    IsDone (of_job job (after_event m.region m.tasks (Collect job) (queue_of m)).standings)
 done_after job m same none live (Passed after closed) =
-    subst (λ (ss : List Standing). IsDone (of_job job ss)) (sym after)
+    subst (λ (q : Queue). IsDone (of_job job q.standings)) (sym after)
     (idle_in job m same none (of_job job m.standings) refl live closed)
 done_after job m same none live (Opened o) =
-    let is : of_job job (after_event m.region m.tasks (Collect job) m.standings) ≡ Some Collected =
+    let is : of_job job (after_event m.region m.tasks (Collect job) (queue_of m)).standings ≡ Some Collected =
     ap (of_job job) o.after
     ∙ (of_with job m.standings o.old o.new o.old_is
     ∙ ap (λ (s : Standing). Some s) (collected_is job o.task o.old o.new o.new_is)) in
@@ -292,7 +291,7 @@ done_after job m same none live (Opened o) =
 
 pub collects : (job : ℕ) (m : MachineState) → HasNoStep m → GoesOn job m (machine_after (Collect job) m)
 collects job m none =
-    let here = happens m.region m.tasks (Collect job) m.standings job refl in
+    let here = happens m.region m.tasks (Collect job) (queue_of m) job refl in
     record {
       leads = leads_one (Collect job) m;
       no_step = no_step_after (Collect job) job m none (collected_stays job) here;
@@ -301,49 +300,39 @@ collects job m none =
 
 -- ---- an admission
 
-admitted_next : (m : MachineState) (job : ℕ) (p x : Option ℕ) → x ≡ admission m.region m.tasks m.standings →
-    admission_by p x ≡ Admitted job → admission m.region m.tasks m.standings ≡ Some job
-admitted_next m job None x x_is e = cc
-admitted_next m job (Some place) None x_is e = cc
-admitted_next m job (Some place) (Some k) x_is e = sym x_is ∙ ap (λ j. Some j) (number_of e)
+admitted_next : (m : MachineState) (job : ℕ) (waits : Bool) (x : Option ℕ) →
+    x ≡ admission m.region m.tasks (queue_of m) → admission_by waits x ≡ Admitted job →
+    admission m.region m.tasks (queue_of m) ≡ Some job
+admitted_next m job true None x_is e = cc
+admitted_next m job false None x_is e = cc
+admitted_next m job waits (Some k) x_is e = sym x_is ∙ ap (λ j. Some j) (number_of e)
   where
     number_of : {k job : ℕ} → Admitted k ≡ Admitted job → k ≡ job
     number_of e = cc
 
 pub admitted : (m : MachineState) (job : ℕ) → admission_in m ≡ Admitted job →
-    admission m.region m.tasks m.standings ≡ Some job
+    admission m.region m.tasks (queue_of m) ≡ Some job
 admitted m job e =
-    admitted_next m job (position is_waiting m.standings) (admission m.region m.tasks m.standings) refl e
+    admitted_next m job (any_waits m.standings) (admission m.region m.tasks (queue_of m)) refl e
 
--- nobody is admitted where the answer isn't a job
-IsNoJob : Admission → Type 0
-IsNoJob answer = (job : ℕ) → answer ≡ Admitted job → ⊥
-
-none_first : (m : MachineState) → position is_waiting m.standings ≡ None →
-    admission m.region m.tasks m.standings ≡ None
-unfolding admission
-none_first m e = ap (admission_at m.region m.tasks m.standings) e
-
-none_admitted : (m : MachineState) (p x : Option ℕ) → position is_waiting m.standings ≡ p →
-    admission m.region m.tasks m.standings ≡ x → ((job : ℕ) → admission_by p x ≡ Admitted job → ⊥) →
-    admission m.region m.tasks m.standings ≡ None
-none_admitted m None x p_is x_is nobody = none_first m p_is
-none_admitted m (Some place) None p_is x_is nobody = x_is
-none_admitted m (Some place) (Some job) p_is x_is nobody = absurd (nobody job refl)
+none_admitted : (m : MachineState) (waits : Bool) (x : Option ℕ) → admission m.region m.tasks (queue_of m) ≡ x →
+    ((job : ℕ) → admission_by waits x ≡ Admitted job → ⊥) → admission m.region m.tasks (queue_of m) ≡ None
+none_admitted m waits None x_is nobody = x_is
+none_admitted m waits (Some job) x_is nobody = absurd (nobody job refl)
 
 pub not_admitted : (m : MachineState) → ((job : ℕ) → admission_in m ≡ Admitted job → ⊥) →
-    admission m.region m.tasks m.standings ≡ None
+    admission m.region m.tasks (queue_of m) ≡ None
 not_admitted m nobody =
-    none_admitted m (position is_waiting m.standings) (admission m.region m.tasks m.standings) refl refl nobody
+    none_admitted m (any_waits m.standings) (admission m.region m.tasks (queue_of m)) refl nobody
 
-pub after_none : (m : MachineState) → admission m.region m.tasks m.standings ≡ None →
-    after_event m.region m.tasks Admit m.standings ≡ m.standings
+pub after_none : (m : MachineState) → admission m.region m.tasks (queue_of m) ≡ None →
+    after_event m.region m.tasks Admit (queue_of m) ≡ queue_of m
 unfolding after_event
 after_none m none =
-    ap (λ o. with_next o (next_standing_of m.tasks Admit m.standings o) m.standings) none
+    ap (λ o. with_next Admit o (next_standing_of m.tasks Admit m.standings o) (queue_of m)) none
 
-closed_none : (m : MachineState) → admission m.region m.tasks m.standings ≡ None →
-    is_open m.region m.tasks Admit m.standings ≡ false
+closed_none : (m : MachineState) → admission m.region m.tasks (queue_of m) ≡ None →
+    is_open m.region m.tasks Admit (queue_of m) ≡ false
 unfolding is_open
 closed_none m none = ap (λ o. is_some (next_standing_of m.tasks Admit m.standings o)) none
 
@@ -371,66 +360,66 @@ closed_by event task (InFlight n) ne idle = absurd idle
 closed_by event task Ended ne idle = absurd idle
 
 closed_in : (m : MachineState) (event : Event) (job : ℕ) → All IsWaitingOrCollected m.standings →
-    (event ≡ Admit → ⊥) → is_open m.region m.tasks event m.standings ≡ true →
-    Happens m.region m.tasks event m.standings job →
-    job_of m.region m.tasks event m.standings ≡ Some job → ⊥
+    (event ≡ Admit → ⊥) → is_open m.region m.tasks event (queue_of m) ≡ true →
+    Happens m.region m.tasks event (queue_of m) job →
+    job_of m.region m.tasks event (queue_of m) ≡ Some job → ⊥
 unfolding is_open
 closed_in m event job idle ne can (Opened o) job_is =
     none-some o.new
     (sym (closed_by event o.task o.old ne (idle_at m.standings idle job o.old o.old_is)) ∙ o.new_is)
 closed_in m event job idle ne can (Passed after closed) job_is =
-    let none : next_standing_of m.tasks event m.standings (job_of m.region m.tasks event m.standings) ≡ None =
+    let none : next_standing_of m.tasks event m.standings (job_of m.region m.tasks event (queue_of m)) ≡ None =
     ap (next_standing_of m.tasks event m.standings) job_is ∙ closed in
     false≢true (sym (ap is_some none) ∙ can)
 
 nothing_open : (m : MachineState) → All IsWaitingOrCollected m.standings →
-    admission m.region m.tasks m.standings ≡ None → (event : Event) →
-    is_open m.region m.tasks event m.standings ≡ true → ⊥
+    admission m.region m.tasks (queue_of m) ≡ None → (event : Event) →
+    is_open m.region m.tasks event (queue_of m) ≡ true → ⊥
 nothing_open m idle none Admit can = false≢true (sym (closed_none m none) ∙ can)
 nothing_open m idle none (Begin job) can =
-    closed_in m (Begin job) job idle (λ e. cc) can (happens m.region m.tasks (Begin job) m.standings job refl) refl
+    closed_in m (Begin job) job idle (λ e. cc) can (happens m.region m.tasks (Begin job) (queue_of m) job refl) refl
 nothing_open m idle none (Finish job) can =
-    closed_in m (Finish job) job idle (λ e. cc) can (happens m.region m.tasks (Finish job) m.standings job refl) refl
+    closed_in m (Finish job) job idle (λ e. cc) can (happens m.region m.tasks (Finish job) (queue_of m) job refl) refl
 nothing_open m idle none (Recall job) can =
-    closed_in m (Recall job) job idle (λ e. cc) can (happens m.region m.tasks (Recall job) m.standings job refl) refl
+    closed_in m (Recall job) job idle (λ e. cc) can (happens m.region m.tasks (Recall job) (queue_of m) job refl) refl
 nothing_open m idle none (Collect job) can =
-    closed_in m (Collect job) job idle (λ e. cc) can (happens m.region m.tasks (Collect job) m.standings job refl) refl
+    closed_in m (Collect job) job idle (λ e. cc) can (happens m.region m.tasks (Collect job) (queue_of m) job refl) refl
 
 all_by : (m : MachineState) → All IsWaitingOrCollected m.standings →
-    admission m.region m.tasks m.standings ≡ None →
+    admission m.region m.tasks (queue_of m) ≡ None →
     All (λ standing. standing ≡ Collected) m.standings
-    ⊎ ((event : Event) × (is_recall event ≡ false) × (is_open m.region m.tasks event m.standings ≡ true)) →
+    ⊎ ((event : Event) × (is_recall event ≡ false) × (is_open m.region m.tasks event (queue_of m) ≡ true)) →
     All (λ standing. standing ≡ Collected) m.standings
 all_by m idle none (inl all) = all
 all_by m idle none (inr goes) = absurd (nothing_open m idle none goes.0 goes.2)
 
 -- where none is admitted though no job is under way, all are collected
 pub all_collected : EventsGoOn → (m : MachineState) → All (λ task. task.limits.words ≤ m.region) m.tasks →
-    length m.standings ≡ length m.tasks → All IsWaitingOrCollected m.standings →
+    AreKept m.region m.tasks (queue_of m) → All IsWaitingOrCollected m.standings →
     ((job : ℕ) → admission_in m ≡ Admitted job → ⊥) →
-    All (λ standing. standing ≡ Collected) (after_event m.region m.tasks Admit m.standings)
-all_collected go_on m fitting same idle nobody =
+    All (λ standing. standing ≡ Collected) (after_event m.region m.tasks Admit (queue_of m)).standings
+all_collected go_on m fitting kept idle nobody =
     let none = not_admitted m nobody in
-    subst (λ (ss : List Standing). All (λ standing. standing ≡ Collected) ss) (sym (after_none m none))
-    (all_by m idle none (go_on m.region m.tasks fitting m.standings same))
+    subst (λ (q : Queue). All (λ standing. standing ≡ Collected) q.standings) (sym (after_none m none))
+    (all_by m idle none (go_on m.region m.tasks fitting (queue_of m) kept.same_length kept.passes_length))
 
 -- ---- a recall of each job
 
-events_join : (region : ℕ) (tasks : List Task) (earlier later : List Event) (standings : List Standing) →
-    after_events region tasks (earlier ++ later) standings
-    ≡ after_events region tasks later (after_events region tasks earlier standings)
-events_join region tasks [] later standings = refl
-events_join region tasks (event ∷ earlier) later standings =
-    events_join region tasks earlier later (after_event region tasks event standings)
+events_join : (region : ℕ) (tasks : List Task) (earlier later : List Event) (queue : Queue) →
+    after_events region tasks (earlier ++ later) queue
+    ≡ after_events region tasks later (after_events region tasks earlier queue)
+events_join region tasks [] later queue = refl
+events_join region tasks (event ∷ earlier) later queue =
+    events_join region tasks earlier later (after_event region tasks event queue)
 
 -- the machine with the steps of the first jobs given up
 abbrev pub recalled_to : MachineState → ℕ → MachineState
-recalled_to m place = with_standings m (after_events m.region m.tasks (all_recalls place) m.standings)
+recalled_to m place = with_queue m (after_events m.region m.tasks (all_recalls place) (queue_of m))
 
 one_more : (m : MachineState) (place : ℕ) →
     recalled_to m (suc place) ≡ machine_after (Recall (suc place)) (recalled_to m place)
 one_more m place =
-    ap (with_standings m) (events_join m.region m.tasks (all_recalls place) (Recall (suc place) ∷ []) m.standings)
+    ap (with_queue m) (events_join m.region m.tasks (all_recalls place) (Recall (suc place) ∷ []) (queue_of m))
 
 pub recalled_next : (m self new : MachineState) (place next : ℕ) → next ≡ suc place → self ≡ recalled_to m place →
     new ≡ machine_after (Recall next) self → new ≡ recalled_to m next
@@ -442,25 +431,22 @@ recalled_next m self new place next next_is self_is new_is =
 
 -- what is left when the step of each job is given up
 pub record AreRecalled (old new : MachineState) : Type 0 where
-  pub recalled : new ≡ with_standings old (recalled_standings old.standings)
+  pub recalled_is : new ≡ recalled old
   pub leads : Leads old new
   pub no_step : HasNoStep new
 
 pub all_recalled : RecallsAreEvents → (m new : MachineState) (place : ℕ) → length m.standings ≡ length m.tasks →
     place ≡ length m.tasks → new ≡ recalled_to m place → AreRecalled m new
 all_recalled recalls m new place same place_is new_is =
-    let is : new ≡ with_standings m (recalled_standings m.standings) =
+    let is : new ≡ recalled m =
     new_is ∙ (ap (recalled_to m) place_is
-    ∙ ap (with_standings m) (recalls m.region m.tasks m.standings same)) in
+    ∙ ap (with_queue m) (recalls m.region m.tasks (queue_of m) same)) in
     record {
-      recalled = is;
+      recalled_is = is;
       leads = (
         ap (λ (k : MachineState). k.region) is,
         ap (λ (k : MachineState). k.tasks) is,
-        (
-          all_recalls (length m.tasks),
-          recalls m.region m.tasks m.standings same ∙ sym (ap (λ (k : MachineState). k.standings) is),
-        ),
+        (all_recalls (length m.tasks), recalls m.region m.tasks (queue_of m) same ∙ sym (ap queue_of is)),
         ap (λ (k : MachineState). k.rule) is,
       );
       no_step = subst (λ (k : MachineState). HasNoStep k) (sym is) (recalled_twice m.standings);

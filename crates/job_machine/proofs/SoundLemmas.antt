@@ -5,21 +5,22 @@ use Rattle.std.proofs.Common.{length, set, get_or, slice_get, All, Option, Some,
 use Rattle.std.proofs.Common.{arith, inl, inr, length-set}
 use Rattle.std.specs.Prelude.{sum_by, nat_lt, option_map}
 use Rattle.std.proofs.lemmas.Bool.{cases_eq, ltb-true, ltb-false}
-use Rattle.std.proofs.lemmas.List.{map-set}
+use Rattle.std.proofs.lemmas.List.{map-set, set-set}
 use Rattle.std.proofs.lemmas.List.Sums.{sum_by-cons}
 use Rattle.std.proofs.lemmas.Option.{none-some, same_Some, cond_some, slice_get_within, slice_get_past, slice_get-map}
 use Rattle.refcounts.specs.SharedState.{Slot, blocks_in, words_in, block_count}
 use Rattle.job_memory.specs.JobBlocks.{JobBlocks, ChangesOnlyOf, own_slots, held_words, words_of, grant_of}
 use Rattle.job_memory.specs.JobBlocks as jobs
 use Rattle.job_steps.specs.declared.event.Event.{Event}
-use Rattle.job_steps.specs.EventLaws.{ChangesItsJob, EventsChangeTheirJob, ClosedChangeNothing, MissingAreClosed}
+use Rattle.job_steps.specs.declared.event.Event.TheVariants.{Admit, Begin, Finish}
+use Rattle.job_steps.specs.EventLaws.{ChangesItsJob, EventsChangeTheirJob, OthersPassNobody, ClosedChangeNothing}
+use Rattle.job_steps.specs.EventLaws.{MissingAreClosed}
 use Rattle.job_steps.specs.Events.{job_of, named_job, after_event, next_standing}
-use Rattle.job_steps.specs.Standings.{Standing, of_job, sum_over}
-use Rattle.job_steps.specs.Standings.{reserved_words, granted_words}
+use Rattle.job_steps.specs.Standings.{Standing, Queue, AreFew, of_job, sum_over, reserved_words, granted_words}
 use Rattle.job_steps.specs.States.{Task}
 use Rattle.job_slots.specs.declared.status.Status.{Status}
 use Rattle.job_slots.specs.declared.status.Status.TheVariants as status
-use Rattle.job_slots.specs.Answers.{or_same}
+use Rattle.job_slots.specs.Answers.{or_same, standing_after_step}
 use Rattle.job_slots.specs.Laws.{OthersAreShown}
 use Rattle.job_machine.specs.Machines.{place_of}
 use Rattle.job_slots.specs.Slots.{SlotState, Shows, standing_of, standing_by, grant_by}
@@ -146,8 +147,8 @@ granted_each (g ∷ gs) (t ∷ ts) (s ∷ ss) jobs same each =
     granted_each gs ts ss (omega (arith, jobs)) (omega (arith, same)) (λ place task slot. each (suc place) task slot) in
     omega (arith, here, rest, sum_by-cons words_of g gs)
 
-pub granted_is : (blocks : JobBlocks) (tasks : List Task) (slots : List SlotState) → IsSound blocks tasks slots →
-    jobs.granted_words blocks ≡ granted_words tasks (standings_of slots)
+pub granted_is : {passes : List ℕ} (blocks : JobBlocks) (tasks : List Task) (slots : List SlotState) →
+    IsSound blocks tasks slots passes → jobs.granted_words blocks ≡ granted_words tasks (standings_of slots)
 granted_is blocks tasks slots sound =
     granted_each blocks.grants tasks slots sound.jobs sound.slots_are
     (λ place task slot t s.
@@ -176,9 +177,10 @@ counted_with job old new changes =
       blocks_are_sum (own_slots job new),
     )
 
-pub sound_with : OthersAreShown → (old new : JobBlocks) (tasks : List Task) (slots : List SlotState) (place : ℕ)
-    (task : Task) (slot : SlotState) → IsSound old tasks slots → slice_get tasks place ≡ Some task →
-    ChangesOnlyOf (suc place) old new → Shows (suc place) new task slot → IsSound new tasks (set slots place slot)
+pub sound_with : {passes : List ℕ} → OthersAreShown → (old new : JobBlocks) (tasks : List Task)
+    (slots : List SlotState) (place : ℕ) (task : Task) (slot : SlotState) → IsSound old tasks slots passes →
+    slice_get tasks place ≡ Some task → ChangesOnlyOf (suc place) old new → Shows (suc place) new task slot →
+    IsSound new tasks (set slots place slot) passes
 sound_with others old new tasks slots place task slot sound at changes shows =
     let within : suc place ≤ length tasks = omega (arith, slice_get_within tasks place task at) in
     let apart : (k : ℕ) → (k ≡ suc place → ⊥) → own_slots k new ≡ own_slots k old =
@@ -194,6 +196,8 @@ sound_with others old new tasks slots place task slot sound at changes shows =
     record {
       jobs = changes.jobs ∙ sound.jobs;
       slots_are = length-set slots place slot ∙ sound.slots_are;
+      passes_are = sound.passes_are;
+      few_passes = sound.few_passes;
       few = sound.few;
       least = omega (arith, sound.least, changes.memory.room);
       most = omega (arith, sound.most, changes.memory.room);
@@ -221,35 +225,98 @@ sound_with others old new tasks slots place task slot sound at changes shows =
       used = omega (arith, changes.memory.balance (λ (s : Slot). length s.words), sound.used, words);
     }
 
--- ---- where an event leaves the jobs
+-- other passes
+pub sound_passes : (blocks : JobBlocks) (tasks : List Task) (slots : List SlotState) (old new : List ℕ) →
+    IsSound blocks tasks slots old → length new ≡ length old → AreFew new → IsSound blocks tasks slots new
+sound_passes blocks tasks slots old new sound same now_few =
+    record {
+      jobs = sound.jobs;
+      slots_are = sound.slots_are;
+      passes_are = same ∙ sound.passes_are;
+      few_passes = now_few;
+      few = sound.few;
+      least = sound.least;
+      most = sound.most;
+      fitting = sound.fitting;
+      each = sound.each;
+      numbers = sound.numbers;
+      counted = sound.counted;
+      used = sound.used;
+    }
 
-after_at : (region : ℕ) (tasks : List Task) (event : Event) (standings : List Standing) (place : ℕ) (task : Task)
-    (old : Standing) → ChangesItsJob region tasks event standings (suc place) task old →
-    slice_get standings place ≡ Some old → (o : Option Standing) → next_standing event task old ≡ o →
-    set standings place (or_same old o) ≡ after_event region tasks event standings
-after_at region tasks event standings place task old changes at None e = set_back standings place old at
-    ∙ sym (changes.passed e)
-after_at region tasks event standings place task old changes at (Some new) e = sym (changes.changed new e)
+-- ---- where an event leaves the jobs
 
 pub standing_at : (slots : List SlotState) (place : ℕ) (slot : SlotState) → slice_get slots place ≡ Some slot →
     slice_get (standings_of slots) place ≡ Some (standing_of slot)
 standing_at slots place slot at = slice_get-map standing_of slots place ∙ ap (option_map standing_of) at
 
+abbrev pub queue_by : List SlotState → List ℕ → Queue
+queue_by slots passes = record { standings = standings_of slots; passes = passes }
+
+after_at : (region : ℕ) (tasks : List Task) (event : Event) (queue : Queue) (place : ℕ) (task : Task)
+    (old : Standing) → ChangesItsJob region tasks event queue (suc place) task old →
+    slice_get queue.standings place ≡ Some old → (o : Option Standing) → next_standing event task old ≡ o →
+    set queue.standings place (or_same old o) ≡ (after_event region tasks event queue).standings
+after_at region tasks event queue place task old changes at None e =
+    set_back queue.standings place old at ∙ ap (λ (q : Queue). q.standings) (sym (changes.passed e))
+after_at region tasks event queue place task old changes at (Some new) e =
+    ap (λ (q : Queue). q.standings) (sym (changes.changed new e))
+
 -- a slot that stands where an event leaves it, among the others
 pub stands_after : EventsChangeTheirJob → (region : ℕ) (tasks : List Task) (event : Event) (slots : List SlotState)
-    (place : ℕ) (task : Task) (old new : SlotState) →
-    job_of region tasks event (standings_of slots) ≡ Some (suc place) → slice_get tasks place ≡ Some task →
+    (passes : List ℕ) (place : ℕ) (task : Task) (old new : SlotState) →
+    job_of region tasks event (queue_by slots passes) ≡ Some (suc place) → slice_get tasks place ≡ Some task →
     slice_get slots place ≡ Some old →
     standing_of new ≡ or_same (standing_of old) (next_standing event task (standing_of old)) →
-    standings_of (set slots place new) ≡ after_event region tasks event (standings_of slots)
-stands_after laws region tasks event slots place task old new job_is at slot_at stands =
-    let standings = standings_of slots in
+    standings_of (set slots place new) ≡ (after_event region tasks event (queue_by slots passes)).standings
+stands_after laws region tasks event slots passes place task old new job_is at slot_at stands =
     let here = standing_at slots place old slot_at in
-    let changes = laws region tasks event standings (suc place) task (standing_of old) job_is at here in
+    let changes = laws region tasks event (queue_by slots passes) (suc place) task (standing_of old) job_is at here in
     map-set standing_of slots place new
-    ∙ ap (λ (s : Standing). set standings place s) stands
-    ∙ after_at region tasks event standings place task (standing_of old) changes here
+    ∙ ap (λ (s : Standing). set (standings_of slots) place s) stands
+    ∙ after_at region tasks event (queue_by slots passes) place task (standing_of old) changes here
     (next_standing event task (standing_of old)) refl
+
+-- the queue after an event other than an admission
+queue_at : EventsChangeTheirJob → OthersPassNobody → (region : ℕ) (tasks : List Task) (event : Event) (queue : Queue)
+    (place : ℕ) (task : Task) (old : Standing) → (event ≡ Admit → ⊥) →
+    job_of region tasks event queue ≡ Some (suc place) → slice_get tasks place ≡ Some task →
+    slice_get queue.standings place ≡ Some old →
+    record {
+      standings = set queue.standings place (or_same old (next_standing event task old));
+      passes = queue.passes;
+    }
+    ≡ after_event region tasks event queue
+queue_at laws pass region tasks event queue place task old other job_is at here =
+    let changes = laws region tasks event queue (suc place) task old job_is at here in
+    let standings = after_at region tasks event queue place task old changes here (next_standing event task old) refl in
+    let passes = pass region tasks event queue other in
+    λ i. record { standings = standings i; passes = sym passes i }
+
+-- a slot that stands where a begin of its job leaves it and a finish after it, among the others
+pub stands_after_step : EventsChangeTheirJob → OthersPassNobody → (region : ℕ) (tasks : List Task)
+    (slots : List SlotState) (passes : List ℕ) (place : ℕ) (task : Task) (old new : SlotState) →
+    slice_get tasks place ≡ Some task → slice_get slots place ≡ Some old →
+    standing_of new ≡ standing_after_step (suc place) task (standing_of old) →
+    queue_by (set slots place new) passes
+    ≡ after_event region tasks (Finish (suc place))
+    (after_event region tasks (Begin (suc place)) (queue_by slots passes))
+stands_after_step laws pass region tasks slots passes place task old new at slot_at stands =
+    let queue : Queue = queue_by slots passes in
+    let begun = or_same (standing_of old) (next_standing (Begin (suc place)) task (standing_of old)) in
+    let between : Queue = record { standings = set queue.standings place begun; passes = passes } in
+    let last = or_same begun (next_standing (Finish (suc place)) task begun) in
+    let here = standing_at slots place old slot_at in
+    let there : slice_get between.standings place ≡ Some begun =
+    get-set_same queue.standings place (standing_of old) begun here in
+    let standings : standings_of (set slots place new) ≡ set between.standings place last =
+    map-set standing_of slots place new
+    ∙ ap (λ (s : Standing). set queue.standings place s) stands
+    ∙ sym (set-set queue.standings place begun last) in
+    (λ i. record { standings = standings i; passes = passes })
+    ∙ queue_at laws pass region tasks (Finish (suc place)) between place task begun (λ e. cc) refl at there
+    ∙ ap (after_event region tasks (Finish (suc place)))
+    (queue_at laws pass region tasks (Begin (suc place)) queue place task (standing_of old) (λ e. cc) refl at here)
 
 -- a slot that stands where it stood, among the others
 pub stands_still : (slots : List SlotState) (place : ℕ) (old new : SlotState) → slice_get slots place ≡ Some old →
@@ -261,7 +328,9 @@ stands_still slots place old new slot_at stands =
 
 -- an event of a job that there isn't changes nothing
 pub missing_after : MissingAreClosed → ClosedChangeNothing → (region : ℕ) (tasks : List Task) (event : Event)
-    (slots : List SlotState) (job : ℕ) → named_job event ≡ Some job → of_job job (standings_of slots) ≡ None →
-    after_event region tasks event (standings_of slots) ≡ standings_of slots
-missing_after missing closed region tasks event slots job named none =
-    closed region tasks event (standings_of slots) (missing region tasks event (standings_of slots) job named none)
+    (slots : List SlotState) (passes : List ℕ) (job : ℕ) → named_job event ≡ Some job →
+    of_job job (standings_of slots) ≡ None →
+    after_event region tasks event (queue_by slots passes) ≡ queue_by slots passes
+missing_after missing closed region tasks event slots passes job named none =
+    closed region tasks event (queue_by slots passes)
+    (missing region tasks event (queue_by slots passes) job named none)

@@ -1,180 +1,30 @@
--- A step of a job that is live, by its begin and its finish.
-use Rattle.std.proofs.Common.{◌≡◌, ℕ, zero, suc, ◌+◌, ◌<◌, ◌≤◌, true, List, [], ◌∷◌, length}
+-- Steps of a job in one go, among a machine's jobs.
+use Rattle.std.proofs.Common.{◌≡◌, ℕ, zero, suc, ◌+◌, ◌<◌, ◌≤◌, true, false, List, [], ◌∷◌, length}
 use Rattle.std.proofs.Common.{All, Option, Some, None, is_some, refl, sym, ◌∙◌, ap, subst, arith}
 use Rattle.std.proofs.lemmas.Bool.{false≢true}
 use Rattle.std.proofs.lemmas.Option.{none-some, get_or_from_slice_get, slice_get_within}
 use Rattle.job_steps.specs.declared.event.Event.{Event}
 use Rattle.job_steps.specs.declared.event.Event.TheVariants.{Begin, Finish}
-use Rattle.job_steps.specs.EventLaws.{EventsKeep, EventsUseUp, IsVerified, AreKept}
+use Rattle.job_steps.specs.EventLaws.{EventsKeep, EventsUseUp, LeadsJoin, IsVerified, AreKept}
 use Rattle.job_steps.specs.Events.{next_standing, job_of, next_standing_in, next_standing_of, is_open, with_next}
-use Rattle.job_steps.specs.Events.{after_event, recalled_standing, recalled_standings, all_events_left, standing_after}
-use Rattle.job_steps.specs.Runs.{state_after}
-use Rattle.job_steps.specs.Standings.{Standing, Live, InFlight, Ended, of_job, with_standing}
+use Rattle.job_steps.specs.Events.{after_event, recalled_standing, recalled_standings, all_events_left}
+use Rattle.job_steps.specs.Standings.{Standing, Waiting, Live, InFlight, Ended, Collected, Queue, of_job}
+use Rattle.job_steps.specs.Standings.{with_standing}
 use Rattle.job_steps.specs.States.{Task}
-use Rattle.job_steps.specs.Steps.{Progress, Running, Over, Stuck}
 use Rattle.job_steps.specs.Tickets.{Asked}
-use Rattle.job_slots.specs.declared.answer.Begun.TheVariants as begun
 use Rattle.job_slots.specs.declared.answer.Finished.{Finished}
 use Rattle.job_slots.specs.declared.answer.Finished.TheVariants as finished
-use Rattle.job_slots.specs.Answers.{question_at, IsTicketOf}
-use Rattle.job_machine.specs.Machines.{MachineState, machine_after, HasNoStep, GoesOn, is_running}
-use Rattle.job_machine.specs.Machines.{BeginsIn, FinishesIn, after_finished}
-use Rattle.job_machine.proofs.RunningOut.{of_with, of_with_other, with_twice, no_step_with, beside}
+use Rattle.job_slots.specs.declared.answer.Stepped.{Stepped}
+use Rattle.job_slots.specs.declared.answer.Stepped.TheVariants as stepped
+use Rattle.job_slots.specs.Answers.{question_at, is_live, or_same, standing_after_step, after_stepped}
+use Rattle.job_machine.specs.Machines.{MachineState, queue_of, machine_after, after_step, HasNoStep, GoesOn, is_running, StepsIn}
+use Rattle.job_machine.specs.Machines.{FinishesIn, after_finished}
+use Rattle.job_machine.proofs.Places.{set_back}
+use Rattle.job_machine.proofs.RunningOut.{of_with, of_with_other, with_twice, no_step_with, beside, happens}
+use Rattle.job_machine.proofs.RunningOut.{fewer_after}
+use Rattle.job_machine.proofs.Turns.{Runs, runs_on, runs_still, kept_on}
 
--- what an open event of a job makes
-pub record Changed (region : ℕ) (tasks : List Task) (event : Event) (standings : List Standing) (job : ℕ)
-    (new : Standing) : Type 0 where
-  pub can : is_open region tasks event standings ≡ true
-  pub after : after_event region tasks event standings ≡ with_standing job new standings
-
-pub changed : (region : ℕ) (tasks : List Task) (event : Event) (standings : List Standing) (job : ℕ) (task : Task)
-    (old new : Standing) → job_of region tasks event standings ≡ Some job → of_job job tasks ≡ Some task →
-    of_job job standings ≡ Some old → next_standing event task old ≡ Some new →
-    Changed region tasks event standings job new
-unfolding is_open after_event
-changed region tasks event standings job task old new job_is task_is old_is new_is =
-    let next : next_standing_of tasks event standings (Some job) ≡ Some new =
-    (λ i. next_standing_in event (task_is i) (old_is i)) ∙ new_is in
-    let here : next_standing_of tasks event standings (job_of region tasks event standings) ≡ Some new =
-    ap (next_standing_of tasks event standings) job_is ∙ next in
-    record { can = ap is_some here; after = λ i. with_next (job_is i) (here i) standings }
-
--- from one machine to another by a step of a job, which leaves fewer events
-pub record HasStepped (job : ℕ) (old new : MachineState) : Type 0 where
-  pub goes_on : GoesOn job old new
-  pub fewer : all_events_left new.tasks new.standings < all_events_left old.tasks old.standings
-
--- what a step may take for granted
-pub record CanStep (use_up : EventsUseUp) (keep : EventsKeep) (m : MachineState) (job : ℕ) : Type 0 where
-  pub verified : All IsVerified m.tasks
-  pub kept : AreKept m.region m.tasks m.standings
-  pub none : HasNoStep m
-  pub live : is_running (of_job job m.standings) ≡ true
-
--- a job that ends at the begin
-record EndsSo (m : MachineState) (job : ℕ) : Type 0 where
-  task : Task
-  old : Standing
-  task_is : of_job job m.tasks ≡ Some task
-  old_is : of_job job m.standings ≡ Some old
-  next : next_standing (Begin job) task old ≡ Some Ended
-
-ended_in : (A : Type 0) (m : MachineState) (job words desk : ℕ) (t : Option Task) (s : Option Standing) →
-    of_job job m.tasks ≡ t → of_job job m.standings ≡ s → BeginsIn {A = A} job words t s (begun.Ended desk) →
-    EndsSo m job × (desk ≡ words)
-ended_in A m job words desk None s t_is s_is answer = absurd answer
-ended_in A m job words desk (Some task) None t_is s_is answer = absurd answer
-ended_in A m job words desk (Some task) (Some old) t_is s_is answer =
-    (record { task = task; old = old; task_is = t_is; old_is = s_is; next = answer.0 }, answer.2)
-
-with_other : (m : MachineState) (job : ℕ) (event : Event) (new : Standing) (other : ℕ) → (other ≡ job → ⊥) →
-    Changed m.region m.tasks event m.standings job new →
-    of_job other (after_event m.region m.tasks event m.standings) ≡ of_job other m.standings
-with_other m job event new other ne c = ap (of_job other) c.after ∙ of_with_other job other m.standings new ne
-
-ends_so : (use_up : EventsUseUp) (keep : EventsKeep) (m : MachineState) (job : ℕ) → CanStep use_up keep m job →
-    EndsSo m job → HasStepped job m (machine_after (Begin job) m)
-ends_so use_up keep m job can e =
-    let c = changed m.region m.tasks (Begin job) m.standings job e.task e.old Ended refl e.task_is e.old_is e.next in
-    record {
-      goes_on = record {
-        leads = (refl, refl, (Begin job ∷ [], refl), refl);
-        no_step = subst HasNone (sym c.after) (no_step_with job m.standings Ended can.none refl);
-        others = λ other ne. with_other m job (Begin job) Ended other ne c;
-      };
-      fewer = use_up m.region m.tasks can.verified (Begin job) m.standings can.kept refl c.can;
-    }
-  where
-    HasNone : List Standing → Type 0
-    HasNone ss = recalled_standings ss ≡ ss
-
-pub ended : (A : Type 0) (use_up : EventsUseUp) (keep : EventsKeep) (m : MachineState) (job words desk : ℕ) →
-    CanStep use_up keep m job →
-    BeginsIn {A = A} job words (of_job job m.tasks) (of_job job m.standings) (begun.Ended desk) →
-    HasStepped job m (machine_after (Begin job) m) × (desk ≡ words)
-ended A use_up keep m job words desk can answer =
-    let e = ended_in A m job words desk (of_job job m.tasks) (of_job job m.standings) refl refl answer in
-    (ends_so use_up keep m job can e.0, e.1)
-
--- ---- a desk that comes back
-
-not_ready_in : (A : Type 0) (m : MachineState) (job words desk : ℕ) (t : Option Task) (s : Option Standing) →
-    length m.standings ≡ length m.tasks → of_job job m.tasks ≡ t → of_job job m.standings ≡ s →
-    is_running s ≡ true → BeginsIn {A = A} job words t s (begun.NotReady desk) → ⊥
-not_ready_in A m job words desk t None same t_is s_is live answer = false≢true live
-not_ready_in A m job words desk None (Some old) same t_is s_is live answer =
-    let task = beside m same job old s_is in none-some task.0 (sym t_is ∙ task.1)
-not_ready_in A m job words desk (Some task) (Some old) same t_is s_is live answer =
-    false≢true (sym answer.0 ∙ live)
-
-pub not_ready : (A : Type 0) (use_up : EventsUseUp) (keep : EventsKeep) (m : MachineState) (job words desk : ℕ) →
-    CanStep use_up keep m job →
-    BeginsIn {A = A} job words (of_job job m.tasks) (of_job job m.standings) (begun.NotReady desk) → ⊥
-not_ready A use_up keep m job words desk can answer =
-    not_ready_in A m job words desk (of_job job m.tasks) (of_job job m.standings) can.kept.same_length refl refl can.live
-    answer
-
-small_in : (A : Type 0) (m : MachineState) (job words desk : ℕ) (t : Option Task) (s : Option Standing) →
-    All (λ task. task.limits.words ≤ words) m.tasks → of_job job m.tasks ≡ t →
-    BeginsIn {A = A} job words t s (begun.SmallDesk desk) → ⊥
-small_in A m job words desk None s fits t_is answer = answer
-small_in A m job words desk (Some task) None fits t_is answer = answer
-small_in A m zero words desk (Some task) (Some old) fits t_is answer = none-some task t_is
-small_in A m (suc i) words desk (Some task) (Some old) fits t_is answer =
-    let fit : task.limits.words ≤ words = subst (λ (k : Task). k.limits.words ≤ words)
-    (get_or_from_slice_get m.tasks i task task t_is) (fits i task (slice_get_within m.tasks i task t_is)) in
-    let small = answer.1 in
-    omega (arith, fit, small)
-
-pub small_desk : (A : Type 0) (m : MachineState) (job words desk : ℕ) →
-    All (λ task. task.limits.words ≤ words) m.tasks →
-    BeginsIn {A = A} job words (of_job job m.tasks) (of_job job m.standings) (begun.SmallDesk desk) → ⊥
-small_desk A m job words desk fits answer =
-    small_in A m job words desk (of_job job m.tasks) (of_job job m.standings) fits refl answer
-
--- ---- a step that begins
-
--- the step of this ticket has begun
-pub record HasBegunIn (m : MachineState) (job words : ℕ) (ticket : Asked) : Type 0 where
-  pub task : Task
-  pub task_is : of_job job m.tasks ≡ Some task
-  pub live_is : of_job job m.standings ≡ Some (Live ticket.step)
-  pub is : IsTicketOf job words task (Live ticket.step) ticket
-  pub begin : Changed m.region m.tasks (Begin job) m.standings job (InFlight ticket.step)
-  pub flying : of_job job (after_event m.region m.tasks (Begin job) m.standings) ≡ Some (InFlight ticket.step)
-
-begun_by : (m : MachineState) (job words : ℕ) (ticket : Asked) (task : Task) → of_job job m.tasks ≡ Some task →
-    of_job job m.standings ≡ Some (Live ticket.step) → IsTicketOf job words task (Live ticket.step) ticket →
-    HasBegunIn m job words ticket
-begun_by m job words ticket task task_is live_is is =
-    let c = changed m.region m.tasks (Begin job) m.standings job task (Live ticket.step) (InFlight ticket.step) refl
-    task_is live_is is.next in
-    record {
-      task = task;
-      task_is = task_is;
-      live_is = live_is;
-      is = is;
-      begin = c;
-      flying = ap (of_job job) c.after
-          ∙ of_with job m.standings (Live ticket.step) (InFlight ticket.step) live_is;
-    }
-
-begun_in : (A : Type 0) (m : MachineState) (job words : ℕ) (ticket : Asked) (t : Option Task) (s : Option Standing) →
-    of_job job m.tasks ≡ t → of_job job m.standings ≡ s → BeginsIn {A = A} job words t s (begun.Began ticket) →
-    HasBegunIn m job words ticket
-begun_in A m job words ticket None s t_is s_is answer = absurd answer
-begun_in A m job words ticket (Some task) None t_is s_is answer = absurd answer
-begun_in A m job words ticket (Some task) (Some old) t_is s_is answer =
-    begun_by m job words ticket task t_is (s_is ∙ ap (λ (s : Standing). Some s) answer.live)
-    (subst (λ (s : Standing). IsTicketOf job words task s ticket) answer.live answer)
-
-pub has_begun : (A : Type 0) (m : MachineState) (job words : ℕ) (ticket : Asked) →
-    BeginsIn {A = A} job words (of_job job m.tasks) (of_job job m.standings) (begun.Began ticket) →
-    HasBegunIn m job words ticket
-has_begun A m job words ticket answer =
-    begun_in A m job words ticket (of_job job m.tasks) (of_job job m.standings) refl refl answer
-
--- ---- and is finished
+-- ---- a finish
 
 pub finished_by : {T : Type 0} (task : Task) (filled : Asked) (answer : Finished) (old next : T) →
     question_at task filled.step ≡ Some filled.question →
@@ -184,79 +34,216 @@ finished_by task filled finished.Ended old next question answer = refl
 finished_by task filled finished.Stale old next question answer =
     absurd (answer (record { flying = refl; question = question }))
 
-stays_so : (n : ℕ) (p : Progress) → recalled_standing (standing_after n p) ≡ standing_after n p
-stays_so n (Running s) = refl
-stays_so n (Over ending executed peak) = refl
-stays_so n Stuck = refl
+-- ---- where an event leaves the jobs
 
-step_by : (use_up : EventsUseUp) (keep : EventsKeep) (m : MachineState) (job words : ℕ) (ticket : Asked) →
-    CanStep use_up keep m job → HasBegunIn m job words ticket →
-    HasStepped job m (machine_after (Finish job) (machine_after (Begin job) m))
-step_by use_up keep m job words ticket can b =
-    let n : ℕ = ticket.step in
-    let between : List Standing = after_event m.region m.tasks (Begin job) m.standings in
-    let late : Standing = standing_after (n + 1) (state_after b.task (n + 1)) in
-    let c = changed m.region m.tasks (Finish job) between job b.task (InFlight n) late refl b.task_is b.flying refl in
-    let is : after_event m.region m.tasks (Finish job) between ≡ with_standing job late m.standings =
-    c.after ∙ (ap (with_standing job late) b.begin.after ∙ with_twice job m.standings (InFlight n) late) in
-    let first = use_up m.region m.tasks can.verified (Begin job) m.standings can.kept refl b.begin.can in
-    let kept = keep m.region m.tasks can.verified (Begin job ∷ []) m.standings can.kept in
-    let second = use_up m.region m.tasks can.verified (Finish job) between kept refl c.can in
+with_back : (event : Event) (job : ℕ) (queue : Queue) (old : Standing) (next : Option Standing) →
+    of_job job queue.standings ≡ Some old →
+    (with_next event (Some job) next queue).standings ≡ with_standing job (or_same old next) queue.standings
+with_back event job queue old (Some new) is = refl
+with_back event zero queue old None is = absurd (none-some old is)
+with_back event (suc i) queue old None is = sym (set_back queue.standings i old is)
+
+-- an event leaves its job at its next standing, or where it stood
+after_by : (region : ℕ) (tasks : List Task) (event : Event) (queue : Queue) (job : ℕ) (task : Task)
+    (old : Standing) → job_of region tasks event queue ≡ Some job → of_job job tasks ≡ Some task →
+    of_job job queue.standings ≡ Some old →
+    (after_event region tasks event queue).standings
+    ≡ with_standing job (or_same old (next_standing event task old)) queue.standings
+unfolding after_event
+after_by region tasks event queue job task old job_is task_is old_is =
+    let next : next_standing_of tasks event queue.standings (Some job) ≡ next_standing event task old =
+    λ i. next_standing_in event (task_is i) (old_is i) in
+    let here : next_standing_of tasks event queue.standings (job_of region tasks event queue)
+    ≡ next_standing event task old =
+    ap (next_standing_of tasks event queue.standings) job_is ∙ next in
+    (λ i. (with_next event (job_is i) (here i) queue).standings)
+    ∙ with_back event job queue old (next_standing event task old) old_is
+
+-- at its next standing, if the event is open
+pub after_open : (region : ℕ) (tasks : List Task) (event : Event) (queue : Queue) (job : ℕ) (task : Task)
+    (old new : Standing) → job_of region tasks event queue ≡ Some job → of_job job tasks ≡ Some task →
+    of_job job queue.standings ≡ Some old → next_standing event task old ≡ Some new →
+    (after_event region tasks event queue).standings ≡ with_standing job new queue.standings
+after_open region tasks event queue job task old new job_is task_is old_is next =
+    after_by region tasks event queue job task old job_is task_is old_is
+    ∙ ap (λ (s : Option Standing). with_standing job (or_same old s) queue.standings) next
+
+-- a begin and then a finish leave their job where a step does
+pub after_both : (m : MachineState) (job : ℕ) (task : Task) (old : Standing) → of_job job m.tasks ≡ Some task →
+    of_job job m.standings ≡ Some old →
+    (after_step job m).standings ≡ with_standing job (standing_after_step job task old) m.standings
+after_both m job task old task_is old_is =
+    let begun = or_same old (next_standing (Begin job) task old) in
+    let between = after_event m.region m.tasks (Begin job) (queue_of m) in
+    let first : between.standings ≡ with_standing job begun m.standings =
+    after_by m.region m.tasks (Begin job) (queue_of m) job task old refl task_is old_is in
+    let there : of_job job between.standings ≡ Some begun =
+    ap (of_job job) first ∙ of_with job m.standings old begun old_is in
+    after_by m.region m.tasks (Finish job) between job task begun refl task_is there
+    ∙ ap (with_standing job (standing_after_step job task old)) first
+    ∙ with_twice job m.standings begun (standing_after_step job task old)
+
+-- ---- a step
+
+-- from one machine to another by a step of a job, which leaves fewer events
+pub record HasStepped (job : ℕ) (old new : MachineState) : Type 0 where
+  pub goes_on : GoesOn job old new
+  pub fewer : all_events_left new.tasks new.standings < all_events_left old.tasks old.standings
+
+-- what a step may take for granted
+pub record CanStep (use_up : EventsUseUp) (keep : EventsKeep) (m : MachineState) : Type 0 where
+  pub verified : All IsVerified m.tasks
+  pub kept : AreKept m.region m.tasks (queue_of m)
+  pub none : HasNoStep m
+
+-- machines that run a job let it step on
+pub can_step : (use_up : EventsUseUp) (keep : EventsKeep) (job : ℕ) (old m : MachineState) → All IsVerified old.tasks →
+    AreKept old.region old.tasks (queue_of old) → Runs job old m → CanStep use_up keep m
+can_step use_up keep job old m verified kept r =
+    let now = kept_on keep old m verified kept r.goes_on.leads in
+    record { verified = now.1; kept = now.0; none = r.goes_on.no_step }
+
+-- the job was live, and is where no step of it has begun after this one
+record HasTaken (m : MachineState) (job : ℕ) (after : Standing) : Type 0 where
+  task : Task
+  step : ℕ
+  task_is : of_job job m.tasks ≡ Some task
+  live_is : of_job job m.standings ≡ Some (Live step)
+  after_is : standing_after_step job task (Live step) ≡ after
+
+lives : (s : Standing) → is_live s ≡ true → (n : ℕ) × (s ≡ Live n)
+lives Waiting e = absurd (false≢true e)
+lives (Live n) e = (n, refl)
+lives (InFlight n) e = absurd (false≢true e)
+lives Ended e = absurd (false≢true e)
+lives Collected e = absurd (false≢true e)
+
+taken_from : (m : MachineState) (job : ℕ) (task : Task) (old after : Standing) (n : ℕ) →
+    of_job job m.tasks ≡ Some task → of_job job m.standings ≡ Some old → old ≡ Live n →
+    standing_after_step job task old ≡ after → HasTaken m job after
+taken_from m job task old after n task_is old_is live next = record {
+  task = task;
+  step = n;
+  task_is = task_is;
+  live_is = old_is ∙ ap (λ (s : Standing). Some s) live;
+  after_is = ap (standing_after_step job task) (sym live) ∙ next;
+}
+
+open_first : (m : MachineState) (job : ℕ) (task : Task) (n : ℕ) → of_job job m.tasks ≡ Some task →
+    of_job job m.standings ≡ Some (Live n) → is_open m.region m.tasks (Begin job) (queue_of m) ≡ true
+unfolding is_open
+open_first m job task n task_is live_is =
+    λ i. is_some (next_standing_in (Begin job) (task_is i) (live_is i))
+
+has_stepped : (use_up : EventsUseUp) (keep : EventsKeep) (m : MachineState) (job : ℕ) (after : Standing) →
+    CanStep use_up keep m → recalled_standing after ≡ after → HasTaken m job after →
+    HasStepped job m (after_step job m)
+has_stepped use_up keep m job after can idle h =
+    let between : MachineState = machine_after (Begin job) m in
+    let is : (after_step job m).standings ≡ with_standing job after m.standings =
+    after_both m job h.task (Live h.step) h.task_is h.live_is
+    ∙ ap (λ (s : Standing). with_standing job s m.standings) h.after_is in
+    let first =
+    use_up m.region m.tasks can.verified (Begin job) (queue_of m) can.kept refl
+    (open_first m job h.task h.step h.task_is h.live_is) in
+    let kept = keep m.region m.tasks can.verified (Begin job ∷ []) (queue_of m) can.kept in
+    let second =
+    fewer_after use_up (Finish job) job between can.verified kept refl
+    (happens m.region m.tasks (Finish job) (queue_of between) job refl) in
     record {
       goes_on = record {
         leads = (refl, refl, (Begin job ∷ Finish job ∷ [], refl), refl);
-        no_step = subst (λ (ss : List Standing). recalled_standings ss ≡ ss) (sym is)
-            (no_step_with job m.standings late can.none (stays_so (n + 1) (state_after b.task (n + 1))));
-        others = λ other ne. ap (of_job other) is ∙ of_with_other job other m.standings late ne;
+        no_step =
+            subst (λ (ss : List Standing). recalled_standings ss ≡ ss) (sym is)
+            (no_step_with job m.standings after can.none idle);
+        others = λ other ne. ap (of_job other) is ∙ of_with_other job other m.standings after ne;
       };
       fewer = omega (arith, first, second);
     }
 
--- a step whose ticket comes back filled is never stale
-pub stepped : (use_up : EventsUseUp) (keep : EventsKeep) (m new : MachineState) (job words : ℕ)
-    (ticket filled : Asked) (answer : Finished) → CanStep use_up keep m job → HasBegunIn m job words ticket →
-    filled ≡ ticket →
-    FinishesIn filled (of_job filled.job m.tasks)
-    (of_job filled.job (after_event m.region m.tasks (Begin job) m.standings)) answer →
-    new ≡ after_finished answer (machine_after (Begin job) m)
-    (machine_after (Finish filled.job) (machine_after (Begin job) m)) →
-    HasStepped job m new
-stepped use_up keep m new job words ticket filled answer can b filled_is finishes new_is =
-    let number : filled.job ≡ job = ap (λ (f : Asked). f.job) filled_is ∙ b.is.job_is in
-    let step_is : filled.step ≡ ticket.step = ap (λ (f : Asked). f.step) filled_is in
-    let task_is : of_job filled.job m.tasks ≡ Some b.task = ap (λ j. of_job j m.tasks) number ∙ b.task_is in
-    let flying : of_job filled.job (after_event m.region m.tasks (Begin job) m.standings) ≡ Some (InFlight filled.step) =
-    ap (λ j. of_job j (after_event m.region m.tasks (Begin job) m.standings)) number
-    ∙ (b.flying ∙ ap (λ k. Some (InFlight k)) (sym step_is)) in
-    let question : question_at b.task filled.step ≡ Some filled.question =
-    ap (question_at b.task) step_is ∙ (b.is.question ∙ ap (λ (f : Asked). Some f.question) (sym filled_is)) in
-    let here : FinishesIn filled (Some b.task) (Some (InFlight filled.step)) answer =
-    subst (λ (s : Option Standing). FinishesIn filled (Some b.task) s answer) flying
-    (subst (λ (t : Option Task). FinishesIn filled t
-    (of_job filled.job (after_event m.region m.tasks (Begin job) m.standings)) answer) task_is finishes) in
-    let between : MachineState = machine_after (Begin job) m in
-    let done : new ≡ machine_after (Finish job) between =
-    new_is
-    ∙ (finished_by b.task filled answer between (machine_after (Finish filled.job) between) question here
-    ∙ ap (λ j. machine_after (Finish j) between) number) in
-    subst (HasStepped job m) (sym done) (step_by use_up keep m job words ticket can b)
+-- ---- the answers
 
-pub began_by : (use_up : EventsUseUp) (keep : EventsKeep) (m between new : MachineState) (job words : ℕ)
-    (ticket filled : Asked) (answer : Finished) → CanStep use_up keep m job → HasBegunIn m job words ticket →
-    filled ≡ ticket → between ≡ machine_after (Begin job) m →
-    FinishesIn filled (of_job filled.job between.tasks) (of_job filled.job between.standings) answer →
-    new ≡ after_finished answer between (machine_after (Finish filled.job) between) → HasStepped job m new
-began_by use_up keep m between new job words ticket filled answer can b filled_is between_is finishes new_is =
-    let here : FinishesIn filled (of_job filled.job m.tasks)
-    (of_job filled.job (after_event m.region m.tasks (Begin job) m.standings)) answer =
-    subst (λ (k : MachineState). FinishesIn filled (of_job filled.job k.tasks) (of_job filled.job k.standings) answer)
-    between_is finishes in
-    stepped use_up keep m new job words ticket filled answer can b filled_is here
-    (new_is ∙ ap (λ (k : MachineState). after_finished answer k (machine_after (Finish filled.job) k)) between_is)
+done_in : (m : MachineState) (job words : ℕ) (t : Option Task) (s : Option Standing) → of_job job m.tasks ≡ t →
+    of_job job m.standings ≡ s → StepsIn job words t s stepped.Done → (n : ℕ) × HasTaken m job (Live n)
+done_in m job words None s t_is s_is answer = absurd answer
+done_in m job words (Some task) None t_is s_is answer = absurd answer
+done_in m job words (Some task) (Some old) t_is s_is answer =
+    let on = answer.1 in
+    (on.step + 1, taken_from m job task old (Live (on.step + 1)) on.step t_is s_is on.live on.next)
 
-pub ended_by : (A : Type 0) (use_up : EventsUseUp) (keep : EventsKeep) (m new : MachineState) (job words desk : ℕ) →
-    CanStep use_up keep m job →
-    BeginsIn {A = A} job words (of_job job m.tasks) (of_job job m.standings) (begun.Ended desk) →
-    new ≡ machine_after (Begin job) m → HasStepped job m new
-ended_by A use_up keep m new job words desk can answer new_is =
-    subst (HasStepped job m) (sym new_is) (ended A use_up keep m job words desk can answer).0
+ended_in : (m : MachineState) (job words : ℕ) (t : Option Task) (s : Option Standing) → of_job job m.tasks ≡ t →
+    of_job job m.standings ≡ s → StepsIn job words t s stepped.Ended → HasTaken m job Ended
+ended_in m job words None s t_is s_is answer = absurd answer
+ended_in m job words (Some task) None t_is s_is answer = absurd answer
+ended_in m job words (Some task) (Some old) t_is s_is answer =
+    let n = lives old answer.0.0 in
+    taken_from m job task old Ended n.0 t_is s_is n.1 answer.1
+
+not_ready_in : (m : MachineState) (job words : ℕ) (t : Option Task) (s : Option Standing) →
+    length m.standings ≡ length m.tasks → of_job job m.tasks ≡ t → of_job job m.standings ≡ s →
+    StepsIn job words t s stepped.NotReady → is_running s ≡ false
+not_ready_in m job words t None same t_is s_is answer = refl
+not_ready_in m job words None (Some old) same t_is s_is answer =
+    let task = beside m same job old s_is in absurd (none-some task.0 (sym t_is ∙ task.1))
+not_ready_in m job words (Some task) (Some old) same t_is s_is answer = answer
+
+small_in : (m : MachineState) (job words : ℕ) (t : Option Task) (s : Option Standing) →
+    All (λ task. task.limits.words ≤ words) m.tasks → of_job job m.tasks ≡ t →
+    StepsIn job words t s stepped.SmallDesk → ⊥
+small_in m job words None s fits t_is answer = answer
+small_in m job words (Some task) None fits t_is answer = answer
+small_in m zero words (Some task) (Some old) fits t_is answer = none-some task t_is
+small_in m (suc i) words (Some task) (Some old) fits t_is answer =
+    let fit : task.limits.words ≤ words = subst (λ (k : Task). k.limits.words ≤ words)
+    (get_or_from_slice_get m.tasks i task task t_is) (fits i task (slice_get_within m.tasks i task t_is)) in
+    let small = answer.1 in
+    omega (arith, fit, small)
+
+-- a step that answers Done
+pub done : (use_up : EventsUseUp) (keep : EventsKeep) (m new : MachineState) (job words : ℕ) (answer : Stepped) →
+    CanStep use_up keep m → answer ≡ stepped.Done →
+    StepsIn job words (of_job job m.tasks) (of_job job m.standings) answer →
+    new ≡ after_stepped answer m (after_step job m) → HasStepped job m new
+done use_up keep m new job words answer can is steps new_is =
+    let own : StepsIn job words (of_job job m.tasks) (of_job job m.standings) stepped.Done =
+    subst (StepsIn job words (of_job job m.tasks) (of_job job m.standings)) is steps in
+    let taken = done_in m job words (of_job job m.tasks) (of_job job m.standings) refl refl own in
+    subst (HasStepped job m) (sym (new_is ∙ ap (λ (a : Stepped). after_stepped a m (after_step job m)) is))
+    (has_stepped use_up keep m job (Live taken.0) can refl taken.1)
+
+-- the job takes no further step
+pub record HasRun (job : ℕ) (old new : MachineState) : Type 0 where
+  pub runs : Runs job old new
+  pub idle : is_running (of_job job new.standings) ≡ false
+
+stands : (m : MachineState) (job : ℕ) (after : Standing) → HasTaken m job after →
+    of_job job (after_step job m).standings ≡ Some after
+stands m job after h =
+    ap (of_job job) (after_both m job h.task (Live h.step) h.task_is h.live_is)
+    ∙ of_with job m.standings (Live h.step) (standing_after_step job h.task (Live h.step)) h.live_is
+    ∙ ap (λ (s : Standing). Some s) h.after_is
+
+-- a step that answers otherwise
+pub not_done : LeadsJoin → (use_up : EventsUseUp) (keep : EventsKeep) (old m new : MachineState) (job words : ℕ)
+    (answer : Stepped) → CanStep use_up keep m → All (λ task. task.limits.words ≤ words) m.tasks →
+    (answer ≡ stepped.Done → ⊥) → StepsIn job words (of_job job m.tasks) (of_job job m.standings) answer →
+    new ≡ after_stepped answer m (after_step job m) → Runs job old m → HasRun job old new
+not_done join use_up keep old m new job words stepped.Done can fits not steps new_is r = absurd (not refl)
+not_done join use_up keep old m new job words stepped.Ended can fits not steps new_is r =
+    let taken = ended_in m job words (of_job job m.tasks) (of_job job m.standings) refl refl steps in
+    let here : HasStepped job m new =
+    subst (HasStepped job m) (sym new_is) (has_stepped use_up keep m job Ended can refl taken) in
+    record {
+      runs = runs_on join job old m new r here.goes_on here.fewer;
+      idle =
+          ap (λ (n : MachineState). is_running (of_job job n.standings)) new_is
+          ∙ ap is_running (stands m job Ended taken);
+    }
+not_done join use_up keep old m new job words stepped.NotReady can fits not steps new_is r = record {
+  runs = runs_still job old m new r new_is;
+  idle =
+      ap (λ (n : MachineState). is_running (of_job job n.standings)) new_is
+      ∙ not_ready_in m job words (of_job job m.tasks) (of_job job m.standings) can.kept.same_length refl refl steps;
+}
+not_done join use_up keep old m new job words stepped.SmallDesk can fits not steps new_is r =
+    absurd (small_in m job words (of_job job m.tasks) (of_job job m.standings) fits refl steps)

@@ -8,10 +8,10 @@ use Rattle.job_steps.specs.EventLaws.{EventsGoOn, EventsKeep, EventsUseUp, Leads
 use Rattle.job_steps.specs.EventLaws.{AreKept}
 use Rattle.job_steps.specs.Events.{next_standing, next_standing_in, recalled_standing, recalled_standings}
 use Rattle.job_steps.specs.Events.{all_events_left}
-use Rattle.job_steps.specs.Standings.{Standing, Waiting, Live, InFlight, Ended, Collected, of_job, admission}
+use Rattle.job_steps.specs.Standings.{Standing, Waiting, Live, InFlight, Ended, Collected, Queue, of_job, admission}
 use Rattle.job_steps.specs.States.{Task}
 use Rattle.job_machine.specs.declared.machine.Admission.TheVariants.{Admitted}
-use Rattle.job_machine.specs.Machines.{MachineState, machine_after, Leads, HasNoStep, HasReturnedIn, GoesOn}
+use Rattle.job_machine.specs.Machines.{MachineState, queue_of, machine_after, Leads, HasNoStep, HasReturnedIn, GoesOn}
 use Rattle.job_machine.specs.Machines.{IsWaitingOrCollected, IsDone, admission_in, is_running}
 use Rattle.job_machine.proofs.RunningOut.{Opens, Happens, Passed, Opened, happens, leads_on, goes_on_on, all_kept}
 use Rattle.job_machine.proofs.RunningOut.{no_step_after, fewer_after, collects, done_after, admitted, idle_at}
@@ -50,23 +50,23 @@ pub record RunsOut (job : ℕ) (old new : MachineState) : Type 0 where
   pub done : IsDone (of_job job new.standings)
 
 kept_between : EventsKeep → (job : ℕ) (old between : MachineState) → All IsVerified old.tasks →
-    AreKept old.region old.tasks old.standings → Runs job old between →
-    AreKept between.region between.tasks between.standings × All IsVerified between.tasks
+    AreKept old.region old.tasks (queue_of old) → Runs job old between →
+    AreKept between.region between.tasks (queue_of between) × All IsVerified between.tasks
 kept_between keep job old between verified kept r =
-    let here : AreKept old.region old.tasks between.standings =
+    let here : AreKept old.region old.tasks (queue_of between) =
     all_kept keep old between verified kept r.goes_on.leads in (
-      subst (λ (k : ℕ). AreKept k between.tasks between.standings) (sym r.goes_on.leads.0)
-          (subst (λ (ts : List Task). AreKept old.region ts between.standings) (sym r.goes_on.leads.1) here),
+      subst (λ (k : ℕ). AreKept k between.tasks (queue_of between)) (sym r.goes_on.leads.0)
+          (subst (λ (ts : List Task). AreKept old.region ts (queue_of between)) (sym r.goes_on.leads.1) here),
       subst (λ (ts : List Task). All IsVerified ts) (sym r.goes_on.leads.1) verified,
     )
 
 pub runs_out : LeadsJoin → EventsKeep → EventsUseUp → (job : ℕ) (old between new : MachineState) →
-    All IsVerified old.tasks → AreKept old.region old.tasks old.standings → Runs job old between →
+    All IsVerified old.tasks → AreKept old.region old.tasks (queue_of old) → Runs job old between →
     is_running (of_job job between.standings) ≡ false → new ≡ machine_after (Collect job) between →
     RunsOut job old new
 runs_out join keep use_up job old between new verified kept r idle new_is =
     let now = kept_between keep job old between verified kept r in
-    let here = happens between.region between.tasks (Collect job) between.standings job refl in
+    let here = happens between.region between.tasks (Collect job) (queue_of between) job refl in
     let less : left_in (machine_after (Collect job) between) ≤ left_in between =
     fewer_after use_up (Collect job) job between now.1 now.0 refl here in
     let before = r.no_more in
@@ -145,11 +145,11 @@ pub record RunsIdle (old new : MachineState) : Type 0 where
   pub no_step : HasNoStep new
   pub idle : All IsWaitingOrCollected new.standings
 
-opens_by : AdmittedHaveRoom → (m : MachineState) (job : ℕ) → admission m.region m.tasks m.standings ≡ Some job →
-    Happens m.region m.tasks Admit m.standings job → Opens m.region m.tasks Admit m.standings job
+opens_by : AdmittedHaveRoom → (m : MachineState) (job : ℕ) → admission m.region m.tasks (queue_of m) ≡ Some job →
+    Happens m.region m.tasks Admit (queue_of m) job → Opens m.region m.tasks Admit (queue_of m) job
 opens_by room m job e (Opened o) = o
 opens_by room m job e (Passed after closed) =
-    let r = room m.region m.tasks m.standings job e in
+    let r = room m.region m.tasks (queue_of m) job e in
     absurd (none-some (Live 0) (sym closed ∙ (λ i. next_standing_in Admit (r.task_is i) (r.waits i))))
 
 live_is : (task : Task) (old new : Standing) → next_standing Admit task old ≡ Some new → recalled_standing new ≡ new
@@ -166,7 +166,7 @@ pub record Admits (job : ℕ) (old new : MachineState) : Type 0 where
   pub fewer : left_in new < left_in old
 
 admits_by : EventsUseUp → (job : ℕ) (m : MachineState) → All IsVerified m.tasks →
-    AreKept m.region m.tasks m.standings → HasNoStep m → Opens m.region m.tasks Admit m.standings job →
+    AreKept m.region m.tasks (queue_of m) → HasNoStep m → Opens m.region m.tasks Admit (queue_of m) job →
     Admits job m (machine_after Admit m)
 admits_by use_up job m verified kept none o = record {
   goes_on = record {
@@ -174,27 +174,27 @@ admits_by use_up job m verified kept none o = record {
     no_step = no_step_after Admit job m none live_is (Opened o);
     others = others_by Admit job m (Opened o);
   };
-  fewer = use_up m.region m.tasks verified Admit m.standings kept refl o.can;
+  fewer = use_up m.region m.tasks verified Admit (queue_of m) kept refl o.can;
 }
 
-kept_on : EventsKeep → (old between : MachineState) → All IsVerified old.tasks →
-    AreKept old.region old.tasks old.standings → Leads old between →
-    AreKept between.region between.tasks between.standings × All IsVerified between.tasks
+pub kept_on : EventsKeep → (old between : MachineState) → All IsVerified old.tasks →
+    AreKept old.region old.tasks (queue_of old) → Leads old between →
+    AreKept between.region between.tasks (queue_of between) × All IsVerified between.tasks
 kept_on keep old between verified kept leads = (
-  subst (λ (k : ℕ). AreKept k between.tasks between.standings) (sym leads.0)
-      (subst (λ (ts : List Task). AreKept old.region ts between.standings) (sym leads.1)
+  subst (λ (k : ℕ). AreKept k between.tasks (queue_of between)) (sym leads.0)
+      (subst (λ (ts : List Task). AreKept old.region ts (queue_of between)) (sym leads.1)
       (all_kept keep old between verified kept leads)),
   subst (λ (ts : List Task). All IsVerified ts) (sym leads.1) verified,
 )
 
 pub admits : AdmittedHaveRoom → EventsKeep → EventsUseUp → (job : ℕ) (old between new : MachineState) →
-    All IsVerified old.tasks → AreKept old.region old.tasks old.standings → RunsIdle old between →
+    All IsVerified old.tasks → AreKept old.region old.tasks (queue_of old) → RunsIdle old between →
     admission_in between ≡ Admitted job → new ≡ machine_after Admit between → Admits job between new
 admits room keep use_up job old between new verified kept r answer new_is =
     let now = kept_on keep old between verified kept r.leads in
     let next = admitted between job answer in
     let o = opens_by room between job next
-    (happens between.region between.tasks Admit between.standings job next) in
+    (happens between.region between.tasks Admit (queue_of between) job next) in
     subst (Admits job between) (sym new_is) (admits_by use_up job between now.1 now.0 r.no_step o)
 
 -- a job that is admitted, and then runs
@@ -230,13 +230,13 @@ pub record AreOut (old new : MachineState) : Type 0 where
 
 out_by : LeadsJoin → EventsGoOn → (old between : MachineState) →
     All (λ task. task.limits.words ≤ between.region) between.tasks →
-    length between.standings ≡ length between.tasks → RunsIdle old between →
+    AreKept between.region between.tasks (queue_of between) → RunsIdle old between →
     ((job : ℕ) → admission_in between ≡ Admitted job → ⊥) → AreOut old (machine_after Admit between)
-out_by join go_on old between fitting same r nobody = record {
+out_by join go_on old between fitting kept r nobody = record {
   leads = leads_on join old between (machine_after Admit between) r.leads (leads_one Admit between);
-  no_step = subst (λ (ss : List Standing). recalled_standings ss ≡ ss)
+  no_step = subst (λ (q : Queue). recalled_standings q.standings ≡ q.standings)
       (sym (after_none between (not_admitted between nobody))) r.no_step;
-  collected = all_collected go_on between fitting same r.idle nobody;
+  collected = all_collected go_on between fitting kept r.idle nobody;
 }
 
 fits_on : (old between : MachineState) → Leads old between → All (λ task. task.limits.words ≤ old.region) old.tasks →
@@ -246,13 +246,13 @@ fits_on old between leads fitting =
     (subst (λ (ts : List Task). All (λ task. task.limits.words ≤ old.region) ts) (sym leads.1) fitting)
 
 pub out : LeadsJoin → EventsGoOn → EventsKeep → (old between new : MachineState) → All IsVerified old.tasks →
-    AreKept old.region old.tasks old.standings → All (λ task. task.limits.words ≤ old.region) old.tasks →
+    AreKept old.region old.tasks (queue_of old) → All (λ task. task.limits.words ≤ old.region) old.tasks →
     RunsIdle old between → ((job : ℕ) → admission_in between ≡ Admitted job → ⊥) →
     new ≡ machine_after Admit between → AreOut old new
 out join go_on keep old between new verified kept fitting r nobody new_is =
     let now = kept_on keep old between verified kept r.leads in
     subst (AreOut old) (sym new_is)
-    (out_by join go_on old between (fits_on old between r.leads fitting) now.0.same_length r nobody)
+    (out_by join go_on old between (fits_on old between r.leads fitting) now.0 r nobody)
 
 -- a desk that has the words of each job still does
 pub words_on : (words : ℕ) (old between : MachineState) → Leads old between →

@@ -1,3 +1,4 @@
+pub mod Admissions
 pub mod Hands
 pub mod Machines
 pub mod Replays

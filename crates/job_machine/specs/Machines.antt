@@ -1,12 +1,13 @@
 -- What a machine shows, and what events make of it.
-use Rattle.std.specs.Prelude.{◌≡◌, ℕ, zero, suc, nat_lt, max, Bool, false, if◌then◌else◌, List, fold}
-use Rattle.std.specs.Prelude.{position, Option, Some, None, refl}
+use Rattle.std.specs.Prelude.{◌≡◌, ℕ, zero, suc, nat_lt, max, Bool, true, false, ◌||◌, if◌then◌else◌, List, [], ◌∷◌, fold}
+use Rattle.std.specs.Prelude.{Option, Some, None, refl}
 use Rattle.std.specs.Coded.{Coded, code_by, coded_ℕ, coded×, coded_list}
 use Rattle.vcode_base.specs.declared.rule.Rule.{Rule}
 use Rattle.job_steps.specs.declared.event.Event.{Event}
-use Rattle.job_steps.specs.Events.{after_event, after_events, recalled_standings, LeadTo}
+use Rattle.job_steps.specs.declared.event.Event.TheVariants as event
+use Rattle.job_steps.specs.Events.{after_event, after_events, recalled_standings, recalled_queue, LeadTo}
 use Rattle.job_steps.specs.Runs.{outcome}
-use Rattle.job_steps.specs.Standings.{Standing, Waiting, Ended, Collected, of_job, is_waiting, admission}
+use Rattle.job_steps.specs.Standings.{Standing, Waiting, Ended, Collected, Queue, of_job, is_waiting, admission}
 use Rattle.job_steps.specs.Standings.{outcome_at}
 use Rattle.job_steps.specs.States.{JobValue, Task, ruled}
 use Rattle.job_steps.specs.Steps.{Ending}
@@ -15,17 +16,21 @@ use Rattle.job_slots.specs.declared.answer.Begun.{Begun}
 use Rattle.job_slots.specs.declared.answer.Begun.TheVariants as begun
 use Rattle.job_slots.specs.declared.answer.Finished.{Finished}
 use Rattle.job_slots.specs.declared.answer.Finished.TheVariants as finished
-use Rattle.job_slots.specs.Answers.{Begins, Finishes, is_live, is_in_flight, is_ended}
+use Rattle.job_slots.specs.declared.answer.Stepped.{Stepped}
+use Rattle.job_slots.specs.declared.answer.Stepped.TheVariants as stepped
+use Rattle.job_slots.specs.Answers.{Begins, Finishes, Steps, is_live, is_in_flight, is_ended}
 use Rattle.job_slots.specs.Slots.{IsReturned}
 use Rattle.job_machine.specs.declared.machine.Admission.{Admission}
 use Rattle.job_machine.specs.declared.machine.Admission.TheVariants.{Admitted, NotNow, NoneWaiting}
 
--- the rule, the words of the region, and the jobs in order, each with that rule, with where each stands
+-- the rule, the words of the region, and the jobs in order, each with that rule, with where each stands and how often it
+-- was passed by
 pub record MachineState : Type 0 where
   pub rule : Rule
   pub region : ℕ
   pub tasks : List Task
   pub standings : List Standing
+  pub passes : List ℕ
 
 -- it is told apart by all of these
 abbrev pub task_code : Coded Rule → Coded JobValue → Coded Task
@@ -35,31 +40,47 @@ task_code rule job =
 
 abbrev pub machine_code : Coded Rule → Coded JobValue → Coded Standing → Coded MachineState
 machine_code rule job standing =
-    code_by (Rule × (ℕ × (List Task × List Standing)))
-    (coded× rule (coded× coded_ℕ (coded× (coded_list (task_code rule job)) (coded_list standing))))
-    (λ m. (m.rule, (m.region, (m.tasks, m.standings))))
-    (λ p. record { rule = p.0; region = p.1.0; tasks = p.1.1.0; standings = p.1.1.1 }) (λ _. refl)
+    code_by (Rule × (ℕ × (List Task × (List Standing × List ℕ))))
+    (coded× rule (coded× coded_ℕ (coded× (coded_list (task_code rule job)) (coded× (coded_list standing)
+    (coded_list coded_ℕ)))))
+    (λ m. (m.rule, (m.region, (m.tasks, (m.standings, m.passes)))))
+    (λ p. record {
+      rule = p.0;
+      region = p.1.0;
+      tasks = p.1.1.0;
+      standings = p.1.1.1.0;
+      passes = p.1.1.1.1;
+    }) (λ _. refl)
 
--- the same jobs, that stand otherwise
-abbrev pub with_standings : MachineState → List Standing → MachineState
-with_standings m standings = record { rule = m.rule; region = m.region; tasks = m.tasks; standings = standings }
+abbrev pub queue_of : MachineState → Queue
+queue_of m = record { standings = m.standings; passes = m.passes }
+
+-- the same jobs in another queue
+abbrev pub with_queue : MachineState → Queue → MachineState
+with_queue m queue = record {
+  rule = m.rule;
+  region = m.region;
+  tasks = m.tasks;
+  standings = queue.standings;
+  passes = queue.passes;
+}
 
 -- the machine after an event, which is passed over where it isn't open
 abbrev pub machine_after : Event → MachineState → MachineState
-machine_after event m = with_standings m (after_event m.region m.tasks event m.standings)
+machine_after event m = with_queue m (after_event m.region m.tasks event (queue_of m))
 
 -- the machine after events, one after another
 abbrev pub after_all : List Event → MachineState → MachineState
-after_all events m = with_standings m (after_events m.region m.tasks events m.standings)
+after_all events m = with_queue m (after_events m.region m.tasks events (queue_of m))
 
 -- the machine with every step given up that has begun
 abbrev pub recalled : MachineState → MachineState
-recalled m = with_standings m (recalled_standings m.standings)
+recalled m = with_queue m (recalled_queue (queue_of m))
 
 -- some events lead from one machine to another
 abbrev pub Leads : MachineState → MachineState → Type 0
 Leads old new =
-    (new.region ≡ old.region) × (new.tasks ≡ old.tasks) × LeadTo old.region old.tasks old.standings new.standings
+    (new.region ≡ old.region) × (new.tasks ≡ old.tasks) × LeadTo old.region old.tasks (queue_of old) (queue_of new)
     × (new.rule ≡ old.rule)
 
 -- the words of the job that has the most, and 0 where there is no job
@@ -68,14 +89,18 @@ most_words tasks = fold (λ most task. max most task.limits.words) 0 tasks
 
 -- ---- admission
 
-abbrev pub admission_by : Option ℕ → Option ℕ → Admission
-admission_by None next = NoneWaiting
-admission_by (Some place) None = NotNow
-admission_by (Some place) (Some job) = Admitted job
+abbrev pub any_waits : List Standing → Bool
+any_waits [] = false
+any_waits (standing ∷ standings) = is_waiting standing || any_waits standings
 
--- what an admission answers: the first job that waits, where it has room
+-- what an admission answers, by whether some job waits, and by the job that is admitted next
+abbrev pub admission_by : Bool → Option ℕ → Admission
+admission_by waits (Some job) = Admitted job
+admission_by true None = NotNow
+admission_by false None = NoneWaiting
+
 abbrev pub admission_in : MachineState → Admission
-admission_in m = admission_by (position is_waiting m.standings) (admission m.region m.tasks m.standings)
+admission_in m = admission_by (any_waits m.standings) (admission m.region m.tasks (queue_of m))
 
 -- ---- a begin and a finish
 
@@ -106,6 +131,20 @@ abbrev pub after_finished : {T : Type 0} → Finished → (old next : T) → T
 after_finished finished.Done old next = next
 after_finished finished.Ended old next = next
 after_finished finished.Stale old next = old
+
+-- ---- a step in one go
+
+-- the machine after a begin and then a finish of a job
+abbrev pub after_step : ℕ → MachineState → MachineState
+after_step job m = machine_after (event.Finish job) (machine_after (event.Begin job) m)
+
+-- what a step in one go answers, of the job of that number, if there is one
+abbrev pub StepsIn : (job words : ℕ) → Option Task → Option Standing → Stepped → Type 0
+StepsIn job words (Some task) (Some standing) answer = Steps job words task standing answer
+StepsIn job words None standing stepped.NotReady = Unit {0}
+StepsIn job words None standing answer = ⊥
+StepsIn job words (Some task) None stepped.NotReady = Unit {0}
+StepsIn job words (Some task) None answer = ⊥
 
 -- ---- what is told of a job, if there is one of that number
 

@@ -3,7 +3,7 @@ use Rattle.std.specs.Prelude.{◌≡◌, ℕ, zero, suc, ◌+◌, ◌≤◌, Lis
 use Rattle.vcode_base.specs.declared.limits.TheConstants.{MOST_JOBS, MOST_WORDS}
 use Rattle.refcounts.specs.SharedState.{used_words, block_count, blocks_in}
 use Rattle.job_memory.specs.JobBlocks.{JobBlocks, own_slots, held_words}
-use Rattle.job_steps.specs.Standings.{Standing}
+use Rattle.job_steps.specs.Standings.{Standing, AreFew}
 use Rattle.job_steps.specs.States.{Task}
 use Rattle.job_slots.specs.Slots.{SlotState, Shows, standing_of}
 
@@ -16,10 +16,12 @@ abbrev pub standings_of : List SlotState → List Standing
 standings_of slots = map standing_of slots
 
 -- Each job's blocks and slot show where its run alone stands; all blocks are those of the jobs, and there is a number for
--- each block that the jobs' cells can name, and for two more.
-pub record IsSound (blocks : JobBlocks) (tasks : List Task) (slots : List SlotState) : Type 0 where
+-- each block that the jobs' cells can name, and for two more. Each job was passed by few times.
+pub record IsSound (blocks : JobBlocks) (tasks : List Task) (slots : List SlotState) (passes : List ℕ) : Type 0 where
   pub jobs : length blocks.grants ≡ length tasks
   pub slots_are : length slots ≡ length tasks
+  pub passes_are : length passes ≡ length tasks
+  pub few_passes : AreFew passes
   pub few : length tasks ≤ MOST_JOBS
   pub least : 1 ≤ blocks.memory.room
   pub most : blocks.memory.room ≤ MOST_WORDS

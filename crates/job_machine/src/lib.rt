@@ -15,7 +15,7 @@ mod run_out;
 mod setting;
 
 pub use hands::Hands;
-pub use job_slots::{Begun, Finished, Status};
+pub use job_slots::{Begun, Finished, Status, Stepped};
 pub use job_steps::{Desk, Event, Filled, Job, JobName, Ticket, compute};
 pub use machine::{Admission, Machine};
 pub use replay::ReplayFault;

@@ -1,30 +1,34 @@
 //! Jobs over one region of words.
 
-ghost use Rattle.std.specs.Prelude.{◌≡◌, ◌≤◌, ◌↔◌, ℕ, length, All, IfOk, OnOk, OnErr, IsTrue, option_map};
+ghost use Rattle.std.specs.Prelude.{◌≡◌, ◌≤◌, ◌↔◌, ℕ, length, All, IfOk, IfSome, OnOk, OnErr, IsTrue, option_map};
 ghost use Rattle.std.specs.Prelude.{map, option_copied};
 ghost use Rattle.std.specs.Arc.{arc_value};
-ghost use Rattle.vcode_base.specs.declared.limits.TheConstants.{MOST_JOBS, MOST_WORDS};
+ghost use Rattle.vcode_base.specs.declared.limits.TheConstants.{MOST_JOBS, MOST_PASSES, MOST_WORDS};
 ghost use Rattle.job_steps.specs.declared.event.Event.TheVariants.{Admit, Begin, Finish, Recall, Collect};
 ghost use Rattle.job_memory.specs.Laws.{ChangesJoin};
 ghost use Rattle.job_steps.specs.EventLaws.{IsVerified, AreKept, EventsChangeTheirJob, MissingAreClosed};
-ghost use Rattle.job_steps.specs.EventLaws.{ClosedChangeNothing};
-ghost use Rattle.job_steps.specs.Standings.{Collected, of_job, first_standings, executed_at, peak_at};
+ghost use Rattle.job_steps.specs.EventLaws.{ClosedChangeNothing, AdmittedHaveRoom, OthersPassNobody};
+ghost use Rattle.job_steps.specs.EventLaws.{AdmissionsPassOnce, PassesAreFew};
+ghost use Rattle.job_steps.specs.Standings.{Collected, of_job, first_queue, executed_at, peak_at};
 ghost use Rattle.job_steps.specs.Standings.{used_words, granted_words};
 ghost use Rattle.job_steps.specs.States.{ruled};
 ghost use Rattle.job_slots.specs.Laws.{OthersAreShown};
+ghost use Rattle.job_slots.specs.Answers.{after_stepped};
 ghost use Rattle.job_slots.specs.Slots.{status_of};
-ghost use Rattle.job_machine.specs.Machines.{machine_after, Leads, admission_in, BeginsIn, after_begun};
+ghost use Rattle.job_machine.specs.Machines.{queue_of, machine_after, Leads, admission_in, BeginsIn, after_begun};
 ghost use Rattle.job_machine.specs.Machines.{FinishesIn, after_finished, is_flying, is_over, told};
 ghost use Rattle.job_machine.specs.Machines.{outcome_in, HasReturnedIn, HasNoStep, most_words, place_of};
+ghost use Rattle.job_machine.specs.Machines.{StepsIn, after_step};
 ghost use Rattle.job_machine.specs.SlotOf.{IsSlotIn};
 
-use crate::setting::{all_cells, first_waiting, most_words, new_slots, same_jobs};
+use crate::setting::{all_cells, most_words, new_slots, next_admission, pass_before, same_jobs};
 use job_memory::JobMemory;
 use job_memory::laws::changes_join;
 use job_slots::laws::{new_is_shown, others_are_shown, recalled_is_shown, shown_is_alone};
-use job_slots::{Begun, Finished, Slot, Status};
+use job_slots::{Begun, Finished, Slot, Status, Stepped};
 use job_steps::laws::{
-    closed_change_nothing, events_change_their_job, leads_join, missing_are_closed,
+    admissions_pass_once, admitted_have_room, closed_change_nothing, events_change_their_job,
+    leads_join, missing_are_closed, others_pass_nobody, passes_are_few,
 };
 use job_steps::{Desk, Filled, Job};
 use std::alloc::{AllocError, Allocator};
@@ -37,7 +41,7 @@ use vcode_base::{Outcome, Rule, Values};
 pub enum Admission {
     /// The job of this number runs from now on.
     Admitted(usize),
-    /// The words of the first job that waits do not fit beside those that are granted. Nothing changed.
+    /// Some job waits, but none can be admitted now. Nothing changed.
     NotNow,
     /// No job waits. Nothing changed.
     NoneWaiting,
@@ -46,13 +50,15 @@ pub enum Admission {
 /// Jobs over one region of words, each of which runs as it runs alone.
 ///
 /// Jobs are numbered from 1 in the order in which they were given. In a contract a machine is its rule, its region's
-/// words and its jobs, with where each stands. What a job holds, executed and ended by are functions of that alone.
+/// words and its jobs, with where each stands and how often it was passed by. What a job holds, executed and ended by are
+/// functions of the jobs and of where they stand alone.
 #[derive(Drop)]
 pub struct Machine<A: Allocator> {
     rule: Rule,
     blocks: JobMemory<A>,
     jobs: Arc<Vec<Job<A>, A>, A>,
     pub(crate) slots: Vec<Slot<A>, A>,
+    passes: Vec<u8, A>,
 }
 
 impl<A: Allocator> Model for Machine<A> {
@@ -74,17 +80,19 @@ impl<A: Allocator> Model for Machine<A> {
       region = m.blocks.memory.room;
       tasks = map (ruled m.rule) (arc_value m.jobs).items;
       standings = standings_of m.slots.items;
+      passes = m.passes.items;
     } };
 
-    ghost invariant = { λ m. IsSound m.blocks (map (ruled m.rule) (arc_value m.jobs).items) m.slots.items };
+    ghost invariant = { λ m.
+        IsSound m.blocks (map (ruled m.rule) (arc_value m.jobs).items) m.slots.items m.passes.items };
 }
 
 impl<A: Allocator + Clone> Machine<A> {
     /// A machine over a region of so many words, whose jobs all wait, and will run by this rule. There are at most 64,
     /// and the words of each fit the region.
     ///
-    /// Takes the memory for the region, for the cells and calls of all jobs, and for the numbers of their blocks; an
-    /// error means that the allocator refused it. Of the calls on the machine only `list` and the collection of results
+    /// Takes the memory for the region, for the cells and calls of all jobs, for their passes, and for the numbers of their
+    /// blocks; an error means that the allocator refused it. Of the calls on the machine only `list` and the collection of results
     /// take memory.
     pub fn new(
         alloc: A,
@@ -95,19 +103,21 @@ impl<A: Allocator + Clone> Machine<A> {
         requires region { (1 ≤ region) × (region ≤ MOST_WORDS) }
         requires jobs { length jobs.items ≤ MOST_JOBS }
         requires words { All (λ job. job.limits.words ≤ region) jobs.items }
-        ensures { let tasks = map (ruled rule) jobs.items in IfOk result
-            (λ m. m ≡ record { rule = rule; region = region; tasks = tasks; standings = first_standings tasks }) }
+        ensures { let tasks = map (ruled rule) jobs.items in let queue = first_queue tasks in IfOk result (λ m. m
+            ≡ record { rule = rule; region = region; tasks = tasks; standings = queue.standings; passes = queue.passes }) }
     {
         new_is_shown();
         let slots = new_slots(alloc.clone()?, jobs.as_slice())?;
         let most_blocks = all_cells(jobs.as_slice()) + 2;
         let blocks = JobMemory::new(alloc.clone()?, region, jobs.len(), most_blocks)?;
+        let passes = vec![in alloc.clone()?; 0; jobs.len()]?;
         let jobs = Arc::new(alloc, jobs)?;
         Ok(Machine {
             rule,
             blocks,
             jobs,
             slots,
+            passes,
         })
     }
 
@@ -148,27 +158,40 @@ impl<A: Allocator + Clone> Machine<A> {
     {
         leads_join();
         self.recall_all();
-        self.run_all(desk)
+        let mut desk = desk;
+        let ran = self.run_all(&mut desk);
+        (ran, desk)
     }
 }
 
 impl<A: Allocator> Machine<A> {
-    /// Admits the first job that waits, where its words fit beside those that are granted.
+    /// Admits the first job that waits and whose words fit beside those that are granted, unless a job that waits before it
+    /// was passed by [`MOST_PASSES`](vcode_base::limits::MOST_PASSES) times. Each job that waits before it is passed by once
+    /// more.
+    ///
+    /// `NotNow` exactly where some job waits, and none can be admitted so.
     pub fn admit(&mut self) -> Admission
         ensures answer { result ≡ admission_in self.old }
         ensures state { self.new ≡ machine_after Admit self.old }
     {
         turn_laws();
-        let Some(place) = first_waiting(self.slots.as_slice()) else {
-            return Admission::NoneWaiting;
+        admission_laws();
+        let next = next_admission(
+            &self.blocks,
+            self.jobs.as_slice(),
+            self.slots.as_slice(),
+            self.passes.as_slice(),
+        );
+        let Admission::Admitted(job) = next else {
+            return next;
         };
+        let place = job - 1;
+        pass_before(place, self.slots.as_slice(), self.passes.as_mut_slice());
         let rule = self.rule;
         let jobs = self.jobs.as_slice();
         let slot = &mut self.slots[place];
-        match slot.admit(rule, &jobs[place], place + 1, &mut self.blocks) {
-            Ok(()) => Admission::Admitted(place + 1),
-            Err(_) => Admission::NotNow,
-        }
+        let _granted = slot.admit(rule, &jobs[place], job, &mut self.blocks);
+        next
     }
 
     /// Begins the next step of a job on a desk, which goes with the ticket; else the desk comes back.
@@ -207,6 +230,28 @@ impl<A: Allocator> Machine<A> {
         let jobs = self.jobs.as_slice();
         let slot = &mut self.slots[place];
         slot.finish(rule, &jobs[place], job, &mut self.blocks, filled)
+    }
+
+    /// Carries out the next instruction of a job in one go, with the desk's room for its results. Takes no memory.
+    ///
+    /// At `Done` and `Ended` the job is where a begin and then the finish of that step leave it. `NotReady` exactly if
+    /// there is no such job, or it waits, a step of it has begun, or it is over. `SmallDesk` exactly if it is live and
+    /// the desk has fewer words than the job. Nothing changes then.
+    pub fn step(&mut self, job: usize, desk: &mut Desk<A>) -> Stepped
+        ensures answer { StepsIn job desk.old (of_job job self.old.tasks) (of_job job self.old.standings) result }
+        ensures state { self.new ≡ after_stepped result self.old (after_step job self.old) }
+        ensures desk { desk.new ≡ desk.old }
+    {
+        turn_laws();
+        shown_is_alone();
+        let _used = self.blocks.used();
+        let Some(place) = self.place(job) else {
+            return Stepped::NotReady;
+        };
+        let rule = self.rule;
+        let jobs = self.jobs.as_slice();
+        let slot = &mut self.slots[place];
+        slot.step(rule, &jobs[place], job, &mut self.blocks, desk)
     }
 
     /// Gives up the step of a job that has begun; true where there was one. The job stands as before the step's begin.
@@ -261,6 +306,17 @@ impl<A: Allocator> Machine<A> {
         Some(slot.peak())
     }
 
+    /// How often a job was passed by, or `None` for no such job: how many jobs after it were admitted while it waited. Once
+    /// it is admitted this stays.
+    pub fn passed(&self, job: usize) -> Option<u8>
+        ensures value { result ≡ of_job job self.now.passes }
+        ensures few { IfSome result (λ count. count ≤ MOST_PASSES) }
+    {
+        let passes = self.passes.as_slice();
+        let place = self.place(job)?;
+        Some(passes[place])
+    }
+
     /// The words of all vectors that the jobs hold, which are within those that are granted, as these are within the
     /// region.
     pub fn used(&self) -> usize
@@ -279,7 +335,7 @@ impl<A: Allocator> Machine<A> {
         ensures few { length self.now.tasks ≤ MOST_JOBS }
         ensures verified { All IsVerified self.now.tasks }
         ensures fitting { All (λ task. task.limits.words ≤ self.now.region) self.now.tasks }
-        ensures kept { AreKept self.now.region self.now.tasks self.now.standings }
+        ensures kept { AreKept self.now.region self.now.tasks (queue_of self.now) }
     {
         shown_is_alone();
         let _used = self.blocks.used();
@@ -349,12 +405,25 @@ fn turn_laws()
     ensures others { OthersAreShown }
     ensures joined { ChangesJoin }
     ensures changed { EventsChangeTheirJob }
+    ensures passes { OthersPassNobody }
     ensures missing { MissingAreClosed }
     ensures closed { ClosedChangeNothing }
 {
     others_are_shown();
     changes_join();
     events_change_their_job();
+    others_pass_nobody();
     missing_are_closed();
     closed_change_nothing();
+}
+
+/// The laws of who is admitted, and of who is passed by.
+fn admission_laws()
+    ensures room { AdmittedHaveRoom }
+    ensures passed { AdmissionsPassOnce }
+    ensures few { PassesAreFew }
+{
+    admitted_have_room();
+    admissions_pass_once();
+    passes_are_few();
 }

@@ -2,7 +2,7 @@
 
 ghost use Rattle.std.specs.Prelude.{◌≡◌, take, OnOk, OnErr, IfErr};
 ghost use Rattle.job_steps.specs.declared.event.Event.TheVariants.{Begin, Finish, Recall};
-ghost use Rattle.job_machine.specs.Machines.{machine_after, after_all, recalled, Leads};
+ghost use Rattle.job_machine.specs.Machines.{machine_after, after_all, after_step, recalled, Leads};
 ghost use Rattle.job_machine.specs.Hands.{HandsFit};
 ghost use Rattle.job_machine.specs.Replays.{IsRefusable, IsRefusedAt, StopsWith};
 
@@ -94,6 +94,23 @@ impl<A: Allocator + Clone> Machine<A> {
 }
 
 impl<A: Allocator> Machine<A> {
+    /// Does a begin of a job and then a finish, each of which is passed over if it isn't open.
+    ///
+    /// The step is taken in one go, on the desk in the job's hand. If a step of the job has begun already, it is
+    /// finished. Takes no memory. The hands have to fit the machine, and still do afterwards.
+    pub fn play_step(&mut self, job: usize, hands: &mut Hands<A>)
+        requires { HandsFit self.old hands.old }
+        ensures state { self.new ≡ after_step job self.old }
+        ensures fit { HandsFit self.new hands.new }
+    {
+        others_stay();
+        let Some(mut desk) = hands.take_desk(job) else {
+            return self.play_finish(job, hands);
+        };
+        self.step(job, &mut desk);
+        hands.exchange(job, Hand::Free(desk));
+    }
+
     /// Begins the next step of a job on the desk in its hand, and computes it where it began.
     fn play_begin(&mut self, job: usize, hands: &mut Hands<A>)
         requires { HandsFit self.old hands.old }

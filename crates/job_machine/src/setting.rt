@@ -1,16 +1,22 @@
 //! The slots of a machine's jobs.
 
-ghost use Rattle.std.specs.Prelude.{◌≡◌, ◌*◌, ◌<◌, ◌≤◌, ◌↔◌, length, All, position, sum_by, slice_get, Some};
-ghost use Rattle.std.specs.Prelude.{IfOk, IfSome, IsTrue, ℕ, fold, max};
+ghost use Rattle.std.specs.Prelude.{◌≡◌, ◌*◌, ◌≤◌, ◌↔◌, length, All, sum_by, slice_get, Some};
+ghost use Rattle.std.specs.Prelude.{IfOk, IsTrue, ℕ, fold, max};
 ghost use Rattle.vcode_base.specs.declared.limits.TheConstants.{MOST_JOBS, MOST_CELLS, MOST_WORDS};
+ghost use Rattle.vcode_base.specs.declared.rule.Rule.{Rule};
 ghost use Rattle.job_steps.specs.States.{JobValue};
-ghost use Rattle.job_steps.specs.Standings.{is_waiting};
+ghost use Rattle.job_steps.specs.Standings.{AreFew, is_waiting, passes_before};
 ghost use Rattle.job_slots.specs.Slots.{SlotState, IsNewSlot, standing_of};
+ghost use Rattle.job_machine.specs.Admissions.{next_by};
+ghost use Rattle.job_machine.specs.Sound.{standings_of};
 
+use crate::machine::Admission;
+use job_memory::JobMemory;
 use job_slots::{Slot, Status};
 use job_steps::Job;
 use job_steps::laws::equal_jobs;
 use std::alloc::{AllocError, Allocator};
+use vcode_base::limits::MOST_PASSES;
 
 /// A slot for each job, which waits.
 pub(crate) fn new_slots<A: Allocator + Clone>(
@@ -54,12 +60,49 @@ pub(crate) fn most_words<A: Allocator>(jobs: &[Job<A>]) -> usize
     most
 }
 
-/// The place of the first job that waits, counted from 0.
-pub(crate) fn first_waiting<A: Allocator>(slots: &[Slot<A>]) -> Option<usize>
-    ensures first { result ≡ position (λ slot. is_waiting (standing_of slot)) slots.now }
-    ensures within { IfSome result (λ place. place < length slots.now) }
+/// What an admission answers: the first job that waits and whose words fit, unless a job that waits before it was passed by
+/// as often as a job may be.
+pub(crate) fn next_admission<A: Allocator>(
+    blocks: &JobMemory<A>,
+    jobs: &[Job<A>],
+    slots: &[Slot<A>],
+    passes: &[u8],
+) -> Admission
+    requires slots { length slots.now ≡ length jobs.now }
+    requires passes { length passes.now ≡ length jobs.now }
+    ensures { (rule : Rule) → result ≡ next_by rule blocks.now jobs.now slots.now passes.now }
 {
-    slots.iter().position(|slot| waits(slot))
+    let mut waiting = false;
+    for place in 0..slots.len() {
+        if waits(&slots[place]) {
+            if blocks.fits(jobs[place].limits().words) {
+                return Admission::Admitted(place + 1);
+            }
+            if passes[place] >= MOST_PASSES {
+                return Admission::NotNow;
+            }
+            waiting = true;
+        }
+    }
+    if waiting {
+        Admission::NotNow
+    } else {
+        Admission::NoneWaiting
+    }
+}
+
+/// Counts that each job that waits before a place is passed by once more.
+pub(crate) fn pass_before<A: Allocator>(place: usize, slots: &[Slot<A>], passes: &mut [u8])
+    requires within { place ≤ length slots.now }
+    requires same { length passes.old ≡ length slots.now }
+    requires few { AreFew passes.old }
+    ensures { passes.new ≡ passes_before place (standings_of slots.now) passes.old }
+{
+    for before in 0..place {
+        if waits(&slots[before]) {
+            passes[before] += 1;
+        }
+    }
 }
 
 /// Whether a job waits.

@@ -1,6 +1,7 @@
 -- Where a job's slot is after a step that was committed.
-use Rattle.std.proofs.Common.{◌≡◌, ◌≢◌, ◌∙◌, ◌+◌, ◌-◌, ◌<◌, ℕ, List, [], ◌∷◌, length, Option, Some, None, refl, sym, ap}
-use Rattle.std.proofs.Common.{subst, arith}
+use Rattle.std.proofs.Common.{◌≡◌, ◌∙◌, ◌+◌, ◌-◌, ◌<◌, ℕ, Bool, true, false, List, [], ◌∷◌, length, Option, Some, None}
+use Rattle.std.proofs.Common.{refl, sym, ap, subst, arith}
+use Rattle.std.proofs.lemmas.Bool.{false≢true}
 use Rattle.vcode_base.specs.declared.fault.DataFault.{DataFault}
 use Rattle.vcode_base.specs.declared.outcome.Outcome.{Outcome}
 use Rattle.vcode_base.specs.declared.outcome.Outcome.TheVariants.{Fault}
@@ -24,11 +25,9 @@ use Rattle.job_steps.specs.Steps.{Progress, Running, Over, Stuck, next_item, sou
 use Rattle.job_steps.specs.Steps.{calls_after, progress_by}
 use Rattle.job_steps.specs.Tickets.{Asked}
 use Rattle.job_steps.specs.Tracks.{Trace, functions_of}
-use Rattle.job_slots.specs.declared.answer.Finished.{Finished}
-use Rattle.job_slots.specs.declared.answer.Finished.TheVariants as finished
 use Rattle.job_slots.specs.declared.status.Status.{Status}
 use Rattle.job_slots.specs.declared.status.Status.TheVariants as status
-use Rattle.job_slots.specs.Answers.{Fits, Finishes, IsEnding, question_at, line_at, line_in, line_before}
+use Rattle.job_slots.specs.Answers.{Fits, IsEnding, question_at, line_at, line_in, line_before}
 use Rattle.job_slots.specs.Slots.{SlotState, Shows, ShowsAs, IsRunningSlot, IsFlyingSlot, HasEnded, IsAfter}
 use Rattle.job_slots.specs.Slots.{standing_of, standing_by, grant_by}
 use Rattle.job_slots.proofs.Executed.{asked_is}
@@ -65,7 +64,7 @@ pub record FaultEnds (task : Task) (t : Trace ℕ) (fault : DataFault) (line : �
   pub ending : IsEnding task t.executed t.peak (Fault fault line)
   pub standing : standing_after (t.executed + 1) (state_after task (t.executed + 1)) ≡ Ended
 
-fault_ends : OthersAreReady → EndIsOwn → (slots : List Slot) (task : Task) (t : Trace ℕ) (question : Question)
+pub fault_ends : OthersAreReady → EndIsOwn → (slots : List Slot) (task : Task) (t : Trace ℕ) (question : Question)
     (fault : DataFault) (line : ℕ) → IsVerified task → IsFlyingSlot slots task t →
     question_at task t.executed ≡ Some question → value_fault question.op question.sources ≡ Some fault →
     line_at task t.executed ≡ Some line → FaultEnds task t fault line
@@ -163,12 +162,14 @@ returned reaches end_is_own signatures slots task u n Stuck verified e after non
 
 -- ---- a commit
 
--- what a commit answers, and what it leaves
-pub record IsCommitted (number : ℕ) (task : Task) (before : Standing) (filled : Asked) (blocks : JobBlocks)
-    (result : Finished) (new : SlotState) : Type 0 where
-  pub answer : Finishes number task before filled result
+-- what an executed instruction leaves of a slot, whose job goes on or has returned
+pub record IsCommitted (number : ℕ) (task : Task) (old : SlotState) (blocks : JobBlocks) (on : Bool) (new : SlotState)
+    : Type 0 where
+  pub goes_on : on ≡ true →
+      next_standing (event.Finish number) task (standing_of old) ≡ Some (Live (old.trace.executed + 1))
+  pub returned : on ≡ false → next_standing (event.Finish number) task (standing_of old) ≡ Some Ended
   pub shows : Shows number blocks task new
-  pub standing : Some (standing_of new) ≡ next_standing (event.Finish number) task before
+  pub standing : Some (standing_of new) ≡ next_standing (event.Finish number) task (standing_of old)
 
 -- an instruction was executed
 pub record Executed (number : ℕ) (task : Task) (t u : Trace ℕ) (old new : JobBlocks) : Type 0 where
@@ -178,30 +179,23 @@ pub record Executed (number : ℕ) (task : Task) (t u : Trace ℕ) (old new : Jo
   pub same_grant : grant_of new number ≡ grant_of old number
 
 -- the job runs on, or it has returned
-pub record GoesOn (mid new : SlotState) (result : Finished) : Type 0 where
-  pub done : result ≡ finished.Done →
-      (0 < length mid.trace.frames) × (new ≡ record mid { status = status.Live })
-  pub ended : result ≡ finished.Ended →
-      (mid.trace.frames ≡ []) × (new ≡ record mid { status = status.Ended; outcome = None })
-  pub not_stale : result ≢ finished.Stale
+pub record GoesOn (mid new : SlotState) (on : Bool) : Type 0 where
+  pub done : on ≡ true → (0 < length mid.trace.frames) × (new ≡ record mid { status = status.Live })
+  pub ended : on ≡ false → (mid.trace.frames ≡ []) × (new ≡ record mid { status = status.Ended; outcome = None })
 
 still_job : (number : ℕ) (old new : JobBlocks) → ChangesOnlyOf number old new → IsJob old number → IsJob new number
 still_job number old new changes is = (is.0, omega (arith, changes.jobs, is.1))
 
-module _ (reaches : Reaches) (end_is_own : EndIsOwn) (number : ℕ) (task : Task) (old : SlotState) (filled : Asked)
+module _ (reaches : Reaches) (end_is_own : EndIsOwn) (number : ℕ) (task : Task) (old : SlotState)
     (blocks blocks' : JobBlocks) (shows : Shows number blocks task old) (flying : old.status ≡ status.InFlight)
-    (fits : Fits task (standing_of old) filled) (mid : SlotState)
-    (executed : Executed number task old.trace mid.trace blocks blocks') where
+    (mid : SlotState) (executed : Executed number task old.trace mid.trace blocks blocks') where
   grant : grant_of blocks' number ≡ Some task.limits.words
   grant = executed.same_grant ∙ shows.grant ∙ ap (grant_by task) flying
-
-  step : old.trace.executed ≡ filled.step
-  step = step_is old filled.step flying fits.flying
 
   next : next_standing (event.Finish number) task (standing_of old)
       ≡ Some (standing_after (old.trace.executed + 1) (state_after task (old.trace.executed + 1)))
   next = next_is number task (standing_of old) old.trace.executed
-      (fits.flying ∙ ap InFlight (sym step))
+      (ap (λ (s : Status). standing_by s old.trace.executed) flying)
 
   shows_as : (by : Status) (outcome : Option (Outcome (List Vector))) → grant_of blocks' number ≡ grant_by task by →
       ShowsAs (own_slots number blocks') task mid.trace outcome by →
@@ -214,16 +208,16 @@ module _ (reaches : Reaches) (end_is_own : EndIsOwn) (number : ℕ) (task : Task
     shown = shown;
   }
 
-  pub committed : (result : Finished) (new : SlotState) → GoesOn mid new result →
-      IsCommitted number task (standing_of old) filled blocks' result new
-  committed finished.Done new goes =
+  pub committed : (on : Bool) (new : SlotState) → GoesOn mid new on → IsCommitted number task old blocks' on new
+  committed true new goes =
       let done = goes.done refl in
       let on = runs_on reaches shows.verified.0 (own_slots number blocks') task mid.trace old.trace.executed
       (state_after task (old.trace.executed + 1)) shows.verified.1 refl executed.after done.0 in
       let lives : next_standing (event.Finish number) task (standing_of old) ≡ Some (Live (old.trace.executed + 1)) =
       next ∙ ap (λ (s : Standing). Some s) on.standing in
       record {
-        answer = (fits, lives ∙ ap (λ (n : ℕ). Some (Live (n + 1))) step);
+        goes_on = λ _. lives;
+        returned = λ e. absurd (false≢true (sym e));
         shows =
             subst (λ (s : SlotState). Shows number blocks' task s) (sym done.1)
             (shows_as status.Live mid.outcome grant on.running);
@@ -232,20 +226,20 @@ module _ (reaches : Reaches) (end_is_own : EndIsOwn) (number : ℕ) (task : Task
             ∙ ap (λ (n : ℕ). Some (Live n)) on.executed
             ∙ sym lives;
       }
-  committed finished.Ended new goes =
+  committed false new goes =
       let ended = goes.ended refl in
       let over = returned reaches end_is_own shows.verified.0 (own_slots number blocks') task mid.trace
       old.trace.executed (state_after task (old.trace.executed + 1)) shows.verified.1 refl executed.after ended.0 in
       let ends : next_standing (event.Finish number) task (standing_of old) ≡ Some Ended =
       next ∙ ap (λ (s : Standing). Some s) over.standing in
       record {
-        answer = (fits, ends);
+        goes_on = λ e. absurd (false≢true e);
+        returned = λ _. ends;
         shows =
             subst (λ (s : SlotState). Shows number blocks' task s) (sym ended.1)
             (shows_as status.Ended None grant over.ended);
         standing = ap (λ (s : SlotState). Some (standing_of s)) ended.1 ∙ sym ends;
       }
-  committed finished.Stale new goes = absurd (goes.not_stale refl)
 
 -- what a job whose step is in flight shows
 flying_shown : (number : ℕ) (blocks : JobBlocks) (task : Task) (slot : SlotState) → Shows number blocks task slot →

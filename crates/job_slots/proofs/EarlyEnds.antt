@@ -2,7 +2,7 @@
 use Rattle.std.proofs.Common.{◌≡◌, ℕ, ℤ, ◌+◌, ◌≤◌, Bool, true, false, cond, eqb, ltb, min, List, [], ◌∷◌, length}
 use Rattle.std.proofs.Common.{Option, Some, None}
 use Rattle.std.proofs.Common.{refl, sym, ◌∙◌, ap, subst, arith}
-use Rattle.std.specs.Prelude.{◌&&◌, MatchOption}
+use Rattle.std.specs.Prelude.{◌&&◌, IfNone, MatchOption}
 use Rattle.std.proofs.lemmas.Bool.{eq-eqb}
 use Rattle.std.proofs.lemmas.Bool.Decides.{nat_tests}
 use Rattle.vcode_base.specs.declared.fault.DataFault.{DataFault}
@@ -30,7 +30,7 @@ use Rattle.job_steps.specs.Steps.{held_at, is_call}
 use Rattle.job_steps.specs.StepLaws.{CanBegin, StepsCanBegin, StepsCanAdvance}
 use Rattle.job_steps.specs.Tickets.{CanAnswer, question_by}
 use Rattle.job_steps.specs.Tracks.{Trace, IsAt, functions_of}
-use Rattle.job_slots.specs.Answers.{early_end_at, IsNext, IsEnding}
+use Rattle.job_slots.specs.Answers.{early_end_at, IsNext, IsEnding, CanAsk}
 use Rattle.job_slots.specs.Commits.{held_under, taken_ids}
 use Rattle.job_slots.specs.Executions.{IsCounted, HeldIsCounted}
 use Rattle.job_slots.specs.Slots.{IsRunningSlot, IsReturned}
@@ -180,12 +180,7 @@ module _ (law : StepsCanBegin ℕ) (counted : HeldIsCounted) (number : ℕ) (blo
 
 -- ---- where nothing ends the job
 
--- the instruction can be asked of a desk of so many words
-pub record CanAsk (words : ℕ) (op : Op) (sources : List (List ℤ)) : Type 0 where
-  pub can : CanAnswer words (question_by op sources)
-  pub room : HaveAtMost words sources
-
-pub can_ask : StepsCanAdvance ℕ → (task : Task) (t : Trace ℕ) (s : State) (op : Op) (line : ℕ) (sources : List (List ℤ))
+can_ask : StepsCanAdvance ℕ → (task : Task) (t : Trace ℕ) (s : State) (op : Op) (line : ℕ) (sources : List (List ℤ))
     (words : ℕ) → IsVerified task → state_after task t.executed ≡ Running s → IsAt task t s →
     CanBegin task t.executed s t → IsNext task t.executed op line sources → early_end_at task t.executed ≡ None →
     task.limits.words ≤ words → CanAsk words op sources
@@ -198,6 +193,17 @@ can_ask law task t s op line sources words verified runs at can next goes_on eno
       can = subst (λ (q : Question). CanAnswer words q) same (advance.answers words enough);
       room = subst (λ (q : Question). HaveAtMost words q.sources) same (advance.lengths words enough);
     }
+
+-- what is read is the next instruction, which can be asked if nothing ends the job before
+pub asks_unless : StepsCanBegin ℕ → StepsCanAdvance ℕ → (slots : List Slot) (task : Task) (t : Trace ℕ)
+    (run : IsRunningSlot slots task t) (op : Op) (line : ℕ) (sources : List (List ℤ)) → IsVerified task →
+    IsNext task t.executed op line sources → (early : Option Ending) → early_end_at task t.executed ≡ early →
+    IfNone early ((words : ℕ) → task.limits.words ≤ words → CanAsk words op sources)
+asks_unless begins advances slots task t run op line sources verified next (Some ending) is = tt
+asks_unless begins advances slots task t run op line sources verified next None is =
+    λ words enough.
+    can_ask advances task t run.state op line sources words verified run.running run.at
+    (can_begin begins slots task t run verified) next is enough
 
 -- ---- where something does
 

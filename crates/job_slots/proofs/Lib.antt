@@ -3,6 +3,7 @@ mod Begins
 mod Collecting
 mod Commits
 mod Committed
+mod Copied
 mod Counts
 mod EarlyEnds
 mod Endings
@@ -13,6 +14,7 @@ mod Holding
 mod Instructions
 mod LettingGo
 mod Moves
+mod OneGo
 mod Operands
 mod Placed
 mod Results

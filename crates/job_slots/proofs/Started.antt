@@ -36,11 +36,11 @@ has_grant number blocks task slot shows live =
 pub is_active : (slot : SlotState) → slot.status ≡ status.Live → IsActive slot.status
 is_active slot live = subst IsActive (sym live) tt
 
-abbrev after_begin : ℕ → Option Ending → Standing
+abbrev pub after_begin : ℕ → Option Ending → Standing
 after_begin n early = cond (is_some early) Ended (InFlight n)
 
 -- where a begin leads, by what ends the job before its next instruction
-next_by : (number : ℕ) (task : Task) (n : ℕ) (s : State) (early : Option Ending) → state_after task n ≡ Running s →
+pub next_by : (number : ℕ) (task : Task) (n : ℕ) (s : State) (early : Option Ending) → state_after task n ≡ Running s →
     early_end_at task n ≡ early → next_standing (event.Begin number) task (Live n) ≡ Some (after_begin n early)
 next_by number task n s early runs is =
     ap (λ (p : Progress). Some (standing_after_begin task n p)) runs

@@ -2,17 +2,20 @@
 use Rattle.std.specs.Prelude.{◌≡◌, ℕ, ℤ, ◌+◌, ◌<◌, ◌≤◌, Bool, true, false, ⊤, List, [], ◌∷◌, Option, Some, None}
 use Rattle.vcode_base.specs.declared.op.Op.{Op}
 use Rattle.job_steps.specs.declared.event.Event.TheVariants as event
+use Rattle.job_steps.specs.Buffers.{HaveAtMost}
 use Rattle.job_steps.specs.Events.{early_end, next_standing}
 use Rattle.job_steps.specs.Questions.{Question}
 use Rattle.job_steps.specs.Runs.{state_after, outcome, executed_count, peak}
 use Rattle.job_steps.specs.Standings.{Standing, Live, InFlight, Ended}
 use Rattle.job_steps.specs.States.{Task, Active, State}
 use Rattle.job_steps.specs.Steps.{Ending, Progress, Running, Over, Stuck, next_item, question_of, flag_of}
-use Rattle.job_steps.specs.Tickets.{Asked, AreResults, question_by}
+use Rattle.job_steps.specs.Tickets.{Asked, AreResults, CanAnswer, question_by}
 use Rattle.job_slots.specs.declared.answer.Begun.{Begun}
 use Rattle.job_slots.specs.declared.answer.Begun.TheVariants as begun
 use Rattle.job_slots.specs.declared.answer.Finished.{Finished}
 use Rattle.job_slots.specs.declared.answer.Finished.TheVariants as finished
+use Rattle.job_slots.specs.declared.answer.Stepped.{Stepped}
+use Rattle.job_slots.specs.declared.answer.Stepped.TheVariants as stepped
 use Rattle.job_slots.specs.Slots.{IsReturned}
 
 -- ---- what a step asks
@@ -56,6 +59,11 @@ early_end_at task n = early_end_of task (state_after task n)
 pub record IsNext (task : Task) (n : ℕ) (op : Op) (line : ℕ) (sources : List (List ℤ)) : Type 0 where
   pub question : question_at task n ≡ Some (question_by op sources)
   pub line_is : line_at task n ≡ Some line
+
+-- this instruction can be asked of a desk of so many words
+pub record CanAsk (words : ℕ) (op : Op) (sources : List (List ℤ)) : Type 0 where
+  pub can : CanAnswer words (question_by op sources)
+  pub room : HaveAtMost words sources
 
 -- ---- standings
 
@@ -141,6 +149,46 @@ standing_after_finished finished.Done old next = next
 standing_after_finished finished.Ended old next = next
 standing_after_finished finished.Stale old next = old
 
+-- ---- a step in one go
+
+-- where a begin and then a finish leave a job
+abbrev pub standing_after_step : ℕ → Task → Standing → Standing
+standing_after_step job task standing =
+    let begun = or_same standing (next_standing (event.Begin job) task standing) in
+    or_same begun (next_standing (event.Finish job) task begun)
+
+-- the job is live, and has at most so many words
+abbrev pub HasRoomFor : ℕ → Task → Standing → Type 0
+HasRoomFor words task standing = (is_live standing ≡ true) × (task.limits.words ≤ words)
+
+-- the job goes on after one instruction more
+pub record HasGoneOn (job : ℕ) (task : Task) (standing : Standing) : Type 0 where
+  pub step : ℕ
+  pub live : standing ≡ Live step
+  pub next : standing_after_step job task standing ≡ Live (step + 1)
+
+-- what a step in one go answers in a room of so many words, by where the job stands
+abbrev pub Steps : (job words : ℕ) → Task → Standing → Stepped → Type 0
+Steps job words task standing stepped.Done = HasRoomFor words task standing × HasGoneOn job task standing
+Steps job words task standing stepped.Ended =
+    HasRoomFor words task standing × (standing_after_step job task standing ≡ Ended)
+Steps job words task standing stepped.NotReady = is_live standing ≡ false
+Steps job words task standing stepped.SmallDesk = (is_live standing ≡ true) × (words < task.limits.words)
+
+-- the job took no step
+abbrev pub IsPassedOver : Stepped → Type 0
+IsPassedOver stepped.Done = ⊥
+IsPassedOver stepped.Ended = ⊥
+IsPassedOver stepped.NotReady = ⊤
+IsPassedOver stepped.SmallDesk = ⊤
+
+-- the new one after a step, the old one if the job took none
+abbrev pub after_stepped : {T : Type 0} → Stepped → (old new : T) → T
+after_stepped stepped.Done old new = new
+after_stepped stepped.Ended old new = new
+after_stepped stepped.NotReady old new = old
+after_stepped stepped.SmallDesk old new = old
+
 -- ---- results
 
 -- these are the instruction, the choice and the results of what a step asks
@@ -157,3 +205,8 @@ pub record IsEnding (task : Task) (executed most : ℕ) (ending : Ending) : Type
   pub executed_is : executed ≡ executed_count task
   pub peak_is : most ≡ peak task
   pub no_return : IsReturned ending → ⊥
+
+-- the job ends so by its next step, with these counts
+pub record EndsByStep (job : ℕ) (task : Task) (executed most : ℕ) (ending : Ending) : Type 0 where
+  pub is : IsEnding task executed most ending
+  pub standing : standing_after_step job task (Live executed) ≡ Ended

@@ -1,4 +1,4 @@
-//! What the halves of a step answer.
+//! What the halves of a step answer, and a step in one go.
 
 use job_steps::{Desk, Ticket};
 use std::alloc::Allocator;
@@ -25,4 +25,17 @@ pub enum Finished {
     Ended,
     /// The step is not the one that has begun. Nothing changed.
     Stale,
+}
+
+/// What a step in one go answers.
+#[derive(Clone, Copy, PartialEq, Eq, Debug)]
+pub enum Stepped {
+    /// The instruction is executed, and the job goes on.
+    Done,
+    /// The job is over.
+    Ended,
+    /// The job waits, a step of it has begun, or it is over. Nothing changed.
+    NotReady,
+    /// The room has fewer words than the job. Nothing changed.
+    SmallDesk,
 }

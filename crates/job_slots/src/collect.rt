@@ -2,10 +2,12 @@
 
 ghost use Rattle.std.specs.Prelude.{◌≡◌, IfOk};
 ghost use Rattle.vcode_base.specs.declared.outcome.Outcome.TheVariants.{Returned};
+ghost use Rattle.refcounts.specs.SharedState.{slot_at, IsLive};
 ghost use Rattle.job_memory.specs.JobBlocks.{own_slots};
 ghost use Rattle.job_steps.specs.EventLaws.{IsVerified};
 ghost use Rattle.job_steps.specs.Runs.{outcome};
 ghost use Rattle.job_steps.specs.States.{ruled};
+ghost use Rattle.job_slots.specs.Copies.{AreCopies};
 ghost use Rattle.job_slots.specs.Slots.{HasReturned};
 
 use block_memory::BlockId;
@@ -13,9 +15,10 @@ use job_memory::JobMemory;
 use job_steps::laws::{each_ends, results_have_kinds};
 use job_steps::{Job, Track};
 use std::alloc::{AllocError, Allocator};
-use vcode_base::{Kind, Rule, Sequence, Value, Values, Words};
+use vcode_base::{Rule, Sequence, SharedWords, Value, Values};
 
-/// Copies of the results, from the bottom of the stack up.
+/// The results, from the bottom of the stack up. The words of each block are copied once: results that have the same
+/// block share them.
 pub(crate) fn results<A: Allocator + Clone>(
     alloc: A,
     rule: Rule,
@@ -34,19 +37,29 @@ pub(crate) fn results<A: Allocator + Clone>(
     let kinds = job.verified().results();
     let mut values = Vec::with_capacity(alloc.clone()?, cells.len())?;
     for (id, kind) in cells.iter().zip(kinds) {
-        values.push(value_of(alloc.clone()?, *kind, blocks.words(*id))?)?;
+        let words = copy_of(alloc.clone()?, *id, cells, &values, blocks)?;
+        values.push(Value { kind: *kind, words })?;
     }
     Ok(Sequence::from_vec(values))
 }
 
-/// A vector of this kind with copies of these words.
-fn value_of<A: Allocator>(
+/// A copy of the words of a block. If one of the values, which are copies of the first cells' blocks, is a copy of this
+/// block, it shares that one's words.
+fn copy_of<A: Allocator + Clone>(
     alloc: A,
-    kind: Kind,
-    words: &[i64],
-) -> Result<Value<Words<A>>, AllocError>
-    ensures { IfOk result (λ value. value ≡ record { kind = kind; words = words.now }) }
+    block: BlockId,
+    cells: &[BlockId],
+    values: &[Value<SharedWords<A>>],
+    blocks: &JobMemory<A>,
+) -> Result<SharedWords<A>, AllocError>
+    requires live { IsLive blocks.now.memory block }
+    requires copies { AreCopies blocks.now.memory cells.now values.now }
+    ensures { IfOk result (λ words. words ≡ (slot_at blocks.now.memory block).words) }
 {
-    let words = Sequence::from_vec(words.to_vec(alloc)?);
-    Ok(Value { kind, words })
+    for (cell, value) in cells.iter().zip(values) {
+        if *cell == block {
+            return value.words.share();
+        }
+    }
+    SharedWords::copy_of(alloc, blocks.words(block))
 }

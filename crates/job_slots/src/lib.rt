@@ -17,6 +17,6 @@ mod slot;
 mod status;
 mod ticket;
 
-pub use answer::{Begun, Finished};
+pub use answer::{Begun, Finished, Stepped};
 pub use slot::Slot;
 pub use status::Status;

@@ -1,6 +1,6 @@
 //! A job with where it stands.
 
-ghost use Rattle.std.specs.Prelude.{◌≡◌, ◌≢◌, ◌+◌, ◌<◌, ◌≤◌, ◌↔◌, [], false, length, IsErr, IfOk, OnOk};
+ghost use Rattle.std.specs.Prelude.{◌≡◌, ◌+◌, ◌<◌, ◌≤◌, ◌↔◌, [], false, true, length, IsErr, IfOk, OnOk};
 ghost use Rattle.std.specs.Prelude.{OnErr, None, Some, option_copied};
 ghost use Rattle.vcode_base.specs.declared.limits.TheConstants.{MOST_WORDS};
 ghost use Rattle.vcode_base.specs.declared.outcome.Outcome.TheVariants.{Returned};
@@ -19,24 +19,25 @@ ghost use Rattle.job_slots.specs.Slots.{Shows, Leaves, IsActive, IsNewSlot, IsRe
 ghost use Rattle.job_slots.specs.Slots.{recalled_slot};
 ghost use Rattle.job_slots.specs.Answers.{Begins, IsPutOff, Finishes, Fits, IsEnding, is_ended, is_in_flight};
 ghost use Rattle.job_slots.specs.Answers.{or_same, standing_after_begun, standing_after_finished};
+ghost use Rattle.job_slots.specs.Answers.{Steps, IsPassedOver, IsAnswered, after_stepped, standing_after_step};
 
-use crate::answer::{Begun, Finished};
+use crate::answer::{Begun, Finished, Stepped};
 use crate::collect::results;
 use crate::commit::execute;
-use crate::next::{is_asked, line_of_next};
+use crate::next::{is_asked, line_of_next, read_next};
 use crate::status::Status;
-use crate::ticket::{Halted, ticket_of};
+use crate::ticket::{Halted, early_end, ticket_of};
 use block_memory::BlockId;
 use job_memory::laws::{
     changes_join, grants_change_only_their_job, releases_change_only_their_job,
 };
 use job_memory::{JobMemory, NotNow};
 use job_steps::laws::{early_ends_end, end_is_own, others_are_ready, reached};
-use job_steps::{Desk, Filled, Job, Track};
+use job_steps::{Desk, Filled, Job, Track, flag};
 use refcounts::laws::{releases_are_counted, releases_keep_blocks};
 use std::alloc::{AllocError, Allocator};
 use std::marker::Model;
-use vcode_base::{Outcome, Rule, Values};
+use vcode_base::{Op, Outcome, Rule, Values};
 
 /// Where a job stands in its run, and how it ended, once that is known.
 ///
@@ -217,6 +218,66 @@ impl<A: Allocator> Slot<A> {
         (finished, filled.into_desk())
     }
 
+    /// Carries out the next instruction of the job in one go. The desk is lent for its results. Takes no memory.
+    ///
+    /// There have to be numbers for two blocks more. At `Done` and `Ended` the job is where a begin and then the finish
+    /// of that step leave it. `NotReady` exactly if the job waits, a step of it has begun, or it is over. `SmallDesk`
+    /// exactly if it is live and the desk has fewer words than the job. Nothing changes then.
+    pub fn step(
+        &mut self,
+        rule: Rule,
+        job: &Job<A>,
+        number: usize,
+        blocks: &mut JobMemory<A>,
+        desk: &mut Desk<A>,
+    ) -> Stepped
+        requires shows { Shows number blocks.old (ruled rule job.now) self.old }
+        requires numbers { block_count blocks.old.memory + 2 ≤ length blocks.old.memory.slots }
+        ensures answer { Steps number desk.old (ruled rule job.now) (standing_of self.old) result }
+        ensures shows { Shows number blocks.new (ruled rule job.now) self.new }
+        ensures others { ChangesOnlyOf number blocks.old blocks.new }
+        ensures standing { standing_of self.new ≡ after_stepped result (standing_of self.old)
+            (standing_after_step number (ruled rule job.now) (standing_of self.old)) }
+        ensures desk { desk.new ≡ desk.old }
+        ensures unchanged { IsPassedOver result → (self.new ≡ self.old) × (blocks.new ≡ blocks.old) }
+    {
+        changes_join();
+        early_ends_end();
+        others_are_ready();
+        end_is_own();
+        match self.status {
+            Status::Live => {}
+            Status::Waiting | Status::InFlight | Status::Ended | Status::Collected => {
+                return Stepped::NotReady;
+            }
+        }
+        if desk.words() < job.limits().words {
+            return Stepped::SmallDesk;
+        }
+        let next = read_next(rule, job, &self.track, number, blocks);
+        if let Some(ending) = early_end(rule, job, &self.track, number, blocks, &next) {
+            self.end(rule, job, number, blocks, ending);
+            return Stepped::Ended;
+        }
+        let (op, line, operands) = (next.op, next.line, next.operands.as_slice());
+        match desk.fill(op, operands) {
+            Ok((first, second)) => {
+                let flag = flag(operands);
+                self.status = Status::InFlight;
+                if self.carry_out(rule, job, number, blocks, op, flag, first, second) {
+                    Stepped::Done
+                } else {
+                    Stepped::Ended
+                }
+            }
+            Err(fault) => {
+                let ending = Outcome::Fault(fault, line);
+                self.end(rule, job, number, blocks, ending);
+                Stepped::Ended
+            }
+        }
+    }
+
     /// Gives up the step that has begun; true where there was one. The job stands as before the step's begin.
     pub fn recall(&mut self) -> bool
         ensures answer { result ≡ is_in_flight (standing_of self.old) }
@@ -319,7 +380,6 @@ impl<A: Allocator> Slot<A> {
         ensures standing { Some (standing_of self.new)
             ≡ next_standing (event.Finish number) (ruled rule job.now) (standing_of self.old) }
     {
-        reached();
         others_are_ready();
         end_is_own();
         match filled.answer() {
@@ -330,37 +390,73 @@ impl<A: Allocator> Slot<A> {
             }
             Ok((first, second)) => {
                 let (op, flag) = (filled.op(), filled.flag());
-                execute(
-                    rule,
-                    job,
-                    &mut self.track,
-                    number,
-                    blocks,
-                    op,
-                    flag,
-                    first,
-                    second,
-                );
-                self.go_on()
+                if self.carry_out(rule, job, number, blocks, op, flag, first, second) {
+                    Finished::Done
+                } else {
+                    Finished::Ended
+                }
             }
         }
     }
 
-    /// After an instruction: the job runs on, or it has returned, and its results are on its stack.
-    fn go_on(&mut self) -> Finished
-        ensures done { result ≡ finished.Done → (0 < length self.old.trace.frames)
+    /// Executes the instruction of the step in flight, whose results are these words: true if the job goes on after
+    /// it, and false if it has returned.
+    #[inline(always)]
+    fn carry_out(
+        &mut self,
+        rule: Rule,
+        job: &Job<A>,
+        number: usize,
+        blocks: &mut JobMemory<A>,
+        op: Op,
+        flag: bool,
+        first: &[i64],
+        second: &[i64],
+    ) -> bool
+        requires shows { Shows number blocks.old (ruled rule job.now) self.old }
+        requires flying { self.old.status ≡ status.InFlight }
+        requires answered { IsAnswered (ruled rule job.now) self.old.trace.executed op flag first.now second.now }
+        requires numbers { block_count blocks.old.memory + 2 ≤ length blocks.old.memory.slots }
+        ensures goes_on { result ≡ true
+            → next_standing (event.Finish number) (ruled rule job.now) (standing_of self.old)
+            ≡ Some (Live (self.old.trace.executed + 1)) }
+        ensures returned { result ≡ false
+            → next_standing (event.Finish number) (ruled rule job.now) (standing_of self.old) ≡ Some Ended }
+        ensures shows { Shows number blocks.new (ruled rule job.now) self.new }
+        ensures others { ChangesOnlyOf number blocks.old blocks.new }
+        ensures standing { Some (standing_of self.new)
+            ≡ next_standing (event.Finish number) (ruled rule job.now) (standing_of self.old) }
+    {
+        reached();
+        end_is_own();
+        execute(
+            rule,
+            job,
+            &mut self.track,
+            number,
+            blocks,
+            op,
+            flag,
+            first,
+            second,
+        );
+        self.go_on()
+    }
+
+    /// After an instruction: true if the job runs on, and false if it has returned and its results are on its stack.
+    fn go_on(&mut self) -> bool
+        ensures done { result ≡ true → (0 < length self.old.trace.frames)
             × (self.new ≡ record self.old { status = status.Live }) }
-        ensures ended { result ≡ finished.Ended → (self.old.trace.frames ≡ [])
+        ensures ended { result ≡ false → (self.old.trace.frames ≡ [])
             × (self.new ≡ record self.old { status = status.Ended; outcome = None }) }
-        ensures not_stale { result ≢ finished.Stale }
     {
         if self.track.calls() == 0 {
             self.outcome = None;
             self.status = Status::Ended;
-            Finished::Ended
+            false
         } else {
             self.status = Status::Live;
-            Finished::Done
+            true
         }
     }
 

@@ -1,6 +1,6 @@
 //! The ticket of a job's next step.
 
-ghost use Rattle.std.specs.Prelude.{◌≡◌, ◌+◌, ◌≤◌, length, take, MatchResult, None, Some};
+ghost use Rattle.std.specs.Prelude.{◌≡◌, ◌+◌, ◌≤◌, ℕ, length, take, IfNone, MatchResult, None, Some};
 ghost use Rattle.vcode_base.specs.declared.limits.TheConstants.{MOST_WORDS};
 ghost use Rattle.vcode_base.specs.Kinds.{HaveKinds, source_kinds};
 ghost use Rattle.vcode_base.specs.Meaning.{shape};
@@ -13,7 +13,7 @@ ghost use Rattle.job_steps.specs.States.{ruled};
 ghost use Rattle.job_steps.specs.Steps.{ending_by, memory_fault};
 ghost use Rattle.job_steps.specs.Tickets.{question_by};
 ghost use Rattle.job_slots.specs.Slots.{IsRunningSlot};
-ghost use Rattle.job_slots.specs.Answers.{IsAskedOf, early_end_at};
+ghost use Rattle.job_slots.specs.Answers.{CanAsk, IsAskedOf, IsNext, early_end_at};
 
 use crate::commit::held_under;
 use crate::execution::held_is_counted;
@@ -50,26 +50,48 @@ pub(crate) fn ticket_of<A: Allocator>(
         (IsAskedOf number desk (ruled rule job.now) track.now.executed)
         (λ halted. (early_end_at (ruled rule job.now) track.now.executed ≡ Some halted.ending) × (halted.desk ≡ desk)) }
 {
-    steps_can_begin::<BlockId>();
-    steps_can_advance::<BlockId>();
-    held_is_counted();
-    if track.executed() == track.limits().budget {
-        return Err(Halted {
-            ending: Outcome::Budget,
-            desk,
-        });
-    }
     let next = read_next(rule, job, track, number, blocks);
-    // By its type a memory has no block that no reference names.
-    let _used = blocks.used();
-    let held = held_under(rule, track, number, blocks, next.op);
-    match early_ending(track, held, &next) {
+    match early_end(rule, job, track, number, blocks, &next) {
         Some(ending) => Err(Halted { ending, desk }),
         None => Ok(desk.ask(number, track.executed(), next.op, next.operands.as_slice())),
     }
 }
 
-/// The ending by a shape or a limit that stands against an instruction, where so many words are held.
+/// How a job that runs ends before the values of its next instruction are looked at, if it does.
+#[inline(always)]
+pub(crate) fn early_end<A: Allocator>(
+    rule: Rule,
+    job: &Job<A>,
+    track: &Track<BlockId, A>,
+    number: usize,
+    blocks: &JobMemory<A>,
+    next: &Next<'_>,
+) -> Option<Outcome<Values<A>>>
+    requires running { IsRunningSlot (own_slots number blocks.now) (ruled rule job.now) track.now }
+    requires verified { IsVerified (ruled rule job.now) }
+    requires has_grant { HasGrant blocks.now number }
+    requires next { IsNext (ruled rule job.now) track.now.executed next.now.op next.now.line
+        (contents (take next.now.operands.count next.now.operands.lists)) }
+    requires kinds { HaveKinds (source_kinds next.now.op)
+        (contents (take next.now.operands.count next.now.operands.lists)) }
+    ensures ends { result ≡ early_end_at (ruled rule job.now) track.now.executed }
+    ensures can_ask { IfNone result ((words : ℕ) → job.now.limits.words ≤ words
+        → CanAsk words next.now.op (contents (take next.now.operands.count next.now.operands.lists))) }
+{
+    steps_can_begin::<BlockId>();
+    steps_can_advance::<BlockId>();
+    held_is_counted();
+    if track.executed() == job.limits().budget {
+        return Some(Outcome::Budget);
+    }
+    // By its type a memory has no block that no reference names.
+    let _used = blocks.used();
+    let held = held_under(rule, track, number, blocks, next.op);
+    early_ending(track, held, next)
+}
+
+/// The ending by a shape or a limit that an instruction has, if so many words are held.
+#[inline(always)]
 fn early_ending<A: Allocator>(
     track: &Track<BlockId, A>,
     held: usize,
@@ -89,7 +111,8 @@ fn early_ending<A: Allocator>(
     }
 }
 
-/// The ending by a limit that an instruction would pass whose operands fit one another, where so many words are held.
+/// The ending by a limit that an instruction would pass whose operands fit one another, if so many words are held.
+#[inline(always)]
 fn limit_ending<A: Allocator>(
     track: &Track<BlockId, A>,
     held: usize,

@@ -1,11 +1,10 @@
 -- Lists one behind another.
-use Rattle.std.proofs.Common.{◌≡◌, ℕ, ℤ, ◌+◌, ◌≤◌, List, [], ◌∷◌, length, take, drop, sum, get_or}
-use Rattle.std.proofs.Common.{refl, sym, ◌∙◌, ap, arith, zero, suc, ◌<◌, slice_set, slice_index_or}
-use Rattle.std.specs.declared.vec.Vec.{Vec}
-use Rattle.std.specs.Vec.{with_items}
-use Rattle.std.proofs.lemmas.List.{with_items_is}
+use Rattle.std.proofs.Common.{◌≡◌, ℕ, ℤ, ◌+◌, ◌≤◌, ◌++◌, List, [], ◌∷◌, length, map, take, drop, sum, get_or}
+use Rattle.std.proofs.Common.{refl, ap, arith, zero, suc}
+use Rattle.std.proofs.lemmas.List.{length-append}
+use Rattle.std.proofs.lemmas.List.Sums.{sum_by-cons}
 use Rattle.vcode_base.specs.Segments.{pieces_of}
-use Rattle.job_steps.specs.Buffers.{OperandLists, lists_in}
+use Rattle.job_steps.specs.Buffers.{OperandLists, in_a_row, length_of_all, lists_in}
 
 pub sum_of_five : (ls : List ℕ) → length ls ≡ 5
     → sum ls ≡ get_or ls 0 0 + get_or ls 1 0 + get_or ls 2 0 + get_or ls 3 0 + get_or ls 4 0
@@ -77,16 +76,29 @@ pub loaded : (room words : ℕ) (lists : List (List ℤ)) (count : ℕ) (ls ms :
     → loading room (lists_in count ls xs) ≡ loading words lists
 loaded room words lists count ls ms xs same front held = cc (take-pieces_of count ls xs)
 
--- what a vector keeps after its elements were written over
-pub items_after_write : {X Z : Type 0} (v : Vec X Z) (old new : List X)
-    → old ≡ v.items → length new ≡ length old → (with_items v new).items ≡ new
-items_after_write v old new whole same = with_items_is v new (same ∙ (ap length whole ∙ sym v.ok.0))
+take_first : {T : Type 0} (xs ys : List T) → take (length xs) (xs ++ ys) ≡ xs
+take_first [] [] = refl
+take_first [] (y ∷ ys) = refl
+take_first (x ∷ xs) ys = ap (λ zs. x ∷ zs) (take_first xs ys)
 
--- one element written over the only one
-pub one_written : {T : Type 0} (old new : List T) (d : T)
-    → length old ≡ length new → 1 ≤ length new → length new < 2 → slice_set old 0 (slice_index_or new 0 d) ≡ new
-one_written old [] d same some few = absurd (omega arith)
-one_written [] (x ∷ []) d same some few = absurd (omega arith)
-one_written (y ∷ []) (x ∷ []) d same some few = refl
-one_written (y ∷ z ∷ old) (x ∷ []) d same some few = absurd (omega arith)
-one_written old (x ∷ y ∷ new) d same some few = absurd (omega arith)
+drop_first : {T : Type 0} (xs ys : List T) → drop (length xs) (xs ++ ys) ≡ ys
+drop_first [] [] = refl
+drop_first [] (y ∷ ys) = refl
+drop_first (x ∷ xs) ys = drop_first xs ys
+
+-- lists in a row are the pieces of their lengths
+pub pieces_in_a_row : (lists : List (List ℤ)) → pieces_of (map length lists) (in_a_row lists) ≡ lists
+pieces_in_a_row [] = refl
+pieces_in_a_row (list ∷ lists) =
+    rw (take_first list (in_a_row lists), drop_first list (in_a_row lists))
+    (ap (λ others. list ∷ others) (pieces_in_a_row lists))
+
+pub length-in_a_row : (lists : List (List ℤ)) → length (in_a_row lists) ≡ length_of_all lists
+length-in_a_row [] = refl
+length-in_a_row (list ∷ lists) =
+    omega (
+      arith,
+      length-append list (in_a_row lists),
+      length-in_a_row lists,
+      sum_by-cons length list lists,
+    )

@@ -1,26 +1,22 @@
 -- An event is open while some job isn't collected.
-use Rattle.std.proofs.Common.{◌≡◌, ◌⊎◌, ℕ, zero, suc, ◌+◌, ◌<◌, ◌≤◌, Bool, true, false, not, cond, leb, ltb, List, []}
-use Rattle.std.proofs.Common.{◌∷◌, length, get_or, slice_get, position, All, Option, Some, None, refl, sym}
-use Rattle.std.proofs.Common.{subst, arith, inl, inr}
-use Rattle.std.specs.List.{prefix_len}
-use Rattle.std.proofs.lemmas.Bool.{le-leb, ltb-false, not-true, true≢false}
-use Rattle.std.proofs.lemmas.List.Quantifiers.{position-Some}
-use Rattle.std.proofs.lemmas.List.Sums.{prefix_len_passes}
-use Rattle.std.proofs.lemmas.Option.{none-some, get_or_from_slice_get}
+use Rattle.std.proofs.Common.{◌≡◌, ◌⊎◌, ℕ, zero, suc, ◌+◌, ◌≤◌, Bool, true, false, cond, List, []}
+use Rattle.std.proofs.Common.{◌∷◌, length, slice_get, All, Some, None, refl, ap, arith, inl, inr}
+use Rattle.std.proofs.lemmas.Bool.{le-leb}
+use Rattle.std.proofs.lemmas.List.Elements.{All-nil, All-cons, All-head, All-tail}
 use Rattle.job_steps.specs.declared.event.Event.{Event}
 use Rattle.job_steps.specs.declared.event.Event.TheVariants.{Admit, Begin, Finish, Collect}
 use Rattle.job_steps.specs.Events.{standing_after_begin, standing_after, is_open, is_recall}
 use Rattle.job_steps.specs.Runs.{state_after}
-use Rattle.job_steps.specs.Standings.{Standing, Waiting, Live, InFlight, Ended, Collected, is_waiting, reserved_words}
-use Rattle.job_steps.specs.Standings.{granted_words}
+use Rattle.job_steps.specs.Standings.{Standing, Waiting, Live, InFlight, Ended, Collected, Queue, reserved_words}
+use Rattle.job_steps.specs.Standings.{granted_words, has_room, is_passed_enough, admission_from, admission}
 use Rattle.job_steps.specs.States.{Task}
 use Rattle.job_steps.proofs.Happenings.{open_where}
-use Rattle.job_steps.proofs.Standings.{first_waiting, admits}
+use Rattle.job_steps.proofs.Standings.{admitted_has_room, admits}
 
 -- an event that is no recall, and open
-abbrev GoesOn : ℕ → List Task → List Standing → Type 0
-GoesOn region tasks standings =
-    (event : Event) × (is_recall event ≡ false) × (is_open region tasks event standings ≡ true)
+abbrev GoesOn : ℕ → List Task → Queue → Type 0
+GoesOn region tasks queue =
+    (event : Event) × (is_recall event ≡ false) × (is_open region tasks event queue ≡ true)
 
 -- a job that has words and isn't recalled may go on
 abbrev IsBusy : Standing → Type 0
@@ -84,29 +80,29 @@ find (t ∷ tasks) (Collected ∷ standings) same =
 
 -- ---- a job that may go on
 
-busy_goes_on : (region : ℕ) (tasks : List Task) (standings : List Standing) (i : ℕ) (task : Task) →
+busy_goes_on : (region : ℕ) (tasks : List Task) (queue : Queue) (i : ℕ) (task : Task) →
     slice_get tasks i ≡ Some task →
-    (s : Standing) → slice_get standings i ≡ Some s → IsBusy s → GoesOn region tasks standings
-busy_goes_on region tasks standings i task t Waiting e busy = absurd busy
-busy_goes_on region tasks standings i task t (Live n) e busy = (
+    (s : Standing) → slice_get queue.standings i ≡ Some s → IsBusy s → GoesOn region tasks queue
+busy_goes_on region tasks queue i task t Waiting e busy = absurd busy
+busy_goes_on region tasks queue i task t (Live n) e busy = (
   Begin (suc i),
   refl,
-  open_where region tasks (Begin (suc i)) standings (suc i) task (Live n)
+  open_where region tasks (Begin (suc i)) queue (suc i) task (Live n)
       (standing_after_begin task n (state_after task n)) refl t e refl,
 )
-busy_goes_on region tasks standings i task t (InFlight n) e busy = (
+busy_goes_on region tasks queue i task t (InFlight n) e busy = (
   Finish (suc i),
   refl,
-  open_where region tasks (Finish (suc i)) standings (suc i) task (InFlight n)
+  open_where region tasks (Finish (suc i)) queue (suc i) task (InFlight n)
       (standing_after (n + 1) (state_after task (n + 1))) refl t e refl,
 )
-busy_goes_on region tasks standings i task t Ended e busy = (
+busy_goes_on region tasks queue i task t Ended e busy = (
   Collect (suc i),
   refl,
-  open_where region tasks (Collect (suc i)) standings (suc i) task Ended Collected refl t e
+  open_where region tasks (Collect (suc i)) queue (suc i) task Ended Collected refl t e
       refl,
 )
-busy_goes_on region tasks standings i task t Collected e busy = absurd busy
+busy_goes_on region tasks queue i task t Collected e busy = absurd busy
 
 -- ---- all wait or are collected
 
@@ -124,81 +120,78 @@ idle_granted (t ∷ tasks) [] idle = refl
 idle_granted (t ∷ tasks) (s ∷ standings) idle =
     omega (arith, idle_reserved t s idle.0, idle_granted tasks standings idle.1)
 
-idle_at : (standings : List Standing) → AllIdle standings → (k : ℕ) (d : Standing) → k < length standings →
-    IsIdle (get_or standings k d)
-idle_at [] idle k d h = absurd (omega (arith, h))
-idle_at (s ∷ standings) idle zero d h = idle.0
-idle_at (s ∷ standings) idle (suc k) d h = idle_at standings idle.1 k d (omega (arith, h))
+-- each job has room beside no words
+all_fit : (region granted : ℕ) (tasks : List Task) → granted ≡ 0 → All (λ task. task.limits.words ≤ region) tasks →
+    All (λ task. has_room region granted task ≡ true) tasks
+all_fit region granted [] none words = All-nil (λ (task : Task). has_room region granted task ≡ true)
+all_fit region granted (t ∷ tasks) none words =
+    let fits = All-head (λ (task : Task). task.limits.words ≤ region) t tasks words in
+    All-cons (λ (task : Task). has_room region granted task ≡ true) t tasks
+    (le-leb (granted + t.limits.words) region (omega (arith, fits, none)))
+    (all_fit region granted tasks none (All-tail (λ (task : Task). task.limits.words ≤ region) t tasks words))
 
-collected_is : (s : Standing) → IsIdle s → is_waiting s ≡ false → s ≡ Collected
-collected_is Waiting idle e = absurd (true≢false e)
-collected_is (Live n) idle e = absurd idle
-collected_is (InFlight n) idle e = absurd idle
-collected_is Ended idle e = absurd idle
-collected_is Collected idle e = refl
+-- all are collected, or a job is admitted
+abbrev IdleOr : ℕ → (Task → Bool) → List Task → List Standing → List ℕ → Type 0
+IdleOr first fits tasks standings passes =
+    All (λ standing. standing ≡ Collected) standings
+    ⊎ ((job : ℕ) × (admission_from first fits tasks standings passes ≡ Some job))
 
-some_cond : (b : Bool) (x : ℕ) → cond b (Some x) None ≡ None → b ≡ false
-some_cond true x e = absurd (none-some x (sym e))
-some_cond false x e = refl
+behind_collected : (first : ℕ) (fits : Task → Bool) (t : Task) (tasks : List Task) (standings : List Standing)
+    (count : ℕ) (passes : List ℕ) → IdleOr (suc first) fits tasks standings passes →
+    IdleOr first fits (t ∷ tasks) (Collected ∷ standings) (count ∷ passes)
+behind_collected first fits t tasks standings count passes (inl all) =
+    inl (All-cons (λ (s : Standing). s ≡ Collected) Collected standings refl all)
+behind_collected first fits t tasks standings count passes (inr next) = inr next
 
--- no job waits
-none_wait : (standings : List Standing) → position is_waiting standings ≡ None → (k : ℕ) (d : Standing) →
-    k < length standings → is_waiting (get_or standings k d) ≡ false
-none_wait standings none k d h =
-    let first : ℕ = prefix_len (λ (s : Standing). not (is_waiting s)) standings in
-    let past : length standings ≤ first =
-    ltb-false first (length standings) (some_cond (ltb first (length standings)) first none) in
-    not-true (is_waiting (get_or standings k d))
-    (prefix_len_passes (λ (s : Standing). not (is_waiting s)) standings k d (omega (arith, past, h)))
+-- where each job waits or is collected, and each fits, the first that waits is admitted
+idle_admits : (first : ℕ) (fits : Task → Bool) (tasks : List Task) (standings : List Standing) (passes : List ℕ) →
+    AllIdle standings → All (λ task. fits task ≡ true) tasks → length standings ≡ length tasks →
+    length passes ≡ length tasks → IdleOr first fits tasks standings passes
+idle_admits first fits tasks [] passes idle fit same count = inl (All-nil (λ (s : Standing). s ≡ Collected))
+idle_admits first fits [] (s ∷ standings) passes idle fit same count = absurd (omega (arith, same))
+idle_admits first fits (t ∷ tasks) (s ∷ standings) [] idle fit same count = absurd (omega (arith, count))
+idle_admits first fits (t ∷ tasks) (Waiting ∷ standings) (k ∷ passes) idle fit same count =
+    inr (
+      first,
+      ap (λ (b : Bool). cond b (Some first)
+          (cond (is_passed_enough Waiting k) None (admission_from (suc first) fits tasks standings passes)))
+          (All-head (λ (task : Task). fits task ≡ true) t tasks fit),
+    )
+idle_admits first fits (t ∷ tasks) (Live n ∷ standings) (k ∷ passes) idle fit same count = absurd idle.0
+idle_admits first fits (t ∷ tasks) (InFlight n ∷ standings) (k ∷ passes) idle fit same count = absurd idle.0
+idle_admits first fits (t ∷ tasks) (Ended ∷ standings) (k ∷ passes) idle fit same count = absurd idle.0
+idle_admits first fits (t ∷ tasks) (Collected ∷ standings) (k ∷ passes) idle fit same count =
+    behind_collected first fits t tasks standings k passes
+    (idle_admits (suc first) fits tasks standings passes idle.1
+    (All-tail (λ (task : Task). fits task ≡ true) t tasks fit) (omega (arith, same)) (omega (arith, count)))
 
-admit_at : (region : ℕ) (tasks : List Task) (standings : List Standing) (i : ℕ) → AllIdle standings →
-    All (λ task. task.limits.words ≤ region) tasks → position is_waiting standings ≡ Some i →
-    (task : Task) → slice_get tasks i ≡ Some task → i < length tasks → GoesOn region tasks standings
-admit_at region tasks standings i idle words first task t within =
-    let waits = first_waiting standings i first in
-    let fits : task.limits.words ≤ region = subst (λ (k : Task). k.limits.words ≤ region)
-    (get_or_from_slice_get tasks i task task t) (words i task within) in
-    let room : leb (granted_words tasks standings + task.limits.words) region ≡ true =
-    le-leb (granted_words tasks standings + task.limits.words) region
-    (omega (arith, fits, idle_granted tasks standings idle)) in
-    let next = admits region tasks standings i first task t room in
-    (Admit, refl, open_where region tasks Admit standings (suc i) task Waiting (Live 0) next t waits refl)
+admit_open : (region : ℕ) (tasks : List Task) (queue : Queue) (job : ℕ) → admission region tasks queue ≡ Some job →
+    GoesOn region tasks queue
+admit_open region tasks queue job next =
+    let h = admitted_has_room region tasks queue job next in
+    (Admit, refl, open_where region tasks Admit queue job h.task Waiting (Live 0) next h.task_is h.waits refl)
 
--- what slice_get_cases tells of a list at a place
-admit_within : (region : ℕ) (tasks : List Task) (standings : List Standing) (i : ℕ) → AllIdle standings →
-    All (λ task. task.limits.words ≤ region) tasks → length standings ≡ length tasks →
-    position is_waiting standings ≡ Some i → (o : Option Task) → slice_get tasks i ≡ o → GoesOn region tasks standings
-admit_within region tasks standings i idle words same first None t =
-    let here = position-Some is_waiting standings i Waiting first in
-    absurd (past_at tasks i t (omega (arith, here.0, same)))
-  where
-    past_at : (tasks : List Task) (i : ℕ) → slice_get tasks i ≡ None → i < length tasks → ⊥
-    past_at [] i t h = omega (arith, h)
-    past_at (k ∷ tasks) zero t h = none-some k (sym t)
-    past_at (k ∷ tasks) (suc i) t h = past_at tasks i t (omega (arith, h))
-admit_within region tasks standings i idle words same first (Some task) t =
-    let here = position-Some is_waiting standings i Waiting first in
-    admit_at region tasks standings i idle words first task t (omega (arith, here.0, same))
-
-idle_goes_on : (region : ℕ) (tasks : List Task) (standings : List Standing) → AllIdle standings →
-    All (λ task. task.limits.words ≤ region) tasks → length standings ≡ length tasks →
-    (o : Option ℕ) → position is_waiting standings ≡ o →
-    All (λ standing. standing ≡ Collected) standings ⊎ GoesOn region tasks standings
-idle_goes_on region tasks standings idle words same None none =
-    inl (λ k d h. collected_is (get_or standings k d) (idle_at standings idle k d h) (none_wait standings none k d h))
-idle_goes_on region tasks standings idle words same (Some i) first =
-    inr (admit_within region tasks standings i idle words same first (slice_get tasks i) refl)
+idle_goes_on : (region : ℕ) (tasks : List Task) (queue : Queue) →
+    IdleOr 1 (has_room region (granted_words tasks queue.standings)) tasks queue.standings queue.passes →
+    All (λ standing. standing ≡ Collected) queue.standings ⊎ GoesOn region tasks queue
+idle_goes_on region tasks queue (inl all) = inl all
+idle_goes_on region tasks queue (inr (job, next)) =
+    inr (admit_open region tasks queue job (admits region tasks queue (Some job) next))
 
 goes_on_by : (region : ℕ) (tasks : List Task) → All (λ task. task.limits.words ≤ region) tasks →
-    (standings : List Standing) → length standings ≡ length tasks → Busy tasks standings ⊎ AllIdle standings →
-    All (λ standing. standing ≡ Collected) standings ⊎ GoesOn region tasks standings
-goes_on_by region tasks words standings same (inl b) =
-    inr (busy_goes_on region tasks standings b.place b.task b.task_is b.standing b.standing_is b.busy)
-goes_on_by region tasks words standings same (inr idle) =
-    idle_goes_on region tasks standings idle words same (position is_waiting standings) refl
+    (queue : Queue) → length queue.standings ≡ length tasks → length queue.passes ≡ length tasks →
+    Busy tasks queue.standings ⊎ AllIdle queue.standings →
+    All (λ standing. standing ≡ Collected) queue.standings ⊎ GoesOn region tasks queue
+goes_on_by region tasks words queue same count (inl b) =
+    inr (busy_goes_on region tasks queue b.place b.task b.task_is b.standing b.standing_is b.busy)
+goes_on_by region tasks words queue same count (inr idle) =
+    let granted : ℕ = granted_words tasks queue.standings in
+    idle_goes_on region tasks queue
+    (idle_admits 1 (has_room region granted) tasks queue.standings queue.passes idle
+    (all_fit region granted tasks (idle_granted tasks queue.standings idle) words) same count)
 
 pub events_go_on : (region : ℕ) (tasks : List Task) → All (λ task. task.limits.words ≤ region) tasks →
-    (standings : List Standing) → length standings ≡ length tasks →
-    All (λ standing. standing ≡ Collected) standings ⊎ GoesOn region tasks standings
-events_go_on region tasks words standings same =
-    goes_on_by region tasks words standings same (find tasks standings same)
+    (queue : Queue) → length queue.standings ≡ length tasks → length queue.passes ≡ length tasks →
+    All (λ standing. standing ≡ Collected) queue.standings ⊎ GoesOn region tasks queue
+events_go_on region tasks words queue same count =
+    goes_on_by region tasks words queue same count (find tasks queue.standings same)

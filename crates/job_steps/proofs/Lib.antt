@@ -11,6 +11,7 @@ mod Held
 mod Kept
 mod KindLemmas
 mod OpLemmas
+mod Passes
 mod Passing
 mod Progresses
 mod QuestionLemmas

@@ -64,11 +64,12 @@ pub contents_in_front : (count : ℕ) (refs : List (Bor (List ℤ))) (xs : List 
 contents_in_front count refs xs same front =
     sym (take-map (λ (r : Bor (List ℤ)). r.now) count refs) ∙ (ap (λ n. take n (contents refs)) same ∙ front)
 
-pub can_answer_too : (op : Op) (words room : ℕ) (xs ys : List (List ℤ)) → room ≡ words → ys ≡ xs
+-- what can be answered in some words can be in more
+pub can_answer_within : (op : Op) (words room : ℕ) (xs ys : List (List ℤ)) → words ≤ room → ys ≡ xs
     → CanAnswer words (question_by op xs) → CanAnswer room (question_by op ys)
-can_answer_too op words room xs ys same are h =
-    subst (λ n. CanAnswer n (question_by op ys)) (sym same)
-    (subst (λ zs. CanAnswer words (question_by op zs)) (sym are) h)
+can_answer_within op words room xs ys more are h =
+    subst (λ zs. CanAnswer room (question_by op zs)) (sym are)
+    (record { kinds = h.kinds; shaped = h.shaped; room = omega (arith, h.room) })
 
 -- lists that are lent are equal where their elements are
 same_contents : (xs ys : List (Bor (List ℤ)))

@@ -5,13 +5,13 @@ use Rattle.std.proofs.lemmas.Bool.{cases_eq, cases_lt}
 use Rattle.std.proofs.lemmas.Option.{none-some, same_Some, slice_get-map, slice_get_past}
 use Rattle.job_steps.specs.declared.event.Event.{Event}
 use Rattle.job_steps.specs.declared.event.Event.TheVariants.{Recall}
-use Rattle.job_steps.specs.Events.{next_standing, after_event, after_events, recalled_standing, recalled_standings}
+use Rattle.job_steps.specs.Events.{next_standing, after_event, after_events, recalled_standing, recalled_queue}
 use Rattle.job_steps.specs.Events.{all_recalls}
-use Rattle.job_steps.specs.Standings.{Standing, Waiting, Live, InFlight, Ended, Collected}
+use Rattle.job_steps.specs.Standings.{Standing, Waiting, Live, InFlight, Ended, Collected, Queue}
 use Rattle.job_steps.specs.States.{Task}
-use Rattle.job_steps.proofs.EventOrder.{others_stay, events_join}
+use Rattle.job_steps.proofs.EventOrder.{others_stay, named_passes, events_join}
 use Rattle.job_steps.proofs.Happenings.{Happens, Passed, Opened, happens, changes_its_job, closed_changes_nothing}
-use Rattle.job_steps.proofs.Happenings.{missing_is_closed}
+use Rattle.job_steps.proofs.Happenings.{missing_is_closed, same_queue}
 use Rattle.job_steps.proofs.Standings.{beside_at, of_with, with_length}
 
 -- ---- lists
@@ -25,17 +25,17 @@ same_places (x ∷ xs) (y ∷ ys) h =
     let rest = same_places xs ys (λ k. h (suc k)) in
     λ i. here i ∷ rest i
 
-length_by : (region : ℕ) (tasks : List Task) (event : Event) (standings : List Standing) →
-    Happens region tasks event standings → length (after_event region tasks event standings) ≡ length standings
-length_by region tasks event standings (Passed closed after) = ap length after
-length_by region tasks event standings (Opened can o) = ap length o.after ∙ with_length o.job standings o.new
+length_by : (region : ℕ) (tasks : List Task) (event : Event) (queue : Queue) → Happens region tasks event queue →
+    length (after_event region tasks event queue).standings ≡ length queue.standings
+length_by region tasks event queue (Passed closed after) = ap (λ (q : Queue). length q.standings) after
+length_by region tasks event queue (Opened can o) = ap length o.after ∙ with_length o.job queue.standings o.new
 
-length_after : (region : ℕ) (tasks : List Task) (events : List Event) (standings : List Standing) →
-    length (after_events region tasks events standings) ≡ length standings
-length_after region tasks [] standings = refl
-length_after region tasks (event ∷ events) standings =
-    length_after region tasks events (after_event region tasks event standings)
-    ∙ length_by region tasks event standings (happens region tasks event standings)
+length_after : (region : ℕ) (tasks : List Task) (events : List Event) (queue : Queue) →
+    length (after_events region tasks events queue).standings ≡ length queue.standings
+length_after region tasks [] queue = refl
+length_after region tasks (event ∷ events) queue =
+    length_after region tasks events (after_event region tasks event queue)
+    ∙ length_by region tasks event queue (happens region tasks event queue)
 
 -- ---- one recall
 
@@ -48,100 +48,104 @@ recall_next job task (InFlight n) = inr refl
 recall_next job task Ended = inl (refl, refl)
 recall_next job task Collected = inl (refl, refl)
 
-recall_by : (region : ℕ) (tasks : List Task) (standings : List Standing) (i : ℕ) (task : Task) (s : Standing) →
-    slice_get tasks i ≡ Some task → slice_get standings i ≡ Some s →
+recall_by : (region : ℕ) (tasks : List Task) (queue : Queue) (i : ℕ) (task : Task) (s : Standing) →
+    slice_get tasks i ≡ Some task → slice_get queue.standings i ≡ Some s →
     ((next_standing (Recall (suc i)) task s ≡ None) × (recalled_standing s ≡ s))
     ⊎ (next_standing (Recall (suc i)) task s ≡ Some (recalled_standing s)) →
-    slice_get (after_event region tasks (Recall (suc i)) standings) i ≡ Some (recalled_standing s)
-recall_by region tasks standings i task s t e (inl kept) =
-    let c = changes_its_job region tasks (Recall (suc i)) standings (suc i) task s refl t e in
-    ap (λ ks. slice_get ks i) (c.passed kept.0) ∙ (e ∙ ap (λ (k : Standing). Some k) (sym kept.1))
-recall_by region tasks standings i task s t e (inr new) =
-    let c = changes_its_job region tasks (Recall (suc i)) standings (suc i) task s refl t e in
-    ap (λ ks. slice_get ks i) (c.changed (recalled_standing s) new)
-    ∙ of_with (suc i) standings s (recalled_standing s) e
+    slice_get (after_event region tasks (Recall (suc i)) queue).standings i ≡ Some (recalled_standing s)
+recall_by region tasks queue i task s t e (inl kept) =
+    let c = changes_its_job region tasks (Recall (suc i)) queue (suc i) task s refl t e in
+    ap (λ (q : Queue). slice_get q.standings i) (c.passed kept.0) ∙ (e ∙ ap (λ (k : Standing). Some k) (sym kept.1))
+recall_by region tasks queue i task s t e (inr new) =
+    let c = changes_its_job region tasks (Recall (suc i)) queue (suc i) task s refl t e in
+    ap (λ (q : Queue). slice_get q.standings i) (c.changed (recalled_standing s) new)
+    ∙ of_with (suc i) queue.standings s (recalled_standing s) e
 
-recall_at : (region : ℕ) (tasks : List Task) (standings : List Standing) → length standings ≡ length tasks → (i : ℕ)
-    (o : Option Standing) → slice_get standings i ≡ o →
-    slice_get (after_event region tasks (Recall (suc i)) standings) i ≡ option_map recalled_standing o
-recall_at region tasks standings same i None e =
-    let closed = missing_is_closed region tasks (Recall (suc i)) standings (suc i) refl e in
-    ap (λ ks. slice_get ks i) (closed_changes_nothing region tasks (Recall (suc i)) standings closed) ∙ e
-recall_at region tasks standings same i (Some s) e =
-    let t = beside_at standings tasks (sym same) i s e in
-    recall_by region tasks standings i t.0 s t.1 e (recall_next (suc i) t.0 s)
+recall_at : (region : ℕ) (tasks : List Task) (queue : Queue) → length queue.standings ≡ length tasks → (i : ℕ)
+    (o : Option Standing) → slice_get queue.standings i ≡ o →
+    slice_get (after_event region tasks (Recall (suc i)) queue).standings i ≡ option_map recalled_standing o
+recall_at region tasks queue same i None e =
+    let closed = missing_is_closed region tasks (Recall (suc i)) queue (suc i) refl e in
+    ap (λ (q : Queue). slice_get q.standings i) (closed_changes_nothing region tasks (Recall (suc i)) queue closed) ∙ e
+recall_at region tasks queue same i (Some s) e =
+    let t = beside_at queue.standings tasks (sym same) i s e in
+    recall_by region tasks queue i t.0 s t.1 e (recall_next (suc i) t.0 s)
 
-recall_other : (region : ℕ) (tasks : List Task) (standings : List Standing) (i k : ℕ) → (k ≡ i → ⊥) →
-    slice_get (after_event region tasks (Recall (suc i)) standings) k ≡ slice_get standings k
-recall_other region tasks standings i k apart =
-    others_stay region tasks (Recall (suc i)) standings (suc k)
+recall_other : (region : ℕ) (tasks : List Task) (queue : Queue) (i k : ℕ) → (k ≡ i → ⊥) →
+    slice_get (after_event region tasks (Recall (suc i)) queue).standings k ≡ slice_get queue.standings k
+recall_other region tasks queue i k apart =
+    others_stay region tasks (Recall (suc i)) queue (suc k)
     (λ e. apart (let same : suc i ≡ suc k = same_Some (suc i) (suc k) e in omega (arith, same)))
 
 -- ---- a recall of each of the first jobs
 
 -- those that are recalled, and the others
-record AreRecalled (region : ℕ) (tasks : List Task) (standings : List Standing) (i : ℕ) : Type 0 where
+record AreRecalled (region : ℕ) (tasks : List Task) (queue : Queue) (i : ℕ) : Type 0 where
   before : (k : ℕ) → k < i →
-      slice_get (after_events region tasks (all_recalls i) standings) k
-      ≡ option_map recalled_standing (slice_get standings k)
+      slice_get (after_events region tasks (all_recalls i) queue).standings k
+      ≡ option_map recalled_standing (slice_get queue.standings k)
   behind : (k : ℕ) → i ≤ k →
-      slice_get (after_events region tasks (all_recalls i) standings) k ≡ slice_get standings k
+      slice_get (after_events region tasks (all_recalls i) queue).standings k ≡ slice_get queue.standings k
+  passes : (after_events region tasks (all_recalls i) queue).passes ≡ queue.passes
 
-one_more : (region : ℕ) (tasks : List Task) (standings : List Standing) (i : ℕ) →
-    after_events region tasks (all_recalls (suc i)) standings
-    ≡ after_event region tasks (Recall (suc i)) (after_events region tasks (all_recalls i) standings)
-one_more region tasks standings i = events_join region tasks (all_recalls i) (Recall (suc i) ∷ []) standings
+one_more : (region : ℕ) (tasks : List Task) (queue : Queue) (i : ℕ) →
+    after_events region tasks (all_recalls (suc i)) queue
+    ≡ after_event region tasks (Recall (suc i)) (after_events region tasks (all_recalls i) queue)
+one_more region tasks queue i = events_join region tasks (all_recalls i) (Recall (suc i) ∷ []) queue
 
-recalled_here : (region : ℕ) (tasks : List Task) (standings : List Standing) → length standings ≡ length tasks →
-    (i : ℕ) → AreRecalled region tasks standings i → (k : ℕ) → k < suc i → (k ≡ i) ⊎ (k ≡ i → ⊥) →
-    slice_get (after_event region tasks (Recall (suc i)) (after_events region tasks (all_recalls i) standings)) k
-    ≡ option_map recalled_standing (slice_get standings k)
-recalled_here region tasks standings same i all k h (inl here) =
-    let between : List Standing = after_events region tasks (all_recalls i) standings in
-    let length_is : length between ≡ length tasks =
-    length_after region tasks (all_recalls i) standings ∙ same in
-    let at : slice_get between i ≡ slice_get standings i = all.behind i (omega arith) in
-    subst (λ j. slice_get (after_event region tasks (Recall (suc i)) between) j
-    ≡ option_map recalled_standing (slice_get standings j)) (sym here)
-    (recall_at region tasks between length_is i (slice_get standings i) at)
-recalled_here region tasks standings same i all k h (inr apart) =
-    recall_other region tasks (after_events region tasks (all_recalls i) standings) i k apart
+recalled_here : (region : ℕ) (tasks : List Task) (queue : Queue) → length queue.standings ≡ length tasks →
+    (i : ℕ) → AreRecalled region tasks queue i → (k : ℕ) → k < suc i → (k ≡ i) ⊎ (k ≡ i → ⊥) →
+    slice_get (after_event region tasks (Recall (suc i)) (after_events region tasks (all_recalls i) queue)).standings k
+    ≡ option_map recalled_standing (slice_get queue.standings k)
+recalled_here region tasks queue same i all k h (inl here) =
+    let between : Queue = after_events region tasks (all_recalls i) queue in
+    let length_is : length between.standings ≡ length tasks =
+    length_after region tasks (all_recalls i) queue ∙ same in
+    let at : slice_get between.standings i ≡ slice_get queue.standings i = all.behind i (omega arith) in
+    subst (λ j. slice_get (after_event region tasks (Recall (suc i)) between).standings j
+    ≡ option_map recalled_standing (slice_get queue.standings j)) (sym here)
+    (recall_at region tasks between length_is i (slice_get queue.standings i) at)
+recalled_here region tasks queue same i all k h (inr apart) =
+    recall_other region tasks (after_events region tasks (all_recalls i) queue) i k apart
     ∙ all.before k (below k i h apart)
   where
     below : (k i : ℕ) → k < suc i → (k ≡ i → ⊥) → k < i
     below k i h apart = grind (arith, h, apart)
 
-are_recalled : (region : ℕ) (tasks : List Task) (standings : List Standing) → length standings ≡ length tasks →
-    (i : ℕ) → AreRecalled region tasks standings i
-are_recalled region tasks standings same zero =
-    record { before = λ k h. absurd (omega (arith, h)); behind = λ k h. refl }
-are_recalled region tasks standings same (suc i) =
-    let all = are_recalled region tasks standings same i in
-    let more = one_more region tasks standings i in
+are_recalled : (region : ℕ) (tasks : List Task) (queue : Queue) → length queue.standings ≡ length tasks →
+    (i : ℕ) → AreRecalled region tasks queue i
+are_recalled region tasks queue same zero =
+    record { before = λ k h. absurd (omega (arith, h)); behind = λ k h. refl; passes = refl }
+are_recalled region tasks queue same (suc i) =
+    let all = are_recalled region tasks queue same i in
+    let between : Queue = after_events region tasks (all_recalls i) queue in
+    let more = one_more region tasks queue i in
     record {
-      before = λ k h. ap (λ ks. slice_get ks k) more
-          ∙ recalled_here region tasks standings same i all k h (cases_eq k i);
-      behind = λ k h. ap (λ ks. slice_get ks k) more
-          ∙ (recall_other region tasks (after_events region tasks (all_recalls i) standings) i k
-          (λ e. omega (arith, h, e))
-          ∙ all.behind k (omega (arith, h)));
+      before = λ k h. ap (λ (q : Queue). slice_get q.standings k) more
+          ∙ recalled_here region tasks queue same i all k h (cases_eq k i);
+      behind = λ k h. ap (λ (q : Queue). slice_get q.standings k) more
+          ∙ (recall_other region tasks between i k (λ e. omega (arith, h, e)) ∙ all.behind k (omega (arith, h)));
+      passes = ap (λ (q : Queue). q.passes) more
+          ∙ (named_passes region tasks (Recall (suc i)) between (suc i) refl ∙ all.passes);
     }
 
-recalled_place : (region : ℕ) (tasks : List Task) (standings : List Standing) → length standings ≡ length tasks →
+recalled_place : (region : ℕ) (tasks : List Task) (queue : Queue) → length queue.standings ≡ length tasks →
     (k : ℕ) → (k < length tasks) ⊎ (length tasks ≤ k) →
-    slice_get (after_events region tasks (all_recalls (length tasks)) standings) k
-    ≡ slice_get (map recalled_standing standings) k
-recalled_place region tasks standings same k (inl h) =
-    (are_recalled region tasks standings same (length tasks)).before k h
-    ∙ sym (slice_get-map recalled_standing standings k)
-recalled_place region tasks standings same k (inr h) =
-    let past : slice_get standings k ≡ None = slice_get_past standings k (omega (arith, same, h)) in
-    (are_recalled region tasks standings same (length tasks)).behind k h
-    ∙ (past ∙ sym (slice_get-map recalled_standing standings k ∙ ap (option_map recalled_standing) past))
+    slice_get (after_events region tasks (all_recalls (length tasks)) queue).standings k
+    ≡ slice_get (map recalled_standing queue.standings) k
+recalled_place region tasks queue same k (inl h) =
+    (are_recalled region tasks queue same (length tasks)).before k h
+    ∙ sym (slice_get-map recalled_standing queue.standings k)
+recalled_place region tasks queue same k (inr h) =
+    let past : slice_get queue.standings k ≡ None = slice_get_past queue.standings k (omega (arith, same, h)) in
+    (are_recalled region tasks queue same (length tasks)).behind k h
+    ∙ (past ∙ sym (slice_get-map recalled_standing queue.standings k ∙ ap (option_map recalled_standing) past))
 
-pub recalls_are_events : (region : ℕ) (tasks : List Task) (standings : List Standing) →
-    length standings ≡ length tasks →
-    after_events region tasks (all_recalls (length tasks)) standings ≡ recalled_standings standings
-recalls_are_events region tasks standings same =
-    same_places (after_events region tasks (all_recalls (length tasks)) standings) (map recalled_standing standings)
-    (λ k. recalled_place region tasks standings same k (cases_lt k (length tasks)))
+pub recalls_are_events : (region : ℕ) (tasks : List Task) (queue : Queue) → length queue.standings ≡ length tasks →
+    after_events region tasks (all_recalls (length tasks)) queue ≡ recalled_queue queue
+recalls_are_events region tasks queue same =
+    let last : Queue = after_events region tasks (all_recalls (length tasks)) queue in
+    same_queue last (recalled_queue queue)
+    (same_places last.standings (map recalled_standing queue.standings)
+    (λ k. recalled_place region tasks queue same k (cases_lt k (length tasks))))
+    (are_recalled region tasks queue same (length tasks)).passes

@@ -1,16 +1,16 @@
 -- Lists of jobs in which one job stands otherwise.
-use Rattle.std.proofs.Common.{◌≡◌, ℕ, zero, suc, ◌+◌, ◌≤◌, true, leb, List, [], ◌∷◌, length, map, set}
-use Rattle.std.proofs.Common.{get_or, slice_get, position, All, Option, Some, None, refl, sym, ◌∙◌, ap, subst, arith}
+use Rattle.std.proofs.Common.{◌≡◌, ℕ, zero, suc, ◌+◌, ◌≤◌, Bool, true, false, ◌&&◌, List, [], ◌∷◌, length, map, set}
+use Rattle.std.proofs.Common.{slice_get, All, Option, Some, None, refl, sym, ◌∙◌, ap, subst, arith}
 use Rattle.std.proofs.Common.{length-set, cond}
-use Rattle.std.proofs.lemmas.Bool.{leb-true, false≢true}
-use Rattle.std.proofs.lemmas.List.Quantifiers.{position-Some}
+use Rattle.std.proofs.lemmas.Bool.{and_parts, leb-true, leb-false, false≢true}
+use Rattle.std.proofs.lemmas.List.Elements.{All-nil, All-cons, All-head, All-tail}
 use Rattle.std.proofs.lemmas.List.{set_comm}
-use Rattle.std.proofs.lemmas.Option.{none-some, same_Some, cond_some, slice_get_within, get_or_from_slice_get}
-use Rattle.std.proofs.lemmas.Option.{slice_get-get_or}
+use Rattle.std.proofs.lemmas.Option.{none-some, same_Some, slice_get_within, get_or_from_slice_get}
+use Rattle.vcode_base.specs.declared.limits.TheConstants.{MOST_PASSES}
 use Rattle.job_steps.specs.EventLaws.{HasRoom}
-use Rattle.job_steps.specs.Standings.{Standing, Waiting, Live, InFlight, Ended, Collected, of_job, with_standing}
-use Rattle.job_steps.specs.Standings.{first_standings, is_waiting, sum_over}
-use Rattle.job_steps.specs.Standings.{granted_words, has_room, admission_at, admission}
+use Rattle.job_steps.specs.Standings.{Standing, Waiting, Live, InFlight, Ended, Collected, Queue, of_job, with_standing}
+use Rattle.job_steps.specs.Standings.{AreFew, first_standings, is_waiting, sum_over, granted_words, has_room, is_passed_enough}
+use Rattle.job_steps.specs.Standings.{admission_from, admission, passed_once_more, passes_before}
 use Rattle.job_steps.specs.States.{Task}
 
 -- ---- places
@@ -152,56 +152,151 @@ waiting_is (InFlight n) e = absurd (false≢true e)
 waiting_is Ended e = absurd (false≢true e)
 waiting_is Collected e = absurd (false≢true e)
 
--- what is at the first place that waits
-pub first_waiting : (standings : List Standing) (i : ℕ) → position is_waiting standings ≡ Some i →
-    slice_get standings i ≡ Some Waiting
-first_waiting standings i first =
-    let here = position-Some is_waiting standings i Waiting first in
-    slice_get-get_or standings i Waiting here.0
-    ∙ ap (λ (s : Standing). Some s) (waiting_is (get_or standings i Waiting) here.1)
+few_more : (s : Standing) (count : ℕ) → is_passed_enough s count ≡ false → count ≤ MOST_PASSES →
+    passed_once_more s count ≤ MOST_PASSES
+few_more Waiting count e few = let below = leb-false MOST_PASSES count e in omega (arith, below)
+few_more (Live n) count e few = few
+few_more (InFlight n) count e few = few
+few_more Ended count e few = few
+few_more Collected count e few = few
 
-room_in : (region : ℕ) (tasks : List Task) (standings : List Standing) (i : ℕ) → slice_get standings i ≡ Some Waiting →
-    (o : Option Task) → slice_get tasks i ≡ o → has_room region (granted_words tasks standings) o ≡ true →
-    HasRoom region tasks standings (suc i)
-room_in region tasks standings i waits None t room = absurd (false≢true room)
-room_in region tasks standings i waits (Some task) t room = record {
-  task = task;
-  task_is = t;
-  waits = waits;
-  room = leb-true (granted_words tasks standings + task.limits.words) region room;
+-- the job that is admitted next among those from a number on, by its place among them
+record IsNext (first : ℕ) (fits : Task → Bool) (tasks : List Task) (standings : List Standing) (passes : List ℕ)
+    (job : ℕ) : Type 0 where
+  place : ℕ
+  task : Task
+  job_is : job ≡ place + first
+  task_is : slice_get tasks place ≡ Some task
+  waits : slice_get standings place ≡ Some Waiting
+  fits_is : fits task ≡ true
+  few : AreFew passes → AreFew (passes_before place standings passes)
+
+next_here : (first : ℕ) (fits : Task → Bool) (t : Task) (tasks : List Task) (s : Standing) (standings : List Standing)
+    (count : ℕ) (passes : List ℕ) (job : ℕ) → (is_waiting s && fits t) ≡ true → first ≡ job →
+    IsNext first fits (t ∷ tasks) (s ∷ standings) (count ∷ passes) job
+next_here first fits t tasks s standings count passes job b e =
+    let parts = and_parts (is_waiting s) (fits t) b in
+    record {
+      place = zero;
+      task = t;
+      job_is = omega (arith, e);
+      task_is = refl;
+      waits = ap (λ (k : Standing). Some k) (waiting_is s parts.0);
+      fits_is = parts.1;
+      few = λ all. all;
+    }
+
+next_behind : (first : ℕ) (fits : Task → Bool) (t : Task) (tasks : List Task) (s : Standing) (standings : List Standing)
+    (count : ℕ) (passes : List ℕ) (job : ℕ) → is_passed_enough s count ≡ false →
+    IsNext (suc first) fits tasks standings passes job →
+    IsNext first fits (t ∷ tasks) (s ∷ standings) (count ∷ passes) job
+next_behind first fits t tasks s standings count passes job c n = record {
+  place = suc n.place;
+  task = n.task;
+  job_is = omega (arith, n.job_is);
+  task_is = n.task_is;
+  waits = n.waits;
+  fits_is = n.fits_is;
+  few = λ all. All-cons (λ (k : ℕ). k ≤ MOST_PASSES) (passed_once_more s count) (passes_before n.place standings passes)
+      (few_more s count c (All-head (λ (k : ℕ). k ≤ MOST_PASSES) count passes all))
+      (n.few (All-tail (λ (k : ℕ). k ≤ MOST_PASSES) count passes all));
 }
 
-has_room_at : (region : ℕ) (tasks : List Task) (standings : List Standing) (o : Option ℕ) →
-    position is_waiting standings ≡ o → (job : ℕ) → admission_at region tasks standings o ≡ Some job →
-    HasRoom region tasks standings job
-has_room_at region tasks standings None first job e = absurd (none-some job e)
-has_room_at region tasks standings (Some i) first job e =
-    let parts = cond_some (has_room region (granted_words tasks standings) (slice_get tasks i)) (suc i) job e in
-    subst (HasRoom region tasks standings) parts.1
-    (room_in region tasks standings i (first_waiting standings i first) (slice_get tasks i) refl parts.0)
+next_at : (first : ℕ) (fits : Task → Bool) (t : Task) (tasks : List Task) (s : Standing) (standings : List Standing)
+    (count : ℕ) (passes : List ℕ) (job : ℕ) (b c : Bool) → (is_waiting s && fits t) ≡ b →
+    is_passed_enough s count ≡ c → (o : Option ℕ) → (o ≡ Some job → IsNext (suc first) fits tasks standings passes job) →
+    cond b (Some first) (cond c None o) ≡ Some job →
+    IsNext first fits (t ∷ tasks) (s ∷ standings) (count ∷ passes) job
+next_at first fits t tasks s standings count passes job true c b_is c_is o rest e =
+    next_here first fits t tasks s standings count passes job b_is (same_Some first job e)
+next_at first fits t tasks s standings count passes job false true b_is c_is o rest e = absurd (none-some job e)
+next_at first fits t tasks s standings count passes job false false b_is c_is o rest e =
+    next_behind first fits t tasks s standings count passes job c_is (rest e)
 
-pub admitted_has_room : (region : ℕ) (tasks : List Task) (standings : List Standing) (job : ℕ) →
-    admission region tasks standings ≡ Some job → HasRoom region tasks standings job
+is_next : (first : ℕ) (fits : Task → Bool) (tasks : List Task) (standings : List Standing) (passes : List ℕ)
+    (job : ℕ) → admission_from first fits tasks standings passes ≡ Some job →
+    IsNext first fits tasks standings passes job
+is_next first fits [] standings passes job e = absurd (none-some job e)
+is_next first fits (t ∷ tasks) [] passes job e = absurd (none-some job e)
+is_next first fits (t ∷ tasks) (s ∷ standings) [] job e = absurd (none-some job e)
+is_next first fits (t ∷ tasks) (s ∷ standings) (count ∷ passes) job e =
+    next_at first fits t tasks s standings count passes job (is_waiting s && fits t) (is_passed_enough s count) refl refl
+    (admission_from (suc first) fits tasks standings passes)
+    (λ h. is_next (suc first) fits tasks standings passes job h) e
+
+admitted_next : (region : ℕ) (tasks : List Task) (queue : Queue) (job : ℕ) → admission region tasks queue ≡ Some job →
+    IsNext 1 (has_room region (granted_words tasks queue.standings)) tasks queue.standings queue.passes job
 unfolding admission
-admitted_has_room region tasks standings job e =
-    has_room_at region tasks standings (position is_waiting standings) refl job e
+admitted_next region tasks queue job e =
+    is_next 1 (has_room region (granted_words tasks queue.standings)) tasks queue.standings queue.passes job e
+
+pub admitted_has_room : (region : ℕ) (tasks : List Task) (queue : Queue) (job : ℕ) →
+    admission region tasks queue ≡ Some job → HasRoom region tasks queue.standings job
+admitted_has_room region tasks queue job e =
+    let n = admitted_next region tasks queue job e in
+    let job_is : suc n.place ≡ job = omega (arith, n.job_is) in
+    subst (HasRoom region tasks queue.standings) job_is
+    (record {
+      task = n.task;
+      task_is = n.task_is;
+      waits = n.waits;
+      room = leb-true (granted_words tasks queue.standings + n.task.limits.words) region n.fits_is;
+    })
 
 -- a job that is admitted has room
-pub admitted_room : (region : ℕ) (tasks : List Task) (standings : List Standing) (job : ℕ) →
-    admission region tasks standings ≡ Some job → (task : Task) → of_job job tasks ≡ Some task →
-    granted_words tasks standings + task.limits.words ≤ region
-admitted_room region tasks standings job e task t =
-    let h = admitted_has_room region tasks standings job e in
-    subst (λ (k : Task). granted_words tasks standings + k.limits.words ≤ region)
+pub admitted_room : (region : ℕ) (tasks : List Task) (queue : Queue) (job : ℕ) →
+    admission region tasks queue ≡ Some job → (task : Task) → of_job job tasks ≡ Some task →
+    granted_words tasks queue.standings + task.limits.words ≤ region
+admitted_room region tasks queue job e task t =
+    let h = admitted_has_room region tasks queue job e in
+    subst (λ (k : Task). granted_words tasks queue.standings + k.limits.words ≤ region)
     (same_Some h.task task (sym h.task_is ∙ t)) h.room
 
--- the first job that waits is admitted where it has room
-pub admits : (region : ℕ) (tasks : List Task) (standings : List Standing) (i : ℕ) →
-    position is_waiting standings ≡ Some i →
-    (task : Task) → slice_get tasks i ≡ Some task →
-    leb (granted_words tasks standings + task.limits.words) region ≡ true →
-    admission region tasks standings ≡ Some (suc i)
+-- the passes stay few
+pub admitted_few : (region : ℕ) (tasks : List Task) (queue : Queue) (place : ℕ) →
+    admission region tasks queue ≡ Some (suc place) → AreFew queue.passes →
+    AreFew (passes_before place queue.standings queue.passes)
+admitted_few region tasks queue place e all =
+    let n = admitted_next region tasks queue (suc place) e in
+    let place_is : n.place ≡ place = omega (arith, n.job_is) in
+    subst (λ (k : ℕ). AreFew (passes_before k queue.standings queue.passes)) place_is (n.few all)
+
+-- the job that is found is admitted
+pub admits : (region : ℕ) (tasks : List Task) (queue : Queue) (o : Option ℕ) →
+    admission_from 1 (has_room region (granted_words tasks queue.standings)) tasks queue.standings queue.passes ≡ o →
+    admission region tasks queue ≡ o
 unfolding admission
-admits region tasks standings i first task t room =
-    ap (admission_at region tasks standings) first
-    ∙ ap (λ b. cond b (Some (suc i)) None) (ap (has_room region (granted_words tasks standings)) t ∙ room)
+admits region tasks queue o e = e
+
+-- ---- passes
+
+pub passes_length : (place : ℕ) (standings : List Standing) (passes : List ℕ) →
+    length (passes_before place standings passes) ≡ length passes
+passes_length zero standings passes = refl
+passes_length (suc place) [] passes = refl
+passes_length (suc place) (s ∷ standings) [] = refl
+passes_length (suc place) (s ∷ standings) (count ∷ passes) = omega (arith, passes_length place standings passes)
+
+not_once_more : (s : Standing) (count : ℕ) → (s ≡ Waiting → ⊥) → passed_once_more s count ≡ count
+not_once_more Waiting count moved = absurd (moved refl)
+not_once_more (Live n) count moved = refl
+not_once_more (InFlight n) count moved = refl
+not_once_more Ended count moved = refl
+not_once_more Collected count moved = refl
+
+-- a job that doesn't wait isn't passed by
+pub not_passed : (place : ℕ) (standings : List Standing) (passes : List ℕ) (i : ℕ) (s : Standing) →
+    slice_get standings i ≡ Some s → (s ≡ Waiting → ⊥) →
+    slice_get (passes_before place standings passes) i ≡ slice_get passes i
+not_passed zero standings passes i s e moved = refl
+not_passed (suc place) [] passes i s e moved = refl
+not_passed (suc place) (x ∷ standings) [] i s e moved = refl
+not_passed (suc place) (x ∷ standings) (count ∷ passes) zero s e moved =
+    ap (λ (k : ℕ). Some k) (not_once_more x count (λ w. moved (sym (same_Some x s e) ∙ w)))
+not_passed (suc place) (x ∷ standings) (count ∷ passes) (suc i) s e moved =
+    not_passed place standings passes i s e moved
+
+pub none_passed : (tasks : List Task) → AreFew (map (λ (task : Task). 0) tasks)
+none_passed [] = All-nil (λ (k : ℕ). k ≤ MOST_PASSES)
+none_passed (t ∷ tasks) =
+    All-cons (λ (k : ℕ). k ≤ MOST_PASSES) 0 (map (λ (task : Task). 0) tasks) (omega arith) (none_passed tasks)

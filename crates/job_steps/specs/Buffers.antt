@@ -1,10 +1,10 @@
 -- The operands of a step, copied one behind another.
-use Rattle.std.specs.Prelude.{◌≡◌, ℕ, ℤ, ◌≤◌, List, length, take, sum, sum_by}
+use Rattle.std.specs.Prelude.{◌≡◌, ℕ, ℤ, ◌≤◌, List, [], ◌∷◌, ◌++◌, length, take, sum, sum_by}
 use Rattle.std.specs.List.{All}
 use Rattle.vcode_base.specs.Segments.{pieces_of}
 use Rattle.job_steps.specs.declared.operands.TheConstants.{MOST_OPERANDS}
 
--- the lists that were loaded, into room for so many words
+-- the lists that were loaded, with room for so many words
 pub record OperandLists : Type 0 where
   pub room : ℕ
   pub lists : List (List ℤ)
@@ -13,11 +13,16 @@ pub record OperandLists : Type 0 where
 abbrev pub lists_in : ℕ → List ℕ → List ℤ → List (List ℤ)
 lists_in count lengths words = take count (pieces_of lengths words)
 
--- there is a length for each operand, as many are loaded at most, and they have room in so many words
-pub record LengthsFit (room count : ℕ) (lengths : List ℕ) : Type 0 where
+-- the words of the lists one behind another
+abbrev pub in_a_row : List (List ℤ) → List ℤ
+in_a_row [] = []
+in_a_row (list ∷ lists) = list ++ in_a_row lists
+
+-- there is a length for each operand, as many are loaded at most, and together they are at most so many words
+pub record LengthsFit (words count : ℕ) (lengths : List ℕ) : Type 0 where
   pub for_each : length lengths ≡ MOST_OPERANDS
   pub some : count ≤ MOST_OPERANDS
-  pub within : sum lengths ≤ room
+  pub within : sum lengths ≤ words
 
 abbrev pub length_of_all : List (List ℤ) → ℕ
 length_of_all lists = sum_by length lists

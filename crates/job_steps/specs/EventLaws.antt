@@ -1,19 +1,20 @@
 -- What holds of jobs under events, whatever their order.
 use Rattle.std.specs.Prelude.{◌≡◌, ◌≢◌, ◌⊎◌, ℕ, ◌+◌, ◌*◌, ◌<◌, ◌≤◌, true, false, List, ◌∷◌, ◌++◌, length, All}
-use Rattle.std.specs.Prelude.{Some, None, is_some}
+use Rattle.std.specs.Prelude.{suc, Some, None, is_some}
 use Rattle.vcode_base.specs.Instructions.{op_of}
 use Rattle.vcode_base.specs.Meaning.{value_fault}
 use Rattle.signatures.specs.Signatures.{Signature}
 use Rattle.job_steps.specs.declared.event.Event.{Event}
-use Rattle.job_steps.specs.declared.event.Event.TheVariants.{Begin, Recall}
-use Rattle.job_steps.specs.Events.{early_end, next_standing, named_job, job_of, is_open, after_event, after_events}
-use Rattle.job_steps.specs.Events.{recalled_standings, all_recalls, LeadTo, is_recall, AreOpen, event_count}
+use Rattle.job_steps.specs.declared.event.Event.TheVariants.{Admit, Begin, Recall}
+use Rattle.job_steps.specs.Events.{early_end, next_standing, named_job, job_of, is_open, moved_queue, after_event}
+use Rattle.job_steps.specs.Events.{after_events}
+use Rattle.job_steps.specs.Events.{recalled_queue, all_recalls, LeadTo, is_recall, AreOpen, event_count}
 use Rattle.job_steps.specs.Events.{all_events_left}
 use Rattle.job_steps.specs.Reached.{IsVerifiedTask, IsVerifiedBySome, IsWithin}
 use Rattle.job_steps.specs.Runs.{state_after, outcome, executed_count, peak}
-use Rattle.job_steps.specs.Standings.{Standing, Waiting, Live, InFlight, Ended, Collected, of_job, with_standing}
-use Rattle.job_steps.specs.Standings.{first_standings, reserved_words, granted_words, admission, executed_at, peak_at}
-use Rattle.job_steps.specs.Standings.{held_by, used_words, sum_over}
+use Rattle.job_steps.specs.Standings.{Standing, Waiting, Live, InFlight, Ended, Collected, Queue, of_job}
+use Rattle.job_steps.specs.Standings.{with_standing, AreFew, first_queue, reserved_words, granted_words, admission}
+use Rattle.job_steps.specs.Standings.{passes_before, executed_at, peak_at, held_by, used_words, sum_over}
 use Rattle.job_steps.specs.States.{Task, Active, State}
 use Rattle.job_steps.specs.Steps.{Ending, Running, Over, next_item, sources_of, question_of, flag_of, can_run}
 use Rattle.job_steps.specs.Steps.{calls_after, progress_by}
@@ -52,31 +53,32 @@ OthersAreReady =
 
 -- ---- one event
 
--- an event of a job is decided by the job's task and standing, and changes that standing alone
-pub record ChangesItsJob (region : ℕ) (tasks : List Task) (event : Event) (standings : List Standing) (job : ℕ)
-    (task : Task) (old : Standing) : Type 0 where
-  pub open_where : is_open region tasks event standings ≡ is_some (next_standing event task old)
-  pub passed : next_standing event task old ≡ None → after_event region tasks event standings ≡ standings
+-- An event of a job is decided by the job's task and standing, and of the standings changes that one alone. An admission
+-- passes by the jobs that wait before its own.
+pub record ChangesItsJob (region : ℕ) (tasks : List Task) (event : Event) (queue : Queue) (job : ℕ) (task : Task)
+    (old : Standing) : Type 0 where
+  pub open_where : is_open region tasks event queue ≡ is_some (next_standing event task old)
+  pub passed : next_standing event task old ≡ None → after_event region tasks event queue ≡ queue
   pub changed : (new : Standing) → next_standing event task old ≡ Some new →
-      after_event region tasks event standings ≡ with_standing job new standings
+      after_event region tasks event queue ≡ moved_queue event job new queue
 
 abbrev pub EventsChangeTheirJob : Type 0
 EventsChangeTheirJob =
-    (region : ℕ) (tasks : List Task) (event : Event) (standings : List Standing) (job : ℕ) (task : Task)
-    (old : Standing) → job_of region tasks event standings ≡ Some job → of_job job tasks ≡ Some task →
-    of_job job standings ≡ Some old → ChangesItsJob region tasks event standings job task old
+    (region : ℕ) (tasks : List Task) (event : Event) (queue : Queue) (job : ℕ) (task : Task) (old : Standing) →
+    job_of region tasks event queue ≡ Some job → of_job job tasks ≡ Some task →
+    of_job job queue.standings ≡ Some old → ChangesItsJob region tasks event queue job task old
 
 -- an event that isn't open, as is one of a job that there isn't, changes nothing
 abbrev pub ClosedChangeNothing : Type 0
 ClosedChangeNothing =
-    (region : ℕ) (tasks : List Task) (event : Event) (standings : List Standing) →
-    is_open region tasks event standings ≡ false → after_event region tasks event standings ≡ standings
+    (region : ℕ) (tasks : List Task) (event : Event) (queue : Queue) →
+    is_open region tasks event queue ≡ false → after_event region tasks event queue ≡ queue
 
 -- there is no such job
 abbrev pub MissingAreClosed : Type 0
 MissingAreClosed =
-    (region : ℕ) (tasks : List Task) (event : Event) (standings : List Standing) (job : ℕ) →
-    named_job event ≡ Some job → of_job job standings ≡ None → is_open region tasks event standings ≡ false
+    (region : ℕ) (tasks : List Task) (event : Event) (queue : Queue) (job : ℕ) →
+    named_job event ≡ Some job → of_job job queue.standings ≡ None → is_open region tasks event queue ≡ false
 
 -- the job that is admitted next waits, and has room beside what is granted
 pub record HasRoom (region : ℕ) (tasks : List Task) (standings : List Standing) (job : ℕ) : Type 0 where
@@ -87,8 +89,35 @@ pub record HasRoom (region : ℕ) (tasks : List Task) (standings : List Standing
 
 abbrev pub AdmittedHaveRoom : Type 0
 AdmittedHaveRoom =
-    (region : ℕ) (tasks : List Task) (standings : List Standing) (job : ℕ) →
-    admission region tasks standings ≡ Some job → HasRoom region tasks standings job
+    (region : ℕ) (tasks : List Task) (queue : Queue) (job : ℕ) →
+    admission region tasks queue ≡ Some job → HasRoom region tasks queue.standings job
+
+-- ---- who is passed by
+
+-- an event other than an admission passes by nobody
+abbrev pub OthersPassNobody : Type 0
+OthersPassNobody =
+    (region : ℕ) (tasks : List Task) (event : Event) (queue : Queue) → event ≢ Admit →
+    (after_event region tasks event queue).passes ≡ queue.passes
+
+-- an admission passes by each job that waits before the admitted one, once
+abbrev pub AdmissionsPassOnce : Type 0
+AdmissionsPassOnce =
+    (region : ℕ) (tasks : List Task) (queue : Queue) (place : ℕ) → admission region tasks queue ≡ Some (suc place) →
+    (after_event region tasks Admit queue).passes ≡ passes_before place queue.standings queue.passes
+
+-- whatever the events, each job is passed by at most so often
+abbrev pub PassesAreFew : Type 0
+PassesAreFew =
+    (region : ℕ) (tasks : List Task) (events : List Event) (queue : Queue) → AreFew queue.passes →
+    AreFew (after_events region tasks events queue).passes
+
+-- whatever the events, a job that waits no longer is passed by no more
+abbrev pub PassesStay : Type 0
+PassesStay =
+    (region : ℕ) (tasks : List Task) (events : List Event) (queue : Queue) (job : ℕ) (standing : Standing) →
+    of_job job queue.standings ≡ Some standing → standing ≢ Waiting →
+    of_job job (after_events region tasks events queue).passes ≡ of_job job queue.passes
 
 -- ---- where events lead
 
@@ -116,26 +145,28 @@ StandsOnRun task (InFlight n) = HasBegun task n
 StandsOnRun task Ended = IsWithin task
 StandsOnRun task Collected = IsWithin task
 
--- each job stands on its run alone, and the words that are granted are at most the region
-pub record AreKept (region : ℕ) (tasks : List Task) (standings : List Standing) : Type 0 where
-  pub same_length : length standings ≡ length tasks
+-- each job stands on its run alone, each was passed by few times, and the words that are granted are at most the region
+pub record AreKept (region : ℕ) (tasks : List Task) (queue : Queue) : Type 0 where
+  pub same_length : length queue.standings ≡ length tasks
+  pub passes_length : length queue.passes ≡ length tasks
   pub on_run : (job : ℕ) (task : Task) (standing : Standing) → of_job job tasks ≡ Some task →
-      of_job job standings ≡ Some standing → StandsOnRun task standing
-  pub granted : granted_words tasks standings ≤ region
+      of_job job queue.standings ≡ Some standing → StandsOnRun task standing
+  pub few_passes : AreFew queue.passes
+  pub granted : granted_words tasks queue.standings ≤ region
 
 abbrev pub FirstAreKept : Type 0
-FirstAreKept = (region : ℕ) (tasks : List Task) → AreKept region tasks (first_standings tasks)
+FirstAreKept = (region : ℕ) (tasks : List Task) → AreKept region tasks (first_queue tasks)
 
 abbrev pub EventsKeep : Type 0
 EventsKeep =
     (region : ℕ) (tasks : List Task) → All IsVerified tasks →
-    (events : List Event) (standings : List Standing) → AreKept region tasks standings →
-    AreKept region tasks (after_events region tasks events standings)
+    (events : List Event) (queue : Queue) → AreKept region tasks queue →
+    AreKept region tasks (after_events region tasks events queue)
 
 abbrev pub RecallsKeep : Type 0
 RecallsKeep =
-    (region : ℕ) (tasks : List Task) (standings : List Standing) → AreKept region tasks standings →
-    AreKept region tasks (recalled_standings standings)
+    (region : ℕ) (tasks : List Task) (queue : Queue) → AreKept region tasks queue →
+    AreKept region tasks (recalled_queue queue)
 
 -- a job that an event leaves ended is over after one instruction more than it had executed
 abbrev pub EndedAreOver : Type 0
@@ -174,83 +205,81 @@ UsedIsGranted =
 abbrev pub EventsGoOn : Type 0
 EventsGoOn =
     (region : ℕ) (tasks : List Task) → All (λ task. task.limits.words ≤ region) tasks →
-    (standings : List Standing) → length standings ≡ length tasks →
-    All (λ standing. standing ≡ Collected) standings
-    ⊎ ((event : Event) × (is_recall event ≡ false) × (is_open region tasks event standings ≡ true))
+    (queue : Queue) → length queue.standings ≡ length tasks → length queue.passes ≡ length tasks →
+    All (λ standing. standing ≡ Collected) queue.standings
+    ⊎ ((event : Event) × (is_recall event ≡ false) × (is_open region tasks event queue ≡ true))
 
 -- what is left grows smaller by each open event that is no recall
 abbrev pub EventsUseUp : Type 0
 EventsUseUp =
     (region : ℕ) (tasks : List Task) → All IsVerified tasks →
-    (event : Event) (standings : List Standing) → AreKept region tasks standings → is_recall event ≡ false →
-    is_open region tasks event standings ≡ true →
-    all_events_left tasks (after_event region tasks event standings) < all_events_left tasks standings
+    (event : Event) (queue : Queue) → AreKept region tasks queue → is_recall event ≡ false →
+    is_open region tasks event queue ≡ true →
+    all_events_left tasks (after_event region tasks event queue).standings < all_events_left tasks queue.standings
 
 -- of open events without recalls there are no more than are left
 abbrev pub EventsEnd : Type 0
 EventsEnd =
     (region : ℕ) (tasks : List Task) → All IsVerified tasks →
-    (events : List Event) (standings : List Standing) → AreKept region tasks standings →
-    AreOpen region tasks events standings → All (λ event. is_recall event ≡ false) events →
-    length events + all_events_left tasks (after_events region tasks events standings)
-    ≤ all_events_left tasks standings
+    (events : List Event) (queue : Queue) → AreKept region tasks queue →
+    AreOpen region tasks events queue → All (λ event. is_recall event ≡ false) events →
+    length events + all_events_left tasks (after_events region tasks events queue).standings
+    ≤ all_events_left tasks queue.standings
 
 -- open events without recalls are few for each job, its admission counted
 abbrev pub EventsAreFew : Type 0
 EventsAreFew =
     (region : ℕ) (tasks : List Task) → All IsVerified tasks →
-    (events : List Event) (standings : List Standing) → AreKept region tasks standings →
-    AreOpen region tasks events standings → All (λ event. is_recall event ≡ false) events →
+    (events : List Event) (queue : Queue) → AreKept region tasks queue →
+    AreOpen region tasks events queue → All (λ event. is_recall event ≡ false) events →
     (job : ℕ) (task : Task) → of_job job tasks ≡ Some task →
-    event_count region tasks events standings job ≤ 2 * task.limits.budget + 3
+    event_count region tasks events queue job ≤ 2 * task.limits.budget + 3
 
 -- ---- events of several jobs
 
 -- an event of one job leaves every other where it stood
 abbrev pub OthersStay : Type 0
 OthersStay =
-    (region : ℕ) (tasks : List Task) (event : Event) (standings : List Standing) (job : ℕ) →
-    job_of region tasks event standings ≢ Some job →
-    of_job job (after_event region tasks event standings) ≡ of_job job standings
+    (region : ℕ) (tasks : List Task) (event : Event) (queue : Queue) (job : ℕ) →
+    job_of region tasks event queue ≢ Some job →
+    of_job job (after_event region tasks event queue).standings ≡ of_job job queue.standings
 
 -- events that name two different jobs may change places, and neither opens or closes the other
-pub record AreApart (region : ℕ) (tasks : List Task) (one other : Event) (standings : List Standing) : Type 0 where
+pub record AreApart (region : ℕ) (tasks : List Task) (one other : Event) (queue : Queue) : Type 0 where
   pub same :
-      after_event region tasks other (after_event region tasks one standings)
-      ≡ after_event region tasks one (after_event region tasks other standings)
-  pub one_open :
-      is_open region tasks one (after_event region tasks other standings) ≡ is_open region tasks one standings
-  pub other_open :
-      is_open region tasks other (after_event region tasks one standings) ≡ is_open region tasks other standings
+      after_event region tasks other (after_event region tasks one queue)
+      ≡ after_event region tasks one (after_event region tasks other queue)
+  pub one_open : is_open region tasks one (after_event region tasks other queue) ≡ is_open region tasks one queue
+  pub other_open : is_open region tasks other (after_event region tasks one queue) ≡ is_open region tasks other queue
 
 abbrev pub EventsCommute : Type 0
 EventsCommute =
-    (region : ℕ) (tasks : List Task) (standings : List Standing) (one other : Event) (job another : ℕ) →
+    (region : ℕ) (tasks : List Task) (queue : Queue) (one other : Event) (job another : ℕ) →
     named_job one ≡ Some job → named_job other ≡ Some another → job ≢ another →
-    AreApart region tasks one other standings
+    AreApart region tasks one other queue
 
 -- a begin and a recall behind it change nothing
 abbrev pub RecallUndoesBegin : Type 0
 RecallUndoesBegin =
-    (region : ℕ) (tasks : List Task) (standings : List Standing) (job : ℕ) →
-    is_open region tasks (Begin job) standings ≡ true →
-    is_open region tasks (Recall job) (after_event region tasks (Begin job) standings) ≡ true →
-    after_event region tasks (Recall job) (after_event region tasks (Begin job) standings) ≡ standings
+    (region : ℕ) (tasks : List Task) (queue : Queue) (job : ℕ) →
+    is_open region tasks (Begin job) queue ≡ true →
+    is_open region tasks (Recall job) (after_event region tasks (Begin job) queue) ≡ true →
+    after_event region tasks (Recall job) (after_event region tasks (Begin job) queue) ≡ queue
 
 -- events after events are their lists joined
 abbrev pub EventsJoin : Type 0
 EventsJoin =
-    (region : ℕ) (tasks : List Task) (earlier later : List Event) (standings : List Standing) →
-    after_events region tasks (earlier ++ later) standings
-    ≡ after_events region tasks later (after_events region tasks earlier standings)
+    (region : ℕ) (tasks : List Task) (earlier later : List Event) (queue : Queue) →
+    after_events region tasks (earlier ++ later) queue
+    ≡ after_events region tasks later (after_events region tasks earlier queue)
 
 abbrev pub LeadsJoin : Type 0
 LeadsJoin =
-    (region : ℕ) (tasks : List Task) (old between new : List Standing) → LeadTo region tasks old between →
+    (region : ℕ) (tasks : List Task) (old between new : Queue) → LeadTo region tasks old between →
     LeadTo region tasks between new → LeadTo region tasks old new
 
 -- a recall of each job gives up each step that has begun
 abbrev pub RecallsAreEvents : Type 0
 RecallsAreEvents =
-    (region : ℕ) (tasks : List Task) (standings : List Standing) → length standings ≡ length tasks →
-    after_events region tasks (all_recalls (length tasks)) standings ≡ recalled_standings standings
+    (region : ℕ) (tasks : List Task) (queue : Queue) → length queue.standings ≡ length tasks →
+    after_events region tasks (all_recalls (length tasks)) queue ≡ recalled_queue queue

@@ -5,8 +5,8 @@ use Rattle.vcode_base.specs.declared.outcome.Outcome.TheVariants.{Budget}
 use Rattle.job_steps.specs.declared.event.Event.{Event}
 use Rattle.job_steps.specs.declared.event.Event.TheVariants.{Admit, Begin, Finish, Recall, Collect}
 use Rattle.job_steps.specs.Runs.{state_after}
-use Rattle.job_steps.specs.Standings.{Standing, Waiting, Live, InFlight, Ended, Collected, of_job, with_standing}
-use Rattle.job_steps.specs.Standings.{sum_over, admission}
+use Rattle.job_steps.specs.Standings.{Standing, Waiting, Live, InFlight, Ended, Collected, Queue, of_job}
+use Rattle.job_steps.specs.Standings.{with_standing, sum_over, admission, passes_before}
 use Rattle.job_steps.specs.States.{Task, Active, State}
 use Rattle.job_steps.specs.Steps.{Ending, Progress, Running, Over, Stuck, early_ending, next_item}
 
@@ -52,9 +52,9 @@ named_job (Recall job) = Some job
 named_job (Collect job) = Some job
 
 -- the job that an event is of: the one that it names, or the one that is admitted next
-abbrev pub job_of : ℕ → List Task → Event → List Standing → Option ℕ
-job_of region tasks Admit standings = admission region tasks standings
-job_of region tasks event standings = named_job event
+abbrev pub job_of : ℕ → List Task → Event → Queue → Option ℕ
+job_of region tasks Admit queue = admission region tasks queue
+job_of region tasks event queue = named_job event
 
 abbrev pub next_standing_in : Event → Option Task → Option Standing → Option Standing
 next_standing_in event None standing = None
@@ -68,26 +68,37 @@ next_standing_of tasks event standings (Some job) =
     next_standing_in event (of_job job tasks) (of_job job standings)
 
 -- whether an event can happen
-unfoldable pub is_open : ℕ → List Task → Event → List Standing → Bool
-is_open region tasks event standings =
-    is_some (next_standing_of tasks event standings (job_of region tasks event standings))
+unfoldable pub is_open : ℕ → List Task → Event → Queue → Bool
+is_open region tasks event queue =
+    is_some (next_standing_of tasks event queue.standings (job_of region tasks event queue))
 
-abbrev pub with_next : Option ℕ → Option Standing → List Standing → List Standing
-with_next None standing standings = standings
-with_next (Some job) None standings = standings
-with_next (Some job) (Some standing) standings = with_standing job standing standings
+-- the passes after an event of this job: an admission passes by the jobs that wait before it
+abbrev pub passes_after : Event → ℕ → Queue → List ℕ
+passes_after Admit (suc place) queue = passes_before place queue.standings queue.passes
+passes_after event job queue = queue.passes
 
--- the standings after an event; one that isn't open is passed over
-unfoldable pub after_event : ℕ → List Task → Event → List Standing → List Standing
-after_event region tasks event standings =
-    with_next (job_of region tasks event standings)
-    (next_standing_of tasks event standings (job_of region tasks event standings)) standings
+-- the queue once the event has moved the job on
+abbrev pub moved_queue : Event → ℕ → Standing → Queue → Queue
+moved_queue event job standing queue = record {
+  standings = with_standing job standing queue.standings;
+  passes = passes_after event job queue;
+}
 
--- the standings after events, one after another
-abbrev pub after_events : ℕ → List Task → List Event → List Standing → List Standing
-after_events region tasks [] standings = standings
-after_events region tasks (event ∷ events) standings =
-    after_events region tasks events (after_event region tasks event standings)
+abbrev pub with_next : Event → Option ℕ → Option Standing → Queue → Queue
+with_next event None standing queue = queue
+with_next event (Some job) None queue = queue
+with_next event (Some job) (Some standing) queue = moved_queue event job standing queue
+
+-- the queue after an event; one that isn't open is passed over
+unfoldable pub after_event : ℕ → List Task → Event → Queue → Queue
+after_event region tasks event queue =
+    with_next event (job_of region tasks event queue)
+    (next_standing_of tasks event queue.standings (job_of region tasks event queue)) queue
+
+-- the queue after events, one after another
+abbrev pub after_events : ℕ → List Task → List Event → Queue → Queue
+after_events region tasks [] queue = queue
+after_events region tasks (event ∷ events) queue = after_events region tasks events (after_event region tasks event queue)
 
 -- a step that has begun is given up
 abbrev pub recalled_standing : Standing → Standing
@@ -101,13 +112,17 @@ recalled_standing Collected = Collected
 abbrev pub recalled_standings : List Standing → List Standing
 recalled_standings standings = map recalled_standing standings
 
+-- the queue with every step given up that has begun
+abbrev pub recalled_queue : Queue → Queue
+recalled_queue queue = record { standings = recalled_standings queue.standings; passes = queue.passes }
+
 -- a recall of each of so many jobs, from the first on
 abbrev pub all_recalls : ℕ → List Event
 all_recalls zero = []
 all_recalls (suc n) = all_recalls n ++ Recall (suc n) ∷ []
 
--- some events lead from these standings to those
-abbrev pub LeadTo : ℕ → List Task → List Standing → List Standing → Type 0
+-- some events lead from one queue to another
+abbrev pub LeadTo : ℕ → List Task → Queue → Queue → Type 0
 LeadTo region tasks old new = (events : List Event) × (after_events region tasks events old ≡ new)
 
 -- ---- how many events
@@ -117,22 +132,21 @@ is_recall (Recall job) = true
 is_recall event = false
 
 -- each of these events is open when it comes
-abbrev pub AreOpen : ℕ → List Task → List Event → List Standing → Type 0
-AreOpen region tasks [] standings = Unit {0}
-AreOpen region tasks (event ∷ events) standings =
-    (is_open region tasks event standings ≡ true)
-    × AreOpen region tasks events (after_event region tasks event standings)
+abbrev pub AreOpen : ℕ → List Task → List Event → Queue → Type 0
+AreOpen region tasks [] queue = Unit {0}
+AreOpen region tasks (event ∷ events) queue =
+    (is_open region tasks event queue ≡ true) × AreOpen region tasks events (after_event region tasks event queue)
 
 abbrev pub is_job : ℕ → Option ℕ → Bool
 is_job job None = false
 is_job job (Some other) = other == job
 
 -- how many of these events are of a job, one after another
-abbrev pub event_count : ℕ → List Task → List Event → List Standing → ℕ → ℕ
-event_count region tasks [] standings job = 0
-event_count region tasks (event ∷ events) standings job =
-    (if is_job job (job_of region tasks event standings) then 1 else 0)
-    + event_count region tasks events (after_event region tasks event standings) job
+abbrev pub event_count : ℕ → List Task → List Event → Queue → ℕ → ℕ
+event_count region tasks [] queue job = 0
+event_count region tasks (event ∷ events) queue job =
+    (if is_job job (job_of region tasks event queue) then 1 else 0)
+    + event_count region tasks events (after_event region tasks event queue) job
 
 -- the most events without recalls that a job has from here on: each step begins and is finished, one begins when the
 -- budget is spent, and the job is admitted and collected

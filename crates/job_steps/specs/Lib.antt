@@ -15,3 +15,4 @@ pub mod StepLaws
 pub mod Steps
 pub mod Tickets
 pub mod Tracks
+pub mod Rooms

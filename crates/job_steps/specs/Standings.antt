@@ -1,6 +1,7 @@
 -- Where each job of a list stands, how many words are reserved, and which job is admitted next.
-use Rattle.std.specs.Prelude.{ℕ, zero, suc, ◌+◌, ◌-◌, nat_le, Bool, true, false, if◌then◌else◌, List, [], ◌∷◌, map}
-use Rattle.std.specs.Prelude.{position, slice_get, slice_set, Option, Some, None}
+use Rattle.std.specs.Prelude.{ℕ, zero, suc, ◌+◌, ◌-◌, ◌≤◌, nat_le, Bool, true, false, ◌&&◌, if◌then◌else◌, List, [], ◌∷◌}
+use Rattle.std.specs.Prelude.{map, slice_get, slice_set, All, Option, Some, None}
+use Rattle.vcode_base.specs.declared.limits.TheConstants.{MOST_PASSES}
 use Rattle.vcode_base.specs.declared.outcome.Outcome.TheVariants.{Returned, Fault, Memory, Budget}
 use Rattle.job_steps.specs.Runs.{state_after, peak_in, outcome, executed_count, peak}
 use Rattle.job_steps.specs.States.{Task, held_words}
@@ -33,6 +34,19 @@ abbrev pub is_waiting : Standing → Bool
 is_waiting Waiting = true
 is_waiting standing = false
 
+-- Where the jobs stand, and how often each was passed by: how many jobs after it were admitted while it waited.
+pub record Queue : Type 0 where
+  pub standings : List Standing
+  pub passes : List ℕ
+
+-- each job was passed by at most so often
+abbrev pub AreFew : List ℕ → Type 0
+AreFew passes = All (λ count. count ≤ MOST_PASSES) passes
+
+-- before the first event each job waits, and none was passed by
+abbrev pub first_queue : List Task → Queue
+first_queue tasks = record { standings = first_standings tasks; passes = map (λ task. 0) tasks }
+
 -- ---- reserved words
 
 -- a job has its words reserved from its admission until it is collected
@@ -53,19 +67,42 @@ sum_over number (task ∷ tasks) (standing ∷ standings) = number task standing
 abbrev pub granted_words : List Task → List Standing → ℕ
 granted_words tasks standings = sum_over reserved_words tasks standings
 
+-- ---- admission
+
 -- the words of this job fit into the region beside those that are granted
-abbrev pub has_room : ℕ → ℕ → Option Task → Bool
-has_room region granted None = false
-has_room region granted (Some task) = nat_le (granted + task.limits.words) region
+abbrev pub has_room : ℕ → ℕ → Task → Bool
+has_room region granted task = nat_le (granted + task.limits.words) region
 
-abbrev pub admission_at : ℕ → List Task → List Standing → Option ℕ → Option ℕ
-admission_at region tasks standings None = None
-admission_at region tasks standings (Some place) =
-    if has_room region (granted_words tasks standings) (slice_get tasks place) then Some (suc place) else None
+-- a job that stands so, and was passed by so often, is passed by no more
+abbrev pub is_passed_enough : Standing → ℕ → Bool
+is_passed_enough standing count = is_waiting standing && nat_le MOST_PASSES count
 
--- the number of the job that is admitted next: the first that waits, where it has room
-unfoldable pub admission : ℕ → List Task → List Standing → Option ℕ
-admission region tasks standings = admission_at region tasks standings (position is_waiting standings)
+-- the number of the first of these jobs that waits and fits, unless one before it is passed by no more; the jobs are
+-- numbered from this number on
+abbrev pub admission_from : ℕ → (Task → Bool) → List Task → List Standing → List ℕ → Option ℕ
+admission_from job fits [] standings passes = None
+admission_from job fits (task ∷ tasks) [] passes = None
+admission_from job fits (task ∷ tasks) (standing ∷ standings) [] = None
+admission_from job fits (task ∷ tasks) (standing ∷ standings) (count ∷ passes) =
+    if is_waiting standing && fits task then Some job else
+    (if is_passed_enough standing count then None else admission_from (suc job) fits tasks standings passes)
+
+-- the number of the job that is admitted next
+unfoldable pub admission : ℕ → List Task → Queue → Option ℕ
+admission region tasks queue =
+    admission_from 1 (has_room region (granted_words tasks queue.standings)) tasks queue.standings queue.passes
+
+-- once more, if the job waits
+abbrev pub passed_once_more : Standing → ℕ → ℕ
+passed_once_more standing count = if is_waiting standing then suc count else count
+
+-- the passes once the job at this place is admitted: each job that waits before it is passed by once more
+abbrev pub passes_before : ℕ → List Standing → List ℕ → List ℕ
+passes_before zero standings passes = passes
+passes_before (suc place) [] passes = passes
+passes_before (suc place) (standing ∷ standings) [] = []
+passes_before (suc place) (standing ∷ standings) (count ∷ passes) =
+    passed_once_more standing count ∷ passes_before place standings passes
 
 -- ---- what is told of a job
 

@@ -1,19 +1,24 @@
 //! What a step takes with it between its begin and its finish.
 
-ghost use Rattle.std.specs.Prelude.{◌≡◌, ◌≤◌, IfOk};
+ghost use Rattle.std.specs.Borrow.{sem};
+ghost use Rattle.std.specs.Prelude.{◌≡◌, ◌≤◌, IfOk, MatchResult, Some};
 ghost use Rattle.vcode_base.specs.declared.limits.TheConstants.{MOST_WORDS};
+ghost use Rattle.vcode_base.specs.Meaning.{value_fault};
 ghost use Rattle.vcode_base.specs.Operands.{contents};
 ghost use Rattle.job_steps.specs.Buffers.{HaveAtMost};
-ghost use Rattle.job_steps.specs.Tickets.{CanAnswer, question_by, asked_by};
+ghost use Rattle.job_steps.specs.Rooms.{KeepsWords};
+ghost use Rattle.job_steps.specs.Tickets.{AreResults, CanAnswer, question_by, asked_by};
 
+use crate::filled::{fill_front, results_in};
 use crate::operands::{MOST_OPERANDS, OperandBuffer};
 use crate::step::{Buffers, Step};
 use crate::ticket::Ticket;
 use std::alloc::{AllocError, Allocator};
 use std::marker::Model;
-use vcode_base::Op;
+use vcode_base::{DataFault, Op};
 
-/// Room for the operands and the results of one step.
+/// Room for the operands and the results of one step. All its memory is taken when it is made. A word of it is written
+/// only when a step uses it.
 ///
 /// In a contract a desk is the number of words that it was made with.
 #[derive(Drop)]
@@ -31,17 +36,17 @@ impl<A: Allocator> Model for Desk<A> {
 
 impl<A: Allocator + Clone> Desk<A> {
     /// A desk for vectors of at most so many words, which are reserved six times: for five operands
-    /// and for the results.
+    /// and for the results. None of them is written.
     ///
     /// # Errors
     ///
-    /// [`AllocError`] where there is no memory for them.
+    /// [`AllocError`] if there is no memory for them. No other call takes memory.
     pub fn new(alloc: A, words: usize) -> Result<Desk<A>, AllocError>
         requires { words ≤ MOST_WORDS }
         ensures { IfOk result (λ d. d ≡ words) }
     {
         let operands = OperandBuffer::new(alloc.clone()?, MOST_OPERANDS * words)?;
-        let results = vec![in alloc.clone()?; 0; words]?;
+        let results = Vec::with_capacity(alloc.clone()?, words)?;
         let buffers = Buffers {
             words,
             operands,
@@ -58,6 +63,27 @@ impl<A: Allocator> Desk<A> {
         ensures { result ≡ self.now }
     {
         self.buffers.words
+    }
+
+    /// Writes the results of an instruction into the room for them, and lends them: the words of the first and of the
+    /// second, empty if there is none. Takes no memory.
+    ///
+    /// `op` and `operands` are as for [`shape`](crate::shape), which has answered `Ok`. The desk has at least as many
+    /// words as the results together.
+    ///
+    /// # Errors
+    ///
+    /// The fault that the values of the operands have, as [`fill`](crate::fill) answers it.
+    #[inline(always)]
+    pub fn fill(&mut self, op: Op, operands: &[&[i64]]) -> Result<(&[i64], &[i64]), DataFault>
+        requires { CanAnswer self.old (question_by op (contents operands.now)) }
+        ensures* keeps_words { sem 𝓛 (KeepsWords A.row A.Allocator self.entry) }
+        ensures answer { MatchResult result
+            (λ results. AreResults (question_by op (contents operands.now)) results.0.now results.1.now)
+            (λ fault. value_fault op (contents operands.now) ≡ Some fault) }
+    {
+        let answer = fill_front(op, operands, &mut self.buffers.results);
+        results_in(answer, &self.buffers.results)
     }
 
     /// The ticket of a step, with copies of its operands.

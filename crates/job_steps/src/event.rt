@@ -2,10 +2,11 @@
 
 /// One thing that may be done with a list of jobs, which are numbered from 1.
 ///
-/// `specs/Events.antt` says when it is open and where the job stands after it.
+/// `specs/Events.antt` says when it is open and where the jobs stand after it.
 #[derive(Clone, Copy, PartialEq, Eq, Debug)]
 pub enum Event {
-    /// The next job that waits gets its words, and may begin.
+    /// The first job that waits and fits gets its words, and may begin, unless a job that waits before it was passed by as
+    /// often as a job may be. Each job that waits before it is passed by once more.
     Admit,
     /// The next step of this job begins.
     Begin(usize),

@@ -1,8 +1,12 @@
 //! A step with its results.
 
-ghost use Rattle.std.specs.Prelude.{◌≡◌, ◌<◌, ◌↔◌, IsTrue, length, MatchResult, Some};
+ghost use Rattle.std.specs.Prelude.{◌≡◌, ◌+◌, ◌<◌, ◌≤◌, ◌↔◌, IsTrue, IfOk, length, pos, slice_index_or};
+ghost use Rattle.std.specs.Prelude.{MatchResult, Some, vec_len, vec_capacity};
+ghost use Rattle.vcode_base.specs.declared.op.Op.{Op};
+ghost use Rattle.vcode_base.specs.Elements.{is_set};
 ghost use Rattle.vcode_base.specs.Meaning.{operand, value_fault};
 ghost use Rattle.vcode_base.specs.Operands.{contents};
+ghost use Rattle.job_steps.specs.Questions.{Question};
 ghost use Rattle.job_steps.specs.Steps.{flag_of};
 ghost use Rattle.job_steps.specs.Tickets.{CanAnswer, IsAnswer, AreResults, question_by};
 
@@ -94,10 +98,7 @@ impl<A: Allocator> Filled<A> {
         if self.operand_count() == 0 {
             return false;
         }
-        match self.operand(0) {
-            [flag, ..] => *flag != 0,
-            [] => false,
-        }
+        is_set(self.operand(0))
     }
 
     /// The words of the first and of the second result, empty where there is none.
@@ -111,15 +112,7 @@ impl<A: Allocator> Filled<A> {
             (λ results. AreResults self.now.question results.0.now results.1.now)
             (λ fault. value_fault self.now.question.op self.now.question.sources ≡ Some fault) }
     {
-        match self.answer {
-            Err(fault) => Err(fault),
-            Ok((first_len, second_len)) => {
-                let results = self.computed.buffers.results.as_slice();
-                let (first, rest) = results.split_at(first_len);
-                let (second, _) = rest.split_at(second_len);
-                Ok((first, second))
-            }
-        }
+        results_in(self.answer, self.computed.buffers.results.as_slice())
     }
 
     /// The desk again.
@@ -144,7 +137,7 @@ pub fn compute<A: Allocator>(ticket: Ticket<A>) -> Filled<A>
     }
 }
 
-/// Writes what the instruction makes of the operands in front of the results' room, and answers the results' lengths.
+/// Writes what the instruction makes of the operands to the front of the room, and answers the results' lengths.
 fn fill_results<A: Allocator>(op: Op, buffers: &mut Buffers<A>) -> Result<(usize, usize), DataFault>
     requires { CanAnswer buffers.old.words (question_by op buffers.old.operands.lists) }
     ensures answer { IsAnswer (question_by op buffers.old.operands.lists) result buffers.new.results.items }
@@ -153,22 +146,87 @@ fn fill_results<A: Allocator>(op: Op, buffers: &mut Buffers<A>) -> Result<(usize
 {
     let lists = buffers.operands.lists();
     let count = buffers.operands.count();
-    fill_front(op, &lists[..count], buffers.results.as_mut_slice())
+    fill_front(op, &lists[..count], &mut buffers.results)
 }
 
-/// Writes the results of the instruction to the front, one behind the other, and answers their
-/// lengths.
-fn fill_front(op: Op, ops: &[&[i64]], results: &mut [i64]) -> Result<(usize, usize), DataFault>
-    requires { CanAnswer (length results.old) (question_by op (contents ops.now)) }
-    ensures { IsAnswer (question_by op (contents ops.now)) result results.new }
+/// The words of the first and of the second result, which are at the front of a room with these lengths, or the fault
+/// in their place.
+#[inline(always)]
+pub(crate) fn results_in(
+    answer: Result<(usize, usize), DataFault>,
+    room: &[i64],
+) -> Result<(&[i64], &[i64]), DataFault>
+    requires within { IfOk answer (λ lengths. lengths.0 + lengths.1 ≤ length room.now) }
+    ensures { (q : Question) → IsAnswer q answer room.now → MatchResult result
+        (λ results. AreResults q results.0.now results.1.now)
+        (λ fault. value_fault q.op q.sources ≡ Some fault) }
+{
+    match answer {
+        Err(fault) => Err(fault),
+        Ok((first_len, second_len)) => {
+            let (first, rest) = room.split_at(first_len);
+            let (second, _) = rest.split_at(second_len);
+            Ok((first, second))
+        }
+    }
+}
+
+/// The choice of an `IF` of these operands: whether its flag is T. Of another instruction it is whether the first word
+/// of its first operand is other than 0.
+pub fn flag(ops: &[&[i64]]) -> bool
+    ensures { (op : Op) → result ≡ flag_of (question_by op (contents ops.now)) }
+{
+    match ops.first() {
+        Some(words) => is_set(words),
+        None => false,
+    }
+}
+
+/// Whether the first of these words is other than 0, if there is one.
+fn is_set(words: &[i64]) -> bool
+    ensures { result ≡ is_set (slice_index_or words.now 0 (pos 0)) }
+{
+    match words {
+        [first, ..] => *first != 0,
+        [] => false,
+    }
+}
+
+/// Writes the results of the instruction to the front of a room, one after the other, and answers their lengths. At least
+/// as many words are reserved for the room as the results have together. It becomes so long, if it is shorter. Takes no
+/// memory.
+#[inline(always)]
+pub(crate) fn fill_front<A: Allocator>(
+    op: Op,
+    ops: &[&[i64]],
+    room: &mut Vec<i64, A>,
+) -> Result<(usize, usize), DataFault>
+    requires { CanAnswer (vec_capacity room.old) (question_by op (contents ops.now)) }
+    ensures answer { IsAnswer (question_by op (contents ops.now)) result room.new.items }
+    ensures capacity { vec_capacity room.old ≤ vec_capacity room.new }
 {
     let (first_words, second_words) = need(op, ops);
     let first_len = first_words as usize;
     let second_len = second_words as usize;
-    let (first, rest) = results.split_at_mut(first_len);
+    lengthen(room, first_len + second_len);
+    let (first, rest) = room.as_mut_slice().split_at_mut(first_len);
     let (second, _) = rest.split_at_mut(second_len);
     fill(op, ops, first, second)?;
     Ok((first_len, second_len))
+}
+
+/// Makes a list at least so long within what is reserved for it. Only words that it did not have before are written.
+#[inline(always)]
+fn lengthen<A: Allocator>(list: &mut Vec<i64, A>, len: usize)
+    requires { len ≤ vec_capacity list.old }
+    ensures len { len ≤ vec_len list.new }
+    ensures capacity { vec_capacity list.old ≤ vec_capacity list.new }
+{
+    if list.len() < len {
+        let Ok(()) = list.resize(len, 0) else {
+            unreachable!()
+        };
+    }
 }
 
 /// Whether two instructions are equal.

@@ -9,6 +9,7 @@ ghost use Rattle.job_steps.specs.StepLaws.{StepsCanBegin, StepsCanAdvance};
 ghost use Rattle.job_steps.specs.Tracks.{EachTrackFollows};
 ghost use Rattle.job_steps.specs.EventLaws.{EarlyEndsEnd, OthersAreReady, EventsChangeTheirJob};
 ghost use Rattle.job_steps.specs.EventLaws.{ClosedChangeNothing, MissingAreClosed, AdmittedHaveRoom};
+ghost use Rattle.job_steps.specs.EventLaws.{OthersPassNobody, AdmissionsPassOnce, PassesAreFew, PassesStay};
 ghost use Rattle.job_steps.specs.EventLaws.{FirstAreKept, EventsKeep, RecallsKeep, EndedAreOver};
 ghost use Rattle.job_steps.specs.EventLaws.{UseIsWithin, SumsFollowStandings, UsedIsGranted, EventsGoOn, EventsUseUp};
 ghost use Rattle.job_steps.specs.EventLaws.{EventsEnd, EventsAreFew, OthersStay, EventsCommute, RecallUndoesBegin};
@@ -17,6 +18,7 @@ ghost use Rattle.job_steps.specs.EventLaws.{EventsJoin, LeadsJoin, RecallsAreEve
 use crate::job::Job;
 use std::alloc::Allocator;
 use vcode_base::laws::results_have_needed_lengths;
+use verifier::laws::equality_is_exact;
 
 /// What holds of each state that a verified job reaches: what remains of its calls takes the entries
 /// that there are, by number and by kind; its count is within the budget, its words, entries and
@@ -97,6 +99,7 @@ pub fn steps_can_advance<C>()
 pub fn equal_jobs<A: Allocator>(left: &Job<A>, right: &Job<A>) -> bool
     ensures { IsTrue result ↔ (left.now ≡ right.now) }
 {
+    equality_is_exact::<A>();
     *left == *right
 }
 
@@ -155,13 +158,34 @@ pub fn admitted_have_room()
     ensures { AdmittedHaveRoom }
 {}
 
-/// Before the first event no words are granted, and each job stands on its run alone.
+/// An event other than an admission passes by no job.
+pub fn others_pass_nobody()
+    ensures { OthersPassNobody }
+{}
+
+/// An admission passes by each job that waits before the admitted one, once.
+pub fn admissions_pass_once()
+    ensures { AdmissionsPassOnce }
+{}
+
+/// Where each job was passed by at most [`MOST_PASSES`](vcode_base::limits::MOST_PASSES) times, as before the first event,
+/// that is so after any events.
+pub fn passes_are_few()
+    ensures { PassesAreFew }
+{}
+
+/// A job that waits no longer is passed by no more, whatever the events.
+pub fn passes_stay()
+    ensures { PassesStay }
+{}
+
+/// Before the first event no words are granted, no job was passed by, and each job stands on its run alone.
 pub fn first_are_kept()
     ensures { FirstAreKept }
 {}
 
-/// Whatever the events, each verified job stands on its run alone, and the words that are granted are at
-/// most the region: a live job runs after as many instructions as its standing says, within its budget.
+/// Whatever the events, each verified job stands on its run alone, no job is passed by too often, and the words that are
+/// granted are at most the region: a live job runs after as many instructions as its standing says, within its budget.
 /// That a job ends only where its run is over, with its own outcome and counts, is [`ended_are_over`].
 pub fn events_keep()
     ensures { EventsKeep }

@@ -18,7 +18,9 @@
 //!
 //! Jobs that take turns stand in a list, each where `Standings` says: it waits, it may begin its next
 //! step, a step of it has begun, it has ended, or its outcome is collected. An [`Event`] moves one of
-//! them on; `Events` says which events are open and where the jobs stand after a list of them.
+//! them on; `Events` says which events are open and where the jobs stand after a list of them. A job that
+//! waits is passed by when a later one that fits is admitted before it; `Standings` says how often that
+//! may be.
 //! `EventLaws` says what holds whatever their order, as that each job goes where it goes alone.
 #![tactic(auto)]
 
@@ -39,7 +41,7 @@ mod track;
 
 pub use desk::Desk;
 pub use event::Event;
-pub use filled::{Filled, compute};
+pub use filled::{Filled, compute, flag};
 pub use frame::Frame;
 pub use job::{Job, JobName};
 pub use operands::MOST_OPERANDS;

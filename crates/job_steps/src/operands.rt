@@ -1,10 +1,10 @@
 //! Copies of the operands of a step.
 
-ghost use Rattle.std.specs.Prelude.{◌≡◌, ◌<◌, ◌≤◌, ◌↔◌, IsTrue, IfOk, [], length, map, take, sum};
+ghost use Rattle.std.specs.Prelude.{◌≡◌, ◌+◌, ◌<◌, ◌≤◌, ◌++◌, ◌↔◌, IsTrue, IfOk, [], length, map, take, sum};
+ghost use Rattle.std.specs.Prelude.{vec_len, vec_capacity};
 ghost use Rattle.vcode_base.specs.Meaning.{operand};
 ghost use Rattle.vcode_base.specs.Operands.{contents};
-ghost use Rattle.vcode_base.specs.Segments.{pieces_of};
-ghost use Rattle.job_steps.specs.Buffers.{length_of_all};
+ghost use Rattle.job_steps.specs.Buffers.{in_a_row, length_of_all};
 
 use std::alloc::{AllocError, Allocator};
 use std::marker::Model;
@@ -12,41 +12,48 @@ use std::marker::Model;
 /// The most operands of an instruction: those of `DPERMUTE`.
 pub const MOST_OPERANDS: usize = 5;
 
-/// The operands of a step, copied one behind another into a buffer that keeps its length.
+/// The operands of a step, copied one after another into a buffer. All its memory is taken when it is made. A word of it
+/// is written only when an operand is copied there.
 ///
-/// In a contract it is the lists that were loaded, and the room: the length of the buffer, in words.
+/// In a contract it is the lists that were loaded, and the room: the words that were reserved.
 #[derive(Drop)]
 pub(crate) struct OperandBuffer<A: Allocator> {
+    room: usize,
     buffer: Vec<i64, A>,
     lengths: [usize; MOST_OPERANDS],
     count: usize,
 }
 
 impl<A: Allocator> Model for OperandBuffer<A> {
-    ghost use Rattle.std.specs.Prelude.{length};
+    ghost use Rattle.std.specs.Prelude.{◌≤◌, length, vec_capacity};
     ghost use Rattle.job_steps.specs.Buffers.{OperandLists, LengthsFit, lists_in};
 
     ghost Value = { OperandLists };
 
-    ghost view = { λ o. record { room = length o.buffer.items; lists = lists_in o.count o.lengths o.buffer.items } };
+    ghost view = { λ o. record { room = o.room; lists = lists_in o.count o.lengths o.buffer.items } };
 
-    ghost invariant = { λ o. LengthsFit (length o.buffer.items) o.count o.lengths };
+    ghost invariant = { λ o. LengthsFit (length o.buffer.items) o.count o.lengths × (o.room ≤ vec_capacity o.buffer) };
 }
 
 impl<A: Allocator> OperandBuffer<A> {
-    /// A buffer of `room` words, in which nothing is loaded.
+    /// A buffer with room for so many words, in which nothing is loaded.
+    ///
+    /// # Errors
+    ///
+    /// [`AllocError`] if there is no memory for them. No other call takes memory.
     pub(crate) fn new(alloc: A, room: usize) -> Result<OperandBuffer<A>, AllocError>
         ensures { IfOk result (λ o. o ≡ record { room = room; lists = [] }) }
     {
-        let buffer = vec![in alloc; 0; room]?;
+        let buffer = Vec::with_capacity(alloc, room)?;
         Ok(OperandBuffer {
+            room,
             buffer,
             lengths: [0; MOST_OPERANDS],
             count: 0,
         })
     }
 
-    /// Copies these lists in place of those that were loaded before.
+    /// Copies these lists in place of those that were loaded before. Takes no memory.
     pub(crate) fn load(&mut self, lists: &[&[i64]])
         requires few { length lists.now ≤ MOST_OPERANDS }
         requires room { length_of_all (contents lists.now) ≤ self.old.room }
@@ -54,7 +61,8 @@ impl<A: Allocator> OperandBuffer<A> {
     {
         self.lengths = lengths_of(lists);
         self.count = lists.len();
-        copy_in_a_row(lists, self.buffer.as_mut_slice());
+        self.buffer.clear();
+        append_in_a_row(lists, &mut self.buffer);
     }
 
     /// How many lists are loaded.
@@ -119,26 +127,32 @@ fn length_at(lists: &[&[i64]], place: usize) -> usize
     }
 }
 
-/// Copies the lists to the front of the buffer, one behind another.
-fn copy_in_a_row(lists: &[&[i64]], buffer: &mut [i64])
-    requires { length_of_all (contents lists.now) ≤ length buffer.old }
-    ensures { pieces_of (map length (contents lists.now)) buffer.new ≡ contents lists.now }
+/// Puts the lists, one after another, after the words of a buffer that has room for them.
+fn append_in_a_row<A: Allocator>(lists: &[&[i64]], buffer: &mut Vec<i64, A>)
+    requires { vec_len buffer.old + length_of_all (contents lists.now) ≤ vec_capacity buffer.old }
+    ensures items { buffer.new.items ≡ buffer.old.items ++ in_a_row (contents lists.now) }
+    ensures capacity { vec_capacity buffer.old ≤ vec_capacity buffer.new }
 {
     let Some((first, others)) = lists.split_first() else {
         return;
     };
-    let (front, rest) = buffer.split_at_mut(first.len());
-    copy_words(first, front);
-    copy_in_a_row(others, rest);
+    append(first, buffer);
+    append_in_a_row(others, buffer);
 }
 
-/// Copies words to a place of as many. One word alone, as of a scalar, costs no call.
-fn copy_words(words: &[i64], place: &mut [i64])
-    requires { length place.old ≡ length words.now }
-    ensures { place.new ≡ words.now }
+/// Puts words after those of a buffer that has room for them. One word alone, as of a scalar, costs no call.
+fn append<A: Allocator>(words: &[i64], buffer: &mut Vec<i64, A>)
+    requires { vec_len buffer.old + length words.now ≤ vec_capacity buffer.old }
+    ensures items { buffer.new.items ≡ buffer.old.items ++ words.now }
+    ensures len { vec_len buffer.new ≡ vec_len buffer.old + length words.now }
+    ensures capacity { vec_capacity buffer.old ≤ vec_capacity buffer.new }
 {
     match words {
-        [word] => place[0] = *word,
-        _ => place.copy_from_slice(words),
+        [word] => buffer.push_reserved(*word),
+        _ => {
+            let Ok(()) = buffer.extend_from_slice(words) else {
+                unreachable!()
+            };
+        }
     }
 }

@@ -43,6 +43,7 @@ pub fn shape(op: Op, ops: &[&[i64]]) -> Result<(), DataFault>
 ///
 /// `op` and `ops` are as for [`shape`], which has answered `Ok`. Nothing is made: the length of a
 /// result that no memory could hold is found as fast as any.
+#[inline(always)]
 #[tactic(auto, unfolding(vcode_base::specs::Meaning::need))]
 pub fn need(op: Op, ops: &[&[i64]]) -> (u64, u64)
     requires kinds { HaveKinds (source_kinds op) (contents ops.now) }

@@ -1,20 +1,21 @@
 //! A step with the words that it works on.
 
-ghost use Rattle.std.specs.Prelude.{◌≡◌, ◌*◌, length};
+ghost use Rattle.std.specs.Prelude.{◌≡◌, ◌*◌, ◌≤◌, vec_capacity};
 ghost use Rattle.job_steps.specs.declared.operands.TheConstants.{MOST_OPERANDS};
 
 use crate::operands::OperandBuffer;
 use std::alloc::Allocator;
 use vcode_base::Op;
 
-/// The words of a desk: copies of operands, and room for results.
+/// The words of a desk: copies of operands, and room for results. All are reserved, and are written when a step uses
+/// them.
 #[derive(Drop)]
 pub(crate) struct Buffers<A: Allocator> {
     pub(crate) words: usize,
     pub(crate) operands: OperandBuffer<A>,
     pub(crate) results: Vec<i64, A>,
     ghost operand_room: { operands.room ≡ MOST_OPERANDS * words },
-    ghost result_room: { length results.items ≡ words },
+    ghost result_room: { words ≤ vec_capacity results },
 }
 
 /// A step that was begun, with copies of its operands.

@@ -15,7 +15,7 @@ use Rattle.job_steps.specs.Events.{early_end, next_standing, job_of, next_standi
 use Rattle.job_steps.specs.Events.{standing_after_begin, standing_after, after_event, after_events, recalled_standing}
 use Rattle.job_steps.specs.Reached.{Reaches, EndIsOwn}
 use Rattle.job_steps.specs.Runs.{state_after}
-use Rattle.job_steps.specs.Standings.{Standing, Waiting, Live, InFlight, Ended, Collected, of_job, with_standing}
+use Rattle.job_steps.specs.Standings.{Standing, Waiting, Live, InFlight, Ended, Collected, Queue, of_job, with_standing}
 use Rattle.job_steps.specs.Standings.{sum_over, executed_at, admission}
 use Rattle.job_steps.specs.States.{Task, Active, State}
 use Rattle.job_steps.specs.Steps.{Ending, Progress, Running, progress_by}
@@ -23,7 +23,7 @@ use Rattle.vcode_reader.specs.declared.line.Numbered.{Numbered}
 use Rattle.vcode_reader.specs.Trees.{Item}
 use Rattle.job_slots.specs.declared.answer.Finished.{Finished}
 use Rattle.job_slots.specs.declared.answer.Finished.TheVariants as finished
-use Rattle.job_machine.specs.Machines.{MachineState, machine_after, told, told_by}
+use Rattle.job_machine.specs.Machines.{MachineState, queue_of, machine_after, told, told_by}
 use Rattle.job_machine.specs.Machines.{after_finished}
 use Rattle.step_scheduler.specs.Tallies.{executed_sum, IsKept, OthersCountNothing, RaisesByItsJob}
 use Rattle.step_scheduler.specs.Tallies.{FinishesRaise, RecallsCountNothing, EventsKeepCounts, CountsAreWithin}
@@ -62,20 +62,20 @@ verified_of tasks all (suc i) task t =
 
 -- ---- one event
 
--- what an event makes of the standings, by its job's
-after_by : (region : ℕ) (tasks : List Task) (event : Event) (standings : List Standing) (job : ℕ) →
-    job_of region tasks event standings ≡ Some job →
-    after_event region tasks event standings
-    ≡ with_next (Some job) (next_standing_in event (of_job job tasks) (of_job job standings)) standings
+-- what an event makes of the queue, by its job's
+after_by : (region : ℕ) (tasks : List Task) (event : Event) (queue : Queue) (job : ℕ) →
+    job_of region tasks event queue ≡ Some job →
+    after_event region tasks event queue
+    ≡ with_next event (Some job) (next_standing_in event (of_job job tasks) (of_job job queue.standings)) queue
 unfolding after_event
-after_by region tasks event standings job is =
-    λ i. with_next (is i) (next_standing_of tasks event standings (is i)) standings
+after_by region tasks event queue job is =
+    λ i. with_next event (is i) (next_standing_of tasks event queue.standings (is i)) queue
 
-none_admitted : (region : ℕ) (tasks : List Task) (standings : List Standing) →
-    admission region tasks standings ≡ None → after_event region tasks Admit standings ≡ standings
+none_admitted : (region : ℕ) (tasks : List Task) (queue : Queue) →
+    admission region tasks queue ≡ None → after_event region tasks Admit queue ≡ queue
 unfolding after_event
-none_admitted region tasks standings is =
-    λ i. with_next (is i) (next_standing_of tasks Admit standings (is i)) standings
+none_admitted region tasks queue is =
+    λ i. with_next Admit (is i) (next_standing_of tasks Admit queue.standings (is i)) queue
 
 -- an event that leaves its job's count alone leaves the sum alone
 abbrev KeepsCount : Event → List Task → List Standing → ℕ → Type 0
@@ -83,29 +83,31 @@ KeepsCount event tasks standings job =
     (task : Task) (old new : Standing) → of_job job tasks ≡ Some task → of_job job standings ≡ Some old →
     next_standing event task old ≡ Some new → executed_at task new ≡ executed_at task old
 
-same_sum_next : SumsFollowStandings → (event : Event) (tasks : List Task) (standings : List Standing) (job : ℕ) →
-    KeepsCount event tasks standings job → (task : Task) (old : Standing) → of_job job tasks ≡ Some task →
-    of_job job standings ≡ Some old → (next : Option Standing) → next_standing event task old ≡ next →
-    sum_over executed_at tasks (with_next (Some job) next standings) ≡ sum_over executed_at tasks standings
-same_sum_next sums event tasks standings job keeps task old t s None is = refl
-same_sum_next sums event tasks standings job keeps task old t s (Some new) is =
-    omega (arith, sums executed_at tasks standings job task old new t s, keeps task old new t s is)
+same_sum_next : SumsFollowStandings → (event : Event) (tasks : List Task) (queue : Queue) (job : ℕ) →
+    KeepsCount event tasks queue.standings job → (task : Task) (old : Standing) → of_job job tasks ≡ Some task →
+    of_job job queue.standings ≡ Some old → (next : Option Standing) → next_standing event task old ≡ next →
+    sum_over executed_at tasks (with_next event (Some job) next queue).standings
+    ≡ sum_over executed_at tasks queue.standings
+same_sum_next sums event tasks queue job keeps task old t s None is = refl
+same_sum_next sums event tasks queue job keeps task old t s (Some new) is =
+    omega (arith, sums executed_at tasks queue.standings job task old new t s, keeps task old new t s is)
 
-same_sum_in : SumsFollowStandings → (event : Event) (tasks : List Task) (standings : List Standing) (job : ℕ) →
-    KeepsCount event tasks standings job → (t : Option Task) → of_job job tasks ≡ t → (s : Option Standing) →
-    of_job job standings ≡ s →
-    sum_over executed_at tasks (with_next (Some job) (next_standing_in event t s) standings)
-    ≡ sum_over executed_at tasks standings
-same_sum_in sums event tasks standings job keeps None t s s_is = refl
-same_sum_in sums event tasks standings job keeps (Some task) t None s_is = refl
-same_sum_in sums event tasks standings job keeps (Some task) t (Some old) s_is =
-    same_sum_next sums event tasks standings job keeps task old t s_is (next_standing event task old) refl
+same_sum_in : SumsFollowStandings → (event : Event) (tasks : List Task) (queue : Queue) (job : ℕ) →
+    KeepsCount event tasks queue.standings job → (t : Option Task) → of_job job tasks ≡ t → (s : Option Standing) →
+    of_job job queue.standings ≡ s →
+    sum_over executed_at tasks (with_next event (Some job) (next_standing_in event t s) queue).standings
+    ≡ sum_over executed_at tasks queue.standings
+same_sum_in sums event tasks queue job keeps None t s s_is = refl
+same_sum_in sums event tasks queue job keeps (Some task) t None s_is = refl
+same_sum_in sums event tasks queue job keeps (Some task) t (Some old) s_is =
+    same_sum_next sums event tasks queue job keeps task old t s_is (next_standing event task old) refl
 
-same_sum : SumsFollowStandings → (event : Event) (m : MachineState) (job : ℕ) → job_of m.region m.tasks event m.standings ≡ Some job →
-    KeepsCount event m.tasks m.standings job → executed_sum (machine_after event m) ≡ executed_sum m
+same_sum : SumsFollowStandings → (event : Event) (m : MachineState) (job : ℕ) →
+    job_of m.region m.tasks event (queue_of m) ≡ Some job → KeepsCount event m.tasks m.standings job →
+    executed_sum (machine_after event m) ≡ executed_sum m
 same_sum sums event m job is keeps =
-    ap (sum_over executed_at m.tasks) (after_by m.region m.tasks event m.standings job is)
-    ∙ same_sum_in sums event m.tasks m.standings job keeps (of_job job m.tasks) refl (of_job job m.standings) refl
+    ap (λ (q : Queue). sum_over executed_at m.tasks q.standings) (after_by m.region m.tasks event (queue_of m) job is)
+    ∙ same_sum_in sums event m.tasks (queue_of m) job keeps (of_job job m.tasks) refl (of_job job m.standings) refl
 
 -- ---- events other than a finish
 
@@ -150,15 +152,15 @@ admit_keeps tasks standings job task (InFlight n) new t s is = absurd (none-some
 admit_keeps tasks standings job task Ended new t s is = absurd (none-some new is)
 admit_keeps tasks standings job task Collected new t s is = absurd (none-some new is)
 
-admit_counts_nothing : SumsFollowStandings → (m : MachineState) (o : Option ℕ) → admission m.region m.tasks m.standings ≡ o →
+admit_counts_nothing : SumsFollowStandings → (m : MachineState) (o : Option ℕ) → admission m.region m.tasks (queue_of m) ≡ o →
     executed_sum (machine_after Admit m) ≡ executed_sum m
 admit_counts_nothing sums m None is =
-    ap (sum_over executed_at m.tasks) (none_admitted m.region m.tasks m.standings is)
+    ap (λ (q : Queue). sum_over executed_at m.tasks q.standings) (none_admitted m.region m.tasks (queue_of m) is)
 admit_counts_nothing sums m (Some job) is = same_sum sums Admit m job is (admit_keeps m.tasks m.standings job)
 
 pub others_count_nothing : SumsFollowStandings → EarlyEndsEnd → OthersCountNothing
 others_count_nothing sums early m kept Admit other =
-    admit_counts_nothing sums m (admission m.region m.tasks m.standings) refl
+    admit_counts_nothing sums m (admission m.region m.tasks (queue_of m)) refl
 others_count_nothing sums early m kept (Begin job) other = same_sum sums (Begin job) m job refl (begin_keeps early m kept job)
 others_count_nothing sums early m kept (Finish job) other = absurd (false≢true (sym other))
 others_count_nothing sums early m kept (Recall job) other =
@@ -213,9 +215,10 @@ raised : SumsFollowStandings → (m : MachineState) (job step : ℕ) (task : Tas
     RaisesByItsJob m job step
 raised sums m job step task t s from =
     let new = standing_after (step + 1) (state_after task (step + 1)) in
-    let after : after_event m.region m.tasks (Finish job) m.standings ≡ with_standing job new m.standings =
-    after_by m.region m.tasks (Finish job) m.standings job refl
-    ∙ (λ i. with_next (Some job) (next_standing_in (Finish job) (t i) (s i)) m.standings) in
+    let after : (machine_after (Finish job) m).standings ≡ with_standing job new m.standings =
+    ap (λ (q : Queue). q.standings)
+    (after_by m.region m.tasks (Finish job) (queue_of m) job refl
+    ∙ (λ i. with_next (Finish job) (Some job) (next_standing_in (Finish job) (t i) (s i)) (queue_of m))) in
     record {
       count = executed_at task new;
       count_is =
@@ -243,7 +246,8 @@ finishes_raise sums reaches others own m kept job step s =
 finish_keeps : SumsFollowStandings → Reaches → OthersAreReady → EndIsOwn → (m : MachineState) → IsKept m → (job : ℕ) → (t : Option Task) →
     of_job job m.tasks ≡ t → (s : Option Standing) → of_job job m.standings ≡ s →
     executed_sum m
-    ≤ sum_over executed_at m.tasks (with_next (Some job) (next_standing_in (Finish job) t s) m.standings)
+    ≤ sum_over executed_at m.tasks
+    (with_next (Finish job) (Some job) (next_standing_in (Finish job) t s) (queue_of m)).standings
 finish_keeps sums reaches others own m kept job None t s s_is = omega arith
 finish_keeps sums reaches others own m kept job (Some task) t None s_is = omega arith
 finish_keeps sums reaches others own m kept job (Some task) t (Some Waiting) s_is = omega arith
@@ -264,10 +268,10 @@ finish_keeps sums reaches others own m kept job (Some task) t (Some Collected) s
 finish_never_lowers : SumsFollowStandings → Reaches → OthersAreReady → EndIsOwn → (m : MachineState) → IsKept m → (job : ℕ) →
     executed_sum m ≤ executed_sum (machine_after (Finish job) m)
 finish_never_lowers sums reaches others own m kept job =
-    let after = after_by m.region m.tasks (Finish job) m.standings job refl in
+    let after = after_by m.region m.tasks (Finish job) (queue_of m) job refl in
     omega (
       arith,
-      ap (sum_over executed_at m.tasks) after,
+      ap (λ (q : Queue). sum_over executed_at m.tasks q.standings) after,
       finish_keeps sums reaches others own m kept job (of_job job m.tasks) refl (of_job job m.standings) refl,
     )
 
@@ -290,11 +294,12 @@ never_lowers sums early reaches others own m kept (Collect job) =
 kept_after : EventsKeep → (m : MachineState) → IsKept m → (event : Event) → IsKept (machine_after event m)
 kept_after keep m kept event = record {
   verified = kept.verified;
-  kept = keep m.region m.tasks kept.verified (event ∷ []) m.standings kept.kept;
+  kept = keep m.region m.tasks kept.verified (event ∷ []) (queue_of m) kept.kept;
 }
 
 all_keep : SumsFollowStandings → EarlyEndsEnd → Reaches → OthersAreReady → EndIsOwn → EventsKeep → (events : List Event) (m : MachineState) →
-    IsKept m → executed_sum m ≤ sum_over executed_at m.tasks (after_events m.region m.tasks events m.standings)
+    IsKept m →
+    executed_sum m ≤ sum_over executed_at m.tasks (after_events m.region m.tasks events (queue_of m)).standings
 all_keep sums early reaches others own keep [] m kept = omega arith
 all_keep sums early reaches others own keep (event ∷ events) m kept =
     let here = never_lowers sums early reaches others own m kept event in
@@ -305,8 +310,8 @@ pub events_keep_counts : SumsFollowStandings → EarlyEndsEnd → Reaches → Ot
 events_keep_counts sums early reaches others own keep old new kept leads =
     let there = all_keep sums early reaches others own keep leads.2.0 old kept in
     let same : sum_over executed_at new.tasks new.standings
-    ≡ sum_over executed_at old.tasks (after_events old.region old.tasks leads.2.0 old.standings) =
-    λ i. sum_over executed_at (leads.1 i) (sym leads.2.1 i) in
+    ≡ sum_over executed_at old.tasks (after_events old.region old.tasks leads.2.0 (queue_of old)).standings =
+    λ i. sum_over executed_at (leads.1 i) (sym leads.2.1 i).standings in
     omega (arith, there, same)
 
 -- ---- the sum, job by job
@@ -398,20 +403,20 @@ pub record RaisedBy (job : ℕ) (old new : MachineState) : Type 0 where
   pub no_fewer : count_in job old ≤ count_in job new
   pub sum_is : executed_sum new + count_in job old ≡ executed_sum old + count_in job new
 
-not_raised : (job : ℕ) (m : MachineState) → after_event m.region m.tasks (Finish job) m.standings ≡ m.standings →
+not_raised : (job : ℕ) (m : MachineState) → after_event m.region m.tasks (Finish job) (queue_of m) ≡ queue_of m →
     RaisedBy job m (machine_after (Finish job) m)
 not_raised job m same =
     let count : count_in job (machine_after (Finish job) m) ≡ count_in job m =
-    ap (λ s. unwrap_or (told_by executed_at (of_job job m.tasks) (of_job job s)) 0) same in
+    ap (λ (q : Queue). unwrap_or (told_by executed_at (of_job job m.tasks) (of_job job q.standings)) 0) same in
     record {
       no_fewer = omega (arith, count);
-      sum_is = omega (arith, count, ap (sum_over executed_at m.tasks) same);
+      sum_is = omega (arith, count, ap (λ (q : Queue). sum_over executed_at m.tasks q.standings) same);
     }
 
 raised_in : FinishesRaise → (job : ℕ) (m : MachineState) → IsKept m → (t : Option Task) → of_job job m.tasks ≡ t →
     (s : Option Standing) → of_job job m.standings ≡ s →
-    after_event m.region m.tasks (Finish job) m.standings
-    ≡ with_next (Some job) (next_standing_in (Finish job) t s) m.standings →
+    after_event m.region m.tasks (Finish job) (queue_of m)
+    ≡ with_next (Finish job) (Some job) (next_standing_in (Finish job) t s) (queue_of m) →
     RaisedBy job m (machine_after (Finish job) m)
 raised_in law job m kept None t s s_is after = not_raised job m after
 raised_in law job m kept (Some task) t None s_is after = not_raised job m after
@@ -430,10 +435,10 @@ raised_in law job m kept (Some task) t (Some Collected) s_is after = not_raised 
 
 raised_after : FinishesRaise → (job : ℕ) (m : MachineState) → IsKept m → RaisedBy job m (machine_after (Finish job) m)
 raised_after law job m kept =
-    let after : after_event m.region m.tasks (Finish job) m.standings
-    ≡ with_next (Some job) (next_standing_in (Finish job) (of_job job m.tasks) (of_job job m.standings))
-    m.standings =
-    after_by m.region m.tasks (Finish job) m.standings job refl in
+    let after : after_event m.region m.tasks (Finish job) (queue_of m)
+    ≡ with_next (Finish job) (Some job) (next_standing_in (Finish job) (of_job job m.tasks) (of_job job m.standings))
+    (queue_of m) =
+    after_by m.region m.tasks (Finish job) (queue_of m) job refl in
     raised_in law job m kept (of_job job m.tasks) refl (of_job job m.standings) refl after
 
 raised_by : FinishesRaise → (job : ℕ) (m : MachineState) → IsKept m → (answer : Finished) →

@@ -5,7 +5,7 @@ use Rattle.job_steps.specs.declared.event.Event.{Event}
 use Rattle.job_steps.specs.declared.event.Event.TheVariants.{Finish}
 use Rattle.job_steps.specs.EventLaws.{IsVerified, AreKept}
 use Rattle.job_steps.specs.Standings.{InFlight, of_job, sum_over, executed_at}
-use Rattle.job_machine.specs.Machines.{MachineState, machine_after, recalled, Leads, told}
+use Rattle.job_machine.specs.Machines.{MachineState, queue_of, machine_after, recalled, Leads, told}
 
 -- the sum of the executed counts of all jobs
 abbrev pub executed_sum : MachineState → ℕ
@@ -14,7 +14,7 @@ executed_sum m = sum_over executed_at m.tasks m.standings
 -- each job is verified, and stands on its run alone
 pub record IsKept (m : MachineState) : Type 0 where
   pub verified : All IsVerified m.tasks
-  pub kept : AreKept m.region m.tasks m.standings
+  pub kept : AreKept m.region m.tasks (queue_of m)
 
 abbrev pub is_finish : Event → Bool
 is_finish (Finish job) = true

@@ -10,6 +10,12 @@ const LARGE: usize = 4_096;
 /// A worker is woken where this many hundredths of the time under the lock leave it some.
 const TO_WAKE: u64 = 55;
 
+/// It is decided after so many steps whether the workers go on.
+const TO_DECIDE: u64 = 1_000;
+
+/// A step counts once more for each so many words of its operands.
+const ONCE_MORE: u64 = 8_192;
+
 /// A worker stays awake where this many hundredths of the time under the lock leave it some.
 const TO_STAY: u64 = 45;
 
@@ -17,7 +23,7 @@ const TO_STAY: u64 = 45;
 ///
 /// While a job can go on, some worker is awake. A worker falls asleep only while another one is awake. The last one awake
 /// ends only where it found, in the same hold of the lock, no job to go on with and none that could be admitted. One that
-/// ends earlier, since it was refused memory, wakes those that sleep.
+/// ends earlier wakes those that sleep: it was refused memory, or the crew hands back, and then each ends at its next hold.
 #[derive(Drop)]
 pub(crate) struct Crew<A: Allocator> {
     /// The jobs that run or have ended and that no worker has, the next one last.
@@ -30,16 +36,24 @@ pub(crate) struct Crew<A: Allocator> {
     asleep: usize,
     /// How many sleepers were rung and aren't awake yet.
     rung: usize,
+    /// How many workers the run asked for.
+    workers: usize,
+    /// How many steps were begun, a long one counted as several.
+    begun: u64,
     estimate: Estimate,
 }
 
 impl<A: Allocator> Crew<A> {
-    /// Without a worker, over the jobs of a machine in which no step has begun.
+    /// Without a worker yet, over the jobs of a machine in which no step has begun, for a run by so many workers.
     ///
     /// # Errors
     ///
     /// [`AllocError`] where memory for the list of open jobs was refused.
-    pub(crate) fn new(alloc: A, machine: &Machine<A>) -> Result<Crew<A>, AllocError> {
+    pub(crate) fn new(
+        alloc: A,
+        machine: &Machine<A>,
+        workers: usize,
+    ) -> Result<Crew<A>, AllocError> {
         let jobs = machine.jobs();
         let mut open = Vec::with_capacity(alloc, jobs)?;
         for place in 0..jobs {
@@ -55,6 +69,8 @@ impl<A: Allocator> Crew<A> {
             awake: 0,
             asleep: 0,
             rung: 0,
+            workers,
+            begun: 0,
             estimate: Estimate::new(),
         })
     }
@@ -113,11 +129,18 @@ impl<A: Allocator> Crew<A> {
         self.over
     }
 
+    /// Whether the workers are to end and leave the rest to the calling thread, which takes less time for it. That is so
+    /// where steps are short, or where they compute little for the words that they copy. It is never so of a small batch.
+    pub(crate) fn hands_back(&self) -> bool {
+        self.begun >= TO_DECIDE && !self.estimate.pays(self.workers)
+    }
+
     /// Takes account of a step that has begun, and tells whether a sleeper is to be rung: the step is long, somebody
     /// sleeps, there may be a job to go on with, and one more worker would find work.
     pub(crate) fn rings(&mut self, ticket: &Ticket<A>) -> bool {
         let (words, longest) = operand_words(ticket);
         self.estimate.add(ticket.op(), words, longest);
+        self.begun = self.begun.saturating_add(1 + words as u64 / ONCE_MORE);
         if words < LARGE || self.asleep <= self.rung || (self.full && self.open.is_empty()) {
             return false;
         }

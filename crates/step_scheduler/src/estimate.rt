@@ -1,4 +1,4 @@
-//! How many workers find work beside the lock.
+//! How many workers find work beside the lock, and whether one thread alone would be faster.
 
 use job_machine::Ticket;
 use std::alloc::Allocator;
@@ -7,13 +7,17 @@ use vcode_base::{Arith, Elementwise, Fold, Op, Segmented};
 /// What a step takes under the lock beside the words that it copies, in units of a copied word.
 const FIXED: u64 = 2_048;
 
+/// What a step takes on one thread alone beside what it computes and copies, in the same units.
+const FIXED_ALONE: u64 = 512;
+
 /// The words of a step past which they no longer lie near the processor, and a copied word takes twice as long.
 const NEAR: u64 = 131_072;
 
 /// The sum under the lock from which on the older half of what was seen is forgotten.
 const MOST: u64 = 4_194_304;
 
-/// What the latest steps took under the lock and outside it, in units of about the time in which a word is copied.
+/// What the latest steps took under the lock and outside it, and what they would have taken on one thread that carries out
+/// each in one go, in units of about the time in which a word is copied.
 ///
 /// Only one worker at a time is under the lock, so that as many find work as what is outside is greater than what is
 /// under it.
@@ -21,6 +25,7 @@ const MOST: u64 = 4_194_304;
 pub(crate) struct Estimate {
     inside: u64,
     outside: u64,
+    alone: u64,
 }
 
 impl Estimate {
@@ -29,6 +34,7 @@ impl Estimate {
         Estimate {
             inside: 0,
             outside: 0,
+            alone: 0,
         }
     }
 
@@ -39,6 +45,11 @@ impl Estimate {
         let outside = weight(op).saturating_mul(longest as u64);
         self.inside = self.inside.saturating_add(inside);
         self.outside = self.outside.saturating_add(outside);
+        self.alone = self
+            .alone
+            .saturating_add(outside)
+            .saturating_add(longest as u64)
+            .saturating_add(FIXED_ALONE);
         self.forget();
     }
 
@@ -47,6 +58,7 @@ impl Estimate {
         if self.inside > MOST {
             self.inside /= 2;
             self.outside /= 2;
+            self.alone /= 2;
         }
     }
 
@@ -58,6 +70,13 @@ impl Estimate {
             .saturating_mul(percent)
             .saturating_mul((workers as u64).saturating_sub(1));
         taken < self.outside.saturating_mul(100)
+    }
+
+    /// Whether so many workers take less time than one thread alone. They take what is under the lock at least, and their
+    /// part of the whole.
+    pub(crate) fn pays(&self, workers: usize) -> bool {
+        let whole = self.inside.saturating_add(self.outside);
+        self.inside < self.alone && whole < self.alone.saturating_mul(workers as u64)
     }
 }
 
@@ -80,21 +99,17 @@ fn weight(op: Op) -> u64 {
 fn elementwise_weight(op: Elementwise) -> u64 {
     match op {
         Elementwise::Arith(Arith::Divide | Arith::Remainder) => 20,
-        Elementwise::Arith(Arith::ShiftLeft | Arith::ShiftRight) => 5,
-        Elementwise::Arith(Arith::Multiply) | Elementwise::Compare(_) | Elementwise::Select(_) => 3,
-        Elementwise::Logic(..) => 2,
+        Elementwise::Arith(Arith::ShiftLeft | Arith::ShiftRight) => 3,
+        Elementwise::Arith(Arith::Multiply) | Elementwise::Compare(_) | Elementwise::Select(_) => 2,
         _ => 1,
     }
 }
 
 fn segmented_weight(op: Segmented) -> u64 {
     match op {
-        Segmented::Permute(_) | Segmented::DefaultPermute(_) => 20,
-        Segmented::Pack(_)
-        | Segmented::Scan(Fold::Product)
-        | Segmented::Reduce(Fold::Product | Fold::Max | Fold::Min) => 5,
-        Segmented::BackPermute(_) | Segmented::MakeSegdes => 3,
-        Segmented::Scan(_) | Segmented::Reduce(_) => 2,
+        Segmented::Permute(_) | Segmented::DefaultPermute(_) => 8,
+        Segmented::Scan(Fold::Product) | Segmented::Reduce(Fold::Product) => 3,
+        Segmented::Pack(_) | Segmented::BackPermute(_) | Segmented::Scan(_) => 2,
         _ => 1,
     }
 }

@@ -77,7 +77,7 @@ impl<L: Opening, A: Allocator> GuardedMachine<L, A> {
         matches!(self.machine.status(job), Some(Status::Ended))
     }
 
-    /// Admits the first job that waits, where it has room.
+    /// Admits the next job, if one can be admitted.
     pub(crate) fn admit(&mut self) -> Admission
         ensures answer { result ≡ admission_in self.old.machine }
         ensures state { self.new.machine ≡ machine_after Admit self.old.machine }

@@ -43,7 +43,7 @@ pub(crate) enum Turn<A: Allocator> {
     Moved(Option<usize>, Desk<A>),
     /// It found nothing to go on with for now.
     Idle(Desk<A>),
-    /// There is nothing left to go on with, or memory for results was refused.
+    /// There is nothing left to go on with, memory for results was refused, or the rest is left to the calling thread.
     Over,
 }
 
@@ -142,8 +142,12 @@ impl<L: Opening, A: Allocator + Clone> SharedState<L, A> {
         }
     }
 
-    /// Does one event: goes on with the job in the worker's hands, or else with one that nobody has, or else admits one.
+    /// Does one event, unless the crew hands back: goes on with the job in the worker's hands, or else with one that nobody
+    /// has, or else admits one.
     pub(crate) fn take_turn(&mut self, job: Option<usize>, desk: Desk<A>) -> Turn<A> {
+        if self.crew.hands_back() {
+            return Turn::Over;
+        }
         let open = match job {
             Some(job) => Some(job),
             None => self.crew.take_open(),

@@ -23,10 +23,11 @@ use std::thread;
 use std::thread::Threads;
 use vcode_base::Rule;
 
-/// Runs all jobs of a machine on so many worker threads, 1 to 16, and collects them.
+/// Runs all jobs of a machine on at most so many worker threads, 1 to 16, and collects them.
 ///
-/// Steps that have begun are given up first. A worker that can't be started, or that memory is refused to, is missed;
-/// what the workers leave is run out on the calling thread.
+/// Steps that have begun are given up first. A worker that can't be started, or that memory is refused to, is missed. If
+/// after about a thousand steps the calling thread alone would take less time, as for short steps, the workers end. What
+/// the workers leave is run out on the calling thread, without calls of the gate.
 ///
 /// The machine that comes back has the rule and the jobs of the one that was given, in order, all collected. The tally has a
 /// number for each worker; they and the caller's add up to the instructions that the jobs executed by this call.
@@ -119,7 +120,7 @@ where
     let words = machine.most_words();
     count_laws();
     machine.recall_all();
-    let crew = Crew::new(alloc, &machine)?;
+    let crew = Crew::new(alloc, &machine, workers)?;
     let (book, mut all) = blank.open::<L>();
     let mut shares = split_shares(alloc, &mut all, workers)?;
     let shared = SharedMachine::new(GuardedMachine::new(machine, book), crew, words);

@@ -15,6 +15,7 @@ mod op;
 mod outcome;
 mod rule;
 mod sequence;
+mod shared_words;
 mod value;
 
 pub use fault::{DataFault, MemoryFault, TextFault};
@@ -26,4 +27,5 @@ pub use op::{Arith, Comparison, Elementwise, Fold, Logic, Op, Segmented, StackMo
 pub use outcome::Outcome;
 pub use rule::Rule;
 pub use sequence::Sequence;
+pub use shared_words::SharedWords;
 pub use value::{Value, Values, Words};

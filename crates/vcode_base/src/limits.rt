@@ -9,6 +9,9 @@ pub const MOST_WORDS: usize = 1_048_576;
 /// The most jobs of a batch.
 pub const MOST_JOBS: usize = 64;
 
+/// How often, at most, a job that waits is passed by: how many jobs after it are admitted before it.
+pub const MOST_PASSES: u8 = 8;
+
 /// The most entries of a job's stack; it has at least 1.
 pub const MOST_CELLS: usize = 4_096;
 

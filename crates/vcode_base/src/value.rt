@@ -1,5 +1,6 @@
 use crate::kind::Kind;
 use crate::sequence::Sequence;
+use crate::shared_words::SharedWords;
 
 /// The words of a vector, or the list of a `CONST`: the numbers of an INT, 1 and 0 for the T and F
 /// of a BOOL, the lengths of a SEGDES.
@@ -12,5 +13,5 @@ pub struct Value<L> {
     pub words: L,
 }
 
-/// Values from the bottom of a stack to its top.
-pub type Values<A> = Sequence<Value<Words<A>>, A>;
+/// Values from the bottom of a stack to its top. Those that have the same words may share them.
+pub type Values<A> = Sequence<Value<SharedWords<A>>, A>;

@@ -102,3 +102,13 @@ pub scan_all-append : {P : Type 0} (emit : Emit P) (xs ys : List ℕ) (r : Scan 
 unfolding scan_all
 scan_all-append emit [] ys r = refl
 scan_all-append emit (b ∷ xs) ys r = scan_all-append emit xs ys (scan_byte emit r b)
+
+-- what is left of a text after some of it has as many lines as are to come
+pub same_room : {P : Type 0} (emit : Emit P) (r n : Scan P) (m : ℕ) (all rest : List ℕ) →
+    scan_all emit r all ≡ scan_all emit n rest → r.line + line_feeds all < m → n.line + line_feeds rest < m
+same_room {P = P} emit r n m all rest e h =
+    omega (arith, ap (λ (x : Scan P). x.line) e, scan_all-line emit all r, scan_all-line emit rest n, h)
+
+pub none_left : {P : Type 0} (emit : Emit P) (r : Scan P) (rest : List ℕ) → rest ≡ [] → scan_all emit r rest ≡ r
+unfolding scan_all
+none_left emit r rest e = rw e refl

@@ -1,5 +1,5 @@
 -- What a byte does in a text.
-use Rattle.std.specs.Prelude.{ℕ, if◌then◌else◌, ◌==◌, ◌||◌, nat_lt}
+use Rattle.std.specs.Prelude.{ℕ, suc, Bool, true, false, if◌then◌else◌, ◌==◌, ◌||◌, nat_lt, List, [], ◌∷◌}
 use Rattle.vcode_reader.specs.declared.class.Class.{Class}
 use Rattle.vcode_reader.specs.declared.class.Class.TheVariants.{LineFeed, Blank, OpenBrace, CloseBrace, Parenthesis}
 use Rattle.vcode_reader.specs.declared.class.Class.TheVariants.{Plain, Refused}
@@ -13,3 +13,13 @@ class_of b =
     else if (b == 40) || (b == 41) then Parenthesis
     else if nat_lt b 33 || nat_lt 126 b then Refused
     else Plain
+
+-- a byte of this class is a part of a word
+abbrev pub is_plain : Class → Bool
+is_plain Plain = true
+is_plain _ = false
+
+-- how many bytes at the front of a text are parts of a word
+abbrev pub plain_length : List ℕ → ℕ
+plain_length [] = 0
+plain_length (b ∷ bs) = if is_plain (class_of b) then suc (plain_length bs) else 0

@@ -1,7 +1,7 @@
 //! The bytes of a text.
 
 ghost use Rattle.std.specs.Prelude.{◌≡◌};
-ghost use Rattle.vcode_reader.specs.Classes.{class_of};
+ghost use Rattle.vcode_reader.specs.Classes.{class_of, is_plain, plain_length};
 
 /// What a byte does in a text.
 #[derive(Clone, Copy)]
@@ -36,4 +36,30 @@ pub(crate) fn class_of(byte: u8) -> Class
         33..=126 => Class::Plain,
         _ => Class::Refused,
     }
+}
+
+/// Whether a byte is a part of a word.
+#[inline(always)]
+#[tactic(auto, using(crate::proofs::Pieces::plain_range))]
+pub(crate) fn is_plain(byte: u8) -> bool
+    ensures { result ≡ is_plain (class_of byte) }
+{
+    // Nearly all of them lie in one range.
+    if b'*' <= byte && byte <= b'z' {
+        return true;
+    }
+    matches!(class_of(byte), Class::Plain)
+}
+
+/// How many bytes at the front of a text are parts of a word.
+#[inline(always)]
+pub(crate) fn plain_length(text: &[u8]) -> usize
+    ensures { result ≡ plain_length text.now }
+{
+    for (place, byte) in text.iter().enumerate() {
+        if !is_plain(*byte) {
+            return place;
+        }
+    }
+    text.len()
 }

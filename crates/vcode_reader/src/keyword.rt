@@ -1,15 +1,17 @@
 //! The first words of instructions, and what must follow each.
 
-ghost use Rattle.std.specs.Prelude.{◌≡◌, []};
+ghost use Rattle.std.specs.Prelude.{◌≡◌, [], IfOk, OnOk};
 ghost use Rattle.vcode_reader.specs.Firsts.{TakesOff};
 ghost use Rattle.vcode_reader.specs.Keywords.{fold_of, folding_slots, keyword_slots, takes_int, instruction_of};
+ghost use Rattle.vcode_reader.specs.Keywords.{no_parts};
 
-use crate::parts::InstructionParts;
-use std::alloc::Allocator;
+use crate::parts::{InstructionParts, clear};
+use std::alloc::{AllocError, Allocator};
 use std::marker::Model;
+use std::mem;
 use vcode_base::{
-    Arith, Comparison, Elementwise, Fold, Instr, Instruction, Logic, Scalar, Segmented, StackMove,
-    Words,
+    Arith, Comparison, Elementwise, Fold, Instr, Instruction, Logic, Scalar, Segmented, Sequence,
+    StackMove,
 };
 
 /// How a scan or a reduction takes elements together, as its first word says.
@@ -136,39 +138,63 @@ impl Keyword {
         )
     }
 
-    /// The instruction of this first word and of what the words behind it gave.
-    pub(crate) fn instruction<A: Allocator>(self, parts: InstructionParts<A>) -> Instruction<A>
-        ensures { result ≡ instruction_of self parts }
+    /// The instruction of this first word and of what the words after it gave. The parts are empty after it.
+    ///
+    /// # Errors
+    ///
+    /// [`AllocError`] if memory is refused.
+    pub(crate) fn instruction<A: Allocator + Clone>(
+        self,
+        alloc: &A,
+        parts: &mut InstructionParts<A>,
+    ) -> Result<Instruction<A>, AllocError>
+        ensures instruction { IfOk result (λ i. i ≡ instruction_of self parts.old) }
+        ensures no_parts { OnOk result (parts.new ≡ no_parts) }
     {
         let kind = parts.kind;
-        let segmented = match self {
-            Keyword::Const => {
-                return Instr::Const(kind, parts.numbers);
-            }
-            Keyword::Arith(op) => return Instr::Elementwise(Elementwise::Arith(op)),
-            Keyword::Compare(op) => return Instr::Elementwise(Elementwise::Compare(op)),
-            Keyword::Logic(op) => return Instr::Elementwise(Elementwise::Logic(op, kind)),
-            Keyword::Not => return Instr::Elementwise(Elementwise::Not(kind)),
-            Keyword::Select => return Instr::Elementwise(Elementwise::Select(kind)),
-            Keyword::IntToBool => return Instr::Elementwise(Elementwise::IntToBool),
-            Keyword::BoolToInt => return Instr::Elementwise(Elementwise::BoolToInt),
-            Keyword::Move(motion) => return Instr::Move(motion, parts.lower, parts.upper),
-            Keyword::Call => return Instr::Call(parts.callee),
-            Keyword::Scan(folding) => Segmented::Scan(folding.fold(kind)),
-            Keyword::Reduce(folding) => Segmented::Reduce(folding.fold(kind)),
-            Keyword::Distribute => Segmented::Distribute(kind),
-            Keyword::Index => Segmented::Index,
-            Keyword::Permute => Segmented::Permute(kind),
-            Keyword::BackPermute => Segmented::BackPermute(kind),
-            Keyword::DefaultPermute => Segmented::DefaultPermute(kind),
-            Keyword::Extract => Segmented::Extract(kind),
-            Keyword::Replace => Segmented::Replace(kind),
-            Keyword::Pack => Segmented::Pack(kind),
-            Keyword::MakeSegdes => Segmented::MakeSegdes,
-            Keyword::Lengths => Segmented::Lengths,
+        let instruction = match self {
+            Keyword::Const => Instr::Const(kind, take_list(alloc, &mut parts.numbers)?),
+            Keyword::Call => Instr::Call(take_list(alloc, &mut parts.callee)?),
+            Keyword::Move(motion) => Instr::Move(motion, parts.lower, parts.upper),
+            Keyword::Arith(op) => Instr::Elementwise(Elementwise::Arith(op)),
+            Keyword::Compare(op) => Instr::Elementwise(Elementwise::Compare(op)),
+            Keyword::Logic(op) => Instr::Elementwise(Elementwise::Logic(op, kind)),
+            Keyword::Not => Instr::Elementwise(Elementwise::Not(kind)),
+            Keyword::Select => Instr::Elementwise(Elementwise::Select(kind)),
+            Keyword::IntToBool => Instr::Elementwise(Elementwise::IntToBool),
+            Keyword::BoolToInt => Instr::Elementwise(Elementwise::BoolToInt),
+            Keyword::Scan(folding) => Instr::Segmented(Segmented::Scan(folding.fold(kind))),
+            Keyword::Reduce(folding) => Instr::Segmented(Segmented::Reduce(folding.fold(kind))),
+            Keyword::Distribute => Instr::Segmented(Segmented::Distribute(kind)),
+            Keyword::Index => Instr::Segmented(Segmented::Index),
+            Keyword::Permute => Instr::Segmented(Segmented::Permute(kind)),
+            Keyword::BackPermute => Instr::Segmented(Segmented::BackPermute(kind)),
+            Keyword::DefaultPermute => Instr::Segmented(Segmented::DefaultPermute(kind)),
+            Keyword::Extract => Instr::Segmented(Segmented::Extract(kind)),
+            Keyword::Replace => Instr::Segmented(Segmented::Replace(kind)),
+            Keyword::Pack => Instr::Segmented(Segmented::Pack(kind)),
+            Keyword::MakeSegdes => Instr::Segmented(Segmented::MakeSegdes),
+            Keyword::Lengths => Instr::Segmented(Segmented::Lengths),
         };
-        Instr::Segmented(segmented)
+        clear(parts);
+        Ok(instruction)
     }
+}
+
+/// Takes a list out, and leaves the empty one.
+///
+/// # Errors
+///
+/// [`AllocError`] if memory is refused.
+fn take_list<T: Drop, A: Allocator + Clone>(
+    alloc: &A,
+    list: &mut Sequence<T, A>,
+) -> Result<Sequence<T, A>, AllocError>
+    ensures list { IfOk result (λ taken. taken ≡ list.old) }
+    ensures none { OnOk result (list.new ≡ []) }
+{
+    let none = Sequence::from_vec(Vec::new(alloc.clone()?));
+    Ok(mem::replace(list, none))
 }
 
 /// What the next words of an instruction must be, in order.

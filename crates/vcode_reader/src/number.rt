@@ -1,6 +1,6 @@
 //! Numbers and truth values.
 
-ghost use Rattle.std.specs.Prelude.{◌≡◌, ◌^◌};
+ghost use Rattle.std.specs.Prelude.{◌≡◌, ◌<◌, ◌≤◌, ◌^◌, length};
 ghost use Rattle.vcode_reader.specs.Numbers.{below, decimal, natural_of, number_of, truth_of, value_of};
 
 use vcode_base::Scalar;
@@ -12,6 +12,9 @@ fn decimal(digits: &[u8]) -> Option<u64>
     if digits.is_empty() {
         return None;
     }
+    if digits.len() < 20 {
+        return short_decimal(digits);
+    }
     let mut value: u64 = 0;
     for c in digits {
         if *c < b'0' || *c > b'9' {
@@ -22,6 +25,22 @@ fn decimal(digits: &[u8]) -> Option<u64>
             return None;
         }
         value = 10 * value + digit;
+    }
+    Some(value)
+}
+
+/// The value of one to 19 decimal digits, which always fits.
+fn short_decimal(digits: &[u8]) -> Option<u64>
+    requires some { 1 ≤ length digits.now }
+    requires few { length digits.now < 20 }
+    ensures { result ≡ below (2 ^ 64) (decimal digits.now) }
+{
+    let mut value: u64 = 0;
+    for c in digits {
+        if *c < b'0' || *c > b'9' {
+            return None;
+        }
+        value = 10 * value + u64::from(*c - b'0');
     }
     Some(value)
 }

@@ -116,18 +116,29 @@ impl<A: Allocator + Clone> Parser<A> {
         self.fault = Some((fault, line));
     }
 
+    /// Goes on to the next words of an instruction, or ends it.
+    #[inline(always)]
     fn next_slot(&mut self, keyword: Keyword, begun: u64) -> Result<(), AllocError>
         ensures { OnOk result (self.new ≡ after_slot keyword begun self.old.slots self.old) }
     {
         match self.slots.next() {
-            Some(slot) => self.place = Place::Words(keyword, slot, begun),
-            None => {
-                let rest = no_parts(&self.alloc)?;
-                let item = keyword.instruction(mem::replace(&mut self.parts, rest));
-                self.draft.push(item, begun)?;
-                self.place = item_place(keyword.takes_int());
+            Some(slot) => {
+                self.place = Place::Words(keyword, slot, begun);
+                Ok(())
             }
+            None => self.end_instruction(keyword, begun),
         }
+    }
+
+    /// An instruction whose words are all there goes after the others.
+    #[inline(never)]
+    fn end_instruction(&mut self, keyword: Keyword, begun: u64) -> Result<(), AllocError>
+        requires { self.old.slots ≡ [] }
+        ensures { OnOk result (self.new ≡ after_slot keyword begun [] self.old) }
+    {
+        let instruction = keyword.instruction(&self.alloc, &mut self.parts)?;
+        self.draft.push(instruction, begun)?;
+        self.place = item_place(keyword.takes_int());
         Ok(())
     }
 

@@ -36,3 +36,14 @@ pub(crate) fn no_parts<A: Allocator + Clone>(alloc: &A) -> Result<InstructionPar
         callee: FunctionName::from_vec(Vec::new(alloc.clone()?)),
     })
 }
+
+/// Makes these what they are before the first of the words.
+pub(crate) fn clear<A: Allocator>(parts: &mut InstructionParts<A>)
+    ensures { parts.new ≡ no_parts }
+{
+    parts.kind = Scalar::Int;
+    parts.lower = 0;
+    parts.upper = 0;
+    parts.numbers.clear();
+    parts.callee.clear();
+}

@@ -1,18 +1,18 @@
 //! A text, byte by byte.
 
-ghost use Rattle.std.specs.Prelude.{◌≡◌, ◌+◌, ◌<◌, ◌^◌, OnOk, OnErr, IsErr, IsErrOf, IfOk, IsTrue, false, ℕ};
-ghost use Rattle.std.specs.Prelude.{List, [], ◌++◌};
+ghost use Rattle.std.specs.Prelude.{◌≡◌, ◌+◌, ◌<◌, ◌≤◌, ◌^◌, OnOk, OnErr, IsErr, IsErrOf, IfOk, IsTrue, false, ℕ};
+ghost use Rattle.std.specs.Prelude.{List, [], ◌++◌, length, None};
 ghost use Rattle.vcode_reader.specs.declared.class.Class.TheVariants.{LineFeed};
 ghost use Rattle.vcode_base.specs.Lines.{line_feeds};
 ghost use Rattle.vcode_base.specs.TextAnswers.{Answers};
 ghost use Rattle.vcode_base.specs.declared.fault.TextFault.TheVariants.{Memory};
-ghost use Rattle.vcode_reader.specs.Classes.{class_of};
+ghost use Rattle.vcode_reader.specs.Classes.{class_of, plain_length};
 ghost use Rattle.vcode_reader.specs.First.{IsAnswer};
 ghost use Rattle.vcode_reader.specs.Parsing.{start, take};
 ghost use Rattle.vcode_reader.specs.Reading.{outcome, reading, Gives, HasCome};
 ghost use Rattle.vcode_reader.specs.Scan.{beginning, end_word, lone_word, in_text, in_comment, scan_byte, scan_all};
 
-use crate::class::{Class, class_of};
+use crate::class::{Class, class_of, is_plain, plain_length};
 use crate::fault::ReadFault;
 use crate::parser::Parser;
 use crate::program::{Function, Program};
@@ -114,21 +114,55 @@ impl<A: Allocator + Clone> Scanner<A> {
         requires { class_of byte ≡ LineFeed → self.old.line + 1 < 2 ^ 64 }
         ensures { OnOk result (self.new ≡ scan_byte take self.old byte) }
     {
-        let class = class_of(byte);
         match self.comment {
-            None => self.in_text(class, byte)?,
-            Some(_) => self.in_comment(class),
+            None => self.in_text(class_of(byte), byte)?,
+            Some(_) => self.in_comment(class_of(byte)),
         }
         Ok(())
     }
 
-    #[tactic(auto, unfolding(crate::specs::Scan::scan_all))]
+    /// Takes the plain bytes at the front of a text outside a comment, and answers what is after them. They are a whole
+    /// word if no word is open and other bytes follow; else they belong to the open word.
+    #[inline(always)]
+    fn plain_bytes<'p>(&mut self, text: &'p [u8]) -> Result<&'p [u8], AllocError>
+        requires text { self.old.comment ≡ None }
+        requires some { 1 ≤ plain_length text.now }
+        ensures same { IfOk result (λ rest. scan_all take self.old text.now ≡ scan_all take self.new rest.now) }
+        ensures shorter { IfOk result (λ rest. length rest.now < length text.now) }
+    {
+        let (plain, rest) = text.split_at(plain_length(text));
+        if rest.is_empty() || !self.word.is_empty() {
+            self.word.extend_from_slice(plain)?;
+            return Ok(rest);
+        }
+        self.parser.take(plain, self.line)?;
+        Ok(rest)
+    }
+
+    /// Takes the plain bytes at the front of a text, or else its first byte, and answers what is after them.
+    #[inline(always)]
+    fn front<'p>(&mut self, text: &'p [u8]) -> Result<&'p [u8], AllocError>
+        requires some { 1 ≤ length text.now }
+        requires room { self.old.line + line_feeds text.now < 2 ^ 64 }
+        ensures same { IfOk result (λ rest. scan_all take self.old text.now ≡ scan_all take self.new rest.now) }
+        ensures shorter { IfOk result (λ rest. length rest.now < length text.now) }
+    {
+        let byte = text[0];
+        if self.comment.is_none() && is_plain(byte) {
+            return self.plain_bytes(text);
+        }
+        let (_, rest) = text.split_at(1);
+        self.byte(byte)?;
+        Ok(rest)
+    }
+
     fn bytes(&mut self, piece: &[u8]) -> Result<(), AllocError>
         requires { self.old.line + line_feeds piece.now < 2 ^ 64 }
         ensures { OnOk result (self.new ≡ scan_all take self.old piece.now) }
     {
-        for byte in piece {
-            self.byte(*byte)?;
+        let mut rest = piece;
+        'text: while !rest.is_empty() {
+            rest = self.front(rest)?;
         }
         Ok(())
     }

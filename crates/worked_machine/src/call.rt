@@ -57,13 +57,15 @@ fn call(alloc: Global, player: &mut Player, word: &str, text: &str) -> Result<St
             let played = player.machine.replay(alloc, &events(alloc, text)?);
             Ok(format!(in alloc; "{played:?}")?)
         }
-        "begin" => {
+        "begin" | "step" => {
             let (job, words) = text.split_once(' ').ok_or(CaseFault::NoCall)?;
+            let job = number(job, MOST_NUMBER)?;
             let words = number(words, MOST_WORDS)?;
-            Ok(String::from_str(
-                alloc,
-                player.begin(alloc, number(job, MOST_NUMBER)?, words)?,
-            )?)
+            let answer = match word {
+                "begin" => player.begin(alloc, job, words)?,
+                _ => player.step(alloc, job, words)?,
+            };
+            Ok(String::from_str(alloc, answer)?)
         }
         _ => numbered_call(alloc, player, word, number(text, MOST_NUMBER)?),
     }
@@ -84,6 +86,7 @@ fn numbered_call(
         "status" => Ok(format!(in alloc; "{:?}", machine.status(n))?),
         "executed" => Ok(format!(in alloc; "{:?}", machine.executed(n))?),
         "peak" => Ok(format!(in alloc; "{:?}", machine.peak(n))?),
+        "passed" => Ok(format!(in alloc; "{:?}", machine.passed(n))?),
         "outcome" => Ok(String::from_str(alloc, player.outcome(n))?),
         _ => Err(CaseFault::NoCall),
     }

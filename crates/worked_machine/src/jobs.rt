@@ -29,6 +29,10 @@ fn texts(code: &str) -> Result<(&'static [u8], &'static [u8]), CaseFault> {
     match code {
         "nothing" => Ok((b"MAIN () -> ()\n", b"FUNC MAIN\nRET\n")),
         "seven" => Ok((b"MAIN () -> (INT)\n", b"FUNC MAIN\nCONST INT 7\nRET\n")),
+        "divide" => Ok((
+            b"MAIN () -> (INT)\n",
+            b"FUNC MAIN\nCONST INT 7\nCONST INT 0\n/ INT\nRET\n",
+        )),
         _ => Err(CaseFault::NoCall),
     }
 }

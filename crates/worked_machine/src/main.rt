@@ -8,15 +8,15 @@
 //! |---|---|
 //! | `machine REGION JOBS` | a machine of these jobs over a region of so many words |
 //! | `admit`, `used`, `jobs`, `run_out` | that call; `run_out` on a desk of the region's words |
-//! | `begin JOB WORDS` | `begin` on a new desk of so many words |
+//! | `begin JOB WORDS`, `step JOB WORDS` | that call on a new desk of so many words |
 //! | `finish TICKET` | `compute` and `finish` |
-//! | `recall JOB`, `collect JOB`, `status JOB`, `outcome JOB`, `executed JOB`, `peak JOB` | that call |
+//! | `recall JOB`, `collect JOB`, `status JOB`, `outcome JOB`, `executed JOB`, `peak JOB`, `passed JOB` | that call |
 //! | `replay EVENTS` | that call; an event is `a` (admit), or `b` (begin), `f` (finish), `r` (recall) or `c` (collect) with the number of a job |
 //! | `list` | whether `holds` is true of the machine's own `list` |
 //! | `holds JOBS` | whether `holds` is true of these jobs |
 //!
 //! `JOBS` are `CODE BUDGET WORDS ..`: a code, the budget of each job, and the words of each. The code is `nothing`,
-//! which is `RET` alone, or `seven`, which leaves `INT (7)`.
+//! which is `RET` alone, `seven`, which leaves `INT (7)`, or `divide`, which divides `INT (7)` by `INT (0)`.
 #![tactic(auto)]
 
 mod call;

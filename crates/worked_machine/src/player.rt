@@ -4,7 +4,7 @@ ghost use Rattle.std.specs.Prelude.{◌≡◌, ◌≤◌, All, length};
 ghost use Rattle.vcode_base.specs.declared.limits.TheConstants.{MOST_JOBS, MOST_WORDS};
 
 use crate::fault::CaseFault;
-use job_machine::{Begun, Desk, Finished, Job, Machine, Ticket, compute};
+use job_machine::{Begun, Desk, Finished, Job, Machine, Stepped, Ticket, compute};
 use std::alloc::{AllocError, Global};
 use vcode_base::{Outcome, Rule};
 
@@ -51,6 +51,24 @@ impl Player {
             Begun::Ended(_) => Ok("Ended"),
             Begun::NotReady(_) => Ok("NotReady"),
             Begun::SmallDesk(_) => Ok("SmallDesk"),
+        }
+    }
+
+    /// Takes a step in one go on a new desk of so many words.
+    pub fn step(
+        &mut self,
+        alloc: Global,
+        job: usize,
+        words: usize,
+    ) -> Result<&'static str, CaseFault>
+        requires { words ≤ MOST_WORDS }
+    {
+        let mut desk = Desk::new(alloc, words)?;
+        match self.machine.step(job, &mut desk) {
+            Stepped::Done => Ok("Done"),
+            Stepped::Ended => Ok("Ended"),
+            Stepped::NotReady => Ok("NotReady"),
+            Stepped::SmallDesk => Ok("SmallDesk"),
         }
     }
 

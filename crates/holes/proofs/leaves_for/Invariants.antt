@@ -6,7 +6,7 @@ abbrev pub invariant-loop-leaves : goal.invariant-loop-leaves
 invariant-loop-leaves l = record {
   power : IsPowerOfTwo l.leaves;
   some : 1 ≤ l.leaves;
-  few : 32 * l.leaves < l.size + 64;
+  few : 128 * l.leaves < l.size + 256;
 }
 
 abbrev pub decreases-loop-leaves : goal.decreases-loop-leaves

@@ -1,3 +1,4 @@
+use Rattle.std.proofs.Common.{refl}
 use Rattle.batch_front.specs.Reports.{ruled_entries}
 use Rattle.batch_front.proofs.SeatLemmas.{seated_after}
 use Rattle.batch_front.proofs.answer.jobs_of_workers.Goals as goal
@@ -5,18 +6,18 @@ use Rattle.batch_front.proofs.answer.jobs_of_workers.Goals as goal
 pub told-requires-clause-seated : goal.told-requires-clause-seated
 told-requires-clause-seated g c = (
   ruled_entries c.args.rule c.args.entries,
-  seated_after _ _ _ _ (ruled_entries c.args.rule c.args.entries) c.in_ok-machine-2.ensures.tasks c.deref.ensures.value
+  seated_after _ _ _ _ (ruled_entries c.args.rule c.args.entries) c.in_ok-machine-2.ensures.tasks refl
       c.in_ok-machine.ensures.seated,
 )
 
 pub returns-clause-report : goal.returns-clause-report
 returns-clause-report g c =
-    c.in_ok-told.ensures.report (ruled_entries c.args.rule c.args.entries)
-    (seated_after _ _ _ _ (ruled_entries c.args.rule c.args.entries) c.in_ok-machine-2.ensures.tasks c.deref.ensures.value
+    c.told.ensures.report (ruled_entries c.args.rule c.args.entries)
+    (seated_after _ _ _ _ (ruled_entries c.args.rule c.args.entries) c.in_ok-machine-2.ensures.tasks refl
     c.in_ok-machine.ensures.seated)
 
 pub returns-clause-status : goal.returns-clause-status
 returns-clause-status g c =
-    c.in_ok-told.ensures.status (ruled_entries c.args.rule c.args.entries)
-    (seated_after _ _ _ _ (ruled_entries c.args.rule c.args.entries) c.in_ok-machine-2.ensures.tasks c.deref.ensures.value
+    c.told.ensures.status (ruled_entries c.args.rule c.args.entries)
+    (seated_after _ _ _ _ (ruled_entries c.args.rule c.args.entries) c.in_ok-machine-2.ensures.tasks refl
     c.in_ok-machine.ensures.seated)

@@ -1,13 +1,13 @@
-use Rattle.std.proofs.Common.{◌≡◌, ◌-◌, ◌≤◌, true, false, List, ℕ, length, arith, sym, ap, ◌∙◌, subst}
+use Rattle.std.proofs.Common.{rules, min, ◌≡◌, ◌-◌, ◌/◌, ◌≤◌, ◌<◌, true, false, List, ℕ, length, arith, sym, ap}
+use Rattle.std.proofs.Common.{◌∙◌, subst}
 use Rattle.std.specs.Vec.{with_items}
 use Rattle.std.proofs.lemmas.List.{with_items_is}
-use Rattle.holes.specs.declared.summary.Summary.{Summary}
 use Rattle.holes.specs.FreeWords.{Region, free_from}
-use Rattle.holes.specs.Tree.{words_from, word_at, IsHoles, IsFilled}
-use Rattle.holes.proofs.Regions.{view_length, holes_reset, reset_words, same_region, flag_of_some}
+use Rattle.holes.specs.Tree.{words_from, word_at, IsFilled}
+use Rattle.holes.proofs.Regions.{view_length, holes_reset, reset_words, same_region, same_holes}
 use Rattle.holes.proofs.Holes.reset.Given as given
 use Rattle.holes.proofs.Holes.reset.Goals as goal
-use Rattle.holes.proofs.Holes.reset.Goals.{After-self-9-1}
+use Rattle.holes.proofs.Holes.reset.Goals.{After-fill-self-inside-2}
 
 pub overflow_sub-self : goal.overflow_sub-self
 overflow_sub-self g c =
@@ -44,7 +44,7 @@ fill-self-inside-requires-2-clause-within g c =
     )
 
 -- The bitmaps and the nodes that are written back at last.
-record Second (g : given.Over) (c : After-self-9-1 g) : Type 0 where
+record Second (g : given.Over) (c : After-fill-self-inside-2 g) : Type 0 where
   from_within : c.args.from ≤ c.self.inside.size
   bits : (with_items (with_items c.self.inside.bits c.fill-self-inside.new.bits)
       c.fill-self-inside-2.new.bits).items ≡ c.fill-self-inside-2.new.bits
@@ -54,7 +54,7 @@ record Second (g : given.Over) (c : After-self-9-1 g) : Type 0 where
   filled : IsFilled c.fill-self-inside.new.bits c.fill-self-inside-2.new.bits c.args.from
       (c.self.inside.size - c.args.from) true
 
-second : (g : given.Over) (c : After-self-9-1 g) → Second g c
+second : (g : given.Over) (c : After-fill-self-inside-2 g) → Second g c
 second g c =
     let filled_first : IsFilled c.self.inside.bits.items c.fill-self-inside.new.bits 0 c.args.from false =
     subst (λ (list : List ℕ). IsFilled list c.fill-self-inside.new.bits 0 c.args.from false) c.deref_mut.ensures.value
@@ -89,25 +89,25 @@ second g c =
 
 pub invariant_of-self : goal.invariant_of-self
 invariant_of-self g c =
-    let s = second g (goal.at.invariant_of-self g c).After-self-9-1 in
-    let free = c.self.inside.size - c.args.from in
-    let count = c.from-self-inside.result in
-    subst (λ (bits : List ℕ). IsHoles bits
-    (with_items (with_items c.self.inside.nodes c.fill-self-inside.new.nodes) c.fill-self-inside-2.new.nodes).items
-    c.fill-self-inside-2.result c.args.from c.self.inside.size free count c.self.inside.most) (sym s.bits)
-    (subst (λ (nodes : List Summary). IsHoles c.fill-self-inside-2.new.bits nodes c.fill-self-inside-2.result
-    c.args.from
-    c.self.inside.size free count c.self.inside.most)
-    (sym s.nodes)
-    (holes_reset c.self.inside.bits.items c.fill-self-inside.new.bits c.fill-self-inside-2.new.bits
-    c.self.inside.nodes.items c.fill-self-inside-2.new.nodes c.self.inside.changed c.fill-self-inside-2.result
-    c.self.inside.low c.self.inside.size c.self.inside.free c.self.inside.count c.self.inside.most c.args.from count
-    c.self.invariant c.fill-self-inside-2.ensures.tree s.from_within s.first_filled s.filled
-    (c.from-self-inside.ensures ∙ flag_of_some free)))
+    let s = second g (goal.at.invariant_of-self g c).After-fill-self-inside-2 in
+    let near = c.min-self-inside.result in
+    let bits = c.fill-self-inside-2.new.bits in
+    let nodes = c.fill-self-inside-2.new.nodes in
+    let least : near ≡ min (c.args.from / 64) (c.len.result - 1) = search rules in
+    let within : near < length c.self.inside.bits.items =
+    omega (arith, c.len.ensures, c.self.inside.bits.ok.0, c.self.invariant.near_within) in
+    same_holes bits (with_items (with_items c.self.inside.bits c.fill-self-inside.new.bits) bits).items nodes
+    (with_items (with_items c.self.inside.nodes c.fill-self-inside.new.nodes) nodes).items
+    c.fill-self-inside-2.result near c.self.inside.size (c.self.inside.size - c.args.from) c.self.inside.most s.bits
+    s.nodes
+    (holes_reset c.self.inside.bits.items c.fill-self-inside.new.bits bits c.self.inside.nodes.items nodes
+    c.self.inside.changed c.fill-self-inside-2.result c.self.inside.near near c.self.inside.size c.self.inside.free
+    c.self.inside.most c.args.from c.self.invariant c.fill-self-inside-2.ensures.tree s.from_within s.first_filled
+    s.filled within (omega arith))
 
 pub returns : goal.returns
 returns g c =
-    let s = second g (goal.at.returns g c).After-self-9-1 in
+    let s = second g (goal.at.returns g c).After-fill-self-inside-2 in
     same_region _ _ _ _
     (ap (λ (list : List ℕ). words_from (word_at list) 0 c.self.inside.size) s.bits
     ∙ (reset_words c.self.inside.bits.items c.fill-self-inside.new.bits c.fill-self-inside-2.new.bits

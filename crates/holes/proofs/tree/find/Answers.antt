@@ -1,8 +1,8 @@
-use Rattle.std.proofs.Common.{rules, ◌+◌, ◌-◌, ◌*◌, ◌/◌, ◌^◌, ◌<◌, ◌≤◌, length, refl, arith}
+use Rattle.std.proofs.Common.{rules, ◌≡◌, ◌+◌, ◌-◌, ◌*◌, ◌/◌, ◌^◌, ◌<◌, ◌≤◌, length, refl, arith, sym, subst, IfSome}
 use Rattle.std.proofs.lemmas.Bool.{true≢false}
 use Rattle.holes.specs.FreeWords.{widest}
 use Rattle.holes.specs.Tree.{words_of, node_at}
-use Rattle.holes.proofs.Finding.{root_longest, at_root, Below, below, AtBitmap, at_bitmap}
+use Rattle.holes.proofs.Finding.{root_longest, at_root, Below, below, AtLeaf, at_leaf}
 use Rattle.holes.proofs.tree.find.Goals as goal
 use Rattle.holes.proofs.tree.find.Goals.{In-loop-index, After-loop-index}
 
@@ -73,39 +73,41 @@ loop-index-preserved c =
     let b = parts_at (goal.at.loop-index-preserved c).In-loop-index in
     record { some = omega arith; height = b.lower; at = b.right (omega arith) (omega arith) }
 
--- what is known at the bitmap
-bitmap_at : (c : After-loop-index) → AtBitmap c.args.bits.now c.args.len c.loop-index.index c.loop-index.place
-bitmap_at c =
-    at_bitmap c.args.bits.now c.args.len c.loop-index.invariant.height c.loop-index.index c.loop-index.place
-    c.loop-index.width c.loop-index.invariant.at (omega arith)
+-- what is known at the leaf
+leaf_at : (c : After-loop-index) → AtLeaf c.args.bits.now c.args.len
+    ((c.loop-index.index - length c.args.nodes.now / 2) * 4)
+leaf_at c =
+    at_leaf c.args.bits.now (length c.args.nodes.now / 2) c.args.len c.loop-index.invariant.height c.loop-index.index
+    c.loop-index.place c.loop-index.width ((c.loop-index.index - length c.args.nodes.now / 2) * 4)
+    (omega (arith, c.requires.tree.bitmaps, c.requires.tree.node_count)) c.loop-index.invariant.at (omega arith) refl
 
-pub bounds-bits-index : goal.bounds-bits-index
-bounds-bits-index c = (bitmap_at (goal.at.bounds-bits-index c).After-loop-index).within
-
-pub offset_bounds-bits-index : goal.offset_bounds-bits-index
-offset_bounds-bits-index c =
-    let b = bitmap_at (goal.at.offset_bounds-bits-index c).After-loop-index in
-    let small : (c.loop-index.index - length c.args.bits.now) * 8 < 2 ^ 64 =
-    omega (arith, b.within, c.requires.tree.small) in
+pub overflow_mul-first : goal.overflow_mul-first
+overflow_mul-first c =
+    let leaf = leaf_at (goal.at.overflow_mul-first c).After-loop-index in
+    let small : (c.loop-index.index - length c.args.nodes.now / 2) * 4 < 2 ^ 64 =
+    omega (arith, leaf.within, c.requires.tree.small) in
     search rules
 
-pub lowest_fit-requires-clause-fits : goal.lowest_fit-requires-clause-fits
-lowest_fit-requires-clause-fits c = (bitmap_at (goal.at.lowest_fit-requires-clause-fits c).After-loop-index).fits
-
-pub overflow_add-result-2 : goal.overflow_add-result-2
-overflow_add-result-2 c =
-    let b = bitmap_at (goal.at.overflow_add-result-2 c).After-loop-index in
-    let small : c.loop-index.place + c.lowest_fit.result < 2 ^ 64 =
-    omega (arith, b.small, c.lowest_fit.ensures.within, c.requires.tree.small, c.requires.some) in
+pub overflow_add-first : goal.overflow_add-first
+overflow_add-first c =
+    let leaf = leaf_at (goal.at.overflow_add-first c).After-loop-index in
+    let small : (c.loop-index.index - length c.args.nodes.now / 2) * 4 + 4 < 2 ^ 64 =
+    omega (arith, leaf.within, c.requires.tree.small) in
     search rules
+
+pub find_in-requires-clause-within : goal.find_in-requires-clause-within
+find_in-requires-clause-within c = (leaf_at (goal.at.find_in-requires-clause-within c).After-loop-index).within
 
 pub returns-clause-none : goal.returns-clause-none
 returns-clause-none c =
+    let leaf = leaf_at (goal.at.returns-clause-none c).After-loop-index in
     let root = root_longest c.args.bits.now c.args.nodes.now c.requires.tree in
-    let wide : c.args.len ≤ (node_at c.args.nodes.now 1).longest = omega arith in
-    ((λ e. absurd (true≢false e)), (λ short. absurd (omega (arith, root, wide))))
+    let wide : c.args.len ≤ (node_at c.args.nodes.now 1).longest = omega arith in (
+      (λ e. let short = c.find_in.ensures.none.0 e in absurd (omega (arith, leaf.fits, short))),
+      (λ short. absurd (omega (arith, root, wide))),
+    )
 
 pub returns-clause-lowest : goal.returns-clause-lowest
 returns-clause-lowest c =
-    let b = bitmap_at (goal.at.returns-clause-lowest c).After-loop-index in
-    omega (arith, b.lowest, c.lowest_fit.ensures.value)
+    let leaf = leaf_at (goal.at.returns-clause-lowest c).After-loop-index in
+    subst (λ n. IfSome c.find_in.result (λ place. place ≡ n)) (sym leaf.lowest) c.find_in.ensures.lowest

@@ -6,7 +6,7 @@ abbrev pub invariant-loop-index : goal.invariant-loop-index
 invariant-loop-index l = record {
   some : 1 ≤ l.index;
   height : ℕ;
-  at : At l.bits l.len height l.index l.place l.width;
+  at : At l.bits l.leaves l.len height l.index l.place l.width;
 }
 
 abbrev pub decreases-loop-index : goal.decreases-loop-index

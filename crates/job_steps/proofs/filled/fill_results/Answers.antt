@@ -1,14 +1,12 @@
-use Rattle.std.proofs.Common.{◌∙◌, ap, subst, length}
+use Rattle.std.proofs.Common.{subst}
 use Rattle.job_steps.specs.Tickets.{IsAnswer, question_by}
-use Rattle.job_steps.proofs.BufferLemmas.{items_after_write}
-use Rattle.job_steps.proofs.QuestionLemmas.{contents_in_front, can_answer_too}
+use Rattle.job_steps.proofs.QuestionLemmas.{contents_in_front, can_answer_within}
 use Rattle.job_steps.proofs.filled.fill_results.Goals as goal
 
 pub fill_front-requires : goal.fill_front-requires
 fill_front-requires g c =
     let buffers = c.args.buffers.now in
-    can_answer_too c.args.op buffers.words _ buffers.operands.lists _
-    (ap length c.as_mut_slice.ensures.value ∙ buffers.result_room)
+    can_answer_within c.args.op buffers.words _ buffers.operands.lists _ buffers.result_room
     (contents_in_front c.count-count.result c.lists-lists.result buffers.operands.lists c.count-count.ensures
     c.lists-lists.ensures)
     c.requires
@@ -20,5 +18,5 @@ returns-clause-answer g c =
     let are =
     contents_in_front c.count-count.result c.lists-lists.result buffers.operands.lists c.count-count.ensures
     c.lists-lists.ensures in
-    rw (items_after_write buffers.results _ filled.new.results c.as_mut_slice.ensures.value filled.auto.results)
-    (subst (λ lists. IsAnswer (question_by c.args.op lists) filled.result filled.new.results) are filled.ensures)
+    subst (λ lists. IsAnswer (question_by c.args.op lists) filled.result filled.new.room.items) are
+    filled.ensures.answer

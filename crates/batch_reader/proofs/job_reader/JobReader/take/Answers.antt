@@ -1,18 +1,19 @@
+use Rattle.std.proofs.Common.{refl, length}
+use Rattle.batch_reader.specs.declared.stage.Step.TheVariants.{To}
 use Rattle.batch_reader.proofs.ReaderLemmas.{stands_behind_blank, stands_taken}
 use Rattle.batch_reader.proofs.job_reader.JobReader.take.Goals as goal
-
-pub returns-clause-taken : goal.returns-clause-taken
-returns-clause-taken g c =
-    rw (← c.self.view_is) (λ come stands. stands_taken _ come c.args.text.now c.heading_of-heading.result
-    c.in_ok-step.step _ _
-    c.len.result c.stage_behind.new.rule c.replace-stage.result c.set_stage.new.stage c.in_ok-next.next
-    c.stage_behind.new.entries c.replace-stage.ensures.value c.in_ok-next.ensures.rule c.len.ensures
-    c.heading_of-heading.ensures c.set_stage.ensures
-    c.in_ok-step.ensures.turns
-    c.in_ok-next.ensures.kept stands)
 
 pub returns-then-passes_over-clause-taken : goal.returns-then-passes_over-clause-taken
 returns-then-passes_over-clause-taken g c =
     let blank = c.passes_over.ensures c.if-passes_over.true in
     rw (← c.self.view_is) (λ come stands. stands_behind_blank _ come c.args.text.now c.heading_of-heading.result _ _
     blank.0 c.heading_of-heading.ensures blank.1 stands)
+
+pub returns-then-stays-clause-taken : goal.returns-then-stays-clause-taken
+returns-then-stays-clause-taken g c =
+    rw (← c.self.view_is) (λ come stands. stands_taken _ come c.args.text.now c.heading_of-heading.result
+    (To c.step_inside.new.stage) _ _
+    (length c.self.inside.entries) c.self.inside.rule c.self.inside.stage c.step_inside.new.stage
+    c.step_inside.new.stage c.self.inside.entries refl refl refl c.heading_of-heading.ensures refl
+    (λ room standing. c.in_default.ensures.turns c.self.inside.region (length c.self.inside.entries) room standing)
+    (refl, refl) stands)

@@ -1,10 +1,10 @@
-use Rattle.std.proofs.Common.{◌≡◌, ℕ, ◌+◌, ◌<◌, ◌≤◌, List, length, get_or, set, refl, sym, ap, subst, arith}
-use Rattle.std.specs.Prelude.{All, true, false}
+use Rattle.std.proofs.Common.{◌≡◌, ◌+◌, ◌<◌, ◌≤◌, length, get_or, set, refl, sym, ap, subst, arith}
+use Rattle.std.specs.Prelude.{All, true}
 use Rattle.std.proofs.lemmas.Grind.{common_steps}
 use Rattle.holes.specs.FreeWords.{Region, set_range}
 use Rattle.bench_memory.specs.declared.spans.Span.{Span}
 use Rattle.bench_memory.specs.Spans.{AreApart}
-use Rattle.bench_memory.proofs.SpanLemmas.{all_within, given, none_free}
+use Rattle.bench_memory.proofs.SpanLemmas.{all_within, given}
 use Rattle.bench_memory.proofs.spans.Spans.give.Goals as goal
 
 pub invariant_of-self : goal.invariant_of-self

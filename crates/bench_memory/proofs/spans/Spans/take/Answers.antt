@@ -1,5 +1,5 @@
-use Rattle.std.proofs.Common.{◌≡◌, ℕ, ◌+◌, ◌<◌, ◌≤◌, List, length, get_or, set, sym, ap, subst, arith}
-use Rattle.std.specs.Prelude.{All, true, false}
+use Rattle.std.proofs.Common.{◌≡◌, ◌+◌, ◌<◌, ◌≤◌, length, get_or, set, sym, ap, subst, arith}
+use Rattle.std.specs.Prelude.{All, false}
 use Rattle.std.proofs.lemmas.Grind.{common_steps}
 use Rattle.holes.specs.FreeWords.{Region, set_range}
 use Rattle.bench_memory.specs.declared.spans.Span.{Span}

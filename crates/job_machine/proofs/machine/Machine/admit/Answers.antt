@@ -1,111 +1,174 @@
-use Rattle.std.proofs.Common.{◌≡◌, ◌+◌, ◌<◌, length, get_or, position, ap, ◌∙◌, arith, map}
+use Rattle.std.proofs.Common.{◌≡◌, ◌-◌, length, get_or, ap, sym, refl, ◌∙◌, subst, arith, map}
+use Rattle.std.proofs.lemmas.List.{length-map, with_items_is}
 use Rattle.std.specs.Arc.{arc_value}
-use Rattle.job_steps.specs.Standings.{is_waiting}
-use Rattle.job_slots.specs.Slots.{SlotState, standing_of}
+use Rattle.std.specs.Vec.{with_items}
+use Rattle.job_steps.specs.Standings.{AreFew, passes_before}
 use Rattle.job_steps.specs.States.{ruled}
-use Rattle.job_machine.proofs.TurnLemmas.{HasFirst, task_read, turn_shows, turn_sound, has_first, none_answer, none_state}
-use Rattle.job_machine.proofs.TurnLemmas.{within_by, admitted_answer, refused_answer, admitted_state, refused_state}
-use Rattle.job_machine.proofs.TurnLemmas.{fits_by, past_by, live_by, same_by}
+use Rattle.job_machine.specs.Admissions.{next_by}
+use Rattle.job_machine.specs.Machines.{admission_in}
+use Rattle.job_machine.specs.Sound.{standings_of}
+use Rattle.job_machine.proofs.Admitting.{answer_is, nobody_state, IsAdmitted, is_admitted, HasOwnPlace, admitted_place}
+use Rattle.job_machine.proofs.Admitting.{HasNext, has_next, granted_ok, admitted_sound, admitted_state}
+use Rattle.job_machine.proofs.TurnLemmas.{task_read, turn_shows, turn_sound}
 use Rattle.job_machine.proofs.machine.Machine.admit.Given.{Over}
 use Rattle.job_machine.proofs.machine.Machine.admit.Goals as goal
-use Rattle.job_machine.proofs.machine.Machine.admit.Goals.{After-first_waiting, After-admit-arg-1, in-Ok, in-Err}
+use Rattle.job_machine.proofs.machine.Machine.admit.Goals.{After-next_admission-next, In-Admitted, After-admit-arg-1}
 
--- the first slot that waits is searched among those of the machine
-searched : (g : Over) (c : goal.After-first_waiting g) →
-    c.first_waiting.result ≡ position (λ (slot : SlotState). is_waiting (standing_of slot)) c.self.inside.slots.items
-searched g c =
-    c.first_waiting.ensures.first
-    ∙ ap (position (λ (slot : SlotState). is_waiting (standing_of slot))) c.as_slice.ensures.value
+pub next_admission-next-requires-clause-slots : goal.next_admission-next-requires-clause-slots
+next_admission-next-requires-clause-slots g c =
+    let jobs_are = c.as_slice.ensures.value ∙ ap (λ v. v.items) c.deref.ensures in
+    omega (
+      arith,
+      ap length c.as_slice-2.ensures.value,
+      ap length jobs_are,
+      c.self.invariant.slots_are,
+      length-map (arc_value c.self.inside.jobs).items (ruled c.self.inside.rule),
+    )
 
-pub returns-in_default-clause-answer : goal.returns-in_default-clause-answer
-returns-in_default-clause-answer g c =
-    none_answer c.self.inside.blocks (map (ruled c.self.inside.rule) (arc_value c.self.inside.jobs).items)
-    c.self.inside.slots.items c.args.self.now
-    c.first_waiting.result c.self.view_is
-    (searched g (goal.at.returns-in_default-clause-answer g c).After-first_waiting) c.in_default.is
+pub next_admission-next-requires-clause-passes : goal.next_admission-next-requires-clause-passes
+next_admission-next-requires-clause-passes g c =
+    let jobs_are = c.as_slice.ensures.value ∙ ap (λ v. v.items) c.deref.ensures in
+    omega (
+      arith,
+      ap length c.as_slice-3.ensures.value,
+      ap length jobs_are,
+      c.self.invariant.passes_are,
+      length-map (arc_value c.self.inside.jobs).items (ruled c.self.inside.rule),
+    )
 
-pub returns-in_default-clause-state : goal.returns-in_default-clause-state
-returns-in_default-clause-state g c =
-    none_state c.self.inside.blocks (map (ruled c.self.inside.rule) (arc_value c.self.inside.jobs).items)
-    c.self.inside.slots.items c.args.self.now
-    c.first_waiting.result c.self.view_is
-    (searched g (goal.at.returns-in_default-clause-state g c).After-first_waiting) c.in_default.is
+-- the answer is the machine's admission
+answer : (g : Over) (c : goal.After-next_admission-next g) →
+    c.next_admission-next.result ≡ admission_in c.args.self.now
+answer g c =
+    let rule = c.self.inside.rule in
+    let jobs_are = c.as_slice.ensures.value ∙ ap (λ v. v.items) c.deref.ensures in
+    answer_is (arc_value c.self.inside.jobs).items c.self.invariant c.self.view_is c.next_admission-next.result
+    (c.next_admission-next.ensures rule
+    ∙ (λ i. next_by rule c.self.inside.blocks (jobs_are i) (c.as_slice-2.ensures.value i)
+    (c.as_slice-3.ensures.value i)))
 
--- the first job that waits has the turn
-first : (g : Over) (c : goal.After-admit-arg-1 g) →
-    HasFirst c.self.inside.blocks (map (ruled c.self.inside.rule) (arc_value c.self.inside.jobs).items)
-    c.self.inside.slots.items c.args.self.now
-    (c.in-Some.place + 1) c.in-Some.place (ruled c.self.inside.rule c.index-jobs-place.result)
-    c.index_mut-slot.result.now
-first g c =
-    let jobs_are = c.as_slice-jobs.ensures.value ∙ ap (λ v. v.items) c.deref.ensures in
-    let place = c.in-Some.place in
+pub returns-in_default : goal.returns-in_default
+returns-in_default g c =
+    let is = answer g (goal.at.returns-in_default g c).After-next_admission-next in
+    record { answer = is; state = nobody_state c.args.self.now c.next_admission-next.result is c.in_default.not-Admitted }
+
+-- the job is the one that is admitted
+next : (g : Over) (c : goal.In-Admitted g) → c.next_admission-next.result ≡ admission_in c.args.self.now →
+    IsAdmitted c.self.inside.blocks (map (ruled c.self.inside.rule) (arc_value c.self.inside.jobs).items)
+    c.self.inside.slots.items c.self.inside.passes.items c.in-Admitted.job
+next g c is = is_admitted c.admission_laws.ensures.room c.self.view_is c.in-Admitted.job (sym is ∙ c.in-Admitted.is)
+
+own : (g : Over) (c : goal.In-Admitted g) → c.next_admission-next.result ≡ admission_in c.args.self.now →
+    HasOwnPlace (length (map (ruled c.self.inside.rule) (arc_value c.self.inside.jobs).items)) c.in-Admitted.job
+own g c is = admitted_place (next g c is)
+
+pub overflow_sub-place : goal.overflow_sub-place
+overflow_sub-place g c =
+    let at = goal.at.overflow_sub-place g c in
+    (own g at.In-Admitted (answer g at.After-next_admission-next)).first
+
+pub pass_before-requires-clause-within : goal.pass_before-requires-clause-within
+pass_before-requires-clause-within g c =
+    let at = goal.at.pass_before-requires-clause-within g c in
+    let within = (own g at.In-Admitted (answer g at.After-next_admission-next)).within in
+    omega (arith, within, ap length c.as_slice-4.ensures.value, c.self.invariant.slots_are)
+
+pub pass_before-requires-clause-few : goal.pass_before-requires-clause-few
+pass_before-requires-clause-few g c = subst AreFew (sym c.as_mut_slice.ensures.value) c.self.invariant.few_passes
+
+pub index_mut-slot-requires : goal.index_mut-slot-requires
+index_mut-slot-requires g c =
+    let at = goal.at.index_mut-slot-requires g c in
+    let here = own g at.In-Admitted (answer g at.After-next_admission-next) in
+    omega (arith, here.first, here.within, c.self.invariant.slots_are, c.self.inside.slots.ok)
+
+pub offset_bounds-jobs-place : goal.offset_bounds-jobs-place
+offset_bounds-jobs-place g c =
+    let at = goal.at.offset_bounds-jobs-place g c in
+    let here = own g at.In-Admitted (answer g at.After-next_admission-next) in
+    omega (
+      arith,
+      here.within,
+      ap length (c.as_slice-jobs.ensures.value ∙ ap (λ v. v.items) c.deref-2.ensures),
+      length-map (arc_value c.self.inside.jobs).items (ruled c.self.inside.rule),
+    )
+
+pub bounds-jobs-place : goal.bounds-jobs-place
+bounds-jobs-place g c =
+    let at = goal.at.bounds-jobs-place g c in
+    let here = own g at.In-Admitted (answer g at.After-next_admission-next) in
+    omega (
+      arith,
+      here.first,
+      here.within,
+      ap length (c.as_slice-jobs.ensures.value ∙ ap (λ v. v.items) c.deref-2.ensures),
+      length-map (arc_value c.self.inside.jobs).items (ruled c.self.inside.rule),
+    )
+
+-- it has the turn
+turn : (g : Over) (c : goal.After-admit-arg-1 g) →
+    IsAdmitted c.self.inside.blocks (map (ruled c.self.inside.rule) (arc_value c.self.inside.jobs).items)
+    c.self.inside.slots.items c.self.inside.passes.items c.in-Admitted.job →
+    HasNext c.self.inside.blocks (map (ruled c.self.inside.rule) (arc_value c.self.inside.jobs).items)
+    c.self.inside.slots.items c.self.inside.passes.items c.args.self.now c.in-Admitted.job (c.in-Admitted.job - 1)
+    (ruled c.self.inside.rule c.index-jobs-place.result) c.index_mut-slot.result.now
+turn g c next =
     let rule = c.self.inside.rule in
     let jobs = (arc_value c.self.inside.jobs).items in
+    let jobs_are = c.as_slice-jobs.ensures.value ∙ ap (λ v. v.items) c.deref-2.ensures in
+    let place = c.in-Admitted.job - 1 in
     let job = c.index-jobs-place.result in
-    let below =
-    within_by c.first_waiting.result place c.as_slice.result.now c.first_waiting.ensures.within c.in-Some.is in
-    let within : place < length c.self.inside.slots.items = omega (arith, below, ap length c.as_slice.ensures.value) in
-    has_first c.self.inside.blocks (map (ruled c.self.inside.rule) (arc_value c.self.inside.jobs).items)
-    c.self.inside.slots.items c.args.self.now
-    (place + 1) place c.first_waiting.result (ruled rule job) c.index_mut-slot.result.now c.self.invariant
-    c.self.view_is
-    (c.first_waiting.ensures.first
-    ∙ ap (position (λ (slot : SlotState). is_waiting (standing_of slot))) c.as_slice.ensures.value)
-    c.in-Some.is within (omega arith) (task_read rule jobs place job
-    (c.index-jobs-place.is ∙ ap (λ js. get_or js place job) jobs_are))
+    has_next c.in-Admitted.job place (ruled rule job) c.index_mut-slot.result.now c.self.invariant c.self.view_is
+    next refl
+    (task_read rule jobs place job (c.index-jobs-place.is ∙ ap (λ js. get_or js place job) jobs_are))
     c.index_mut-slot.ensures.value
 
-pub admit-requires-clause-shows : goal.admit-requires-clause-shows
-admit-requires-clause-shows g c =
-    turn_shows c.self.invariant (first g (goal.at.admit-requires-clause-shows g c).After-admit-arg-1).turn
+pub admit-granted-requires-clause-shows : goal.admit-granted-requires-clause-shows
+admit-granted-requires-clause-shows g c =
+    let at = goal.at.admit-granted-requires-clause-shows g c in
+    turn_shows c.self.invariant
+    (turn g at.After-admit-arg-1 (next g at.In-Admitted (answer g at.After-next_admission-next))).turn
 
-pub admit-requires-clause-waits : goal.admit-requires-clause-waits
-admit-requires-clause-waits g c = (first g (goal.at.admit-requires-clause-waits g c).After-admit-arg-1).waiting
+pub admit-granted-requires-clause-waits : goal.admit-granted-requires-clause-waits
+admit-granted-requires-clause-waits g c =
+    let at = goal.at.admit-granted-requires-clause-waits g c in
+    (turn g at.After-admit-arg-1 (next g at.In-Admitted (answer g at.After-next_admission-next))).waits
+
+-- the passes that are left
+late : (g : Over) (c : goal.After-admit-arg-1 g) →
+    (with_items c.self.inside.passes c.pass_before.new.passes).items
+    ≡ passes_before (c.in-Admitted.job - 1) (standings_of c.self.inside.slots.items) c.self.inside.passes.items
+late g c =
+    with_items_is c.self.inside.passes c.pass_before.new.passes
+    (omega (
+      arith,
+      c.pass_before.auto.passes,
+      ap length c.as_mut_slice.ensures.value,
+      c.self.inside.passes.ok,
+    ))
+    ∙ c.pass_before.ensures
+    ∙ (λ i. passes_before (c.in-Admitted.job - 1) (standings_of (c.as_slice-4.ensures.value i))
+    (c.as_mut_slice.ensures.value i))
 
 pub invariant_of-self : goal.invariant_of-self
 invariant_of-self g c =
-    turn_sound c.turn_laws.ensures.others c.self.invariant
-    (first g (goal.at.invariant_of-self g c).After-admit-arg-1).turn c.admit.ensures.others c.admit.ensures.shows
+    let at = goal.at.invariant_of-self g c in
+    let has = turn g at.After-admit-arg-1 (next g at.In-Admitted (answer g at.After-next_admission-next)) in
+    admitted_sound c.admission_laws.ensures.passed c.admission_laws.ensures.few _
+    (with_items c.self.inside.passes c.pass_before.new.passes).items c.self.invariant has (late g at.After-admit-arg-1)
+    (turn_sound c.turn_laws.ensures.others c.self.invariant has.turn c.admit-granted.ensures.others
+    c.admit-granted.ensures.shows)
 
 pub returns-clause-answer : goal.returns-clause-answer
 returns-clause-answer g c =
-    let blocks = c.self.inside.blocks in
-    let tasks = (map (ruled c.self.inside.rule) (arc_value c.self.inside.jobs).items) in
-    let slots = c.self.inside.slots.items in
-    let place = c.in-Some.place in
-    let task = ruled c.self.inside.rule c.index-jobs-place.result in
-    let before = c.index_mut-slot.result.now in
-    let first = first g (goal.at.returns-clause-answer g c).After-admit-arg-1 in
-    elim c.match-admit.branch [
-      | in-Ok w ↦
-          w.result-is
-          ∙ admitted_answer blocks tasks slots c.args.self.now (place + 1) place task before c.self.invariant
-          c.self.view_is first (fits_by c.admit.result w.in-Ok.is c.admit.ensures.not_now)
-      | in-Err w ↦
-          w.result-is
-          ∙ refused_answer blocks tasks slots c.args.self.now (place + 1) place task before c.self.invariant
-          c.self.view_is first (past_by c.admit.result w.in-Err.is c.admit.ensures.not_now)
-    ]
+    sym c.in-Admitted.is ∙ answer g (goal.at.returns-clause-answer g c).After-next_admission-next
 
 pub returns-clause-state : goal.returns-clause-state
 returns-clause-state g c =
-    let blocks = c.self.inside.blocks in
-    let tasks = (map (ruled c.self.inside.rule) (arc_value c.self.inside.jobs).items) in
-    let slots = c.self.inside.slots.items in
-    let place = c.in-Some.place in
-    let task = ruled c.self.inside.rule c.index-jobs-place.result in
-    let before = c.index_mut-slot.result.now in
-    let first = first g (goal.at.returns-clause-state g c).After-admit-arg-1 in
-    elim c.match-admit.branch [
-      | in-Ok w ↦
-          admitted_state c.turn_laws.ensures.changed blocks c.admit.new.blocks tasks slots c.args.self.now (place + 1)
-          place task before c.admit.new.self c.self.invariant c.self.view_is first
-          (fits_by c.admit.result w.in-Ok.is c.admit.ensures.not_now) c.admit.ensures.others.memory.room
-          (live_by c.admit.result w.in-Ok.is c.admit.ensures.admitted)
-      | in-Err w ↦
-          refused_state blocks c.admit.new.blocks tasks slots c.args.self.now (place + 1) place task before
-          c.admit.new.self c.self.invariant c.self.view_is first
-          (past_by c.admit.result w.in-Err.is c.admit.ensures.not_now) c.admit.ensures.others.memory.room
-          (same_by c.admit.result w.in-Err.is c.admit.ensures.unchanged).0
-    ]
+    let at = goal.at.returns-clause-state g c in
+    let has = turn g at.After-admit-arg-1 (next g at.In-Admitted (answer g at.After-next_admission-next)) in
+    admitted_state c.turn_laws.ensures.changed c.admission_laws.ensures.passed c.admit-granted.new.blocks
+    c.admit-granted.new.self (with_items c.self.inside.passes c.pass_before.new.passes).items c.self.view_is has
+    c.admit-granted.ensures.others.memory.room
+    (granted_ok c.admit-granted.result c.admit-granted.ensures.not_now has.room c.admit-granted.ensures.admitted)
+    (late g at.After-admit-arg-1)

@@ -87,7 +87,7 @@ returns-clause-answer g c =
 
 pub returns-clause-state : goal.returns-clause-state
 returns-clause-state g c =
-    finished_state c.turn_laws.ensures.changed c.self.inside.blocks c.finish.new.blocks c.finish.new.self
+    finished_state c.turn_laws.ensures.changed c.turn_laws.ensures.passes c.self.inside.blocks c.finish.new.blocks c.finish.new.self
     c.self.view_is (turn g (goal.at.returns-clause-state g c).After-finish-arg-1) c.finish.ensures.others.memory.room
     c.finish.result.0 c.finish.ensures.standing
     ∙ ap (λ j. after_finished c.finish.result.0 c.args.self.now (machine_after (Finish j) c.args.self.now))

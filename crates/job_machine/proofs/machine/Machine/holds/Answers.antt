@@ -1,7 +1,7 @@
 use Rattle.std.proofs.Common.{◌≡◌, List, map, ap, sym, ◌∙◌}
 use Rattle.std.specs.Arc.{arc_value}
 use Rattle.vcode_base.specs.declared.rule.Rule.{Rule}
-use Rattle.job_steps.specs.States.{JobValue, Task, ruled}
+use Rattle.job_steps.specs.States.{JobValue, ruled}
 use Rattle.job_machine.specs.Machines.{MachineState}
 use Rattle.job_machine.proofs.Rules.{same_without}
 use Rattle.job_machine.proofs.machine.Machine.holds.Goals as goal

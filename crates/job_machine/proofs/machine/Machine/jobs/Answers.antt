@@ -3,7 +3,7 @@ use Rattle.std.specs.Arc.{arc_value}
 use Rattle.vcode_base.specs.declared.limits.TheConstants.{MOST_JOBS}
 use Rattle.job_steps.specs.EventLaws.{IsVerified, AreKept}
 use Rattle.job_steps.specs.States.{Task, ruled}
-use Rattle.job_machine.specs.Machines.{MachineState}
+use Rattle.job_machine.specs.Machines.{MachineState, queue_of}
 use Rattle.job_machine.proofs.TurnLemmas.{are_kept, all_verified}
 use Rattle.job_machine.proofs.machine.Machine.jobs.Goals as goal
 
@@ -28,7 +28,7 @@ returns-clause-fitting g c =
 
 pub returns-clause-kept : goal.returns-clause-kept
 returns-clause-kept g c =
-    subst (λ (m : MachineState). AreKept m.region m.tasks m.standings) c.self.view_is
+    subst (λ (m : MachineState). AreKept m.region m.tasks (queue_of m)) c.self.view_is
     (are_kept c.shown_is_alone.ensures c.self.inside.blocks
     (map (ruled c.self.inside.rule) (arc_value c.self.inside.jobs).items)
     c.self.inside.slots.items c.self.invariant c.used-used.ensures.tidy c.granted-granted.ensures.within)

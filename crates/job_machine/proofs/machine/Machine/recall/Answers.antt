@@ -47,6 +47,7 @@ returns-clause-state g c =
     let blocks = c.self.inside.blocks in
     let before = c.index_mut.result.now in
     let turn = turn g (goal.at.returns-clause-state g c).After-recall in
-    turn_state c.turn_laws.ensures.changed blocks blocks (Recall c.args.job) c.recall.new.self c.self.view_is turn.1
+    turn_state c.turn_laws.ensures.changed c.turn_laws.ensures.passes blocks blocks (Recall c.args.job)
+    c.recall.new.self (λ e. cc) c.self.view_is turn.1
     refl refl
     (ap standing_of c.recall.ensures.state ∙ recalled_stands c.args.job turn.0 before.status before.trace.executed)

@@ -19,7 +19,7 @@ all g c =
     (omega (arith, past, within, count)) c.loop-place.invariant
 
 pub returns-clause-recalled : goal.returns-clause-recalled
-returns-clause-recalled g c = (all g c).recalled
+returns-clause-recalled g c = (all g c).recalled_is
 
 pub returns-clause-leads : goal.returns-clause-leads
 returns-clause-leads g c = (all g c).leads

@@ -4,6 +4,7 @@ use Rattle.job_machine.specs.Machines.{IsWaitingOrCollected, IsDone}
 use Rattle.job_machine.proofs.Turns.{Admits, AreOut, admits, turns, turn_leads, out, words_on}
 use Rattle.job_machine.proofs.machine.Machine.run_all.Given.{Over}
 use Rattle.job_machine.proofs.machine.Machine.run_all.Goals as goal
+use Rattle.job_machine.proofs.machine.Machine.run_all.Goals.{In-Admitted}
 
 pub loop-job-init : goal.loop-job-init
 loop-job-init g c =
@@ -13,7 +14,7 @@ loop-job-init g c =
       c.run_admitted-ran.ensures.desk,
     )
 
-held : (g : Over) (c : goal.After-run_job-arg-1 g) → Admits c.in-Admitted.job c.loop-job.self c.admit.new.self
+held : (g : Over) (c : goal.In-Admitted g) → Admits c.in-Admitted.job c.loop-job.self c.admit.new.self
 held g c =
     admits c.admitted_have_room.ensures c.events_keep.ensures c.events_use_up.ensures c.in-Admitted.job
     c.args.self.now c.loop-job.self c.admit.new.self c.jobs-jobs.ensures.verified c.jobs-jobs.ensures.kept
@@ -22,34 +23,24 @@ held g c =
 pub run_job-ran-requires-clause-words : goal.run_job-ran-requires-clause-words
 run_job-ran-requires-clause-words g c =
     subst (λ (k : ℕ). All (λ task. task.limits.words ≤ k) c.admit.new.self.tasks) (sym c.loop-job.invariant.1)
-    (words_on _ _ _ (held g c).goes_on.leads (words_on _ _ _ c.loop-job.invariant.0.leads c.requires.words))
+    (words_on _ _ _ (held g (goal.at.run_job-ran-requires-clause-words g c).In-Admitted).goes_on.leads
+    (words_on _ _ _ c.loop-job.invariant.0.leads c.requires.words))
 
 pub run_job-ran-requires-clause-no_step : goal.run_job-ran-requires-clause-no_step
-run_job-ran-requires-clause-no_step g c = (held g c).goes_on.no_step
-
-held_err : (g : Over) (c : goal.In-Err-ran g) → Admits c.in-Admitted.job c.loop-job.self c.admit.new.self
-held_err g c =
-    admits c.admitted_have_room.ensures c.events_keep.ensures c.events_use_up.ensures c.in-Admitted.job
-    c.args.self.now c.loop-job.self c.admit.new.self c.jobs-jobs.ensures.verified c.jobs-jobs.ensures.kept
-    c.loop-job.invariant.0 (sym c.in-Admitted.ensures.answer) c.in-Admitted.ensures.state
+run_job-ran-requires-clause-no_step g c =
+    (held g (goal.at.run_job-ran-requires-clause-no_step g c).In-Admitted).goes_on.no_step
 
 pub returns-in-Err-ran-clause-leads : goal.returns-in-Err-ran-clause-leads
 returns-in-Err-ran-clause-leads g c =
-    turn_leads c.leads_join.ensures c.in-Admitted.job _ _ _ _ c.loop-job.invariant.0.leads (held_err g c)
+    turn_leads c.leads_join.ensures c.in-Admitted.job _ _ _ _ c.loop-job.invariant.0.leads (held g (goal.at.returns-in-Err-ran-clause-leads g c).In-Admitted)
     c.run_job-ran.ensures.goes_on
 
 pub returns-in-Err-ran-clause-desk : goal.returns-in-Err-ran-clause-desk
 returns-in-Err-ran-clause-desk g c = c.run_job-ran.ensures.desk ∙ c.loop-job.invariant.1
 
-held_ok : (g : Over) (c : goal.In_default-ran g) → Admits c.in-Admitted.job c.loop-job.self c.admit.new.self
-held_ok g c =
-    admits c.admitted_have_room.ensures c.events_keep.ensures c.events_use_up.ensures c.in-Admitted.job
-    c.args.self.now c.loop-job.self c.admit.new.self c.jobs-jobs.ensures.verified c.jobs-jobs.ensures.kept
-    c.loop-job.invariant.0 (sym c.in-Admitted.ensures.answer) c.in-Admitted.ensures.state
-
 pub loop-job-smaller : goal.loop-job-smaller
 loop-job-smaller g c =
-    let less = (held_ok g c).fewer in
+    let less = (held g (goal.at.loop-job-smaller g c).In-Admitted).fewer in
     let more = c.run_job-ran.ensures.no_more in
     omega (arith, less, more)
 
@@ -57,7 +48,7 @@ pub loop-job-preserved : goal.loop-job-preserved
 loop-job-preserved g c =
     let done : IsDone (of_job c.in-Admitted.job c.run_job-ran.new.self.standings) =
     rw c.in_default-ran.is at c.run_job-ran.ensures.ok in (
-      turns c.leads_join.ensures c.in-Admitted.job _ _ _ _ c.loop-job.invariant.0 (held_ok g c)
+      turns c.leads_join.ensures c.in-Admitted.job _ _ _ _ c.loop-job.invariant.0 (held g (goal.at.loop-job-preserved g c).In-Admitted)
           c.run_job-ran.ensures.goes_on done,
       c.run_job-ran.ensures.desk ∙ c.loop-job.invariant.1,
     )

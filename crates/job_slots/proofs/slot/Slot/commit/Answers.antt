@@ -1,8 +1,7 @@
 use Rattle.std.proofs.Common.{ap}
 use Rattle.job_steps.specs.States.{ruled}
 use Rattle.job_slots.specs.Slots.{SlotState, standing_of}
-use Rattle.job_slots.proofs.Committed.{FaultCommits, IsCommitted, fault_commits, ended_standing, executed_inside}
-use Rattle.job_slots.proofs.Committed.{committed}
+use Rattle.job_slots.proofs.Committed.{FaultCommits, fault_commits, ended_standing}
 use Rattle.job_slots.proofs.slot.Slot.commit.Given.{Over}
 use Rattle.job_slots.proofs.slot.Slot.commit.Goals as goal
 use Rattle.job_slots.proofs.slot.Slot.commit.Goals.{After-line_of_next-line}
@@ -34,37 +33,3 @@ returns-in-Err-clause-standing g c =
     ended_standing c.args.number (ruled c.args.rule c.args.job.now) (standing_of c.args.self.now) c.end.new.self
     c.end.ensures.ended
     (fault_ends_job g (goal.at.returns-in-Err-clause-standing g c).After-line_of_next-line).next
-
--- ---- results
-
-instruction_commits : (g : Over) (c : goal.After-go_on g) →
-    IsCommitted c.args.number (ruled c.args.rule c.args.job.now) (standing_of c.args.self.now) c.args.filled.now
-    c.execute.new.blocks
-    c.go_on.result c.go_on.new.self
-instruction_commits g c =
-    let mid : SlotState = record {
-      status = c.self-in-Ok.inside.status;
-      trace = c.execute.new.track;
-      outcome = c.self-in-Ok.inside.outcome;
-    } in
-    let executed = executed_inside c.args.number (ruled c.args.rule c.args.job.now) c.args.self.now
-    c.self-in-Ok.inside.track
-    c.execute.new.track c.args.blocks.now _ (ap (λ (s : SlotState). s.trace) c.self-in-Ok.view_is)
-    c.execute.ensures.after c.execute.ensures.limits c.execute.ensures.others c.execute.ensures.same_grant in
-    committed c.reached.ensures c.end_is_own.ensures c.args.number (ruled c.args.rule c.args.job.now) c.args.self.now
-    c.args.filled.now
-    c.args.blocks.now _ c.requires.shows c.requires.flying c.requires.fits mid executed
-    c.go_on.result c.go_on.new.self (record {
-      done = c.go_on.ensures.done;
-      ended = c.go_on.ensures.ended;
-      not_stale = c.go_on.ensures.not_stale;
-    })
-
-pub returns-in-Ok-clause-answer : goal.returns-in-Ok-clause-answer
-returns-in-Ok-clause-answer g c = (instruction_commits g c).answer
-
-pub returns-in-Ok-clause-shows : goal.returns-in-Ok-clause-shows
-returns-in-Ok-clause-shows g c = (instruction_commits g c).shows
-
-pub returns-in-Ok-clause-standing : goal.returns-in-Ok-clause-standing
-returns-in-Ok-clause-standing g c = (instruction_commits g c).standing

@@ -1,21 +1,19 @@
-use Rattle.std.proofs.Common.{◌<◌, ◌∙◌, length, arith}
+use Rattle.std.proofs.Common.{◌∙◌, sym}
 use Rattle.vcode_reader.specs.Parsing.{take}
-use Rattle.vcode_reader.proofs.Lines.{drop_next, next_room, later_room, later_same}
+use Rattle.vcode_reader.proofs.Lines.{none_left, same_room}
+use Rattle.vcode_reader.proofs.Pieces.{no_bytes}
 use Rattle.vcode_reader.proofs.reader.Scanner.bytes.Goals as goal
 
-pub byte-requires : goal.byte-requires
-byte-requires g c =
-    let lt : c.loop-byte.byte-index < length c.args.piece.now = omega arith in
-    next_room c.loop-byte.self _ _ _ _ (drop_next c.args.piece.now c.loop-byte.byte-index lt)
-    c.loop-byte.invariant.room
-
-pub loop-byte-preserved : goal.loop-byte-preserved
-loop-byte-preserved g c =
-    let lt : c.loop-byte.byte-index < length c.args.piece.now = omega arith in
-    let next = drop_next c.args.piece.now c.loop-byte.byte-index lt in
-    let old = c.loop-byte.self in
-    let new = c.byte.new.self in
+pub text-preserved : goal.text-preserved
+text-preserved g c =
+    let same = c.in_ok-rest.ensures.same in
     record {
-      room = later_room take old new _ _ _ _ next c.in_ok-byte.ensures c.loop-byte.invariant.room;
-      same = c.loop-byte.invariant.same ∙ later_same take old new _ _ _ next c.in_ok-byte.ensures;
+      room = same_room take c.text.self c.front.new.self _ _ _ same c.text.invariant.room;
+      same = c.text.invariant.same ∙ same;
     }
+
+pub returns : goal.returns
+returns g c =
+    sym (c.text.invariant.same
+    ∙ none_left take c.text.self c.text.rest.now
+    (no_bytes c.text.rest.now (sym c.is_empty.ensures ∙ c.text-test.false)))

@@ -1,0 +1,8 @@
+use Rattle.std.proofs.Common.{rules}
+use Rattle.batch_front.proofs.PageLemmas.{puts_same, puts_then}
+use Rattle.batch_front.proofs.report.put_count.Goals as goal
+
+pub returns : goal.returns
+returns g c =
+    let unit = puts_same {same = c.args.unit.now} c.put-3.ensures (search rules) in
+    puts_then (puts_then (puts_then c.put.ensures c.put_number.ensures) c.put-2.ensures) unit

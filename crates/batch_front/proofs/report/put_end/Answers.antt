@@ -1,0 +1,6 @@
+use Rattle.batch_front.proofs.PageLemmas.{puts_then}
+use Rattle.batch_front.proofs.report.put_end.Goals as goal
+
+pub returns : goal.returns
+returns g c =
+    puts_then (puts_then (puts_then c.put.ensures c.put_count.ensures) c.put_count-2.ensures) c.put-2.ensures

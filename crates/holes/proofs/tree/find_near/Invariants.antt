@@ -1,5 +1,0 @@
-use Rattle.holes.proofs.Near.{Passed}
-use Rattle.holes.proofs.tree.find_near.Given as goal
-
-abbrev pub invariant-loop-index : goal.invariant-loop-index
-invariant-loop-index l = Passed l.bits l.len l.index l.run

@@ -1,0 +1,254 @@
+-- Who is admitted next, and who is passed by.
+use Rattle.std.proofs.Common.{◌≡◌, ℕ, zero, suc, ◌+◌, ◌<◌, ◌≤◌, Bool, true, false, cond, ◌||◌, ◌&&◌, List, [], ◌∷◌}
+use Rattle.std.proofs.Common.{length, map, set, drop, get_or, slice_get, Some, None, refl, sym, ◌∙◌, ap, subst, arith}
+use Rattle.std.proofs.Common.{drop-cons}
+use Rattle.std.proofs.Common.{inl, inr}
+use Rattle.std.specs.Prelude.{nat_le, IsTrue, ◌↔◌}
+use Rattle.std.proofs.lemmas.Bool.{le-leb, lt-leb, cases_lt, false≢true}
+use Rattle.std.proofs.lemmas.List.{drop_all}
+use Rattle.std.proofs.lemmas.Option.{none-some, same_Some, slice_get_read, slice_get-get_or, get_or_from_slice_get}
+use Rattle.vcode_base.specs.declared.limits.TheConstants.{MOST_PASSES}
+use Rattle.vcode_base.specs.declared.rule.Rule.{Rule}
+use Rattle.job_memory.specs.JobBlocks.{JobBlocks, granted_words}
+use Rattle.job_steps.specs.Standings.{Standing, AreFew, is_waiting, has_room, admission_from, passed_once_more}
+use Rattle.job_steps.specs.Standings.{passes_before}
+use Rattle.job_steps.specs.States.{JobValue, ruled}
+use Rattle.job_slots.specs.Slots.{SlotState, standing_of}
+use Rattle.job_machine.specs.declared.machine.Admission.{Admission}
+use Rattle.job_machine.specs.declared.machine.Admission.TheVariants.{Admitted, NotNow, NoneWaiting}
+use Rattle.job_machine.specs.Machines.{any_waits, admission_by}
+use Rattle.job_machine.specs.Sound.{standings_of}
+use Rattle.job_machine.proofs.Places.{set_back}
+use Rattle.job_machine.proofs.SoundLemmas.{beside_at}
+
+-- ---- the walk over the jobs
+
+-- what is answered from a place on, by whether a job before it waits
+abbrev pub rest_by : Rule → JobBlocks → Bool → ℕ → List JobValue → List SlotState → List ℕ → Admission
+rest_by rule blocks waits first jobs slots passes =
+    admission_by (waits || any_waits (standings_of slots))
+    (admission_from first (has_room blocks.memory.room (granted_words blocks)) (map (ruled rule) jobs)
+    (standings_of slots) passes)
+
+or_true : (b : Bool) → (b || true) ≡ true
+or_true true = refl
+or_true false = refl
+
+-- the job at a place, with its slot and its passes, and those after it
+pub record HasHeads (jobs : List JobValue) (slots : List SlotState) (passes : List ℕ) (place : ℕ) (job : JobValue)
+    (slot : SlotState) (count : ℕ) : Type 0 where
+  pub jobs_are : drop place jobs ≡ job ∷ drop (suc place) jobs
+  pub slots_are : drop place slots ≡ slot ∷ drop (suc place) slots
+  pub passes_are : drop place passes ≡ count ∷ drop (suc place) passes
+
+pub has_heads : (jobs : List JobValue) (slots : List SlotState) (passes : List ℕ) (place : ℕ) (job : JobValue)
+    (slot : SlotState) (d : ℕ) → place < length slots → length slots ≡ length jobs → length passes ≡ length jobs →
+    job ≡ get_or jobs place job → slot ≡ get_or slots place slot →
+    HasHeads jobs slots passes place job slot (get_or passes place d)
+has_heads jobs slots passes place job slot d within same long job_is slot_is = record {
+  jobs_are = drop-cons jobs place job (omega (arith, within, same))
+      ∙ ap (λ (x : JobValue). x ∷ drop (suc place) jobs) (sym job_is);
+  slots_are = drop-cons slots place slot within ∙ ap (λ (x : SlotState). x ∷ drop (suc place) slots) (sym slot_is);
+  passes_are = drop-cons passes place d (omega (arith, within, same, long));
+}
+
+-- some job is at a place
+pub some_heads : (jobs : List JobValue) (slots : List SlotState) (passes : List ℕ) (place : ℕ) (slot : SlotState)
+    (d : ℕ) → place < length slots → length slots ≡ length jobs → length passes ≡ length jobs →
+    slot ≡ get_or slots place slot → (job : JobValue) × HasHeads jobs slots passes place job slot (get_or passes place d)
+some_heads jobs slots passes place slot d within same long slot_is =
+    let slot_at = slice_get_read slots (length slots) place slot refl within slot_is in
+    let job = beside_at slots jobs (sym same) place slot slot_at in (
+      job.0,
+      has_heads jobs slots passes place job.0 slot d within same long
+          (sym (get_or_from_slice_get jobs place job.0 job.0 job.1)) slot_is,
+    )
+
+-- what a test of room tells
+pub fits_by : (b : Bool) (room granted words own : ℕ) → b ≡ true → (IsTrue b ↔ (granted + words ≤ room)) →
+    words ≡ own → granted + own ≤ room
+fits_by true room granted words own b_is both same = let fits = both.0 refl in omega (arith, fits, same)
+fits_by false room granted words own b_is both same = absurd (false≢true b_is)
+
+pub past_by : (b : Bool) (room granted words own : ℕ) → b ≡ false → (IsTrue b ↔ (granted + words ≤ room)) →
+    words ≡ own → room < granted + own
+past_by true room granted words own b_is both same = absurd (false≢true (sym b_is))
+past_by false room granted words own b_is both same = elim (cases_lt room (granted + words)) [
+  | inl past ↦ omega (arith, past, same)
+  | inr fits ↦ absurd (false≢true (both.1 fits))
+]
+
+-- what is answered from a place on
+abbrev pub rest_at : Rule → JobBlocks → List JobValue → List SlotState → List ℕ → Bool → ℕ → Admission
+rest_at rule blocks jobs slots passes waits place =
+    rest_by rule blocks waits (suc place) (drop place jobs) (drop place slots) (drop place passes)
+
+-- by the job at that place
+rest_here : (rule : Rule) (blocks : JobBlocks) (jobs : List JobValue) (slots : List SlotState) (passes : List ℕ)
+    (waits : Bool) (place : ℕ) (job : JobValue) (slot : SlotState) (count : ℕ) →
+    HasHeads jobs slots passes place job slot count → (w f m : Bool) → is_waiting (standing_of slot) ≡ w →
+    has_room blocks.memory.room (granted_words blocks) (ruled rule job) ≡ f → nat_le MOST_PASSES count ≡ m →
+    rest_at rule blocks jobs slots passes waits place
+    ≡ admission_by (waits || (w || any_waits (standings_of (drop (suc place) slots))))
+    (cond (w && f) (Some (suc place)) (cond (w && m) None
+    (admission_from (suc (suc place)) (has_room blocks.memory.room (granted_words blocks))
+    (map (ruled rule) (drop (suc place) jobs)) (standings_of (drop (suc place) slots)) (drop (suc place) passes))))
+rest_here rule blocks jobs slots passes waits place job slot count h w f m w_is f_is m_is =
+    (λ i. rest_by rule blocks waits (suc place) (h.jobs_are i) (h.slots_are i) (h.passes_are i))
+    ∙ (λ i. admission_by (waits || (w_is i || any_waits (standings_of (drop (suc place) slots))))
+    (cond (w_is i && f_is i) (Some (suc place)) (cond (w_is i && m_is i) None
+    (admission_from (suc (suc place)) (has_room blocks.memory.room (granted_words blocks))
+    (map (ruled rule) (drop (suc place) jobs)) (standings_of (drop (suc place) slots)) (drop (suc place) passes)))))
+
+to_next : (rule : Rule) (blocks : JobBlocks) (jobs : List JobValue) (slots : List SlotState) (passes : List ℕ)
+    (waits : Bool) (place next : ℕ) → next ≡ suc place →
+    rest_at rule blocks jobs slots passes waits (suc place) ≡ rest_at rule blocks jobs slots passes waits next
+to_next rule blocks jobs slots passes waits place next next_is =
+    ap (rest_at rule blocks jobs slots passes waits) (sym next_is)
+
+-- a job that doesn't wait
+pub rest_skips : (rule : Rule) (blocks : JobBlocks) (jobs : List JobValue) (slots : List SlotState) (passes : List ℕ)
+    (waits : Bool) (place next : ℕ) (job : JobValue) (slot : SlotState) (count : ℕ) →
+    HasHeads jobs slots passes place job slot count → next ≡ suc place → is_waiting (standing_of slot) ≡ false →
+    rest_at rule blocks jobs slots passes waits place ≡ rest_at rule blocks jobs slots passes waits next
+rest_skips rule blocks jobs slots passes waits place next job slot count h next_is w_is =
+    rest_here rule blocks jobs slots passes waits place job slot count h false
+    (has_room blocks.memory.room (granted_words blocks) (ruled rule job)) (nat_le MOST_PASSES count) w_is refl refl
+    ∙ to_next rule blocks jobs slots passes waits place next next_is
+
+-- the first that waits and fits
+pub rest_admits : (rule : Rule) (blocks : JobBlocks) (jobs : List JobValue) (slots : List SlotState) (passes : List ℕ)
+    (waits : Bool) (place next : ℕ) (job : JobValue) (slot : SlotState) (count : ℕ) →
+    HasHeads jobs slots passes place job slot count → next ≡ suc place → is_waiting (standing_of slot) ≡ true →
+    granted_words blocks + job.limits.words ≤ blocks.memory.room →
+    rest_at rule blocks jobs slots passes waits place ≡ Admitted next
+rest_admits rule blocks jobs slots passes waits place next job slot count h next_is w_is fits =
+    rest_here rule blocks jobs slots passes waits place job slot count h true true (nat_le MOST_PASSES count) w_is
+    (le-leb (granted_words blocks + job.limits.words) blocks.memory.room fits) refl
+    ∙ ap (λ (k : ℕ). Admitted k) (sym next_is)
+
+too_many : (a b : ℕ) → b < a → nat_le a b ≡ false
+too_many a b past = lt-leb a b past
+
+-- a job that waits, doesn't fit, and was passed by as often as a job may be
+pub rest_stops : (rule : Rule) (blocks : JobBlocks) (jobs : List JobValue) (slots : List SlotState) (passes : List ℕ)
+    (waits : Bool) (place : ℕ) (job : JobValue) (slot : SlotState) (count : ℕ) →
+    HasHeads jobs slots passes place job slot count → is_waiting (standing_of slot) ≡ true →
+    blocks.memory.room < granted_words blocks + job.limits.words → MOST_PASSES ≤ count →
+    rest_at rule blocks jobs slots passes waits place ≡ NotNow
+rest_stops rule blocks jobs slots passes waits place job slot count h w_is past most =
+    rest_here rule blocks jobs slots passes waits place job slot count h true false true w_is
+    (too_many (granted_words blocks + job.limits.words) blocks.memory.room past) (le-leb MOST_PASSES count most)
+    ∙ ap (λ (b : Bool). admission_by b None) (or_true waits)
+
+-- a job that waits, doesn't fit, and is passed by
+pub rest_passes : (rule : Rule) (blocks : JobBlocks) (jobs : List JobValue) (slots : List SlotState) (passes : List ℕ)
+    (waits : Bool) (place next : ℕ) (job : JobValue) (slot : SlotState) (count : ℕ) →
+    HasHeads jobs slots passes place job slot count → next ≡ suc place → is_waiting (standing_of slot) ≡ true →
+    blocks.memory.room < granted_words blocks + job.limits.words → count < MOST_PASSES →
+    rest_at rule blocks jobs slots passes waits place ≡ rest_at rule blocks jobs slots passes true next
+rest_passes rule blocks jobs slots passes waits place next job slot count h next_is w_is past few =
+    rest_here rule blocks jobs slots passes waits place job slot count h true false false w_is
+    (too_many (granted_words blocks + job.limits.words) blocks.memory.room past) (too_many MOST_PASSES count few)
+    ∙ (ap
+    (λ (b : Bool). admission_by b
+    (admission_from (suc (suc place)) (has_room blocks.memory.room (granted_words blocks))
+    (map (ruled rule) (drop (suc place) jobs)) (standings_of (drop (suc place) slots)) (drop (suc place) passes)))
+    (or_true waits)
+    ∙ to_next rule blocks jobs slots passes true place next next_is)
+
+none_left : (rule : Rule) (blocks : JobBlocks) (waits : Bool) (first : ℕ) (passes : List ℕ) →
+    rest_by rule blocks waits first [] [] passes ≡ cond waits NotNow NoneWaiting
+none_left rule blocks true first passes = refl
+none_left rule blocks false first passes = refl
+
+-- no job is left
+pub rest_ends : (rule : Rule) (blocks : JobBlocks) (jobs : List JobValue) (slots : List SlotState) (passes : List ℕ)
+    (waits : Bool) (place : ℕ) → length slots ≤ place → length slots ≡ length jobs →
+    rest_at rule blocks jobs slots passes waits place ≡ cond waits NotNow NoneWaiting
+rest_ends rule blocks jobs slots passes waits place past same =
+    (λ i. rest_by rule blocks waits (suc place) (drop_all place jobs (omega (arith, past, same)) i)
+    (drop_all place slots past i) (drop place passes))
+    ∙ none_left rule blocks waits (suc place) (drop place passes)
+
+-- ---- one pass more
+
+-- one job more may be passed by
+before_more : (place : ℕ) (standings : List Standing) (passes : List ℕ) (s : Standing) (count : ℕ) →
+    slice_get standings place ≡ Some s → slice_get passes place ≡ Some count →
+    passes_before (suc place) standings passes
+    ≡ set (passes_before place standings passes) place (passed_once_more s count)
+before_more place [] passes s count s_is count_is = absurd (none-some s s_is)
+before_more place (z ∷ standings) [] s count s_is count_is = absurd (none-some count count_is)
+before_more zero (z ∷ standings) (n ∷ passes) s count s_is count_is =
+    let z_is = same_Some z s s_is in
+    let n_is = same_Some n count count_is in
+    λ i. passed_once_more (z_is i) (n_is i) ∷ passes
+before_more (suc place) (z ∷ standings) (n ∷ passes) s count s_is count_is =
+    ap (λ (ks : List ℕ). passed_once_more z n ∷ ks) (before_more place standings passes s count s_is count_is)
+
+-- those from the place on are as they were
+before_at : (place : ℕ) (standings : List Standing) (passes : List ℕ) →
+    slice_get (passes_before place standings passes) place ≡ slice_get passes place
+before_at zero standings passes = refl
+before_at (suc place) [] passes = refl
+before_at (suc place) (s ∷ standings) [] = refl
+before_at (suc place) (s ∷ standings) (count ∷ passes) = before_at place standings passes
+
+pub before_length : (place : ℕ) (standings : List Standing) (passes : List ℕ) →
+    length (passes_before place standings passes) ≡ length passes
+before_length zero standings passes = refl
+before_length (suc place) [] passes = refl
+before_length (suc place) (s ∷ standings) [] = refl
+before_length (suc place) (s ∷ standings) (count ∷ passes) = omega (arith, before_length place standings passes)
+
+-- the counts as far as a place, and what the next job makes of them
+pub record Counts (standings : List Standing) (old now : List ℕ) (place : ℕ) : Type 0 where
+  pub now_is : now ≡ passes_before place standings old
+  pub same : length old ≡ length standings
+  pub within : place < length standings
+
+here : (standings : List Standing) (old now : List ℕ) (place : ℕ) → Counts standings old now place → (d : ℕ) →
+    slice_get old place ≡ Some (get_or now place d)
+here standings old now place c d =
+    let at = slice_get-get_or old place d (omega (arith, c.same, c.within)) in
+    let same = before_at place standings old ∙ at in
+    at ∙ ap (λ (k : ℕ). Some k)
+    (sym (get_or_from_slice_get (passes_before place standings old) place (get_or old place d) d same)
+    ∙ ap (λ (ks : List ℕ). get_or ks place d) (sym c.now_is))
+
+-- a count is few before it grows
+pub count_few : (standings : List Standing) (old now : List ℕ) (place : ℕ) → Counts standings old now place →
+    AreFew old → get_or now place 0 ≤ MOST_PASSES
+count_few standings old now place c few =
+    let at = here standings old now place c 0 in
+    subst (λ (k : ℕ). k ≤ MOST_PASSES) (get_or_from_slice_get old place (get_or now place 0) 0 at)
+    (few place 0 (omega (arith, c.same, c.within)))
+
+-- a job that waits is passed by once more
+pub counts_more : (standings : List Standing) (old now new : List ℕ) (place next : ℕ) (s : Standing) →
+    Counts standings old now place → slice_get standings place ≡ Some s → is_waiting s ≡ true → next ≡ suc place →
+    new ≡ set now place (get_or now place 0 + 1) → new ≡ passes_before next standings old
+counts_more standings old now new place next s c s_is waits next_is new_is =
+    let more : passed_once_more s (get_or now place 0) ≡ get_or now place 0 + 1 =
+    ap (λ (b : Bool). cond b (suc (get_or now place 0)) (get_or now place 0)) waits ∙ omega arith in
+    new_is
+    ∙ (λ i. set (c.now_is i) place (sym more i))
+    ∙ sym (before_more place standings old s (get_or now place 0) s_is (here standings old now place c 0))
+    ∙ ap (λ (k : ℕ). passes_before k standings old) (sym next_is)
+
+-- one that doesn't isn't
+pub counts_still : (standings : List Standing) (old now new : List ℕ) (place next : ℕ) (s : Standing) →
+    Counts standings old now place → slice_get standings place ≡ Some s → is_waiting s ≡ false → next ≡ suc place →
+    new ≡ now → new ≡ passes_before next standings old
+counts_still standings old now new place next s c s_is waits next_is new_is =
+    let count : ℕ = get_or now place 0 in
+    let more : passed_once_more s count ≡ count = ap (λ (b : Bool). cond b (suc count) count) waits in
+    let at : slice_get now place ≡ Some count =
+    ap (λ (ks : List ℕ). slice_get ks place) c.now_is
+    ∙ (before_at place standings old ∙ here standings old now place c 0) in
+    new_is
+    ∙ sym (set_back now place count at)
+    ∙ (λ i. set (c.now_is i) place (sym more i))
+    ∙ sym (before_more place standings old s count s_is (here standings old now place c 0))
+    ∙ ap (λ (k : ℕ). passes_before k standings old) (sym next_is)

@@ -1,0 +1,163 @@
+-- Words that lie whole in a piece.
+use Rattle.std.proofs.Common.{◌≡◌, ◌∙◌, ℕ, suc, ◌+◌, ◌==◌, ◌<◌, ◌≤◌, true, false, List, [], ◌∷◌, ◌++◌, Some, None, refl}
+use Rattle.std.proofs.Common.{arith, ap, sym, length, take, drop, get_or, append_assoc}
+use Rattle.std.specs.Prelude.{if◌then◌else◌}
+use Rattle.std.proofs.lemmas.Bool.Decides.{nat_tests}
+use Rattle.vcode_reader.specs.declared.class.Class.{Class}
+use Rattle.vcode_reader.specs.declared.class.Class.TheVariants.{LineFeed, Blank, OpenBrace, CloseBrace, Parenthesis}
+use Rattle.vcode_reader.specs.declared.class.Class.TheVariants.{Plain, Refused}
+use Rattle.vcode_reader.specs.Classes.{class_of, is_plain, plain_length}
+use Rattle.vcode_reader.specs.Scan.{Scan, Emit, end_word, ends_word, lone_word, by_comment, scan_byte, scan_all}
+use Rattle.vcode_reader.proofs.Lines.{drop_next}
+use Rattle.vcode_reader.proofs.Runs.{add_nil}
+
+-- most bytes of words lie in one range
+pub plain_range : (b : ℕ) → 42 ≤ b → b ≤ 122 → is_plain (class_of b) ≡ true
+unfolding class_of
+plain_range b low high = grind (arith, nat_tests)
+
+pub begins_plain : (t : List ℕ) → 1 ≤ length t → is_plain (class_of (get_or t 0 0)) ≡ true → 1 ≤ plain_length t
+begins_plain [] some h = absurd (omega arith)
+begins_plain (b ∷ bs) some h = rw h (omega arith)
+
+-- ---- one byte of a text
+
+pub plain_at : (t : List ℕ) (i : ℕ) → i < length t → is_plain (class_of (get_or t i 0)) ≡ true →
+    plain_length (drop i t) ≡ suc (plain_length (drop (i + 1) t))
+plain_at t i lt h = ap plain_length (drop_next t i lt) ∙ rw h refl
+
+pub none_at : (t : List ℕ) (i : ℕ) → i < length t → is_plain (class_of (get_or t i 0)) ≡ false →
+    plain_length (drop i t) ≡ 0
+none_at t i lt h = ap plain_length (drop_next t i lt) ∙ rw h refl
+
+-- ---- what is behind the plain bytes
+
+-- the length of the plain bytes at the front of a text that begins with a byte of this class
+abbrev front : Class → List ℕ → ℕ
+front c bs = if is_plain c then suc (plain_length bs) else 0
+
+within_by : (c : Class) (bs : List ℕ) → plain_length bs ≤ length bs → front c bs ≤ suc (length bs)
+within_by Plain bs h = omega arith
+within_by LineFeed bs h = omega arith
+within_by Blank bs h = omega arith
+within_by OpenBrace bs h = omega arith
+within_by CloseBrace bs h = omega arith
+within_by Parenthesis bs h = omega arith
+within_by Refused bs h = omega arith
+
+pub plain_within : (t : List ℕ) → plain_length t ≤ length t
+plain_within [] = omega arith
+plain_within (b ∷ bs) = within_by (class_of b) bs (plain_within bs)
+
+none_follows_by : (c : Class) (b : ℕ) (bs : List ℕ) → class_of b ≡ c → plain_length (drop (plain_length bs) bs) ≡ 0 →
+    plain_length (drop (front c bs) (b ∷ bs)) ≡ 0
+none_follows_by Plain b bs e h = h
+none_follows_by LineFeed b bs e h = ap (λ (c : Class). front c bs) e
+none_follows_by Blank b bs e h = ap (λ (c : Class). front c bs) e
+none_follows_by OpenBrace b bs e h = ap (λ (c : Class). front c bs) e
+none_follows_by CloseBrace b bs e h = ap (λ (c : Class). front c bs) e
+none_follows_by Parenthesis b bs e h = ap (λ (c : Class). front c bs) e
+none_follows_by Refused b bs e h = ap (λ (c : Class). front c bs) e
+
+none_follows : (t : List ℕ) → plain_length (drop (plain_length t) t) ≡ 0
+none_follows [] = refl
+none_follows (b ∷ bs) = none_follows_by (class_of b) b bs refl (none_follows bs)
+
+-- ---- plain bytes join the open word
+
+plain_byte : {P : Type 0} (emit : Emit P) (b : ℕ) (s : Scan P) → s.comment ≡ None → class_of b ≡ Plain →
+    scan_byte emit s b ≡ record s { word = s.word ++ b ∷ [] }
+unfolding scan_byte
+plain_byte emit b s none e = rw (none, e) refl
+
+same_word : {P : Type 0} (emit : Emit P) (t : List ℕ) (s : Scan P) →
+    scan_all emit s t ≡ scan_all emit (record s { word = s.word ++ [] }) t
+same_word {P = P} emit t s =
+    ap (λ (w : List ℕ). let r : Scan P = record s { word = w } in scan_all emit r t) (sym (add_nil s.word))
+
+run_by : {P : Type 0} (emit : Emit P) (c : Class) (b : ℕ) (bs : List ℕ) (s : Scan P) → s.comment ≡ None →
+    class_of b ≡ c →
+    scan_all emit (record s { word = s.word ++ b ∷ [] }) bs
+    ≡ scan_all emit (record s { word = (s.word ++ b ∷ []) ++ take (plain_length bs) bs })
+    (drop (plain_length bs) bs) →
+    scan_all emit s (b ∷ bs)
+    ≡ scan_all emit (record s { word = s.word ++ take (front c bs) (b ∷ bs) })
+    (drop (front c bs) (b ∷ bs))
+unfolding scan_all
+run_by {P = P} emit Plain b bs s none e h =
+    ap (λ (r : Scan P). scan_all emit r bs) (plain_byte emit b s none e)
+    ∙ (h ∙ ap (λ (w : List ℕ). let r : Scan P = record s { word = w } in scan_all emit r (drop (plain_length bs) bs))
+    (append_assoc s.word (b ∷ []) (take (plain_length bs) bs)))
+run_by emit LineFeed b bs s none e h = same_word emit (b ∷ bs) s
+run_by emit Blank b bs s none e h = same_word emit (b ∷ bs) s
+run_by emit OpenBrace b bs s none e h = same_word emit (b ∷ bs) s
+run_by emit CloseBrace b bs s none e h = same_word emit (b ∷ bs) s
+run_by emit Parenthesis b bs s none e h = same_word emit (b ∷ bs) s
+run_by emit Refused b bs s none e h = same_word emit (b ∷ bs) s
+
+-- the plain bytes at the front of a text are bytes of the open word
+pub plain_run : {P : Type 0} (emit : Emit P) (t : List ℕ) (s : Scan P) → s.comment ≡ None →
+    scan_all emit s t
+    ≡ scan_all emit (record s { word = s.word ++ take (plain_length t) t }) (drop (plain_length t) t)
+plain_run emit [] s none = same_word emit [] s
+plain_run emit (b ∷ bs) s none =
+    run_by emit (class_of b) b bs s none refl (plain_run emit bs (record s { word = s.word ++ b ∷ [] }) none)
+
+-- ---- a word ends before a byte that isn't plain
+
+ends_once : {P : Type 0} (emit : Emit P) (t : List ℕ) (s : Scan P) → s.word ≡ t →
+    end_word emit (ends_word emit t s) ≡ ends_word emit t s
+unfolding end_word
+ends_once emit [] s e = rw e refl
+ends_once emit (b ∷ t) s e = refl
+
+end_word_once : {P : Type 0} (emit : Emit P) (s : Scan P) → end_word emit (end_word emit s) ≡ end_word emit s
+unfolding end_word
+end_word_once emit s = ends_once emit s.word s refl
+
+zero_not_suc : (n : ℕ) → suc n ≡ 0 → ⊥
+zero_not_suc n h = omega arith
+
+ends_by : {P : Type 0} (emit : Emit P) (c : Class) (b : ℕ) (t : List ℕ) (s : Scan P) → front c t ≡ 0 →
+    by_comment emit None c b s ≡ by_comment emit None c b (end_word emit s)
+ends_by emit Plain b t s h = absurd (zero_not_suc (plain_length t) h)
+ends_by {P = P} emit LineFeed b t s h =
+    ap (λ (e : Scan P). let r : Scan P = record e { line = e.line + 1 } in r) (sym (end_word_once emit s))
+ends_by emit Blank b t s h = sym (end_word_once emit s)
+ends_by {P = P} emit OpenBrace b t s h =
+    ap (λ (e : Scan P). let r : Scan P = record e { comment = Some e.line } in r) (sym (end_word_once emit s))
+ends_by emit CloseBrace b t s h = ap (lone_word emit b) (sym (end_word_once emit s))
+ends_by emit Parenthesis b t s h = ap (lone_word emit b) (sym (end_word_once emit s))
+ends_by emit Refused b t s h = ap (lone_word emit b) (sym (end_word_once emit s))
+
+whole_by : {P : Type 0} (emit : Emit P) (s : Scan P) (w t : List ℕ) → s.comment ≡ None → s.word ≡ [] →
+    1 ≤ length w → 1 ≤ length t → plain_length t ≡ 0 →
+    scan_all emit (record s { word = w }) t ≡ scan_all emit (record s { found = emit w s.line s.found }) t
+unfolding scan_all scan_byte end_word
+whole_by emit s [] t none empty some more h = absurd (omega arith)
+whole_by emit s (c ∷ w) [] none empty some more h = absurd (omega arith)
+whole_by {P = P} emit s (c ∷ w) (b ∷ t) none empty some more h =
+    ap (λ (r : Scan P). scan_all emit r t)
+    (rw (none, empty) (ends_by emit (class_of b) b t
+    (record { found = s.found; line = s.line; word = c ∷ w; comment = None }) h))
+
+-- plain bytes are a whole word if none is open and other bytes follow
+pub whole_word : {P : Type 0} (emit : Emit P) (t plain rest : List ℕ) (s : Scan P) → s.comment ≡ None → s.word ≡ [] →
+    plain ≡ take (plain_length t) t → rest ≡ drop (plain_length t) t → 1 ≤ length plain → 1 ≤ length rest →
+    scan_all emit s t ≡ scan_all emit (record s { found = emit plain s.line s.found }) rest
+whole_word {P = P} emit t plain rest s none empty front behind some more =
+    plain_run emit t s none
+    ∙ (ap (λ (w : List ℕ). let r : Scan P = record s { word = w ++ take (plain_length t) t } in
+    scan_all emit r (drop (plain_length t) t)) empty
+    ∙ rw (front, behind) (whole_by emit s (take (plain_length t) t) (drop (plain_length t) t) none empty
+    (rw front at some) (rw behind at more) (none_follows t)))
+
+-- ---- whether there are bytes
+
+pub some_bytes : (t : List ℕ) → (length t == 0) ≡ false → 1 ≤ length t
+some_bytes [] h = cc
+some_bytes (b ∷ bs) h = omega arith
+
+pub no_bytes : (t : List ℕ) → (length t == 0) ≡ true → t ≡ []
+no_bytes [] h = refl
+no_bytes (b ∷ bs) h = grind (arith, nat_tests)

@@ -1,0 +1,32 @@
+use Rattle.std.proofs.Common.{◌∙◌, ap, arith, sym}
+use Rattle.std.proofs.lemmas.List.{drop_all}
+use Rattle.vcode_reader.specs.Classes.{plain_length}
+use Rattle.vcode_reader.proofs.Pieces.{plain_at, none_at}
+use Rattle.vcode_reader.proofs.class.plain_length.Goals as goal
+
+pub loop-place-preserved : goal.loop-place-preserved
+loop-place-preserved c =
+    omega (
+      arith,
+      c.loop-place.invariant,
+      plain_at c.args.text.now c.loop-place.place c.loop-place-test.true
+          (sym c.is_plain.ensures ∙ c.if-not-is_plain.false),
+    )
+
+pub returns-then-not-is_plain : goal.returns-then-not-is_plain
+returns-then-not-is_plain c =
+    omega (
+      arith,
+      c.loop-place.invariant,
+      none_at c.args.text.now c.loop-place.place c.loop-place-test.true
+          (sym c.is_plain.ensures ∙ c.if-not-is_plain.true),
+    )
+
+pub returns : goal.returns
+returns c =
+    omega (
+      arith,
+      c.loop-place.invariant,
+      ap plain_length (drop_all c.loop-place.place c.args.text.now c.loop-place-test.false),
+      c.loop-place-test.false,
+    )

@@ -1,0 +1,12 @@
+use Rattle.vcode_reader.specs.Parsing.{take}
+use Rattle.vcode_reader.proofs.Lines.{drop_next, later_same, next_room}
+use Rattle.vcode_reader.proofs.reader.Scanner.front.Goals as goal
+
+pub byte-requires : goal.byte-requires
+byte-requires g c =
+    next_room c.args.self.now _ _ _ _ (drop_next c.args.text.now 0 c.requires.some) c.requires.room
+
+pub returns-clause-same : goal.returns-clause-same
+returns-clause-same g c =
+    rw c.split_at.ensures.back (later_same take c.args.self.now c.byte.new.self _ _ _
+    (drop_next c.args.text.now 0 c.requires.some) c.in_ok-byte.ensures)

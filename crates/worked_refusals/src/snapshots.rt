@@ -1,0 +1,60 @@
+//! What a machine of two jobs shows of them.
+
+use job_machine::{Machine, Status};
+use std::alloc::Allocator;
+use vcode_base::Outcome;
+
+/// Where a job stands.
+#[derive(Clone, Copy, PartialEq, Eq, Debug)]
+pub struct Standing {
+    pub status: Option<Status>,
+    pub executed: Option<u64>,
+    pub peak: Option<usize>,
+}
+
+/// Where both jobs stand, and the words that they hold.
+#[derive(Clone, Copy, PartialEq, Eq, Debug)]
+pub struct Snapshot {
+    pub first: Standing,
+    pub second: Standing,
+    pub used: usize,
+}
+
+/// Where the job of this number stands.
+fn standing_of<A: Allocator>(machine: &Machine<A>, job: usize) -> Standing {
+    Standing {
+        status: machine.status(job),
+        executed: machine.executed(job),
+        peak: machine.peak(job),
+    }
+}
+
+/// What a machine shows.
+pub(crate) fn snapshot_of<A: Allocator>(machine: &Machine<A>) -> Snapshot {
+    Snapshot {
+        first: standing_of(machine, 1),
+        second: standing_of(machine, 2),
+        used: machine.used(),
+    }
+}
+
+/// Whether a job is collected and has returned this word alone.
+fn has_returned<A: Allocator>(machine: &Machine<A>, job: usize, word: i64) -> bool {
+    let Some(Outcome::Returned(values)) = machine.outcome(job) else {
+        return false;
+    };
+    match values.as_slice().first() {
+        Some(value) => values.len() == 1 && value.words.as_slice() == [word].as_slice(),
+        None => false,
+    }
+}
+
+/// Whether the first of the two jobs is collected and has returned what it returns.
+pub(crate) fn first_has_returned<A: Allocator>(machine: &Machine<A>) -> bool {
+    has_returned(machine, 1, 7)
+}
+
+/// The same of both.
+pub(crate) fn both_have_returned<A: Allocator>(machine: &Machine<A>) -> bool {
+    first_has_returned(machine) && has_returned(machine, 2, 3)
+}

@@ -1,0 +1,62 @@
+//! Runs of a machine by a worker, of which each growth is refused in turn.
+
+use crate::batches::TWO_JOBS;
+use crate::heaps::{Heap, MOST_GROWTHS};
+use crate::machines::machine;
+use crate::snapshots::both_have_returned;
+use refusing_heap::RefusingHeap;
+use std::process::Abort;
+use std::sync::Wait;
+use std::test::Fail;
+use std::thread::Threads;
+use step_scheduler::{NoGate, RunFault, Tally, run_workers};
+
+/// The instructions that the two jobs execute.
+const EXECUTED: u64 = 6;
+
+/// What the workers have executed.
+fn by_workers(tally: &Tally<&Heap>) -> u64 {
+    let mut sum = 0u64;
+    for count in &tally.workers {
+        sum = sum.wrapping_add(*count);
+    }
+    sum
+}
+
+/// How many instructions the calling thread executes beside a worker that runs the two jobs, or None if the run answers
+/// that memory was refused.
+fn by_caller<R>(rt: &R, heap: &Heap, growth: u64) -> Result<Option<u64>, Fail>
+where
+    R: Abort + Threads + Wait + Sync,
+{
+    let machine = machine(heap, TWO_JOBS)?;
+    heap.refuse(growth);
+    match run_workers(rt, heap, machine, 1, &NoGate) {
+        Ok((machine, tally)) => {
+            assert!(rt; both_have_returned(&machine));
+            assert_eq!(rt; by_workers(&tally).wrapping_add(tally.caller), EXECUTED);
+            Ok(Some(tally.caller))
+        }
+        Err(fault) => {
+            assert_eq!(rt; (fault, heap.has_refused()), (RunFault::Memory, true));
+            Ok(None)
+        }
+    }
+}
+
+/// A worker that has executed all is refused memory for the last collection. The calling thread tries it once more.
+#[test]
+fn a_refused_collection_is_tried_once_more(rt: HostRuntime) -> Result<(), Fail> {
+    let heap = RefusingHeap::new(rt.alloc());
+    let mut is_tried_again = false;
+    for growth in 1..MOST_GROWTHS {
+        let caller = by_caller(&rt, &heap, growth)?;
+        assert_eq!(rt; heap.live_bytes(), 0);
+        if !heap.has_refused() {
+            assert!(rt; is_tried_again);
+            return Ok(());
+        }
+        is_tried_again |= caller == Some(0);
+    }
+    Err(Fail::from("a run asks for more growths"))
+}
