@@ -1,11 +1,11 @@
 #!/usr/bin/env python3
-"""Times batches in which a job that wants the whole region waits among small ones: by bin/vjobs, and beside it by another program.
+"""Times batches in which a job that wants the whole region waits among small ones, by bin/vjobs and another program.
 
     python3 bench/admission.py [PROGRAM [ARGUMENT ..]]
 
-Run it at the top of the repository, after `make`. Each batch has one job of the whole region and 63 small ones, whose instructions compute
-long, and is run by 4 workers. Printed are the least wall seconds of several rounds in which the programs take turns, and their ratio. A ratio
-below 1 says that bin/vjobs is faster.
+Run it at the top of the repository, after `make`. Each batch has one job of the whole region and 63 small ones, whose
+instructions compute long, and is run by 4 workers. Printed are the least wall seconds of several rounds in which the
+programs take turns, and their ratio. A ratio below 1 says that bin/vjobs is faster.
 """
 import subprocess
 import sys

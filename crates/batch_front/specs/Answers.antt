@@ -1,4 +1,4 @@
--- What a batch comes to once its jobs have run out.
+-- The answer to a batch once its jobs have run out.
 use Rattle.std.specs.Prelude.{◌≤◌, ℕ, List, codes, length}
 use Rattle.job_machine.specs.Machines.{MachineState}
 use Rattle.batch_reader.specs.BatchTexts.{batch_fault_text}

@@ -17,7 +17,7 @@ abbrev pub after_collections : ℕ → MachineState → MachineState
 after_collections zero m = m
 after_collections (suc n) m = machine_after (event.Collect (suc n)) (after_collections n m)
 
--- the machine after so many admissions, as far as a job can be admitted
+-- the machine after this number of admissions, as far as a job can be admitted
 abbrev pub after_admissions : ℕ → MachineState → MachineState
 after_admissions zero m = m
 after_admissions (suc n) m = machine_after event.Admit (after_admissions n m)

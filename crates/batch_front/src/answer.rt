@@ -1,4 +1,4 @@
-//! From what a batch comes to, to the report's bytes.
+//! From a batch's jobs, run out, to the report's bytes.
 
 ghost use Rattle.std.specs.Prelude.{◌≡◌, ◌+◌, ◌≤◌, ℕ, List, true, take, length, IfOk, OnOk, OnErr, IsErrOf};
 ghost use Rattle.std.specs.Io.KnownBytes.{Appends};
@@ -31,7 +31,7 @@ use std::thread::Threads;
 use step_scheduler::{Gate, RunFault};
 use vcode_base::{Rule, Sequence};
 
-/// What a batch comes to, over the types of a machine and of the seats of its jobs.
+/// The answer to a batch, over the types of a machine and of the seats of its jobs.
 #[derive(Drop)]
 pub(crate) enum Answer<M, S> {
     /// It is refused as a whole: at which line, and why.
@@ -40,10 +40,10 @@ pub(crate) enum Answer<M, S> {
     Jobs(M, S),
 }
 
-/// What a batch comes to.
+/// The answer to a batch.
 pub(crate) type BatchAnswer<A> = Answer<Machine<A>, Sequence<Seat<A>, A>>;
 
-/// What a batch comes to whose jobs the calling thread runs.
+/// The answer to a batch whose jobs the calling thread runs.
 #[tactic(auto, unfolding(crate::specs::Reports::report_of, crate::specs::Reports::status_of))]
 pub(crate) fn answer_of_caller<A: Allocator + Copy>(
     alloc: A,
@@ -62,7 +62,7 @@ pub(crate) fn answer_of_caller<A: Allocator + Copy>(
     }
 }
 
-/// What jobs come to that the calling thread runs.
+/// The answer to jobs that the calling thread runs.
 fn jobs_of_caller<A: Allocator + Copy>(
     alloc: A,
     rule: Rule,
@@ -105,7 +105,7 @@ where
     }
 }
 
-/// What jobs come to that worker threads run.
+/// The answer to jobs that worker threads run.
 fn jobs_of_workers<A, H, G>(
     rt: &H,
     alloc: A,
@@ -147,7 +147,7 @@ fn seat_jobs<A: Allocator + Copy>(
     Ok((machine, seats))
 }
 
-/// What a batch comes to whose jobs have run out on this machine.
+/// The answer to a batch whose jobs have run out on this machine.
 fn told<A: Allocator>(machine: Machine<A>, seats: Vec<Seat<A>, A>) -> BatchAnswer<A>
     requires out { HasRunOut machine }
     requires seated { (entries : List TaskEntry) × AreSeated machine.tasks seats.items entries }
@@ -245,7 +245,7 @@ fn status<A: Allocator>(answer: &BatchAnswer<A>) -> Status
     }
 }
 
-/// What jobs that have run out come to.
+/// The status of jobs that have run out.
 fn jobs_status<A: Allocator>(machine: &Machine<A>, seats: &[Seat<A>]) -> Status
     requires out { HasRunOut machine.now }
     ensures { result ≡ seats_status machine.now.tasks seats.now }

@@ -31,7 +31,7 @@ use vcode_base::limits::MOST_BATCH_BYTES;
 ///
 /// [`FrontFault::Read`] and [`FrontFault::Memory`] come before the first write, and how much was read until then is not
 /// said. At [`FrontFault::Write`] the writer has the first bytes of the report, perhaps none and perhaps all of them. It
-/// has all of them if the fault was at the flush, which [`Device::flushing`] tells.
+/// has all of them if the fault was at the flush, which [`Device::flushing`] reports.
 pub fn run_alone<A: Allocator + Copy, R: Read, W: Write>(
     alloc: A,
     reader: &mut Device<R>,

@@ -26,7 +26,7 @@ pub(crate) struct Page {
 }
 
 impl Page {
-    /// An empty page, after so many interruptions.
+    /// An empty page; `spent` interruptions came before it.
     pub(crate) fn new(spent: u64) -> Page
         ensures bytes { result.bytes.items ≡ [] }
         ensures spent { result.spent ≡ spent }

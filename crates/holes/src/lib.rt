@@ -59,7 +59,7 @@ impl<A: Allocator> Model for Holes<A> {
 /// The words of the longest region, a quarter of what an address can count.
 const LONGEST: usize = usize::MAX / 4;
 
-/// The number of leaves for so many words, a power of two.
+/// The number of leaves for a region of this number of words, a power of two.
 fn leaves_for(size: usize) -> usize
     ensures power { IsPowerOfTwo result }
     ensures enough { size ≤ 256 * result }

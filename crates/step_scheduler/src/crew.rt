@@ -10,10 +10,10 @@ const LARGE: usize = 4_096;
 /// A worker is woken where this many hundredths of the time under the lock leave it some.
 const TO_WAKE: u64 = 55;
 
-/// It is decided after so many steps whether the workers go on.
+/// After this number of steps it is decided whether the workers go on.
 const TO_DECIDE: u64 = 1_000;
 
-/// A step counts once more for each so many words of its operands.
+/// A step counts once more each time that its operands have this number of words.
 const ONCE_MORE: u64 = 8_192;
 
 /// A worker stays awake where this many hundredths of the time under the lock leave it some.

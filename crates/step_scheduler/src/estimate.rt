@@ -72,7 +72,7 @@ impl Estimate {
         taken < self.outside.saturating_mul(100)
     }
 
-    /// Whether so many workers take less time than one thread alone. They take what is under the lock at least, and their
+    /// Whether this number of workers takes less time than one thread alone. They take what is under the lock at least, and their
     /// part of the whole.
     pub(crate) fn pays(&self, workers: usize) -> bool {
         let whole = self.inside.saturating_add(self.outside);
