@@ -145,13 +145,25 @@ class Packed(Memory):
 
 
 class Sliding(Memory):
+    def __init__(self, size, most):
+        super().__init__(size, most)
+        self.slid = 0
+
+    def pack(self):
+        self.slid = 0
+        return super().pack()
+
     def make_room(self, length):
-        """The block behind the lowest hole slides down to the hole's front, again and again."""
+        """The block after the lowest hole slides down to the hole's front, again and again. Once more words slid than the
+        region has, all blocks move together."""
+        if self.slid > len(self.words):
+            self.pack()
         while self.lowest_fit(length) is None:
             place, hole = self.holes()[0]
             number = self.words[place + hole][0]
             block = [word for word in self.words if word is not None and word[0] == number]
             self.put(place, block + [None] * hole)
+            self.slid += len(block)
 
 
 MADE = {"holes": Holes, "plain": Plain, "packed": Packed, "sliding": Sliding}
@@ -306,6 +318,11 @@ FILLS = ["place 1 1 2 3", "place 2 4 5 6 7", "place 1 8 9", "free 0", "place 2 1
 # Of ten blocks of seven words every other is freed, and one block takes the words of all five.
 WIDENS = [*(f"place {number}{7 * f' {number}'}" for number in range(10)), *(f"free {number}" for number in range(0, 10, 2)),
           f"place 10{35 * ' -1'}", *(f"words {number}" for number in [10, 1, 3, 5, 7, 9])]
+# Three times two blocks of a word slide for one of two, which are six words in a region of four. For the next block all others move, and
+# for the one after it one slides again.
+SLIDES = ["place 1 0", "place 1 1", "place 1 2", "free 0", "place 1 3 3", "free 1", "free 3", "place 1 4", "place 1 5", "free 4", "place 1 6 6",
+          "free 2", "free 6", "place 1 7", "place 1 8", "free 7", "place 1 9 9", "free 9", "place 1 10", "place 1 11", "free 5", "free 10",
+          "place 1 12 12", "free 12", "place 1 13", "place 1 14", "free 8", "free 13", "place 1 15 15", "words 11", "words 14"]
 # Blocks of no words in a memory of none.
 EMPTIES = ["place 3", "place 4", "words 0", "free 0", "place 5 0", "pack", "words 1"]
 
@@ -316,7 +333,8 @@ def chosen_rows():
     for told, rows in [("Taken of the lowest hole", TAKES), ("Given back between holes", JOINS), ("Made free from a place on", RESETS)]:
         yield from ["", f"# {told}.", *rows]
     for told, sizes, rows in [("Blocks move or not", "12 6", MOVES), ("A gap is filled", "10 4", FILLS),
-                              ("As wide as all holes together", "70 10", WIDENS), ("No words", "0 2", EMPTIES)]:
+                              ("As wide as all holes together", "70 10", WIDENS), ("More slides than the region has words", "4 4", SLIDES),
+                              ("No words", "0 2", EMPTIES)]:
         for memory in MEMORIES:
             yield from ["", f"# {told}: {memory}.", f"{memory} {sizes}", *rows]
 

@@ -47,7 +47,7 @@ none_free free spans number any within apart word from below =
     let least = get_or-le-sum_by (covers word) spans number any within in
     taken_word (is_free free word) (sum_by (covers word) spans) (omega (arith, covered, least)) (apart word)
 
--- a range in the place of another, where the words of both are set so in the region
+-- a range in the place of another, if the words of both are set so in the region
 module _ (free : List Bool) (spans : List Span) (number : ℕ) (any : Span) (within : number < length spans)
     (apart : AreApart free spans) where
   -- a word that the change doesn't touch
@@ -61,7 +61,8 @@ module _ (free : List Bool) (spans : List Span) (number : ℕ) (any : Span) (wit
 
   pub given : (new : Span) → new.len ≡ 0 →
       (get_or spans number any).place + (get_or spans number any).len ≤ length free →
-      AreApart (set_range free (get_or spans number any).place (get_or spans number any).len true) (set spans number new)
+      AreApart (set_range free (get_or spans number any).place (get_or spans number any).len true)
+      (set spans number new)
   given new empty inside word =
       let old = get_or spans number any in
       let after = set_range free old.place old.len true in
@@ -100,7 +101,7 @@ module _ (free : List Bool) (spans : List Span) (number : ℕ) (any : Span) (wit
         ]
       ]
 
--- all ranges lie within the region, also where one is changed and words of the region are set
+-- all ranges lie within the region, also if one is changed and words of the region are set
 pub all_within : (free : List Bool) (spans : List Span) (number : ℕ) (new : Span) (place len : ℕ) (value : Bool) →
     All (λ span. span.place + span.len ≤ length free) spans → new.place + new.len ≤ length free →
     place + len ≤ length free →

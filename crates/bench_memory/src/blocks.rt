@@ -37,7 +37,7 @@ const LONG: Load = Load {
 
 type Memory<A> = SharedMemory<RegionMemory<A>, A>;
 
-/// Makes a block of a length that the seed gives. None where its words don't fit, and then no block is made.
+/// Makes a block of a length that the seed gives. None if its words don't fit, and then no block is made.
 fn make<A: Allocator + Clone>(memory: &mut Memory<A>, words: &[i64], seed: u64) -> Option<BlockId> {
     if memory.blocks() >= memory.ids() {
         return None;
@@ -70,7 +70,7 @@ fn churn<A: Allocator + Clone>(
     }
 }
 
-/// Prints what stands after the load, and the time that an operation took.
+/// Prints the state after the load, and the time that an operation took.
 fn show<A: Allocator + Clone>(
     rt: &impl Runtime,
     load: Load,

@@ -1,7 +1,7 @@
 //! Times the memory of a region under loads that fragment it: blocks of mixed lengths that are released and made, and
 //! takes and gives of ranges of words.
 //!
-//! With no argument the loads are short, and what stands at their ends is printed. With the argument `time` they are
+//! With no argument the loads are short, and the states at their ends are printed. With the argument `time` they are
 //! long and over the largest region, and nanoseconds are printed too.
 #![tactic(auto)]
 

@@ -109,7 +109,7 @@ fn turn_at(load: Load, index: usize, seed: u64) -> Turn {
     }
 }
 
-/// Runs so many turns of a load.
+/// Runs `turns` turns of a load.
 fn churn<A: Allocator + Clone>(load: Load, spans: &mut Spans<A>, turns: usize) {
     let mut seed = SEED;
     for index in 0..turns {
@@ -120,7 +120,7 @@ fn churn<A: Allocator + Clone>(load: Load, spans: &mut Spans<A>, turns: usize) {
     }
 }
 
-/// Prints a load and what stands after it.
+/// Prints a load and the state after it.
 fn show<A: Allocator + Clone>(rt: &impl Runtime, load: Load, spans: &Spans<A>) -> io::Result<()> {
     let holes = spans.holes();
     let (free, count, widest) = (holes.free(), holes.count(), holes.widest());

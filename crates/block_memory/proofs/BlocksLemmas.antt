@@ -1,18 +1,46 @@
 -- Lemmas on the blocks of a region: a block that is written changes no other.
-use Rattle.std.proofs.Common.{◌≡◌, ◌≢◌, ◌⊎◌, ℕ, zero, suc, ℤ, pos, ◌+◌, ◌<◌, ◌≤◌, List, length, take, drop}
+use Rattle.std.proofs.Common.{◌≡◌, ◌≢◌, ◌⊎◌, ℕ, zero, suc, ℤ, pos, ◌+◌, ◌<◌, ◌≤◌, List, length, take, drop, map}
 use Rattle.std.proofs.Common.{slice_index, slice_index_or, slice_set, replicate, ◌∷◌, Option, Some, None, is_some}
-use Rattle.std.proofs.Common.{inl, inr, refl, sym, ap, ◌∙◌, arith}
+use Rattle.std.proofs.Common.{max, inl, inr, refl, sym, ap, ◌∙◌, arith}
+use Rattle.std.proofs.Math.Nat.{le-max_left, le-max_right, max-le}
 use Rattle.std.proofs.lemmas.Bool.{cases_eq, cases_lt}
 use Rattle.std.proofs.lemmas.List.{ext_get_or, length-map, length-set, map-set, get_or_default}
 use Rattle.std.proofs.Math.ListN.{get_or-map}
 use Rattle.block_memory.specs.Table.{value_at}
 use Rattle.block_memory.specs.Layout.{PlacedBlock, Layout, Covers, IsClear, IsBare, Begins, words_of, words_at}
 use Rattle.block_memory.specs.Layout.{block_at_place}
-use Rattle.block_memory.specs.BlocksInside.{block_of_span, slots_from, AreSpans}
-use Rattle.block_memory.specs.BlocksWritten.{IsWritten, IsMarked}
-use Rattle.block_memory.specs.declared.blocks.Span.{Span}
+use Rattle.block_memory.specs.BlocksInside.{block_of_span, slots_from, AreBlocks}
+use Rattle.block_memory.specs.BlocksWritten.{IsWritten, IsMarked, IsLengthened}
+use Rattle.block_memory.specs.Writing.{IsApart, span_of, span_at as span_in, words_in}
+use Rattle.block_memory.specs.declared.span.Span.{Span}
 use Rattle.block_memory.proofs.Lists.{IsSome-in_range, same_some, None≢Some}
 use Rattle.block_memory.proofs.LayoutLemmas.{length-part, same_part, value_at-set_same, value_at-set_other}
+
+-- each span lies among the words, and where it has words its number stands at the first of them
+pub record AreSpans (words : List ℤ) (starts : List ℕ) (spans : List (Option Span)) : Type 0 where
+  pub same_size : length starts ≡ length words
+  pub within : (n : ℕ) (s : Span) → value_at spans n ≡ Some s → s.place + s.len ≤ length words
+  pub started : (n : ℕ) (s : Span) → value_at spans n ≡ Some s → 0 < s.len → slice_index starts s.place ≡ n
+
+pub spans_of : (words : List ℤ) (starts : List ℕ) (spans : List (Option Span)) (size room starts_room : ℕ)
+    → AreBlocks words starts spans size room starts_room → AreSpans words starts spans
+spans_of words starts spans size room starts_room b =
+    record { same_size = b.same_size; within = b.within; started = b.started }
+
+-- the blocks of a region whose lists are as long as lists that were made longer for words of the region
+pub are_blocks : (words long words' : List ℤ) (starts' : List ℕ) (spans : List (Option Span))
+    (size end room starts_room : ℕ) → AreSpans words' starts' spans → IsLengthened words long end
+    → length words' ≡ length long → length words ≤ size → end ≤ size → size ≤ room → size ≤ starts_room
+    → AreBlocks words' starts' spans size room starts_room
+are_blocks words long words' starts' spans size end room starts_room a w same few fits has_room starts_have =
+    record {
+      same_size = a.same_size;
+      within = a.within;
+      started = a.started;
+      few = rw (same ∙ w.long) (max-le few fits);
+      words_room = has_room;
+      starts_room = starts_have;
+    }
 
 -- what lies at a number
 value_at-slots : (words : List ℤ) (spans : List (Option Span)) (n : ℕ)
@@ -78,7 +106,7 @@ module _ (words words' : List ℤ) (starts starts' : List ℕ) (spans : List (Op
   abbrev new_slots : List (Option PlacedBlock)
   new_slots = slots_from words' (slice_set spans n (Some s))
 
-  -- another span has no word where the block was written
+  -- another span has no word at the places that the block was written to
   apart : (k word : ℕ) (t : Span) → k ≢ n → value_at spans k ≡ Some t → t.place ≤ word → word < t.place + t.len
       → s.place ≤ word → word < s.place + s.len → ⊥
   apart k word t other there from below from' below' =
@@ -159,6 +187,39 @@ module _ (words words' : List ℤ) (starts starts' : List ℕ) (spans : List (Op
     slots = ext_get_or None new_slots (slice_set old_slots n new_block) same_length (λ k h. at_number k);
   }
 
+-- what a list has that was made longer
+pub record IsLonger (words words' : List ℤ) (starts' : List ℕ) (spans : List (Option Span)) : Type 0 where
+  pub are_spans : AreSpans words' starts' spans
+  pub slots : slots_from words' spans ≡ slots_from words spans
+
+module _ (words words' : List ℤ) (starts starts' : List ℕ) (spans : List (Option Span)) (len : ℕ)
+    (a : AreSpans words starts spans) (w : IsLengthened words words' len) (s : IsLengthened starts starts' len) where
+  within_longer : (n : ℕ) (t : Span) → value_at spans n ≡ Some t → t.place + t.len ≤ length words'
+  within_longer n t there =
+      omega (arith, a.within n t there, w.long, le-max_left (length words) len)
+
+  kept_span : (n : ℕ) (o : Option Span) → value_at spans n ≡ o → block_of_span words' o ≡ block_of_span words o
+  kept_span n None there = refl
+  kept_span n (Some t) there =
+      let inside = a.within n t there in
+      ap (λ (part : List ℤ). Some (record { owner = t.owner; place = t.place; words = part }))
+      (same_part words' words t.place t.len (pos 0) (within_longer n t there) inside
+      (λ i h. w.kept (t.place + i) (pos 0) (omega arith)))
+
+  pub longer : IsLonger words words' starts' spans
+  longer = record {
+    are_spans = record {
+      same_size = s.long ∙ (ap (λ n. max n len) a.same_size ∙ sym w.long);
+      within = within_longer;
+      started = λ n t there some. let inside = a.within n t there in let same = a.same_size in
+          s.kept t.place 0 (omega arith) ∙ a.started n t there some;
+    };
+    slots = ext_get_or None (slots_from words' spans) (slots_from words spans)
+        (length-map spans (block_of_span words') ∙ sym (length-map spans (block_of_span words)))
+        (λ n h. value_at-slots words' spans n
+        ∙ (kept_span n (value_at spans n) refl ∙ sym (value_at-slots words spans n)));
+  }
+
 -- what is known of a number's block by its span
 words_of-span : (words : List ℤ) (spans : List (Option Span)) (n : ℕ) (s : Span) → value_at spans n ≡ Some s
     → words_at (slots_from words spans) n ≡ take s.len (drop s.place words)
@@ -169,27 +230,51 @@ pub length-words_of-span : (words : List ℤ) (starts : List ℕ) (spans : List 
 length-words_of-span words starts spans n s a there =
     ap length (words_of-span words spans n s there) ∙ length-part words s.place s.len (a.within n s there)
 
+-- a block that is written in lists that were made longer for it
+after_longer : (words long words' : List ℤ) (starts starts_long starts' : List ℕ) (spans : List (Option Span)) (n : ℕ)
+    (s : Span) (new : List ℤ) → AreSpans words starts spans → IsLengthened words long (s.place + s.len)
+    → IsLengthened starts starts_long (s.place + s.len) → IsWritten long words' s.place new
+    → IsMarked starts_long starts' s.place s.len n → s.len ≡ length new
+    → IsClear (slots_from words spans) n s.place s.len → n < length spans
+    → IsAfterWrite words words' starts' spans n s new
+after_longer words long words' starts starts_long starts' spans n s new a w t written marked size clear within =
+    let now = longer words long starts starts_long spans (s.place + s.len) a w t in
+    let reached = le-max_right (length words) (s.place + s.len) in
+    let after = after_write long words' starts_long starts' spans n s new
+    (record {
+      are_spans = now.are_spans;
+      written = written;
+      marked = marked;
+      long = size;
+      fits = omega (arith, reached, w.long);
+      clear = rw now.slots clear;
+      in_range = within;
+    }) in
+    record {
+      are_spans = after.are_spans;
+      slots = after.slots ∙ ap (λ slots. slice_set slots n
+          (Some (record { owner = s.owner; place = s.place; words = new }))) now.slots;
+    }
+
 -- a span that is moved, with its words
-pub after_move : (words words' : List ℤ) (starts starts' : List ℕ) (spans : List (Option Span)) (n to : ℕ) (s : Span)
-    → AreSpans words starts spans → value_at spans n ≡ Some s
-    → to + length (words_at (slots_from words spans) n) ≤ length words
+pub after_move : (words long words' : List ℤ) (starts starts_long starts' : List ℕ) (spans : List (Option Span))
+    (n to : ℕ) (s : Span) → AreSpans words starts spans → value_at spans n ≡ Some s
+    → IsLengthened words long (to + s.len) → IsLengthened starts starts_long (to + s.len)
     → IsClear (slots_from words spans) n to (length (words_at (slots_from words spans) n))
-    → IsWritten words words' to (take s.len (drop s.place words)) → IsMarked starts starts' to s.len n
+    → IsWritten long words' to (take s.len (drop s.place long)) → IsMarked starts_long starts' to s.len n
     → IsAfterWrite words words' starts' spans n (record { owner = s.owner; place = to; len = s.len })
     (take s.len (drop s.place words))
-after_move words words' starts starts' spans n to s a there fits clear w m =
-    let long = length-words_of-span words starts spans n s a there in
-    after_write words words' starts starts' spans n (record { owner = s.owner; place = to; len = s.len })
-    (take s.len (drop s.place words))
-    (record {
-      are_spans = a;
-      written = w;
-      marked = m;
-      long = sym (length-part words s.place s.len (a.within n s there));
-      fits = rw long at fits;
-      clear = rw long at clear;
-      in_range = IsSome-in_range spans n (ap is_some there);
-    })
+after_move words long words' starts starts_long starts' spans n to s a there w t clear written marked =
+    let size = length-words_of-span words starts spans n s a there in
+    let inside = a.within n s there in
+    let more = le-max_left (length words) (to + s.len) in
+    let same : take s.len (drop s.place long) ≡ take s.len (drop s.place words) =
+    same_part long words s.place s.len (pos 0) (omega (arith, inside, more, w.long)) inside
+    (λ i h. w.kept (s.place + i) (pos 0) (omega arith)) in
+    after_longer words long words' starts starts_long starts' spans n
+    (record { owner = s.owner; place = to; len = s.len }) (take s.len (drop s.place words)) a w t
+    (rw same at written) marked (sym (length-part words s.place s.len inside)) (rw size at clear)
+    (IsSome-in_range spans n (ap is_some there))
 
 -- the block that was moved is the one that the number had
 pub moved_block : (words : List ℤ) (spans : List (Option Span)) (n to : ℕ) (s : Span) → value_at spans n ≡ Some s
@@ -207,22 +292,83 @@ pub same_layout : (size size' : ℕ) (slots placed' : List (Option PlacedBlock))
 same_layout size size' slots placed' e f = cc
 
 -- a new block, in words that no block covers
-pub after_insert : (words words' : List ℤ) (starts starts' : List ℕ) (spans : List (Option Span)) (n owner place : ℕ)
-    (new : List ℤ) → AreSpans words starts spans → place + length new ≤ length words
-    → IsBare (slots_from words spans) place (length new) → IsWritten words words' place new
-    → IsMarked starts starts' place (length new) n → n < length spans
+pub after_insert : (words long words' : List ℤ) (starts starts_long starts' : List ℕ) (spans : List (Option Span))
+    (n owner place : ℕ) (new : List ℤ) → AreSpans words starts spans
+    → IsLengthened words long (place + length new) → IsLengthened starts starts_long (place + length new)
+    → IsBare (slots_from words spans) place (length new) → IsWritten long words' place new
+    → IsMarked starts_long starts' place (length new) n → n < length spans
     → IsAfterWrite words words' starts' spans n (record { owner = owner; place = place; len = length new }) new
-after_insert words words' starts starts' spans n owner place new a fits bare w m within =
-    after_write words words' starts starts' spans n (record { owner = owner; place = place; len = length new }) new
-    (record {
-      are_spans = a;
-      written = w;
-      marked = m;
-      long = refl;
-      fits = fits;
-      clear = λ other word from below covers. absurd (bare other word from below covers);
-      in_range = within;
-    })
+after_insert words long words' starts starts_long starts' spans n owner place new a w t bare written marked within =
+    after_longer words long words' starts starts_long starts' spans n
+    (record { owner = owner; place = place; len = length new }) new a w t written marked refl
+    (λ other word from below covers. absurd (bare other word from below covers)) within
+
+-- a new block of so many words, whatever they are
+pub after_put : (words long words' : List ℤ) (starts starts_long starts' : List ℕ) (spans : List (Option Span))
+    (n owner place len : ℕ) → AreSpans words starts spans
+    → IsLengthened words long (place + len) → IsLengthened starts starts_long (place + len)
+    → IsBare (slots_from words spans) place len → length (take len (drop place words')) ≡ len
+    → IsWritten long words' place (take len (drop place words')) → IsMarked starts_long starts' place len n
+    → n < length spans
+    → IsAfterWrite words words' starts' spans n (record { owner = owner; place = place; len = len })
+    (take len (drop place words'))
+after_put words long words' starts starts_long starts' spans n owner place len a w t bare size written marked within =
+    after_longer words long words' starts starts_long starts' spans n
+    (record { owner = owner; place = place; len = len }) (take len (drop place words')) a w t written marked (sym size)
+    (λ other word from below covers. absurd (bare other word from below covers)) within
+
+-- a block's words are those of its span
+words_of_span : (words : List ℤ) (o : Option Span) → words_of (block_of_span words o) ≡ words_in words (span_of o)
+words_of_span words None = refl
+words_of_span words (Some s) = refl
+
+pub words_by_span : (words : List ℤ) (spans : List (Option Span)) (n : ℕ)
+    → words_at (slots_from words spans) n ≡ words_in words (span_in spans n)
+words_by_span words spans n =
+    ap words_of (value_at-slots words spans n) ∙ words_of_span words (value_at spans n)
+
+pub all_by_span : (words : List ℤ) (spans : List (Option Span)) (lent : List ℕ)
+    → map (λ n. words_in words (span_in spans n)) lent ≡ map (words_at (slots_from words spans)) lent
+all_by_span words spans lent = λ i. map (λ n. sym (words_by_span words spans n) i) lent
+
+some_span : (words : List ℤ) (o : Option Span) → is_some (block_of_span words o) ≡ is_some o
+some_span words None = refl
+some_span words (Some s) = refl
+
+pub has_span : (words : List ℤ) (spans : List (Option Span)) (n : ℕ)
+    → is_some (value_at (slots_from words spans) n) ≡ is_some (value_at spans n)
+has_span words spans n = ap is_some (value_at-slots words spans n) ∙ some_span words (value_at spans n)
+
+-- a span lies apart from words that no block covers
+pub span_apart : (words : List ℤ) (starts : List ℕ) (spans : List (Option Span)) (n place len : ℕ)
+    → AreSpans words starts spans → IsBare (slots_from words spans) place len
+    → IsApart (length words) place len (span_in spans n)
+span_apart words starts spans n place len a bare = by_span (value_at spans n) refl
+  where
+    by_span : (o : Option Span) → value_at spans n ≡ o → IsApart (length words) place len (span_of o)
+    by_span None there = (omega arith, λ some. (omega arith, inl refl))
+    by_span (Some s) there =
+        let inside = a.within n s there in (
+          inside,
+          λ some. (
+            inside,
+            elim (cases_lt 0 s.len) [
+              | inr none ↦ inl (omega arith)
+              | inl words_there ↦ elim (cases_lt place (s.place + s.len)) [
+                | inr before ↦ inr (inl before)
+                | inl over ↦ elim (cases_lt s.place (place + len)) [
+                  | inr behind ↦ inr (inr behind)
+                  | inl under ↦ elim (cases_lt s.place place) [
+                    | inl lower ↦ absurd (bare n place (omega arith) (omega arith)
+                        (Covers-span words spans n place s there inside (omega arith) over))
+                    | inr higher ↦ absurd (bare n s.place higher under
+                        (Covers-span words spans n s.place s there inside (omega arith) (omega arith)))
+                  ]
+                ]
+              ]
+            ],
+          ),
+        )
 
 -- a block that goes
 pub slots_from-remove : (words : List ℤ) (spans : List (Option Span)) (n : ℕ)
@@ -262,15 +408,26 @@ begins_by-span words starts spans n place a b = by_span (value_at spans n) refl
         let some : 0 < s.len = rw long at b.some in
         record { span = s; there = there; here = here; some = some; start = rw here at (a.started n s there some) }
 
--- where the number that stands at a place has no block with words that begins there, no number has
+-- if the number at a place has no block with words that begins there, no number has
 pub none_begins : (words : List ℤ) (starts : List ℕ) (spans : List (Option Span)) (place m : ℕ)
-    → AreSpans words starts spans → place < length words → m ≡ slice_index_or starts place m
+    → AreSpans words starts spans → place < length starts → m ≡ slice_index_or starts place m
     → ((s : Span) → value_at spans m ≡ Some s → s.place ≡ place → 0 < s.len → ⊥) → (n : ℕ)
     → Begins (slots_from words spans) n place → ⊥
 none_begins words starts spans place m a inside read none n b =
     let by_span = begins_by-span words starts spans n place a b in
-    let same : m ≡ n = read ∙ (get_or_default starts place m 0 (rw a.same_size inside) ∙ by_span.start) in
+    let same : m ≡ n = read ∙ (get_or_default starts place m 0 inside ∙ by_span.start) in
     none by_span.span (rw same by_span.there) by_span.here by_span.some
+
+-- no block with words begins past the words that were in use so far
+pub none_past : (words : List ℤ) (starts : List ℕ) (spans : List (Option Span)) (place : ℕ)
+    → AreSpans words starts spans → length starts ≤ place → (n : ℕ) → Begins (slots_from words spans) n place → ⊥
+none_past words starts spans place a past n b =
+    let by_span = begins_by-span words starts spans n place a b in
+    let inside = a.within n by_span.span by_span.there in
+    let here = by_span.here in
+    let some = by_span.some in
+    let same = a.same_size in
+    omega arith
 
 pub begins-span : (words : List ℤ) (starts : List ℕ) (spans : List (Option Span)) (n place : ℕ) (s : Span)
     → AreSpans words starts spans → value_at spans n ≡ Some s → s.place ≡ place → 0 < s.len

@@ -1,11 +1,30 @@
 -- Lemmas on what a memory contains: the words in use when a block comes or goes.
-use Rattle.std.proofs.Common.{◌≡◌, ℕ, ◌+◌, ◌<◌, length, Option, Some, None, ap, arith}
+use Rattle.std.proofs.Common.{
+  ◌≡◌,
+  ℕ,
+  zero,
+  suc,
+  ◌+◌,
+  ◌<◌,
+  [],
+  ◌∷◌,
+  length,
+  Option,
+  Some,
+  None,
+  refl,
+  sym,
+  ap,
+  ◌∙◌,
+  arith,
+}
+use Rattle.std.proofs.lemmas.List.{set-set}
 use Rattle.std.proofs.lemmas.List.Sums.{sum_by-set}
 use Rattle.block_memory.specs.Content.{Block, Content, block_at, IsLive, words_of, words_at, used_words, with_block}
 use Rattle.block_memory.specs.Content.{without_block}
 use Rattle.block_memory.proofs.Lists.{IsSome-in_range}
 
--- a block comes to an empty number
+-- an empty number gets a block
 pub used_words-with_block : (c : Content) (id : ℕ) (b : Block) → id < length c → block_at c id ≡ None
     → used_words (with_block c id b) ≡ used_words c + length b.words
 used_words-with_block c id b h empty =
@@ -21,3 +40,13 @@ used_words-without_block c id live =
     let size : Option Block → ℕ = λ o. length (words_of o) in
     let change = sum_by-set size c id None None (IsSome-in_range c id live) in
     omega (arith, change)
+
+none_back : (c : Content) (id : ℕ) → block_at c id ≡ None → without_block c id ≡ c
+none_back [] id e = refl
+none_back (o ∷ c) zero e = ap (λ (p : Option Block). p ∷ c) (sym e)
+none_back (o ∷ c) (suc id) e = ap (λ (d : Content). o ∷ d) (none_back c id e)
+
+-- a block that comes and goes leaves nothing
+pub comes_and_goes : (c : Content) (id : ℕ) (b : Block) → block_at c id ≡ None →
+    without_block (with_block c id b) id ≡ c
+comes_and_goes c id b empty = set-set c id (Some b) None ∙ none_back c id empty

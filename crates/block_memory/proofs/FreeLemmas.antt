@@ -22,7 +22,7 @@ length-set_range free place len value fits =
     let all = length-append (take place free ++ replicate len value) (drop (place + len) free) in
     omega (arith, front, behind, all)
 
--- a range that was set, and the words before and behind it
+-- a range that was set, and the words before and after it
 pub is_free-set_inside : (free : List Bool) (place len word : ℕ) (value : Bool) → place + len ≤ length free
     → place ≤ word → word < place + len → is_free (set_range free place len value) word ≡ value
 is_free-set_inside free place len word value fits from below =
@@ -86,7 +86,7 @@ widest-all : (n : ℕ) → n ≤ widest (replicate n true)
 widest-all zero = omega arith
 widest-all (suc n) = let run = front_run-all n in omega arith
 
--- so many words in a row are a hole of at least as many words
+-- a row of free words is part of a hole of at least as many words
 pub widest-free_from : (place size : ℕ) → size - place ≤ widest (free_from place size)
 widest-free_from place size = behind place (size - place)
   where

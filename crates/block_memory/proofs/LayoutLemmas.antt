@@ -1,4 +1,4 @@
--- Lemmas on where blocks lie.
+-- Lemmas on the places of blocks.
 use Rattle.std.proofs.Common.{◌≡◌, ◌≢◌, ◌⊎◌, ℕ, ◌+◌, ◌<◌, ◌≤◌, List, length, take, drop, slice_index_or, slice_set}
 use Rattle.std.proofs.Common.{Option, Some, None, is_some, inl, inr, refl, sym, ap, ◌∙◌, arith}
 use Rattle.std.proofs.lemmas.Bool.{cases_eq}
@@ -107,7 +107,7 @@ Covers-by slots n word p there c =
     let below : word < p.place + length p.words = rw is at c.below in
     (from, below)
 
--- blocks that lie apart still do after one was put where it covers no word of another
+-- blocks that lie apart still do after one was put to a place at which it covers no word of another
 pub AreApart-set : (slots : List (Option PlacedBlock)) (n : ℕ) (p : PlacedBlock) → n < length slots → AreApart slots
     → IsClear slots n p.place (length p.words) → AreApart (slice_set slots n (Some p))
 AreApart-set slots n p within apart clear k m word a b =

@@ -9,3 +9,4 @@ pub mod PackLemmas
 pub mod BesideLemmas
 pub mod RegionLemmas
 pub mod SlideLemmas
+pub mod WriterLemmas

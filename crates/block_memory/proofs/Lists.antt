@@ -1,10 +1,12 @@
 -- Lemmas on values that may be missing, and on lists of them.
 use Rattle.std.proofs.Common.{◌≡◌, ℕ, ◌+◌, ◌<◌, List, [], ◌∷◌, Bool, length, map, slice_set, Option, Some, None}
-use Rattle.std.proofs.Common.{is_some, IsSome, Vec, true, false, cond, refl, sym, ap, ◌∙◌, arith}
+use Rattle.std.proofs.Common.{is_some, IsSome, Vec, true, false, cond, slice_index_or, ◌≤◌, refl, sym, ap, ◌∙◌, arith}
+use Rattle.std.proofs.Math.Nat.{max-eq_left, max-eq_right}
 use Rattle.std.specs.Vec.{with_items}
 use Rattle.std.proofs.lemmas.List.{get_or_past, with_items_is}
 use Rattle.std.proofs.lemmas.List.Sums.{sum_by-set, sum_by-cons}
 use Rattle.block_memory.specs.Table.{value_at, value_count}
+use Rattle.block_memory.specs.BlocksWritten.{IsLengthened}
 
 module _ {X : Type 0} where
   -- a value that is there is one value
@@ -56,7 +58,7 @@ module _ {T : Type 0} where
       let was : one_if_value (value_at slots n) ≡ 1 = ap one_if h in
       omega (arith, change, was)
 
--- as many values stand in a list as in one that is made of it value by value
+-- a list has as many values as one that is made of it value by value
 pub value_count-map : {X Y : Type 0} (f : Option X → Option Y) → ((o : Option X) → is_some (f o) ≡ is_some o)
     → (slots : List (Option X)) → value_count (map f slots) ≡ value_count slots
 value_count-map f same [] = refl
@@ -72,3 +74,15 @@ value_count-map f same (o ∷ slots) =
 pub items_after_write : {X Z : Type 0} (v : Vec X Z) (old new : List X) → old ≡ v.items → length new ≡ length old
     → (with_items v new).items ≡ new
 items_after_write v old new whole same = with_items_is v new (same ∙ (ap length whole ∙ sym v.ok.0))
+
+module _ {X : Type 0} where
+  -- a list that is long enough
+  pub long_enough : (xs : List X) (len : ℕ) → len ≤ length xs → IsLengthened xs xs len
+  long_enough xs len h = record { long = sym (max-eq_left h); kept = λ k d below. refl }
+
+  -- a list that gets items past its end
+  pub with_more : (old new : List X) (len : ℕ) → length old ≤ len → length new ≡ len
+      → ((k : ℕ) (d : X) → k < len → k < length old → slice_index_or new k d ≡ slice_index_or old k d)
+      → IsLengthened old new len
+  with_more old new len h long kept =
+      record { long = long ∙ sym (max-eq_right h); kept = λ k d below. kept k d (omega arith) below }

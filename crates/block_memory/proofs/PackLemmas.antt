@@ -14,7 +14,7 @@ use Rattle.block_memory.proofs.Lists.{IsSome-in_range, same_some}
 use Rattle.block_memory.proofs.LayoutLemmas.{value_at-set_same, value_at-set_other, Covers-set_here, Covers-set_other}
 use Rattle.block_memory.proofs.LayoutLemmas.{Covers-by, AreApart-set, AreWithin-set}
 
--- how many words a block has, if it lies at the place or behind it
+-- how many words a block has, if it lies at the place or after it
 abbrev pub words_from : ℕ → Option PlacedBlock → ℕ
 words_from place None = 0
 words_from place (Some p) = cond (nat_le place p.place) (length p.words) 0
@@ -170,7 +170,7 @@ IsPacking-skip before now packed place used i none =
 module _ (before now : Layout) (packed place used n : ℕ) (p : PlacedBlock)
     (i : IsPacking before now packed place used) (there : value_at now.slots n ≡ Some p) (here : p.place ≡ place)
     (some : 0 < length p.words) where
-  -- every other block behind the place lies behind this one
+  -- every other block after the place lies after this one
   beyond : (k : ℕ) (q : PlacedBlock) → k ≢ n → value_at now.slots k ≡ Some q → 0 < length q.words → place ≤ q.place
       → place + length p.words ≤ q.place
   beyond k q other found words behind =
@@ -181,7 +181,7 @@ module _ (before now : Layout) (packed place used n : ℕ) (p : PlacedBlock)
             (record { block = p; there = there; from = omega arith; below = omega arith })))
       ]
 
-  -- no other block covers a word that it comes to cover
+  -- no other block covers a word that it then covers
   pub slide_clear : IsClear now.slots n packed (length p.words)
   slide_clear k word from below c =
       elim (cases_eq k n) [
@@ -238,7 +238,7 @@ module _ (before now : Layout) (packed place used n : ℕ) (p : PlacedBlock)
             ]
       ]
 
-  -- the other blocks count alike from behind this one
+  -- the other blocks count alike from the end of this one on
   others_alike : sum_by (words_from place) (slice_set now.slots n None) ≡ sum_by (words_from (place + length p.words))
       (slice_set now.slots n None)
   others_alike =

@@ -45,7 +45,7 @@ module _ {A : Type 0} where
       → words_at (content_of slots) n ≡ b.words.items
   words_at-plain slots n b there = ap words_of (block_at-plain slots n ∙ ap block_of there)
 
-  -- a block comes to an empty number
+  -- an empty number gets a block
   pub content_of-insert : (slots : List (Option (PlainBlock A))) (n : ℕ) (b : PlainBlock A)
       → content_of (slice_set slots n (Some b)) ≡ with_block (content_of slots) n
       (record { owner = b.owner; words = b.words.items })

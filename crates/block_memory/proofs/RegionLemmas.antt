@@ -257,7 +257,7 @@ module _ (layout : Layout) (holes : Region) (used n : ℕ) (p : PlacedBlock) (r 
         fits = let f = r.fits in omega arith;
       }
 
--- a number has a block where the region contains one
+-- a number has a block if the region contains one
 pub slot_there : (slots : List (Option PlacedBlock)) (n : ℕ) → IsLive (content_of slots) n → IsSome (value_at slots n)
 slot_there slots n live = sym (is_some-content_of slots n) ∙ live
 

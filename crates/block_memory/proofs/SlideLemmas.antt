@@ -34,7 +34,7 @@ widest-ge (word ∷ free) (suc place) len all =
     let rest = widest-ge free place len (λ other from below. all (suc other) (omega arith) (omega arith)) in
     omega (arith, rest)
 
--- the hole that begins at a free word behind one that isn't free
+-- the hole that begins at a free word after one that isn't free
 front_run-free : (free : List Bool) (word : ℕ) → word < front_run free → is_free free word ≡ true
 front_run-free [] word below = absurd (omega arith)
 front_run-free (false ∷ free) word below = absurd (omega arith)
@@ -74,7 +74,7 @@ hole_from free front len some none_below all = (run, hole, wide)
       behind = sym (at_run run) ∙ front_run-ends (drop front free);
     }
 
--- the lowest fit is the front of the lowest hole, where that is wide enough
+-- the lowest fit is the front of the lowest hole, if that is wide enough
 fit_is-front : (free : List Bool) (len to front : ℕ) → 1 ≤ len → IsLowestFit free len to → NoneFree free 0 front
     → AllFree free front len → to ≡ front
 fit_is-front free len to front some fit none_below all =
@@ -88,7 +88,7 @@ fit_is-front free len to front some fit none_below all =
       | inr not_lower ↦ omega arith
     ]
 
--- a block that stays where it lies
+-- a block that stays at its place
 pub after_no_move : (layout : Layout) (n to : ℕ) → IsSome (value_at layout.slots n) → place_at layout.slots n ≡ to
     → layout ≡ layout_after_move layout n to
 after_no_move layout n to some here =
@@ -101,7 +101,7 @@ after_no_move layout n to some here =
     ∙ ap (λ (slots : List (Option PlacedBlock)). let l : Layout = record { size = layout.size; slots = slots } in l)
     (set-get_or layout.slots n None))
 
--- what is known of a block that comes to another place
+-- what is known of a block that moves to another place
 pub record IsSlid (layout : Layout) (holes : Region) (used n place len to : ℕ) : Type 0 where
   pub fits : to + length (words_at layout.slots n) ≤ layout.size
   pub clear : IsClear layout.slots n to (length (words_at layout.slots n))
@@ -195,7 +195,7 @@ module _ (law : OneHoleMoreThanRanges) (layout : Layout) (holes : Region) (used 
       let within_there = rw (same, is_place, is_len) at within in
       rw (is_place, is_len) (slid layout holes used n p.0 r p.1 less to fit_there within_there)
 
-  -- these are the first words of the lowest hole, where the block's words come to be behind a hole
+  -- these are the first words of the lowest hole, if the block's words then lie after a hole
   pub to_front : (given : Region) (to front : ℕ) → given ≡ given_to holes place len → IsLowestFit given.free len to
       → 1 ≤ len
       → front ≤ place_at layout.slots n → NoneFree holes.free 0 front
@@ -243,7 +243,7 @@ is_gap before now holes packed place used i r within =
       ];
     }
 
--- while the gap is too narrow, a block is behind it
+-- while the gap is too narrow, a block is after it
 pub place_inside : (before now : Layout) (packed place used len : ℕ) → IsPacking before now packed place used
     → used + len ≤ before.size → place - packed < len → place < now.size
 place_inside before now packed place used len i fits narrow =

@@ -273,7 +273,7 @@ module _ {T : Type 0} where
         ];
       }
 
-  -- an entry marked as empty comes to empty places
+  -- an entry marked as empty is among the empty places
   pub empty-push : (old new : Slab (Option T)) (keys : List ℕ) (key : ℕ) → AreKeys old keys → get old key ≡ None
       → Updates old new key (Some None) → ((i : ℕ) → i < length keys
       → value_under_key old (slice_index keys i) ≡ None)

@@ -3,7 +3,7 @@ use Rattle.std.specs.Prelude.{◌≡◌, ℕ, ℤ, ◌+◌, ◌<◌, ◌≤◌, 
 use Rattle.std.specs.Prelude.{slice_index}
 use Rattle.block_memory.specs.Table.{value_at}
 use Rattle.block_memory.specs.Layout.{PlacedBlock}
-use Rattle.block_memory.specs.declared.blocks.Span.{Span}
+use Rattle.block_memory.specs.declared.span.Span.{Span}
 
 -- a span of these words
 abbrev pub block_of_span : List ℤ → Option Span → Option PlacedBlock
@@ -14,8 +14,13 @@ block_of_span words (Some s) =
 abbrev pub slots_from : List ℤ → List (Option Span) → List (Option PlacedBlock)
 slots_from words spans = map (block_of_span words) spans
 
--- each span lies in the region, and where it has words its number stands at the first of them
-pub record AreSpans (words : List ℤ) (starts : List ℕ) (spans : List (Option Span)) : Type 0 where
+-- each span lies among the words that were in use so far, and if it has words its number is at the first of them. There
+-- is room for the other words of the region
+pub record AreBlocks (words : List ℤ) (starts : List ℕ) (spans : List (Option Span))
+    (size words_capacity starts_capacity : ℕ) : Type 0 where
   pub same_size : length starts ≡ length words
   pub within : (n : ℕ) (s : Span) → value_at spans n ≡ Some s → s.place + s.len ≤ length words
   pub started : (n : ℕ) (s : Span) → value_at spans n ≡ Some s → 0 < s.len → slice_index starts s.place ≡ n
+  pub few : length words ≤ size
+  pub words_room : size ≤ words_capacity
+  pub starts_room : size ≤ starts_capacity

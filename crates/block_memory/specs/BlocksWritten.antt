@@ -1,17 +1,22 @@
 -- What writing a block into a region changes: words from a place on, and a number at the first of them.
-use Rattle.std.specs.Prelude.{◌≡◌, ◌≢◌, ℕ, ℤ, ◌+◌, ◌<◌, List, length, take, drop, slice_index}
+use Rattle.std.specs.Prelude.{◌≡◌, ◌≢◌, ℕ, ℤ, ◌+◌, ◌<◌, max, List, length, take, drop, slice_index}
 use Rattle.std.specs.List.{SameBelow, SameFrom}
 
--- these words stand from the place on, and the others are as before
+-- these words are at the place and after it, and the others are as before
 pub record IsWritten (old new : List ℤ) (place : ℕ) (words : List ℤ) : Type 0 where
   pub same_size : length new ≡ length old
   pub written : take (length words) (drop place new) ≡ words
   pub below : SameBelow old new place
   pub behind : SameFrom old new (place + length words)
 
--- the number stands at the place where so many words begin, if there are any, and the others are as before
+-- the number is at the place of the first of `len` words, if there are any, and the others are as before
 pub record IsMarked (old new : List ℕ) (place len number : ℕ) : Type 0 where
   pub same_size : length new ≡ length old
   pub marked : 0 < len → slice_index new place ≡ number
   pub kept : len ≡ 0 → new ≡ old
   pub others : (i : ℕ) → i ≢ place → slice_index new i ≡ slice_index old i
+
+-- the list is at least so long, with the items that it had
+pub record IsLengthened {X : Type 0} (old new : List X) (len : ℕ) : Type 0 where
+  pub long : length new ≡ max (length old) len
+  pub kept : SameBelow old new (length old)

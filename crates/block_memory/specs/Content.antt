@@ -30,7 +30,7 @@ abbrev pub words_of : Option Block → List ℤ
 words_of None = []
 words_of (Some b) = b.words
 
--- whose the block is, and its words: 0 and no words where the number has no block
+-- whose the block is, and its words: 0 and no words if the number has no block
 abbrev pub owner_at : Content → ℕ → ℕ
 owner_at c id = owner_of (block_at c id)
 

@@ -9,7 +9,7 @@ pub record PlacedBlock : Type 0 where
   pub place : ℕ
   pub words : List ℤ
 
--- a region of so many words, with a block or nothing at each number
+-- a region of `size` words, with a block or nothing at each number
 pub record Layout : Type 0 where
   pub size : ℕ
   pub slots : List (Option PlacedBlock)
@@ -22,7 +22,7 @@ block_of (Some p) = Some (record { owner = p.owner; words = p.words })
 abbrev pub content_of : List (Option PlacedBlock) → Content
 content_of slots = map block_of slots
 
--- whose the block of a number is, where it lies, and its words: 0, 0 and no words where the number has no block
+-- whose the block of a number is, its place, and its words: 0, 0 and no words if the number has no block
 abbrev pub owner_of : Option PlacedBlock → ℕ
 owner_of None = 0
 owner_of (Some p) = p.owner

@@ -6,3 +6,5 @@ pub mod Layout
 pub mod BlocksInside
 pub mod BlocksWritten
 pub mod Region
+pub mod Writing
+pub mod Placing

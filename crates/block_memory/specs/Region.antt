@@ -32,7 +32,7 @@ pub record CoverRegion (slots : List (Option PlacedBlock)) (free : List Bool) : 
   pub covered : (n word : ℕ) → Covers slots n word → is_free free word ≡ false
   pub others : (word : ℕ) → word < length free → is_free free word ≡ false → IsCovered slots word
 
--- the blocks and the holes of a region of which so many words are in use
+-- the blocks and the holes of a region of which `used` words are in use
 pub record IsRegion (layout : Layout) (holes : Region) (used : ℕ) : Type 0 where
   pub cover : CoverRegion layout.slots holes.free
   pub within : AreWithin layout.slots layout.size
@@ -41,7 +41,7 @@ pub record IsRegion (layout : Layout) (holes : Region) (used : ℕ) : Type 0 whe
   pub counted : used ≡ used_words (content_of layout.slots)
   pub fits : used ≤ layout.size
 
--- the blocks cover the first so many words and no other
+-- the blocks cover the first `used` words and no other
 pub record ArePacked (slots : List (Option PlacedBlock)) (used : ℕ) : Type 0 where
   pub apart : AreApart slots
   pub front : (word : ℕ) → word < used → IsCovered slots word

@@ -13,7 +13,7 @@ module _ {T : Type 0} where
   abbrev pub places : Slab (Option T) → List ℕ → List (Option T)
   places entries keys = map (value_under_key entries) keys
 
-  -- each key has an entry, and no key stands twice
+  -- each key has an entry, and no key is listed twice
   pub record AreKeys (entries : Slab (Option T)) (keys : List ℕ) : Type 0 where
     pub present : (n : ℕ) → n < length keys → IsSome (get entries (slice_index keys n))
     pub distinct : (m n : ℕ) → m < n → n < length keys → slice_index keys m ≢ slice_index keys n

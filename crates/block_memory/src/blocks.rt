@@ -1,44 +1,84 @@
 //! Blocks that lie in one region of words, each at a place of its own.
 ghost use Rattle.std.specs.Prelude.{◌≡◌, ◌+◌, ◌^◌, ◌<◌, ◌≤◌, ℕ, length, take, drop, replicate, None, Some};
-ghost use Rattle.std.specs.Prelude.{IsSome, is_some, IfOk, IfSome, IfNone};
+ghost use Rattle.std.specs.Prelude.{IsSome, is_some, IfOk, IfSome, IfNone, All, MatchResult, map, slice_index_or};
+ghost use Rattle.std.specs.Prelude.{vec_capacity};
 ghost use Rattle.block_memory.specs.Table.{value_at, value_count};
 ghost use Rattle.block_memory.specs.Layout.{IsBare, IsClear, Begins, owner_at, place_at, words_at, with_slot};
 ghost use Rattle.block_memory.specs.Layout.{layout_after_move};
-ghost use Rattle.block_memory.specs.BlocksWritten.{IsWritten, IsMarked};
+ghost use Rattle.block_memory.specs.BlocksWritten.{IsWritten, IsMarked, IsLengthened};
+ghost use Rattle.block_memory.specs.Writing.{IsPutWith, IsApart, span_at, span_of, words_in};
 
+use crate::memory::BlockId;
+use crate::span::Span;
 use crate::table::Table;
+use crate::writer::{MOST_LENT, Writer, write_block};
 use std::alloc::{AllocError, Allocator};
 use std::marker::Model;
 
-/// Where a block lies and whose it is.
-#[derive(Clone, Copy, Debug)]
-pub(crate) struct Span {
-    pub(crate) owner: usize,
-    pub(crate) place: usize,
-    pub(crate) len: usize,
-}
-
-/// Numbered blocks in one region of words. All memory is taken when it is made.
+/// Numbered blocks in one region of words. All memory is taken when it is made, and written when it is used: both lists
+/// are as long as the words that were in use so far.
 #[derive(Drop)]
 pub struct Blocks<A: Allocator> {
+    size: usize,
     words: Vec<i64, A>,
-    // At the first word of each block that has words, the block's number. Elsewhere any number, which tells nothing:
+    // At the first word of each block that has words, the block's number. Elsewhere any number, which says nothing:
     // whether a block begins at a word is seen by its span.
     starts: Vec<usize, A>,
     spans: Table<Span, A>,
 }
 
 impl<A: Allocator> Model for Blocks<A> {
-    ghost use Rattle.std.specs.Prelude.{length};
+    ghost use Rattle.std.specs.Prelude.{length, vec_capacity};
     ghost use Rattle.block_memory.specs.Layout.{Layout};
 
     ghost Value = { Layout };
 
-    ghost use Rattle.block_memory.specs.BlocksInside.{slots_from, AreSpans};
+    ghost use Rattle.block_memory.specs.BlocksInside.{slots_from, AreBlocks};
 
-    ghost view = { λ b. record { size = length b.words.items; slots = slots_from b.words.items b.spans } };
+    ghost view = { λ b. record { size = b.size; slots = slots_from b.words.items b.spans } };
 
-    ghost invariant = { λ b. AreSpans b.words.items b.starts.items b.spans };
+    ghost invariant = { λ b. AreBlocks b.words.items b.starts.items b.spans b.size (vec_capacity b.words)
+        (vec_capacity b.starts) };
+}
+
+// Makes a list at least so long, within what is reserved for it. Only items that it did not have are written.
+#[inline(never)]
+fn lengthen<A: Allocator, T: Copy>(list: &mut Vec<T, A>, len: usize, item: T)
+    requires { len ≤ vec_capacity list.old }
+    ensures enough { len ≤ length list.new.items }
+    ensures longer { length list.old.items ≤ length list.new.items }
+    ensures lengthened { IsLengthened list.old.items list.new.items len }
+    ensures capacity { vec_capacity list.old ≤ vec_capacity list.new }
+{
+    let before = list.len();
+    if before >= len {
+        return;
+    }
+    let Ok(()) = list.resize(len, item) else {
+        unreachable!()
+    };
+}
+
+// Makes both lists of a region at least so long, within what is reserved for them.
+#[inline(always)]
+fn reach<A: Allocator>(words: &mut Vec<i64, A>, starts: &mut Vec<usize, A>, end: usize)
+    requires words_room { end ≤ vec_capacity words.old }
+    requires starts_room { end ≤ vec_capacity starts.old }
+    requires same_size { length starts.old.items ≡ length words.old.items }
+    ensures words_enough { end ≤ length words.new.items }
+    ensures words_longer { length words.old.items ≤ length words.new.items }
+    ensures words_lengthened { IsLengthened words.old.items words.new.items end }
+    ensures words_capacity { vec_capacity words.old ≤ vec_capacity words.new }
+    ensures starts_enough { end ≤ length starts.new.items }
+    ensures starts_lengthened { IsLengthened starts.old.items starts.new.items end }
+    ensures starts_capacity { vec_capacity starts.old ≤ vec_capacity starts.new }
+{
+    let before = words.len();
+    if before >= end {
+        return;
+    }
+    lengthen(words, end, 0);
+    lengthen(starts, end, 0);
 }
 
 // Copies the new words to a place of the region. One word alone costs no call.
@@ -52,7 +92,7 @@ fn write_words(region: &mut [i64], place: usize, words: &[i64])
     }
 }
 
-// Moves so many words from one place of the region to another, and answers how many: none where it is the same place.
+// Moves `len` words from one place of the region to another, and answers how many moved: none if it is the same place.
 fn move_words(region: &mut [i64], from: usize, len: usize, to: usize) -> usize
     requires from { from + len ≤ length region.old }
     requires to { to + len ≤ length region.old }
@@ -76,6 +116,53 @@ fn mark_start(starts: &mut [usize], place: usize, len: usize, number: usize)
     }
 }
 
+// The span of the block at this place of a list. After the last it is one of no words.
+fn lent_span<A: Allocator>(spans: &Table<Span, A>, lent: &[BlockId], index: usize) -> Span
+    requires { All (λ id. IsSome (value_at spans.now id)) lent.now }
+    ensures { result ≡ slice_index_or (map (span_at spans.now) lent.now) index (span_of None) }
+{
+    match lent.get(index) {
+        Some(id) => *spans.value(id.number()),
+        None => Span {
+            owner: 0,
+            place: 0,
+            len: 0,
+        },
+    }
+}
+
+// Writes the words of a block at a place where none is, lent those of other blocks.
+fn write_lent<A: Allocator, W: Writer>(
+    words: &mut [i64],
+    spans: &Table<Span, A>,
+    place: usize,
+    len: usize,
+    lent: &[BlockId],
+    writer: &W,
+) -> Result<(), W::Fault>
+    requires within { place + len ≤ length words.old }
+    requires few { length lent.now ≤ MOST_LENT }
+    requires there { All (λ id. IsSome (value_at spans.now id)) lent.now }
+    requires apart { All (λ id. IsApart (length words.old) place len (span_at spans.now id)) lent.now }
+    requires can { W.can_write writer.now (map (λ id. words_in words.old (span_at spans.now id)) lent.now) len }
+    ensures written { IsWritten words.old words.new place (take len (drop place words.new)) }
+    ensures by_writer { let others = map (λ id. words_in words.old (span_at spans.now id)) lent.now in
+        MatchResult result (λ _. W.writes writer.now others (take len (drop place words.new)))
+        (λ fault. W.faults writer.now others fault) }
+{
+    let lent_spans = [
+        lent_span(spans, lent, 0),
+        lent_span(spans, lent, 1),
+        lent_span(spans, lent, 2),
+        lent_span(spans, lent, 3),
+        lent_span(spans, lent, 4),
+    ];
+    match write_block(words, place, len, &lent_spans[..lent.len()], writer) {
+        Ok(()) => Ok(()),
+        Err(fault) => Err(fault),
+    }
+}
+
 impl<A: Allocator> Blocks<A> {
     /// A region of `size` words with numbers for `most` blocks, and no block.
     pub(crate) fn new(alloc: A, size: usize, most: usize) -> Result<Self, AllocError>
@@ -84,9 +171,10 @@ impl<A: Allocator> Blocks<A> {
         ensures { IfOk result (λ blocks. blocks ≡ record { size = size; slots = replicate most None }) }
     {
         let spans = Table::new(alloc.clone()?, most)?;
-        let starts = vec![in alloc.clone()?; 0; size]?;
-        let words = vec![in alloc; 0; size]?;
+        let starts = Vec::with_capacity(alloc.clone()?, size)?;
+        let words = Vec::with_capacity(alloc, size)?;
         Ok(Blocks {
+            size,
             words,
             starts,
             spans,
@@ -97,7 +185,7 @@ impl<A: Allocator> Blocks<A> {
     pub(crate) fn size(&self) -> usize
         ensures { result ≡ self.now.size }
     {
-        self.words.len()
+        self.size
     }
 
     /// How many numbers there are.
@@ -121,7 +209,7 @@ impl<A: Allocator> Blocks<A> {
         self.spans.find(number).is_some()
     }
 
-    /// Whose the block of a number is.
+    /// The owner of the block of a number.
     pub(crate) fn owner(&self, number: usize) -> usize
         requires { IsSome (value_at self.now.slots number) }
         ensures { result ≡ owner_at self.now.slots number }
@@ -129,7 +217,7 @@ impl<A: Allocator> Blocks<A> {
         self.spans.value(number).owner
     }
 
-    /// Where the block of a number lies.
+    /// The place of the block of a number.
     pub(crate) fn place(&self, number: usize) -> usize
         requires { IsSome (value_at self.now.slots number) }
         ensures { result ≡ place_at self.now.slots number }
@@ -153,6 +241,10 @@ impl<A: Allocator> Blocks<A> {
         ensures none { IfNone result ((number : ℕ) → Begins self.now.slots number place → ⊥) }
         ensures in_memory { self.now.size < 2 ^ 64 }
     {
+        let reached = self.starts.len();
+        if place >= reached {
+            return None;
+        }
         let number = self.starts[place];
         let span = self.spans.find(number)?;
         if span.place != place {
@@ -164,23 +256,58 @@ impl<A: Allocator> Blocks<A> {
         Some(number)
     }
 
-    /// Puts a block of the words at a place where no block covers a word, and answers its number, which had none.
+    /// Puts a block of the words at a place at which no block covers a word, and answers its number, which had none.
     pub(crate) fn put(&mut self, owner: usize, place: usize, words: &[i64]) -> usize
         requires number { value_count self.old.slots < length self.old.slots }
         requires within { place + length words.now ≤ self.old.size }
         requires bare { IsBare self.old.slots place (length words.now) }
         ensures in_range { result < length self.old.slots }
         ensures vacant { value_at self.old.slots result ≡ None }
-        ensures put { self.new ≡ with_slot self.old result (Some (record { owner = owner; place = place; words = words.now })) }
+        ensures put { self.new ≡ with_slot self.old result
+            (Some (record { owner = owner; place = place; words = words.now })) }
     {
         let len = words.len();
+        reach(&mut self.words, &mut self.starts, place + len);
         write_words(&mut self.words, place, words);
         let number = self.spans.insert(Span { owner, place, len });
         mark_start(&mut self.starts, place, len, number);
         number
     }
 
-    /// Takes the block of a number away, and answers where it lay.
+    /// Puts a block of `len` words at a place where no block covers a word. A writer writes it, and is lent the words
+    /// of
+    /// other blocks for that. Answers its number, which had none, and what the writer answers. If that is a fault,
+    /// nothing
+    /// is said of the block's words.
+    pub(crate) fn put_with<W: Writer>(
+        &mut self,
+        owner: usize,
+        place: usize,
+        len: usize,
+        lent: &[BlockId],
+        writer: &W,
+    ) -> (usize, Result<(), W::Fault>)
+        requires number { value_count self.old.slots < length self.old.slots }
+        requires within { place + len ≤ self.old.size }
+        requires bare { IsBare self.old.slots place len }
+        requires few { length lent.now ≤ MOST_LENT }
+        requires there { All (λ id. IsSome (value_at self.old.slots id)) lent.now }
+        requires can { W.can_write writer.now (map (words_at self.old.slots) lent.now) len }
+        ensures in_range { result.0 < length self.old.slots }
+        ensures vacant { value_at self.old.slots result.0 ≡ None }
+        ensures put { IsPutWith self.old self.new result.0 owner place len (λ words. MatchResult result.1
+            (λ _. W.writes writer.now (map (words_at self.old.slots) lent.now) words)
+            (λ fault. W.faults writer.now (map (words_at self.old.slots) lent.now) fault)) }
+    {
+        lengthen(&mut self.words, place + len, 0);
+        lengthen(&mut self.starts, place + len, 0);
+        let written = write_lent(&mut self.words, &self.spans, place, len, lent, writer);
+        let number = self.spans.insert(Span { owner, place, len });
+        mark_start(&mut self.starts, place, len, number);
+        (number, written)
+    }
+
+    /// Takes the block of a number away, and answers where it was.
     pub(crate) fn remove(&mut self, number: usize) -> Span
         requires { IsSome (value_at self.old.slots number) }
         ensures place { result.place ≡ place_at self.old.slots number }
@@ -190,7 +317,7 @@ impl<A: Allocator> Blocks<A> {
         self.spans.remove(number)
     }
 
-    /// Moves the block of a number to a place from which on no other block covers one of its words, and answers how many
+    /// Moves the block of a number to a place from which on no other block covers one of its words. Answers how many
     /// words moved.
     pub(crate) fn slide(&mut self, number: usize, to: usize) -> usize
         requires there { IsSome (value_at self.old.slots number) }
@@ -200,6 +327,7 @@ impl<A: Allocator> Blocks<A> {
         ensures few { result ≤ length (words_at self.old.slots number) }
     {
         let Span { owner, place, len } = *self.spans.value(number);
+        reach(&mut self.words, &mut self.starts, to + len);
         let moved = move_words(&mut self.words, place, len, to);
         mark_start(&mut self.starts, to, len, number);
         let span = Span {

@@ -2,8 +2,8 @@
 //!
 //! [`VectorMemory`] is the one contract, and what it says of a memory is a finite map from block numbers to owners and
 //! words. [`PlainMemory`] keeps a list of its own for each block. [`RegionMemory`] and [`SlidingMemory`] keep all words
-//! in one region, take their memory once, and move blocks where no hole is wide enough: the first all of them, the second
-//! one after another from the lowest hole on, until a hole is.
+//! in one region, take their memory once, and move blocks if no hole is wide enough: the first moves all of them, the
+//! second moves one after another from the lowest hole on, until a hole is.
 #![tactic(auto)]
 
 mod blocks;
@@ -13,8 +13,11 @@ mod packing;
 mod plain;
 mod region;
 mod slide;
+mod span;
 mod table;
+mod writer;
 
-pub use memory::{BlockId, NoRoom, VectorMemory};
+pub use memory::{BlockId, LendingMemory, NoRoom, VectorMemory};
 pub use plain::PlainMemory;
 pub use region::{PackedRegion, RegionMemory, SlidingMemory};
+pub use writer::{MOST_LENT, Writer};

@@ -1,9 +1,11 @@
 //! The contract of a vector memory.
-ghost use Rattle.std.specs.Prelude.{◌≡◌, ◌+◌, ◌<◌, ◌≤◌, ◌↔◌, ℕ, Bool, Option, Some, None, length, slice_get};
-ghost use Rattle.std.specs.Prelude.{IsTrue, IfOk, OnErr};
+ghost use Rattle.std.specs.Prelude.{◌≡◌, ◌+◌, ◌<◌, ◌≤◌, ◌↔◌, ℕ, Bool, Option, Some, None, length, map, All, slice_get};
+ghost use Rattle.std.specs.Prelude.{IsTrue, IfOk, IfErr, OnErr};
 ghost use Rattle.block_memory.specs.Content.{Content, IsLive, block_at, owner_at, words_at, used_words};
 ghost use Rattle.block_memory.specs.Content.{block_count, with_block, without_block};
+ghost use Rattle.block_memory.specs.Placing.{IsPlacedWith};
 
+use crate::writer::{MOST_LENT, Writer};
 use std::marker::Model;
 
 /// The number of a block in a memory. It may be used again for another block once its block is freed.
@@ -61,8 +63,8 @@ pub trait VectorMemory {
 
     /// Places a new block of the words at a number that has none, for an owner. There has to be such a number.
     ///
-    /// `Full` exactly where the words in use and these together are more than fit; `Memory` only where they would fit,
-    /// and only in a memory that may refuse. Nothing changes at either.
+    /// The answer is `Full` exactly if the words in use and these together are more than fit. It is `Memory` only if
+    /// they would fit, and only in a memory that may refuse. Nothing changes at either.
     fn place(&mut self, owner: usize, words: &[i64]) -> Result<BlockId, NoRoom>
         requires { block_count (content self.old) < length (content self.old) }
         ensures fresh { IfOk result (λ id. (id < length (content self.old)) × (block_at (content self.old) id ≡ None)) }
@@ -120,7 +122,7 @@ pub trait VectorMemory {
         buf.copy_from_slice(self.words(id));
     }
 
-    /// Moves blocks together where the memory keeps them in one region. No block changes.
+    /// Moves blocks together if the memory keeps them in one region. No block changes.
     fn pack(&mut self)
         ensures kept { content self.new ≡ content self.old }
         ensures same_room { room self.new ≡ room self.old };
@@ -130,7 +132,7 @@ pub trait VectorMemory {
         ensures value { result ≡ used_words (content self.now) }
         ensures within { result ≤ room self.now };
 
-    /// How many words fit, as told when the memory was made.
+    /// How many words fit: the size that the memory was made with.
     fn size(&self) -> usize
         ensures { result ≡ room self.now };
 
@@ -138,7 +140,35 @@ pub trait VectorMemory {
     fn blocks(&self) -> usize
         ensures { result ≡ block_count (content self.now) };
 
-    /// How many numbers there are, which is the number of blocks told when the memory was made. Each number is below it.
+    /// How many numbers there are: the number of blocks that the memory was made for. Each number is below it.
     fn ids(&self) -> usize
         ensures { result ≡ length (content self.now) };
+}
+
+/// A memory that lends the words of its blocks to a [`Writer`] of a new one.
+pub trait LendingMemory: VectorMemory {
+    /// Places a new block of `len` words, which fit, for an owner. A writer writes it where it lies, and is lent the
+    /// words
+    /// of other blocks for that. There has to be a number without a block.
+    ///
+    /// # Errors
+    ///
+    /// The fault that the writer finds. Nothing changes then.
+    fn place_with<W: Writer>(
+        &mut self,
+        owner: usize,
+        len: usize,
+        lent: &[BlockId],
+        writer: &W,
+    ) -> Result<BlockId, W::Fault>
+        requires numbers { block_count (Self.content self.old) < length (Self.content self.old) }
+        requires room { used_words (Self.content self.old) + len ≤ Self.room self.old }
+        requires few { length lent.now ≤ MOST_LENT }
+        requires live { All (IsLive (Self.content self.old)) lent.now }
+        requires can { W.can_write writer.now (map (words_at (Self.content self.old)) lent.now) len }
+        ensures placed { IfOk result (λ id. IsPlacedWith (Self.content self.old) (Self.content self.new) id owner len
+            (W.writes writer.now (map (words_at (Self.content self.old)) lent.now))) }
+        ensures unchanged { OnErr result (Self.content self.new ≡ Self.content self.old) }
+        ensures fault { IfErr result (W.faults writer.now (map (words_at (Self.content self.old)) lent.now)) }
+        ensures same_room { Self.room self.new ≡ Self.room self.old };
 }

@@ -38,7 +38,7 @@ fn pack_blocks<A: Allocator>(blocks: &mut Blocks<A>, used: usize) -> usize
     moved
 }
 
-/// Moves the blocks of a region to its front, so that the free words are one hole behind them. Answers how many words
+/// Moves the blocks of a region to its front, so that the free words are one hole after them. Answers how many words
 /// moved.
 pub(crate) fn pack_region<A: Allocator>(
     blocks: &mut Blocks<A>,
@@ -56,7 +56,7 @@ pub(crate) fn pack_region<A: Allocator>(
     moved
 }
 
-/// All blocks are moved to the front of the region at once, and the words are taken behind them.
+/// All blocks are moved to the front of the region at once, and the words are taken after them.
 #[derive(Clone, Copy, Debug)]
 pub struct WholePacking;
 
@@ -66,21 +66,28 @@ impl Packing for WholePacking {
         holes: &mut Holes<A>,
         used: usize,
         len: usize,
+        _slid: usize,
     ) -> Room {
         let moved = pack_region(blocks, holes, used);
         match holes.take(len) {
-            Some(place) => Room { place, moved },
+            Some(place) => Room {
+                place,
+                moved,
+                slid: 0,
+            },
             None => unreachable!(),
         }
     }
 }
 
-/// Takes the words for a block of so many words from the lowest hole that has them. Blocks move first where none has.
+/// Takes the words for a block of so many words from the lowest hole that has them. If none has, blocks move first. So
+/// many words slid before.
 pub(crate) fn take_room<P: Packing, A: Allocator>(
     blocks: &mut Blocks<A>,
     holes: &mut Holes<A>,
     used: usize,
     len: usize,
+    slid: usize,
 ) -> Room
     requires region { IsRegion blocks.old holes.old used }
     requires fits { used + len ≤ blocks.old.size }
@@ -89,11 +96,19 @@ pub(crate) fn take_room<P: Packing, A: Allocator>(
     ensures room { HasRoom blocks.new holes.new used result.place len }
 {
     if len == 0 {
-        return Room { place: 0, moved: 0 };
+        return Room {
+            place: 0,
+            moved: 0,
+            slid,
+        };
     }
     match holes.take(len) {
-        Some(place) => Room { place, moved: 0 },
-        None => P::make_room(blocks, holes, used, len),
+        Some(place) => Room {
+            place,
+            moved: 0,
+            slid,
+        },
+        None => P::make_room(blocks, holes, used, len, slid),
     }
 }
 

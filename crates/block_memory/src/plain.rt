@@ -14,8 +14,8 @@ struct PlainBlock<A: Allocator> {
     words: Vec<i64, A>,
 }
 
-/// A vector memory that keeps each block in a list of its own, and takes memory for it when it is placed: `place` answers
-/// [`NoRoom::Memory`] where that is refused.
+/// A vector memory that keeps each block in a list of its own, and takes memory for it when it is placed: `place`
+/// answers [`NoRoom::Memory`] if that is refused.
 #[derive(Drop)]
 pub struct PlainMemory<A: Allocator> {
     alloc: A,

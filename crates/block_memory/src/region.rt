@@ -1,24 +1,27 @@
 //! A vector memory whose blocks lie in one region.
-ghost use Rattle.std.specs.Prelude.{◌≡◌, ◌≤◌, replicate, true, IfOk};
+ghost use Rattle.std.specs.Prelude.{◌≡◌, ◌+◌, ◌<◌, ◌≤◌, All, map, length, replicate, true, IfOk, IfErr};
 ghost use Rattle.holes.specs.FreeWords.{hole_count};
-ghost use Rattle.block_memory.specs.Content.{no_blocks};
+ghost use Rattle.block_memory.specs.Content.{IsLive, no_blocks, block_count, used_words, words_at};
+ghost use Rattle.block_memory.specs.Placing.{IsPlacedWith};
 
 use crate::blocks::Blocks;
-use crate::memory::{BlockId, NoRoom, VectorMemory};
+use crate::memory::{BlockId, LendingMemory, NoRoom, VectorMemory};
 use crate::pack::{WholePacking, give_room, pack_region, take_room};
 use crate::packing::{Packing, Room};
 use crate::slide::SlidingPacking;
+use crate::writer::{MOST_LENT, Writer};
 use holes::Holes;
 use holes::laws::one_hole_more_than_ranges;
 use std::alloc::{AllocError, Allocator};
 use std::marker::{Model, PhantomData};
 
-/// A vector memory in one region of words, in which blocks are moved in the way `P` where no hole is wide enough. It takes
-/// all its memory when it is made, and `place` never answers [`NoRoom::Memory`].
+/// A vector memory in one region of words, in which blocks are moved in the way `P` if no hole is wide enough. It takes
+/// all its memory when it is made, and `place` never answers [`NoRoom::Memory`]. Memory for words is written when the
+/// words are first used.
 ///
-/// A block lies in a row of words, and a block of no words covers none. Where a hole is wide enough, `place` costs the
-/// words of the block and a look for the hole; `free` costs giving the words back to the holes, however many blocks there
-/// are. [`RegionMemory`] and [`SlidingMemory`] say what `place` does else.
+/// A block lies in a row of words, and a block of no words covers none. If a hole is wide enough, `place` costs the
+/// words of the block and a look for the hole. `free` costs giving the words back to the holes, however many blocks
+/// there are. [`RegionMemory`] and [`SlidingMemory`] say what `place` does else.
 #[derive(Drop)]
 pub struct PackedRegion<P, A: Allocator> {
     blocks: Blocks<A>,
@@ -29,11 +32,19 @@ pub struct PackedRegion<P, A: Allocator> {
     packing: PhantomData<P>,
 }
 
-/// A region in which `place` moves all blocks together at once where no hole is wide enough.
+// A block that was placed, and the fault that its writer found.
+#[derive(Drop)]
+struct Unwritten<F> {
+    id: BlockId,
+    fault: F,
+}
+
+/// A region in which `place` moves all blocks together at once if no hole is wide enough.
 pub type RegionMemory<A> = PackedRegion<WholePacking, A>;
 
-/// A region in which `place` slides blocks down where no hole is wide enough: those behind the lowest hole, one after
-/// another, and only until the words that are asked for fit before the next.
+/// A region in which `place` slides blocks down if no hole is wide enough: those after the lowest hole, one after
+/// another, and only until the words that are asked for fit before the next. Once more words slid than the region has,
+/// `place` moves all blocks together instead, and counts anew.
 pub type SlidingMemory<A> = PackedRegion<SlidingPacking, A>;
 
 impl<P, A: Allocator> Model for PackedRegion<P, A> {
@@ -66,9 +77,51 @@ impl<P: Packing, A: Allocator> PackedRegion<P, A> {
             blocks,
             holes,
             used: 0,
-            last: Room { place: 0, moved: 0 },
+            last: Room {
+                place: 0,
+                moved: 0,
+                slid: 0,
+            },
             packing: PhantomData,
         })
+    }
+
+    // Places a block that a writer writes, as `place_with`. If the writer finds a fault, the block stays, with any
+    // words.
+    fn put_with<W: Writer>(
+        &mut self,
+        owner: usize,
+        len: usize,
+        lent: &[BlockId],
+        writer: &W,
+    ) -> Result<BlockId, Unwritten<W::Fault>>
+        requires numbers { block_count self.old.content < length self.old.content }
+        requires room { used_words self.old.content + len ≤ self.old.room }
+        requires few { length lent.now ≤ MOST_LENT }
+        requires live { All (IsLive self.old.content) lent.now }
+        requires can { W.can_write writer.now (map (words_at self.old.content) lent.now) len }
+        ensures placed { IfOk result (λ id. IsPlacedWith self.old.content self.new.content id owner len
+            (W.writes writer.now (map (words_at self.old.content) lent.now))) }
+        ensures fault { IfErr result (λ u. IsPlacedWith self.old.content self.new.content u.id owner len
+            (λ words. W.faults writer.now (map (words_at self.old.content) lent.now) u.fault)) }
+        ensures same_room { self.new.room ≡ self.old.room }
+    {
+        let _size = self.blocks.size();
+        let room = take_room::<P, A>(
+            &mut self.blocks,
+            &mut self.holes,
+            self.used,
+            len,
+            self.last.slid,
+        );
+        let (number, written) = self.blocks.put_with(owner, room.place, len, lent, writer);
+        self.used += len;
+        self.last = room;
+        let id = BlockId::new(number);
+        match written {
+            Ok(()) => Ok(id),
+            Err(fault) => Err(Unwritten { id, fault }),
+        }
     }
 
     /// How many words of other blocks the last `place` moved that placed a block, 0 before the first.
@@ -93,7 +146,13 @@ impl<P: Packing, A: Allocator> VectorMemory for PackedRegion<P, A> {
         if len > self.blocks.size() - self.used {
             return Err(NoRoom::Full);
         }
-        let room = take_room::<P, A>(&mut self.blocks, &mut self.holes, self.used, len);
+        let room = take_room::<P, A>(
+            &mut self.blocks,
+            &mut self.holes,
+            self.used,
+            len,
+            self.last.slid,
+        );
         let number = self.blocks.put(owner, room.place, words);
         self.used += len;
         self.last = room;
@@ -126,6 +185,7 @@ impl<P: Packing, A: Allocator> VectorMemory for PackedRegion<P, A> {
         ensures one_hole { hole_count self.new.free ≤ 1 }
     {
         pack_region(&mut self.blocks, &mut self.holes, self.used);
+        self.last.slid = 0;
     }
 
     fn used(&self) -> usize {
@@ -142,5 +202,24 @@ impl<P: Packing, A: Allocator> VectorMemory for PackedRegion<P, A> {
 
     fn ids(&self) -> usize {
         self.blocks.numbers()
+    }
+}
+
+impl<P: Packing, A: Allocator> LendingMemory for PackedRegion<P, A> {
+    fn place_with<W: Writer>(
+        &mut self,
+        owner: usize,
+        len: usize,
+        lent: &[BlockId],
+        writer: &W,
+    ) -> Result<BlockId, W::Fault> {
+        match self.put_with(owner, len, lent, writer) {
+            Ok(id) => Ok(id),
+            Err(unwritten) => {
+                let Unwritten { id, fault } = unwritten;
+                self.free(id);
+                Err(fault)
+            }
+        }
     }
 }

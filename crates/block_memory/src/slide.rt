@@ -6,6 +6,7 @@ ghost use Rattle.block_memory.specs.Layout.{place_at, words_at, layout_after_mov
 ghost use Rattle.block_memory.specs.Region.{IsRegion};
 
 use crate::blocks::Blocks;
+use crate::pack::WholePacking;
 use crate::packing::{Packing, Room};
 use holes::Holes;
 use holes::laws::one_hole_more_than_ranges;
@@ -42,8 +43,9 @@ fn slide_down<A: Allocator>(
     }
 }
 
-/// The blocks behind the lowest hole slide down in order of place until the hole before the next one has so many words,
-/// which are taken.
+/// The blocks after the lowest hole slide down in order of place until the hole before the next one has so many words,
+/// which are taken. Once more words slid than the region has, all blocks move together: slides make the front dense, so
+/// that each later one has more words to move.
 #[derive(Clone, Copy, Debug)]
 pub struct SlidingPacking;
 
@@ -53,7 +55,11 @@ impl Packing for SlidingPacking {
         holes: &mut Holes<A>,
         used: usize,
         len: usize,
+        slid: usize,
     ) -> Room {
+        if slid > blocks.size() {
+            return WholePacking::make_room(blocks, holes, used, len, slid);
+        }
         let mut moved = 0;
         // The blocks before `place` lie together up to `packed`, and the words from there on to `place` are free.
         let mut packed = 0;
@@ -70,7 +76,11 @@ impl Packing for SlidingPacking {
             }
         }
         match holes.take(len) {
-            Some(place) => Room { place, moved },
+            Some(place) => Room {
+                place,
+                moved,
+                slid: slid.saturating_add(moved),
+            },
             None => unreachable!(),
         }
     }

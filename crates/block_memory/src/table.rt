@@ -85,7 +85,7 @@ impl<T, A: Allocator> Table<T, A> {
         self.entries[key].as_ref()
     }
 
-    /// Puts a value at a number in the place of the one that it has.
+    /// Replaces the value of a number.
     pub(crate) fn set(&mut self, number: usize, value: T)
     where
         T: Drop,

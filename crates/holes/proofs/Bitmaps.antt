@@ -228,7 +228,7 @@ run bits small =
           ]);
     }
 
--- where every word is free
+-- every word is free
 pub words_of_max : words_of_bits (2 ^ 64 - 1) ≡ replicate 64 true
 unfolding words_of_bits
 words_of_max =
@@ -249,7 +249,7 @@ back_of_max = ap back_run words_of_max ∙ back_free 64
 pub lowest_of_max : (len : ℕ) → len ≤ 64 → lowest_fit len (words_of_bits (2 ^ 64 - 1)) ≡ 0
 lowest_of_max len fits = lowest_front len (words_of_bits (2 ^ 64 - 1)) (omega (arith, front_of_max))
 
--- where no word is free
+-- no word is free
 pub words_of_zero : words_of_bits 0 ≡ replicate 64 false
 unfolding words_of_bits
 words_of_zero = all_words (is_set 0) 0 64 false (λ word lt. ap (λ b. eqb b 1) (bit_at-zero (0 + word)))
@@ -402,7 +402,8 @@ unfolding words_of_bits
 lowest_word bits some small =
     let g = gap bits some small in
     let rest = bits / 2 ^ trailing_zeros w64 bits in
-    let front : 1 ≤ front_run (words_of_bits rest) = free_front (is_set rest) 64 (omega arith) (ap (λ b. eqb b 1) g.free) in
+    let front : 1 ≤ front_run (words_of_bits rest) =
+    free_front (is_set rest) 64 (omega arith) (ap (λ b. eqb b 1) g.free) in
     let wide : 1 ≤ widest (words_of_bits bits) =
     omega (arith, g.same_widest, front, front-le-widest (words_of_bits rest)) in
     record {

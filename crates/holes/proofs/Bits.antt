@@ -23,7 +23,7 @@ word_in each place (suc len) (suc word) lt =
     word_in each (place + 1) len word (omega arith) ∙ ap each (let e : (place + 1) + word ≡ place + suc word = omega
     arith in e)
 
--- the same words, told in two ways
+-- the same words, by two functions that say which are free
 pub same_words_from : (first second : ℕ → Bool) (a b len : ℕ) →
     ((word : ℕ) → word < len → first (a + word) ≡ second (b + word)) →
     words_from first a len ≡ words_from second b len

@@ -1,4 +1,4 @@
--- How many holes there are after a range was taken or given, by the words right before and right behind it.
+-- How many holes there are after a range was taken or given, by the words right before and right after it.
 use Rattle.std.proofs.Common.{◌≡◌, ℕ, ◌+◌, ◌-◌, ◌<◌, ◌≤◌, Bool, true, false, not, ◌&&◌, cond, eqb, List, [], ◌∷◌, ◌++◌}
 use Rattle.std.proofs.Common.{length, take, drop, refl, sym, ◌∙◌, ap, arith, zero, suc}
 use Rattle.std.specs.Prelude.{replicate}
@@ -51,7 +51,7 @@ count_set free place len value =
       ap (λ b. hole_count_after b back) last,
     )
 
--- of a range that is free and one that isn't
+-- of a range that is free, and of another
 count_both : (free : List Bool) (place len : ℕ) → hole_count (set_range free place (suc len) true)
     + cond (is_free free (place + suc len)) 1 0
     ≡ hole_count (set_range free place (suc len) false) + cond (last_of false (take place free)) 0 1

@@ -61,13 +61,16 @@ pub record Below (bits : List ℕ) (nodes : List Summary) (len index place wide 
       At bits (leaf_count nodes) len lower (2 * index + 1) (place + wide / 2) (wide / 2)
 
 pub below : (bits : List ℕ) (nodes : List Summary) (len height index place wide : ℕ) → IsTree bits nodes → 1 ≤ len →
-    At bits (leaf_count nodes) len height index place wide → index < leaf_count nodes → Below bits nodes len index place wide
+    At bits (leaf_count nodes) len height index place wide → index < leaf_count nodes →
+    Below bits nodes len index place wide
 below bits nodes len height index place wide tree one at lt =
     let p = parts bits nodes height index tree at.is_node lt in
     let left_words = node_words bits (leaf_count nodes) p.lower (2 * index) in
     let right_words = node_words bits (leaf_count nodes) p.lower (2 * index + 1) in
-    let left_len : length left_words ≡ 256 * width p.lower = length-node_words bits (leaf_count nodes) p.lower (2 * index) in
-    let right_len : length right_words ≡ 256 * width p.lower = length-node_words bits (leaf_count nodes) p.lower (2 * index + 1) in
+    let left_len : length left_words ≡ 256 * width p.lower =
+    length-node_words bits (leaf_count nodes) p.lower (2 * index) in
+    let right_len : length right_words ≡ 256 * width p.lower =
+    length-node_words bits (leaf_count nodes) p.lower (2 * index + 1) in
     let half : wide / 2 ≡ 256 * width p.lower = omega (arith, at.wide_is, p.width_is) in
     let back : (node_at nodes (2 * index)).back ≡ back_run left_words = ap (λ (n : Summary). n.back) p.left_is in
     let front : (node_at nodes (2 * index + 1)).front ≡ front_run right_words =

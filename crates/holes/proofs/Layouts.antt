@@ -19,19 +19,19 @@ words_from from size [] = replicate (size - from) false
 words_from from size (hole ∷ holes) =
     replicate (hole.place - from) false ++ replicate hole.len true ++ words_from (hole.place + hole.len) size holes
 
--- the holes stand from a place on, none empty, none past the end, and a word between each two
+-- the holes lie at or after a place, none empty, none past the end, and a word between each two
 abbrev pub AreApart : ℕ → ℕ → List Range → Type 0
 AreApart from size [] = Unit {0}
 AreApart from size (hole ∷ holes) =
     (from ≤ hole.place) × (0 < hole.len) × (hole.place + hole.len ≤ size)
     × AreApart (hole.place + hole.len + 1) size holes
 
--- where the words behind some holes begin
+-- the place of the first word after some holes
 unfoldable pub next_from : ℕ → List Range → ℕ
 next_from from [] = from
 next_from from (hole ∷ holes) = next_from (hole.place + hole.len) holes
 
--- the least place where a hole behind some holes may begin
+-- the least place at which a hole after some holes may begin
 unfoldable pub bound : ℕ → List Range → ℕ
 bound from [] = from
 bound from (hole ∷ holes) = bound (hole.place + hole.len + 1) holes
@@ -53,7 +53,7 @@ next-le-bound from to [] le = le
 next-le-bound from to (hole ∷ holes) le =
     next-le-bound (hole.place + hole.len) (hole.place + hole.len + 1) holes (omega arith)
 
--- behind holes there is a word that isn't free, or it is the region's first word
+-- after holes there is a word that isn't free, or the region's first word
 next-lt-place : (place : ℕ) (holes : List Range) → 0 < place → bound 0 holes ≤ place → next_from 0 holes < place
 unfolding next_from bound
 next-lt-place place [] some le = some
@@ -128,7 +128,7 @@ length-words_from from to size (hole ∷ holes) le a =
       length-words_from (hole.place + hole.len) (hole.place + hole.len + 1) size holes (omega arith) a.3,
     )
 
--- so many words before the first hole of the rest
+-- the words before the first hole of the rest
 pub words_from_later : (from to size : ℕ) (holes : List Range) → from ≤ to → StartsFrom to size holes →
     words_from from size holes ≡ replicate (to - from) false ++ words_from to size holes
 unfolding StartsFrom
@@ -158,7 +158,7 @@ set_range_mid front back place len old new at =
     (omega (arith, length-append front middle, length-replicate len old)))
     ∙ append_assoc front (replicate len new) back)
 
--- the words before a place behind some holes
+-- the words before a place after some holes
 front_of : List Range → ℕ → List Bool
 front_of xs place = words_before 0 xs ++ replicate (place - next_from 0 xs) false
 
@@ -231,7 +231,7 @@ fused_first from size place first second ys =
     ∙ ap (λ (n : ℕ). gap ++ one ++ (replicate n false ++ two ++ rest))
     (let e : 0 ≡ (place + first) - (place + first) = omega arith in e)))))
 
--- The word right behind a hole isn't free.
+-- The word right after a hole isn't free.
 front_taken : (from size : ℕ) (holes : List Range) → AreApart (from + 1) size holes →
     is_free (words_from from size holes) 0 ≡ false
 front_taken from size [] a = no_words (size - from)

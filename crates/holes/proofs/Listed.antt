@@ -11,14 +11,14 @@ use Rattle.holes.proofs.Layouts.{words_from, AreApart, hole_is_at, len-le-most_l
 use Rattle.holes.proofs.Layouts.{words_from_later, fused_first, hole_count-words_from, most_len}
 use Rattle.holes.proofs.Layouts.{widest-words_from, run_in_hole}
 
--- a hole of one word, joined with the one behind it
+-- a hole of one word, joined with the one after it
 grow : ℕ → List Range → List Range
 grow place [] = record { place = place; len = 1 } ∷ []
 grow place (hole ∷ holes) =
     cond (eqb hole.place (place + 1)) (record { place = place; len = 1 + hole.len } ∷ holes)
     (record { place = place; len = 1 } ∷ (hole ∷ holes))
 
--- the holes of some words, of which the first stands at a place
+-- the holes of some words, the first of which is at a place
 holes_of : ℕ → List Bool → List Range
 holes_of place [] = []
 holes_of place (false ∷ free) = holes_of (place + 1) free

@@ -169,22 +169,25 @@ level_joined old middle first last part both left right order level within alike
               | inr at ↦
                   let same : index ≡ first = omega arith in
                   ap (node_at one) same
-                  ∙ (get_or-set_same middle first left nothing_free (omega (arith, is.written.same_length)) ∙ (is.left_is
+                  ∙ (get_or-set_same middle first left nothing_free (omega (arith, is.written.same_length))
+                  ∙ (is.left_is
                   ∙ (same_join (node_at middle (2 * first)) (node_at middle (2 * first + 1)) (node_at old (2 * first))
-                  (node_at old (2 * first + 1)) (behind (2 * first) (omega arith)) (behind (2 * first + 1) (omega arith))
+                  (node_at old (2 * first + 1)) (behind (2 * first) (omega arith))
+                  (behind (2 * first + 1) (omega arith))
                   ∙ ap (λ k. join (node_at old (2 * k)) (node_at old (2 * k + 1))) (sym same))))
             ]
         | inr at ↦
             let same : index ≡ last = omega arith in
             ap (node_at new) same
-            ∙ (get_or-set_same one last right nothing_free (omega (arith, len_one, is.written.same_length)) ∙ (is.right_is
+            ∙ (get_or-set_same one last right nothing_free (omega (arith, len_one, is.written.same_length))
+            ∙ (is.right_is
             ∙ (same_join (node_at one (2 * last)) (node_at one (2 * last + 1)) (node_at old (2 * last))
             (node_at old (2 * last + 1)) (behind_one (2 * last) (omega arith)) (behind_one (2 * last + 1) (omega arith))
             ∙ ap (λ k. join (node_at old (2 * k)) (node_at old (2 * k + 1))) (sym same))))
       ];
     }
 
--- each part of a node stands at one of two indices, outside a range where the node is outside its half
+-- each part of a node has one of two indices, outside a range if the node is outside its half
 parts_outside : (index first last : ℕ) → (index < first / 2) ⊎ (last / 2 < index) →
     ((2 * index < first) ⊎ (last < 2 * index)) × ((2 * index + 1 < first) ⊎ (last < 2 * index + 1))
 parts_outside index first last out = elim out [

@@ -13,13 +13,14 @@ use Rattle.holes.proofs.Bits.{length-words, words_from-add, all_words}
 use Rattle.holes.proofs.Bitmaps.{length-bits, widest_before, lowest_before}
 use Rattle.holes.proofs.Nodes.{bitmap_words}
 
--- no hole of the bitmaps up to an index is wide enough, and so many words are free right before it
+-- no hole of the bitmaps up to an index is wide enough, and `run` words are free right before it
 pub record Passed (bits : List ℕ) (len first index run : ℕ) : Type 0 where
   pub short : widest (words_between bits first index) < len
   pub back : back_run (words_between bits first index) ≡ run
 
 no_bitmaps : (bits : List ℕ) (first : ℕ) → words_between bits first first ≡ words_from (word_at bits) (64 * first) 0
-no_bitmaps bits first = ap (words_from (word_at bits) (64 * first)) (let e : 64 * (first - first) ≡ 0 = omega arith in e)
+no_bitmaps bits first =
+    ap (words_from (word_at bits) (64 * first)) (let e : 64 * (first - first) ≡ 0 = omega arith in e)
 
 pub passed_none : (bits : List ℕ) (len first : ℕ) → 1 ≤ len → Passed bits len first first 0
 passed_none bits len first some =
@@ -105,7 +106,7 @@ found_inside bits len first end index run place some from lt passed apart fits i
       length-between bits first index,
     ))
 
--- it stands behind a bitmap
+-- it lies after a bitmap
 pub passed_more : (bits : List ℕ) (len first index run next_run : ℕ) → first ≤ index →
     Passed bits len first index run → run + front_run (words_of_bits (get_or bits index 0)) < len →
     widest (words_of_bits (get_or bits index 0)) < len →
@@ -127,7 +128,7 @@ pub run_within : (bits : List ℕ) (len first index run : ℕ) → Passed bits l
 run_within bits len first index run passed =
     omega (arith, passed.back, back-le-length (words_between bits first index), length-between bits first index)
 
--- Where no word is free before the first of the bitmaps.
+-- No word is free before the first of the bitmaps.
 pub found_near : (bits : List ℕ) (len near end place : ℕ) → 1 ≤ len → near ≤ end → end ≤ length bits →
     NoneBelow bits (64 * near) → Found bits len near end place →
     (len ≤ widest (words_of bits)) × (place ≡ lowest_fit len (words_of bits))
@@ -135,7 +136,8 @@ found_near bits len near end place some from to none found =
     let here = words_between bits near end in
     let rest = words_between bits end (length bits) in
     let all : words_of bits ≡ replicate (64 * near) false ++ (here ++ rest) =
-    ap (λ n. words_from (word_at bits) 0 n) (let e : 64 * length bits ≡ 64 * near + 64 * (length bits - near) = omega arith in e)
+    ap (λ n. words_from (word_at bits) 0 n)
+    (let e : 64 * length bits ≡ 64 * near + 64 * (length bits - near) = omega arith in e)
     ∙ (words_from-add (word_at bits) 0 (64 * near) (64 * (length bits - near))
     ∙ (ap (λ p. words_from (word_at bits) 0 (64 * near) ++ words_from (word_at bits) p (64 * (length bits - near)))
     (let e : 0 + 64 * near ≡ 64 * near = omega arith in e)
@@ -157,7 +159,8 @@ pub found_near_if : (found : Option ℕ) (bits : List ℕ) (len near end : ℕ) 
     end ≤ length bits → NoneBelow bits (64 * near) →
     (widest (words_between bits near end) < len → IsNone found) →
     IfSome found (λ place. place ≡ 64 * near + lowest_fit len (words_between bits near end)) →
-    IfSome found (λ place. len ≤ widest (words_of bits)) × IfSome found (λ place. place ≡ lowest_fit len (words_of bits))
+    IfSome found (λ place. len ≤ widest (words_of bits))
+    × IfSome found (λ place. place ≡ lowest_fit len (words_of bits))
 found_near_if None bits len near end some from to none short lowest = (tt, tt)
 found_near_if (Some place) bits len near end some from to none short lowest =
     elim (cases_lt (widest (words_between bits near end)) len) [
@@ -167,7 +170,8 @@ found_near_if (Some place) bits len near end some from to none short lowest =
 
 -- The summary of some bitmaps, one after another.
 pub first_summary : (bits : List ℕ) (first : ℕ) →
-    ◌≡◌ {A = Summary} (record { front = 0; back = 0; longest = 0; whole = true }) (summary (words_between bits first first))
+    ◌≡◌ {A = Summary} (record { front = 0; back = 0; longest = 0; whole = true })
+    (summary (words_between bits first first))
 first_summary bits first = sym (ap summary (no_bitmaps bits first))
 
 pub next_summary : (bits : List ℕ) (first index : ℕ) (all : Summary) → first ≤ index → index < length bits →
@@ -185,4 +189,5 @@ next_summary bits first index all from lt small is =
     ∙ sym (ap summary (between_next bits first index from)))
 
 pub all_between : (bits : List ℕ) (end : ℕ) → end ≡ length bits → words_between bits 0 end ≡ words_of bits
-all_between bits end is = ap (words_from (word_at bits) 0) (let e : 64 * (end - 0) ≡ 64 * length bits = omega arith in e)
+all_between bits end is =
+    ap (words_from (word_at bits) 0) (let e : 64 * (end - 0) ≡ 64 * length bits = omega arith in e)

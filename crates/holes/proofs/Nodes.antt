@@ -1,4 +1,4 @@
--- Each node of a tree tells of its words, the nodes of its parts and the bitmaps of its leaves.
+-- Each node of a tree is right about its words, as the nodes of its parts and the bitmaps of its leaves are.
 use Rattle.std.proofs.Common.{false, eqb, ◌≡◌, ◌≢◌, ℕ, ◌+◌, ◌-◌, ◌*◌, ◌/◌, ◌%◌, ◌^◌, ◌<◌, ◌≤◌, Bool, List}
 use Rattle.std.proofs.Common.{◌++◌, length, get_or, set, ◌⊎◌, refl, sym, ◌∙◌, ap, subst, inl, inr, arith, zero, suc}
 use Rattle.std.proofs.lemmas.Bool.{cases_lt, cases_eq}
@@ -75,7 +75,7 @@ between_leaf bits leaf first end from to =
     ap (λ p. words_from (word_at bits) p (64 * (end - first))) (let e : 64 * first ≡ 256 * leaf = omega arith in e)
     ∙ ap (words_from (word_at bits) (256 * leaf)) (let e : 64 * (end - first) ≡ 256 = omega arith in e)
 
--- the words of a node of some height, in a tree of so many leaves
+-- the words of a node of some height, in a tree with this number of leaves
 pub node_words : List ℕ → ℕ → ℕ → ℕ → List Bool
 node_words bits leaves height index =
     words_from (word_at bits) (256 * (first_leaf height index - leaves)) (256 * width height)
@@ -265,7 +265,7 @@ pub same_from_twice : (old middle new : List Summary) (from : ℕ) → AreSameFr
     AreSameFrom middle new from → AreSameFrom old new from
 same_from_twice old middle new from first second index ge = second index ge ∙ first index ge
 
--- behind the bitmaps no word is free
+-- after the bitmaps no word is free
 pub word_past : (bits : List ℕ) (word : ℕ) → 64 * length bits ≤ word → word_at bits word ≡ false
 word_past bits word past =
     ap (λ n. is_set n (word % 64)) (get_or_past bits (word / 64) 0 (omega arith))
@@ -346,7 +346,7 @@ leaves_filled bits new_bits nodes first end place len value count leaves filled 
       | inr above ↦ inr (omega arith)
     ])))
 
--- where all leaves changed no more than those that may have
+-- the changed leaves are among those that may have changed
 pub tree_filled : (bits new_bits : List ℕ) (nodes : List Summary) (changed : Changed) (place len : ℕ) (value : Bool) →
     IsTreeBeside bits nodes changed → IsFilled bits new_bits place len value → 256 * changed.first ≤ place →
     place + len ≤ 256 * changed.end → IsTreeBeside new_bits nodes changed
@@ -362,7 +362,7 @@ tree_filled bits new_bits nodes changed place len value tree filled from to = re
   joined = tree.joined;
 }
 
--- where more leaves may have changed
+-- the same when more leaves may have changed
 pub tree_wider : (bits : List ℕ) (nodes : List Summary) (changed : Changed) (first end : ℕ) →
     IsTreeBeside bits nodes changed → first ≤ changed.first → changed.end ≤ end → end ≤ leaf_count nodes →
     IsTreeBeside bits nodes (record { first = first; end = end })
@@ -396,7 +396,7 @@ beside_of_tree bits nodes first end tree order within = record {
   joined = λ index some parts out. tree.joined index some parts;
 }
 
--- where no leaf changed
+-- if no leaf changed
 none_between : (height index : ℕ) → 1 ≤ index → (2 * index + 1 < 2 ^ height) ⊎ (2 ^ height ≤ 2 * index)
 none_between zero index some = inr (omega arith)
 none_between (suc height) index some = elim (cases_lt index (2 ^ height)) [

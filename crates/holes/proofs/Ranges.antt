@@ -52,7 +52,7 @@ set_range_before free place len value word within lt =
     (omega (arith, length-take-le place free within))
     ∙ get_or-take place free word false lt)
 
--- a word behind the range
+-- a word after the range
 pub set_range_behind : (free : List Bool) (place len : ℕ) (value : Bool) (word : ℕ) → place ≤ length free →
     place + len ≤ word → is_free (set_range free place len value) word ≡ is_free free word
 set_range_behind free place len value word within ge =
@@ -190,7 +190,7 @@ free_from_above place size word ge lt =
 
 -- How many holes there are.
 
--- the last word, or the one before the words where there is none
+-- the last word, or the one before the words if there is none
 abbrev pub last_of : Bool → List Bool → Bool
 last_of before [] = before
 last_of before (word ∷ free) = last_of word free
@@ -252,7 +252,7 @@ pub hole_count-true : (n : ℕ) → hole_count (replicate n true) ≤ 1
 hole_count-true zero = omega arith
 hole_count-true (suc n) = omega (arith, hole_count_after_true-true n)
 
--- beside so many ranges there is at most one hole more
+-- beside some ranges there is at most one hole more than there are ranges
 pub hole_count-free_beside : (size : ℕ) (ranges : List Range) →
     hole_count (free_beside size ranges) ≤ length ranges + 1
 hole_count-free_beside size [] = hole_count-true size

@@ -118,7 +118,8 @@ none_at n k = elim (cases_lt k n) [
 
 -- A range that is taken or given.
 pub holes_after : (bits new_bits : List ℕ) (nodes new_nodes : List Summary) (changed new_changed : Changed)
-    (near new_near size free most place len new_free : ℕ) (value : Bool) → IsHoles bits nodes changed near size free most →
+    (near new_near size free most place len new_free : ℕ) (value : Bool) →
+    IsHoles bits nodes changed near size free most →
     IsTreeBeside new_bits new_nodes new_changed → IsFilled bits new_bits place len value → place + len ≤ size →
     new_near < length bits → NoneBelow new_bits (64 * new_near) →
     new_free ≡ free_count (set_range (words_from (word_at bits) 0 size) place len value) →
@@ -155,7 +156,7 @@ taken_low old new low place len within filled none word lt = elim (cases_lt word
   ]
 ]
 
--- where none was free before, those that are taken don't matter
+-- if none was free before, those that are taken don't matter
 pub none_beside : (bits : List ℕ) (low place len : ℕ) → NoneBelow bits low → NoneBelowBeside bits low place len
 none_beside bits low place len none word lt = inl (none word lt)
 
@@ -278,7 +279,7 @@ holes_of_none leaves size most power small within some =
       some = some;
     }
 
--- the same words where the nodes were joined, and none is free before another bitmap
+-- the same words after the nodes were joined, with none free before another bitmap
 pub holes_joined : (bits : List ℕ) (nodes new : List Summary) (changed : Changed) (near new_near size free most : ℕ) →
     IsHoles bits nodes changed near size free most → IsTree bits new → new_near < length bits →
     NoneBelow bits (64 * new_near) → IsHoles bits new (record { first = 0; end = 0 }) new_near size free most

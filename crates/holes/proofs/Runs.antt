@@ -1,5 +1,5 @@
 -- The free words at the front and at the end of some words, the widest hole and the lowest fit, also of words that
--- stand before others.
+-- lie before others.
 use Rattle.std.proofs.Common.{◌≡◌, ℕ, ◌+◌, ◌-◌, ◌<◌, ◌≤◌, ◌^◌, min, max, Bool, true, false, ◌&&◌, cond, List, []}
 use Rattle.std.proofs.Common.{◌∷◌, ◌++◌, length, drop, refl, sym, ◌∙◌, ap, inl, inr, arith, zero, suc}
 use Rattle.std.specs.Prelude.{nat_eq}
@@ -41,7 +41,7 @@ back_all [] all = refl
 back_all (false ∷ free) all = absurd (false≢true all)
 back_all (true ∷ free) all = omega (arith, cond-true (all_free free) (1 + length free) (back_run free) all)
 
--- Words and those behind them.
+-- Words and those after them.
 pub all_free-append : (xs ys : List Bool) → all_free (xs ++ ys) ≡ cond (all_free xs) (all_free ys) false
 all_free-append [] ys = refl
 all_free-append (false ∷ xs) ys = refl
@@ -107,7 +107,7 @@ same_bools true false e = absurd (false≢true e)
 same_bools false true e = absurd (false≢true e)
 same_bools false false e = refl
 
--- where the derived `==` is true
+-- when the derived `==` is true
 pub equal_summaries : (a b : Summary) → (nat_eq a.front b.front && (nat_eq a.back b.back &&
     (nat_eq a.longest b.longest && beq a.whole b.whole))) ≡ true → a ≡ b
 equal_summaries a b e =
@@ -126,7 +126,7 @@ sum_fits : (all : Bool) (n a b : ℕ) → a + b < 2 ^ 64 → n ≡ cond all (a +
 sum_fits true n a b small e = omega arith
 sum_fits false n a b small e = e
 
--- The summary of words and of those behind them.
+-- The summary of words and of those after them.
 pub summary-append : (xs ys : List Bool) → length xs + length ys < 2 ^ 64 →
     summary (xs ++ ys) ≡ join (summary xs) (summary ys)
 summary-append xs ys small =
@@ -155,7 +155,7 @@ pub lowest_front : (len : ℕ) (free : List Bool) → len ≤ front_run free →
 lowest_front len [] fits = refl
 lowest_front len (word ∷ free) fits = lowest_here len word free fits
 
--- the front of words that aren't all free, and of those behind them
+-- the front of words that aren't all free, and of those after them
 pub front_same : (xs ys : List Bool) → all_free xs ≡ false → front_run (xs ++ ys) ≡ front_run xs
 front_same xs ys some =
     front-append xs ys ∙ cond-false (all_free xs) (front_run xs + front_run ys) (front_run xs) some
@@ -169,7 +169,7 @@ front_long xs ys all =
       front_all xs all,
     )
 
--- it stands in the first words where they have one
+-- it lies in the first words if they have one
 pub lowest-append_left : (len : ℕ) (xs ys : List Bool) → 1 ≤ len → len ≤ widest xs →
     lowest_fit len (xs ++ ys) ≡ lowest_fit len xs
 lowest-append_left len [] ys some fits = absurd (omega arith)
@@ -190,7 +190,7 @@ lowest-append_left len (word ∷ xs) ys some fits = elim (cases_lt (front_run (w
 back_rest : (word : Bool) (xs : List Bool) → all_free (word ∷ xs) ≡ false → back_run (word ∷ xs) ≡ back_run xs
 back_rest word xs some = cond-false (all_free (word ∷ xs)) (1 + length xs) (back_run xs) some
 
--- it begins at the end of the first words where only what meets there is long enough
+-- it begins at the end of the first words if only the hole across their end is long enough
 pub lowest-append_between : (len : ℕ) (xs ys : List Bool) → widest xs < len → len ≤ back_run xs + front_run ys →
     lowest_fit len (xs ++ ys) ≡ length xs - back_run xs
 lowest-append_between len [] ys short fits = omega (arith, lowest_front len ys (omega arith))
@@ -211,7 +211,7 @@ lowest-append_between len (word ∷ xs) ys short fits = elim (cases_Bool (all_fr
   )
 ]
 
--- it stands in the last words otherwise
+-- it lies in the last words otherwise
 pub lowest-append_right : (len : ℕ) (xs ys : List Bool) → widest xs < len → back_run xs + front_run ys < len →
     lowest_fit len (xs ++ ys) ≡ length xs + lowest_fit len ys
 lowest-append_right len [] ys short meet = omega arith

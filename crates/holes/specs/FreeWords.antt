@@ -31,18 +31,18 @@ taken_from region place len = record { free = set_range region.free place len fa
 abbrev pub given_to : Region → ℕ → ℕ → Region
 given_to region place len = record { free = set_range region.free place len true; most = region.most }
 
--- the words of a region of so many of which exactly those from a place on are free
+-- the words of a region of `size` words, of which exactly those from a place on are free
 abbrev pub free_from : ℕ → ℕ → List Bool
 free_from place size = replicate place false ++ replicate (size - place) true
 
--- a hole: a range of free words, with no free word right before or right behind it
+-- a hole: a range of free words, with no free word right before or right after it
 pub record IsHole (free : List Bool) (place len : ℕ) : Type 0 where
   pub some : 0 < len
   pub inside : AllFree free place len
   pub before : (word : ℕ) → word + 1 ≡ place → is_free free word ≡ false
   pub behind : is_free free (place + len) ≡ false
 
--- the place is where the lowest hole begins that has len words or more
+-- the place is the front of the lowest hole that has len words or more
 pub record IsLowestFit (free : List Bool) (len place : ℕ) : Type 0 where
   pub hole_len : ℕ
   pub hole : IsHole free place hole_len
@@ -53,7 +53,7 @@ pub record IsLowestFit (free : List Bool) (len place : ℕ) : Type 0 where
 abbrev pub free_count : List Bool → ℕ
 free_count free = count_by (λ word. word) free
 
--- how many holes begin in the words, where the word before them is free or not
+-- how many holes begin in the words, after a word that is free or not
 abbrev pub hole_count_after : Bool → List Bool → ℕ
 hole_count_after before [] = 0
 hole_count_after before (false ∷ free) = hole_count_after false free
@@ -70,7 +70,7 @@ front_run [] = 0
 front_run (false ∷ free) = 0
 front_run (true ∷ free) = 1 + front_run free
 
--- the length of the widest hole, or 0 where no word is free
+-- the length of the widest hole, or 0 if no word is free
 abbrev pub widest : List Bool → ℕ
 widest [] = 0
 widest (word ∷ free) = max (front_run (word ∷ free)) (widest free)
@@ -80,7 +80,7 @@ pub record Range : Type 0 where
   pub place : ℕ
   pub len : ℕ
 
--- the words of a region of so many, all free but those of the ranges
+-- the words of a region of `size` words, all free but those of the ranges
 abbrev pub free_beside : ℕ → List Range → List Bool
 free_beside size [] = replicate size true
 free_beside size (range ∷ ranges) = set_range (free_beside size ranges) range.place range.len false

@@ -3,7 +3,7 @@ use Rattle.std.specs.Prelude.{◌≡◌, ℕ, ◌+◌, ◌<◌, ◌≤◌, Bool,
 use Rattle.holes.specs.FreeWords.{AllFree, NoneFree, set_range, IsHole, free_count, hole_count, widest, Range}
 use Rattle.holes.specs.FreeWords.{free_beside}
 
--- where there is at most one hole, it has all free words
+-- if there is at most one hole, it has all free words
 abbrev pub OneHoleHasAll : Type 0
 OneHoleHasAll = (free : List Bool) → hole_count free ≤ 1 → widest free ≡ free_count free
 
@@ -40,7 +40,7 @@ pub record AreHoles (free : List Bool) (ranges : List Range) : Type 0 where
 abbrev pub HolesAreCounted : Type 0
 HolesAreCounted = (free : List Bool) → (ranges : List Range) × AreHoles free ranges × (length ranges ≡ hole_count free)
 
--- `widest` is the greatest length of a hole, where a word is free
+-- `widest` is the greatest length of a hole, if a word is free
 pub record IsWidest (free : List Bool) (most : ℕ) : Type 0 where
   pub above : (place len : ℕ) → IsHole free place len → len ≤ most
   pub reached : 0 < most → (place : ℕ) × IsHole free place most

@@ -18,7 +18,7 @@ abbrev pub back_run : List Bool → ℕ
 back_run [] = 0
 back_run (word ∷ free) = if all_free (word ∷ free) then 1 + length free else back_run free
 
--- where the lowest hole of at least so many words begins, in words that have one
+-- the front of the lowest hole of at least `len` words, in words that have one
 abbrev pub lowest_fit : ℕ → List Bool → ℕ
 lowest_fit len [] = 0
 lowest_fit len (word ∷ free) = if nat_le len (front_run (word ∷ free)) then 0 else 1 + lowest_fit len free
@@ -26,15 +26,15 @@ lowest_fit len (word ∷ free) = if nat_le len (front_run (word ∷ free)) then 
 abbrev pub summary : List Bool → Summary
 summary free = record { front = front_run free; back = back_run free; longest = widest free; whole = all_free free }
 
--- where no word is free
+-- no word is free
 abbrev pub nothing_free : Summary
 nothing_free = record { front = 0; back = 0; longest = 0; whole = false }
 
--- a sum, or the largest number where the sum is greater
+-- a sum, or the largest number if the sum is greater
 abbrev pub sum_at_most : ℕ → ℕ → ℕ
 sum_at_most a b = min (a + b) (2 ^ 64 - 1)
 
--- the summary of words and of those behind them
+-- the summary of words and of those after them
 abbrev pub join : Summary → Summary → Summary
 join left right = record {
   front = if left.whole then sum_at_most left.front right.front else left.front;
@@ -47,7 +47,7 @@ join left right = record {
 abbrev pub is_set : ℕ → ℕ → Bool
 is_set bits word = nat_eq (bit_at bits word) 1
 
--- so many words from a place on, as bits tell them
+-- the words from a place on, as a function says which are free
 abbrev pub words_from : (ℕ → Bool) → ℕ → ℕ → List Bool
 words_from each place zero = []
 words_from each place (suc len) = each place ∷ words_from each (place + 1) len
@@ -166,8 +166,8 @@ pub record IsTree (bits : List ℕ) (nodes : List Summary) : Type 0 where
   pub are_leaves : AreLeaves bits nodes
   pub joined : AreJoined nodes
 
--- the nodes of a tree over some bitmaps, but for the nodes of the leaves that changed, and those above them, which needn't
--- be joined
+-- the nodes of a tree over some bitmaps, but for the nodes of the leaves that changed, and those above them, which
+-- needn't be joined
 pub record IsTreeBeside (bits : List ℕ) (nodes : List Summary) (changed : Changed) : Type 0 where
   pub height : ℕ
   pub bitmaps : length bits ≡ 4 * 2 ^ height
@@ -190,8 +190,8 @@ NoneBelowBeside bits low place len =
 abbrev pub IsPowerOfTwo : ℕ → Type 0
 IsPowerOfTwo n = (exponent : ℕ) × (n ≡ 2 ^ exponent)
 
--- the free words of a region of so many, none of them before a bitmap, of which so many are free, with room for so many
--- holes
+-- the free words of a region of `size` words: no word is free before a bitmap, `free` are free, and there is room for
+-- `most` holes
 pub record IsHoles (bits : List ℕ) (nodes : List Summary) (changed : Changed) (near size free most : ℕ) : Type 0 where
   pub tree : IsTreeBeside bits nodes changed
   pub near_within : near < length bits

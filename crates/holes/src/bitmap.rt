@@ -1,4 +1,4 @@
-//! Bitmaps of 64 words, the lowest bit the first word, where a set bit is a free word.
+//! Bitmaps of 64 words. The lowest bit is the first word, and a set bit is a free word.
 
 ghost use Rattle.std.specs.Prelude.{◌≡◌, ◌≢◌, ℕ, ◌+◌, ◌-◌, ◌<◌, ◌≤◌, true, false, if◌then◌else◌, nat_le, nat_lt};
 ghost use Rattle.holes.specs.FreeWords.{front_run, widest};
@@ -55,7 +55,7 @@ pub(crate) fn summary(bits: u64) -> Summary
     }
 }
 
-/// Where the lowest hole of at least `len` words begins in a bitmap that has one.
+/// Answers where the lowest hole of at least `len` words begins in a bitmap that has one.
 pub(crate) fn lowest_fit(bits: u64, len: usize) -> usize
     requires some { 1 ≤ len }
     requires fits { len ≤ widest (words_of_bits bits) }

@@ -3,7 +3,7 @@
 ghost use Rattle.holes.specs.Laws.{OneHoleHasAll, TakingLowersCount, GivingRaisesCount};
 ghost use Rattle.holes.specs.Laws.{OneHoleMoreThanRanges, HolesAreCounted, WidestIsGreatest, NoMoreHolesThanWords};
 
-/// Where there is at most one hole, it has all free words, so that every length up to their number fits.
+/// If there is at most one hole, it has all free words, so that every length up to their number fits.
 pub fn one_hole_has_all()
     ensures { OneHoleHasAll }
 {}
@@ -18,7 +18,7 @@ pub fn giving_raises_count()
     ensures { GivingRaisesCount }
 {}
 
-/// Where all words but those of some ranges are free, there is at most one hole more than there are ranges.
+/// If all words but those of some ranges are free, there is at most one hole more than there are ranges.
 pub fn one_hole_more_than_ranges()
     ensures { OneHoleMoreThanRanges }
 {}

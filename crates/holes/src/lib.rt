@@ -1,8 +1,8 @@
 //! The free words of a region of memory, kept as its holes.
 //!
-//! A region is `size` words, at the places `0..size`. A hole is a greatest range of free words: no
-//! free word stands right before it or right behind it. Contracts see a `Holes` as the set of the
-//! free words (at each place whether the word there is free), and not as a list of holes.
+//! A region is `size` words, at the places `0..size`. A hole is a greatest range of free words: no free word is right
+//! before it or right after it. Contracts see a `Holes` as the set of the free words (at each place whether the word
+//! there is free), and not as a list of holes.
 #![tactic(auto)]
 
 ghost use Rattle.std.specs.Prelude.{◌≡◌, ◌+◌, ◌*◌, ◌<◌, ◌≤◌, ◌↔◌, length, replicate, true};
@@ -101,7 +101,7 @@ impl<A: Allocator> Holes<A> {
         Ok(holes)
     }
 
-    /// Where the lowest hole of at least `len` words begins. No word changes.
+    /// Answers where the lowest hole of at least `len` words begins. No word changes.
     fn find(&mut self, len: usize) -> Option<usize>
         requires { 1 ≤ len }
         ensures none { IsNone result ↔ (widest self.old.free < len) }
@@ -117,7 +117,7 @@ impl<A: Allocator> Holes<A> {
         tree::find(&self.bits, &self.nodes, len)
     }
 
-    /// Takes the lowest free word if the bitmap `near` has it and its leaf changed, so that no node needs a change. Else
+    /// Takes the lowest free word if the bitmap `near` has it and its leaf changed: no node needs a change then. Else
     /// nothing changes.
     #[inline(always)]
     fn take_near(&mut self) -> Option<usize>
@@ -134,7 +134,7 @@ impl<A: Allocator> Holes<A> {
         Some(place)
     }
 
-    /// What `take` does if no word is at hand: it looks at some bitmaps, and then at the tree.
+    /// Takes words as `take` does, if no word is at hand: it looks at some bitmaps, and then at the tree.
     #[inline(never)]
     fn take_far(&mut self, len: usize) -> Option<usize>
         requires { 1 ≤ len }
@@ -159,10 +159,10 @@ impl<A: Allocator> Holes<A> {
         Some(place)
     }
 
-    /// First fit: takes `len` words from the front of the lowest hole that has as many, and answers
-    /// where they begin. Exactly these words stop being free.
+    /// First fit: takes `len` words from the front of the lowest hole that has as many, and answers where they begin.
+    /// Exactly these words stop being free.
     ///
-    /// None exactly where every hole is shorter; then nothing changes.
+    /// The answer is None exactly if every hole is shorter; then nothing changes.
     #[inline(always)]
     pub fn take(&mut self, len: usize) -> Option<usize>
         requires { 1 ≤ len }
@@ -181,7 +181,7 @@ impl<A: Allocator> Holes<A> {
         self.take_far(len)
     }
 
-    /// Gives one word back if its leaf changed, so that no node needs a change, and answers whether it did. Else nothing
+    /// Gives one word back if its leaf changed, and answers whether it did: no node needs a change then. Else nothing
     /// changes.
     #[inline(always)]
     fn give_near(&mut self, place: usize) -> bool
@@ -199,7 +199,7 @@ impl<A: Allocator> Holes<A> {
         true
     }
 
-    /// What `give` does with words that aren't one word at hand.
+    /// Gives words back as `give` does, if they aren't one word at hand.
     #[inline(never)]
     fn give_far(&mut self, place: usize, len: usize)
         requires some { 1 ≤ len }
@@ -220,11 +220,11 @@ impl<A: Allocator> Holes<A> {
         self.free += len;
     }
 
-    /// Gives the words `place..place + len` back: they are free again, in one hole with the free
-    /// words right before and right behind them. No other word changes.
+    /// Gives the words `place..place + len` back: they are free again, in one hole with the free words right before and
+    /// right after them. No other word changes.
     ///
-    /// The range lies in the region, has at least one word and covers no free word. There is room
-    /// for one more hole, whether or not the range makes one.
+    /// The range lies in the region, has at least one word and covers no free word. There is room for one more hole,
+    /// whether or not the range makes one.
     #[inline(always)]
     pub fn give(&mut self, place: usize, len: usize)
         requires some { 1 ≤ len }
@@ -272,7 +272,7 @@ impl<A: Allocator> Holes<A> {
         self.free
     }
 
-    /// The number of words of the widest hole, 0 where no word is free.
+    /// The number of words of the widest hole, 0 if no word is free.
     pub fn widest(&self) -> usize
         ensures { result ≡ widest self.now.free }
     {

@@ -33,7 +33,7 @@ impl Summary {
         whole: false,
     };
 
-    /// The summary of these words and, right behind them, those of `next`. Sums past the largest number stay there.
+    /// The summary of these words and, right after them, those of `next`. A sum is at most the largest number.
     pub(crate) fn join(self, next: Summary) -> Summary
         ensures { result ≡ join self next }
     {

@@ -1,8 +1,8 @@
 //! A tree of fixed height over the words of a region.
 //!
-//! A leaf has four bitmaps, and there is a power of two of leaves. The nodes stand in one list: the root at 1, the parts
-//! of the node at `index` at `2 * index` and `2 * index + 1`, and the node of the leaf at `k` at `leaves + k`. Some leaves
-//! that follow one another may have changed after the nodes were joined.
+//! A leaf has four bitmaps, and the number of leaves is a power of two. The nodes are in one list: the root is at 1,
+//! the parts of the node at `index` are at `2 * index` and `2 * index + 1`, and the node of the leaf `k` is at
+//! `leaves + k`. Some leaves that follow one another may have changed after the nodes were joined.
 
 ghost use Rattle.std.specs.Prelude.{◌≡◌, ℕ, ◌+◌, ◌-◌, ◌*◌, ◌/◌, ◌^◌, ◌<◌, ◌≤◌, ◌↔◌, replicate, length};
 ghost use Rattle.std.specs.Prelude.{IfSome, IfNone, IsNone, IsTrue, true, false};
@@ -114,7 +114,7 @@ pub(crate) fn give_word(bits: &mut [u64], place: usize)
     fill_word(bits, place / WORDS, place % WORDS, true);
 }
 
-/// Takes the lowest free word, where none is free before the bitmap `near`. None where this bitmap has no free word.
+/// Takes the lowest free word. None is free before the bitmap `near`. The answer is None if this bitmap has none.
 #[inline(always)]
 pub(crate) fn take_lowest(bits: &mut [u64], near: usize) -> Option<usize>
     requires index { near < length bits.old }
@@ -180,8 +180,8 @@ fn join_leaves(bits: &[u64], nodes: &mut [Summary], first: usize, end: usize)
     }
 }
 
-/// The nodes of the leaves `first..=last` follow their bitmaps, where all words of the leaves between these two are free
-/// or not free.
+/// The nodes of the leaves `first..=last` follow their bitmaps. The words of the leaves between these two are all free,
+/// or all not free.
 fn join_long_leaves(bits: &[u64], nodes: &mut [Summary], first: usize, last: usize, value: bool)
     requires order { first < last }
     requires within { last < leaf_count nodes.old }
@@ -245,8 +245,8 @@ fn join_above(nodes: &mut [Summary], first: usize, last: usize)
     join_path(nodes, last);
 }
 
-/// Joins the parts of each node of `first..=last`, where the parts between those of these two nodes are all alike,
-/// and answers the node of two such parts.
+/// Joins the parts of each node of `first..=last`, and answers the node of two parts such as those between these two
+/// nodes, which are all alike.
 fn join_level(nodes: &mut [Summary], first: usize, last: usize, part: Summary) -> Summary
     requires order { first < last }
     requires level { last < 2 * first }
@@ -264,8 +264,8 @@ fn join_level(nodes: &mut [Summary], first: usize, last: usize, part: Summary) -
     both
 }
 
-/// Joins the parts of each node above those of `first..=last`, up to the root, where the nodes between these two are
-/// all alike.
+/// Joins the parts of each node above those of `first..=last`, up to the root. The nodes between these two are all
+/// alike.
 fn join_long(nodes: &mut [Summary], first: usize, last: usize, part: Summary)
     requires level { IsLevel first last }
     requires within { 2 * (last / 2) + 1 < length nodes.old }
@@ -318,7 +318,7 @@ pub(crate) fn join_changed(bits: &[u64], nodes: &mut [Summary], changed: Changed
     join_above(nodes, leaves + changed.first, leaves + changed.end - 1);
 }
 
-/// The leaves that changed with some more. Where these lie too far from the others, the others are joined.
+/// The leaves that changed, with some more. If these are too far from the others, the nodes of the others are joined.
 fn with_more(bits: &[u64], nodes: &mut [Summary], changed: Changed, more: Changed) -> Changed
     requires order { more.first < more.end }
     requires within { more.end ≤ leaf_count nodes.old }
@@ -372,7 +372,7 @@ pub(crate) fn fill(
     Changed::NONE
 }
 
-/// Where the lowest hole of at least `len` words begins that the words of the bitmaps `first..end` have.
+/// Answers where the lowest hole of at least `len` words begins that the words of the bitmaps `first..end` have.
 fn find_in(bits: &[u64], first: usize, end: usize, len: usize) -> Option<usize>
     requires some { 1 ≤ len }
     requires order { first ≤ end }
@@ -399,7 +399,8 @@ fn find_in(bits: &[u64], first: usize, end: usize, len: usize) -> Option<usize>
     None
 }
 
-/// Where the lowest hole of at least `len` words begins, where a look at as many bitmaps as a leaf has, from `near` on, tells it.
+/// Answers where the lowest hole of at least `len` words begins, if some bitmaps from `near` on show it. They are as
+/// many as a leaf has.
 pub(crate) fn find_near(bits: &[u64], near: usize, len: usize) -> Option<usize>
     requires some { 1 ≤ len }
     requires index { near < length bits.now }
@@ -411,7 +412,7 @@ pub(crate) fn find_near(bits: &[u64], near: usize, len: usize) -> Option<usize>
     find_in(bits, near, bits.len().min(near + LEAF), len)
 }
 
-/// Where the lowest hole of at least `len` words begins.
+/// Answers where the lowest hole of at least `len` words begins.
 pub(crate) fn find(bits: &[u64], nodes: &[Summary], len: usize) -> Option<usize>
     requires some { 1 ≤ len }
     requires tree { IsTree bits.now nodes.now }
@@ -442,7 +443,7 @@ pub(crate) fn find(bits: &[u64], nodes: &[Summary], len: usize) -> Option<usize>
     find_in(bits, first, first + LEAF, len)
 }
 
-/// The first bitmap that has a free word, or the first of all where no word is free.
+/// The first bitmap that has a free word, or the first of all if no word is free.
 fn first_free(bits: &[u64], nodes: &[Summary]) -> usize
     requires { IsTree bits.now nodes.now }
     ensures none_below { NoneBelow bits.now (64 * result) }
@@ -454,7 +455,7 @@ fn first_free(bits: &[u64], nodes: &[Summary]) -> usize
     }
 }
 
-/// A bitmap before which no word is free, where none is before `near`. It has a free word if there is any.
+/// A bitmap before which no word is free. None is free before `near`. The bitmap has a free word if there is any.
 pub(crate) fn later_near(bits: &[u64], nodes: &[Summary], near: usize) -> usize
     requires index { near < length bits.now }
     requires tree { IsTree bits.now nodes.now }
@@ -469,7 +470,7 @@ pub(crate) fn later_near(bits: &[u64], nodes: &[Summary], near: usize) -> usize
     }
 }
 
-/// A bitmap before which no word is free once the words `place..place + len` were taken, where none was before `near`.
+/// A bitmap before which no word is free once the words `place..place + len` were taken. None was free before `near`.
 pub(crate) fn near_after(bits: &[u64], near: usize, place: usize, len: usize) -> usize
     requires index { near < length bits.now }
     requires some { 1 ≤ len }
@@ -486,7 +487,7 @@ pub(crate) fn near_after(bits: &[u64], near: usize, place: usize, len: usize) ->
     }
 }
 
-/// Whether a word is free. None is behind the last bitmap.
+/// Whether a word is free. None is free after the last bitmap.
 pub(crate) fn is_free(bits: &[u64], word: usize) -> bool
     ensures { result ≡ word_at bits.now word }
 {

@@ -4,3 +4,4 @@ mod Booked
 mod Views
 mod Turns
 mod Released
+mod Placed

@@ -44,7 +44,7 @@ released releasing memory b blocks job ids booked is_job own view =
       words = own_words memory (state_after_releases memory ids) b job booked is changes;
     }
 
--- the book, where the words that were freed are given back
+-- the book after the words that were freed are given back
 pub booked_released : (memory : SharedState) (b : book.BookState) (job : ℕ) (ids : List ℕ) (freed : ℕ)
     → IsBooked memory b → IsReleased memory b job ids
     → freed + used_words (state_after_releases memory ids) ≡ used_words memory
@@ -53,7 +53,7 @@ booked_released memory b job ids freed booked r sum =
     booked_own memory (state_after_releases memory ids) b job _ booked r.is r.changes
     (omega (arith, r.words, sum))
 
--- what is known where a job places a block of n words in their stead
+-- what is known when a job places a block of n words in their stead
 pub record IsExchange (memory new : SharedState) (b : book.BookState) (job : ℕ) (ids : List ℕ) (freed n : ℕ)
     : Type 0 where
   pub releases : IsReleased memory b job ids
@@ -71,7 +71,8 @@ pub exchange : ReleasingChangesOnlyOwn → GrantedWordsAreThere → ReleasesOnly
     → held_words job (with_memory blocks (state_after_releases blocks.memory ids)) + n ≤ words_of
     (grant_of blocks job) → blocks_by memory b ≡ blocks → new ≡ state_after_releases memory ids
     → freed + used_words new ≡ used_words memory → IsExchange memory new b job ids freed n
-exchange releasing there only_free memory new b blocks job ids freed n booked covered is_job own numbers room view new_is
+exchange releasing there only_free memory new b blocks job ids freed n booked covered is_job own numbers room view
+    new_is
     sum =
     let r = released releasing memory b blocks job ids booked is_job own view in
     let used = ap used_words new_is in

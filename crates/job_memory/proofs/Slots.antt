@@ -1,4 +1,4 @@
--- The words of a job's blocks, and of all blocks, where one slot changes.
+-- The words of a job's blocks, and of all blocks, when one slot changes.
 use Rattle.std.proofs.Common.{◌≡◌, ℕ, ◌+◌, ◌<◌, ◌≤◌, cond, eqb, List, [], ◌∷◌, length, set, map, refl, sym, ap, ◌∙◌}
 use Rattle.std.proofs.Common.{get_or, subst, inl, inr, arith, true, false}
 use Rattle.std.specs.Prelude.{sum_by, replicate, ◌*◌}
@@ -39,7 +39,7 @@ seen_sum job (slot ∷ slots) =
       seen_sum job slots,
     )
 
--- where no number has a block, no words are used
+-- if no number has a block, no words are used
 pub none_seen : (job n : ℕ) → words_in (map (slot_seen_by job) (replicate n empty_slot)) ≡ 0
 none_seen job n =
     omega (

@@ -1,4 +1,4 @@
--- How counted blocks and a book of reservations stand for the blocks of jobs.
+-- How counted blocks and a book of reservations form the blocks of jobs.
 use Rattle.std.specs.Prelude.{◌≡◌, ℕ, map, Option, Some, None}
 use Rattle.refcounts.specs.SharedState.{SharedState, used_words, words_in}
 use Rattle.refcounts.specs.Owners.{slots_seen_by}

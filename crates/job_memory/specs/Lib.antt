@@ -1,3 +1,4 @@
 pub mod JobBlocks
+pub mod Placing
 pub mod Inside
 pub mod Laws

@@ -14,6 +14,7 @@ ghost use Rattle.job_memory.specs.JobBlocks.{IsJob, HasGrant, AreOwn, grant_of, 
 ghost use Rattle.job_memory.specs.JobBlocks.{held_words, with_grant, with_memory, with_block};
 
 pub mod laws;
+mod placing;
 
 use block_memory::{BlockId, SlidingMemory};
 use refcounts::SharedMemory;
@@ -26,8 +27,8 @@ use std::marker::Model;
 
 /// Counted blocks of jobs in one region, and the words of it that each job was granted.
 ///
-/// The jobs are numbered `1..=jobs()`. All memory is taken when it is made. Where a block lies in the region, and when
-/// blocks are moved together, is seen by no call.
+/// The jobs are numbered `1..=jobs()`. All memory is taken when it is made. No call shows at which place of the region
+/// a block lies, or when blocks are moved together.
 #[derive(Drop)]
 pub struct JobMemory<A: Allocator> {
     memory: SharedMemory<SlidingMemory<A>, A>,
@@ -47,8 +48,8 @@ impl<A: Allocator> Model for JobMemory<A> {
 }
 
 impl<A: Allocator> JobMemory<A> {
-    /// A region of so many words without a block, with numbers for so many blocks, for jobs `1..=jobs`, none of which
-    /// has a grant.
+    /// A region of `region` words without a block, with numbers for `most_blocks` blocks, for jobs `1..=jobs`, none of
+    /// which has a grant.
     ///
     /// An error means that the allocator refused the memory. No other call takes memory.
     pub fn new(alloc: A, region: usize, jobs: usize, most_blocks: usize) -> Result<Self, AllocError>
@@ -66,7 +67,7 @@ impl<A: Allocator> JobMemory<A> {
 
     /// Grants words of the region to a job that has no grant and no block. A grant may be of 0 words.
     ///
-    /// `NotNow` exactly where all granted words and these together are more than the region has; then nothing changes.
+    /// `NotNow` exactly if all granted words and these together are more than the region has; then nothing changes.
     pub fn grant(&mut self, job: usize, words: usize) -> Result<(), NotNow>
         requires is_job { IsJob self.old job }
         requires no_grant { grant_of self.old job ≡ None }
@@ -77,7 +78,7 @@ impl<A: Allocator> JobMemory<A> {
         self.book.grant(job, words)
     }
 
-    /// Whether `grant` of so many words to a job that has no grant would be `Ok` now.
+    /// Whether `grant` of this number of words to a job that has no grant would be `Ok` now.
     pub fn fits(&self, words: usize) -> bool
         ensures { IsTrue result ↔ (granted_words self.now + words ≤ self.now.memory.room) }
     {
@@ -96,8 +97,8 @@ impl<A: Allocator> JobMemory<A> {
     /// A new block of the words for a job that has a grant, with one reference. There has to be a number without a
     /// block.
     ///
-    /// `Spent` exactly where the job's blocks and this one have more words than its grant; then nothing changes. The
-    /// region always has room for the others.
+    /// `Spent` exactly if the words of the job's blocks and of this one are more than its grant; then nothing changes.
+    /// The region always has room for the others.
     #[inline(always)]
     pub fn place(&mut self, job: usize, words: &[i64]) -> Result<BlockId, Spent>
         requires has_grant { HasGrant self.old job }

@@ -243,7 +243,7 @@ slots_freed content counts id count one =
     slots_of-set content counts id None count
     ∙ ap (set (slots_of content counts) id) (sym (one_less_last (slot_in (slots_of content counts) id) (omega arith)))
 
--- memories for so many words, with the same slots
+-- memories of one size with the same slots
 pub same_slots : (room : ℕ) (xs ys : List Slot) → xs ≡ ys
     → ◌≡◌ {A = SharedState} (record { room = room; slots = xs }) (record { room = room; slots = ys })
 same_slots room xs ys same =

@@ -56,7 +56,7 @@ named_block room content counts state id counted view named =
     inside : id < length content
     inside = live_within_content content id live
 
--- what is known of such a block where its count was read
+-- what is known of such a block whose count was read
 pub record NamedCount (content : Content) (counts : List ℕ) (state : SharedState) (id count : ℕ) : Type 0 where
   pub live : IsLive content id
   pub inside : id < length content

@@ -1,4 +1,4 @@
--- How a memory of blocks and a list of counts stand for a memory of counted blocks.
+-- How a memory of blocks and a list of counts form a memory of counted blocks.
 use Rattle.std.specs.Prelude.{◌≡◌, ℕ, ◌<◌, List, [], ◌∷◌, length, slice_index, Option, Some, None}
 use Rattle.block_memory.specs.Content.{Block, Content, block_at, IsLive}
 use Rattle.refcounts.specs.SharedState.{Slot, empty_slot, SharedState}
@@ -13,11 +13,11 @@ slots_of [] counts = []
 slots_of (block ∷ blocks) [] = []
 slots_of (block ∷ blocks) (count ∷ counts) = slot_of block count ∷ slots_of blocks counts
 
--- the blocks of a memory for so many words, with their counts
+-- the blocks of a memory of this size, with their counts
 abbrev pub state_of : ℕ → Content → List ℕ → SharedState
 state_of room content counts = record { room = room; slots = slots_of content counts }
 
--- there is a count for each number, which is above 0 exactly where it has a block
+-- there is a count for each number, and it is above 0 exactly if the number has a block
 pub record IsCounted (content : Content) (counts : List ℕ) : Type 0 where
   pub ids : length counts ≡ length content
   pub live : (id : ℕ) → IsLive content id → 0 < slice_index counts id

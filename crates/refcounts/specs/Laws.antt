@@ -32,7 +32,8 @@ SharesAreCounted = (memory : SharedState) (ids : List ℕ) (id : ℕ) → AreLiv
       words = (slot_at memory id).words;
     }
 
--- blocks that are released one by one, each at most as often as references name it, have as many references less as they
+-- blocks that are released one by one, each at most as often as references name it, have as many references less as
+-- they
 -- are listed; those that are left keep owner and words
 abbrev pub ReleasesAreCounted : Type 0
 ReleasesAreCounted = (memory : SharedState) (ids : List ℕ) (id : ℕ) → AreNamed memory ids

@@ -59,7 +59,7 @@ new_slot owner words = record { owner = owner; count = 1; words = words }
 abbrev pub raised_slot : Slot → Slot
 raised_slot slot = record { owner = slot.owner; count = slot.count + 1; words = slot.words }
 
--- a block with one reference less: none where it was the last
+-- a block with one reference less: none if it was the last
 abbrev pub lowered_slot : Slot → Slot
 lowered_slot slot =
     if nat_le slot.count 1 then empty_slot else

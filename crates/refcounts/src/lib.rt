@@ -14,6 +14,7 @@ ghost use Rattle.refcounts.specs.SharedState.{with_slot, new_slot, state_after_s
 ghost use Rattle.refcounts.specs.SharedState.{state_after_releases, occurrences, AreNamed};
 
 pub mod laws;
+mod making;
 
 use block_memory::{BlockId, NoRoom, VectorMemory};
 use std::alloc::{AllocError, Allocator};
@@ -21,12 +22,13 @@ use std::marker::Model;
 
 /// A vector memory whose blocks are counted.
 ///
-/// The counts are reserved once, when it is made. Its other calls take no memory of their own. A call that names a block
+/// The counts are reserved once, when it is made. Its other calls take no memory of their own. A call that names a
+/// block
 /// has the condition that the block lives; [`count`](SharedMemory::count) alone takes any number.
 #[derive(Drop)]
 pub struct SharedMemory<M: VectorMemory, A: Allocator> {
     memory: M,
-    /// By block number, 0 where there is no block.
+    /// By block number, 0 for a number without a block.
     counts: Vec<u64, A>,
 }
 
@@ -60,7 +62,7 @@ impl<M: VectorMemory, A: Allocator> SharedMemory<M, A> {
 
     /// A new block of the words for an owner, with one reference. There has to be a number without a block.
     ///
-    /// `Full` exactly where the words in use and these together are more than fit; `Memory` only where they would fit,
+    /// `Full` exactly if the words in use and these together are more than fit; `Memory` only if they would fit,
     /// and only over a memory that may refuse. Nothing changes at either.
     pub fn make(&mut self, owner: usize, words: &[i64]) -> Result<BlockId, NoRoom>
         requires { block_count self.old < length self.old.slots }
@@ -86,7 +88,7 @@ impl<M: VectorMemory, A: Allocator> SharedMemory<M, A> {
         self.counts[id.number()] += 1;
     }
 
-    /// One reference less to a block. True exactly where it was the last one, and then the block is freed. No other block
+    /// One reference less to a block. True exactly if it was the last one, and then the block is freed. No other block
     /// changes.
     pub fn release(&mut self, id: BlockId) -> bool
         requires { IsLive self.old id }
@@ -140,7 +142,7 @@ impl<M: VectorMemory, A: Allocator> SharedMemory<M, A> {
         self.count(id) == earlier as u64 + 1
     }
 
-    /// The number of references to a block, 0 where the number has no block.
+    /// The number of references to a block, 0 for a number without a block.
     pub fn count(&self, id: BlockId) -> u64
         ensures value { result ≡ (slot_at self.now id).count }
         ensures tidy { IsTidy self.now }

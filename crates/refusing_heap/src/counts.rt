@@ -10,7 +10,7 @@ const MOST_TRIES: u32 = 1_000;
 pub(crate) struct Counts {
     /// The growths that were asked for after the last call of `refuse`.
     asked: AtomicU64,
-    /// The number among these of the one that is refused. 0 if none is.
+    /// The number among these of the growth that is refused. 0 if none is.
     refused: AtomicU64,
     /// The bytes of the blocks that aren't freed.
     live: AtomicUsize,

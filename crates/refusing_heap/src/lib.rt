@@ -1,8 +1,10 @@
 //! A heap that refuses one growth, and counts.
 //!
 //! A [`RefusingHeap`] takes its blocks from another allocator. It refuses the growth of one number, which a test
-//! chooses: so a test lets each growth of a run fail in turn, a small one after large ones too, counting upwards until a
-//! run meets no refusal. Threads share it: a `&RefusingHeap<Global>` is an allocator that is `Copy` and `Clone`, and that
+//! chooses: so a test lets each growth of a run fail in turn, a small one after large ones too, counting upwards until
+//! a
+//! run meets no refusal. Threads share it: a `&RefusingHeap<Global>` is an allocator that is `Copy` and `Clone`, and
+//! that
 //! may be sent.
 #![tactic(auto)]
 
@@ -12,9 +14,9 @@ use counts::Counts;
 use std::alloc::{AllocError, Allocator};
 use std::mem::size_of;
 
-/// An allocator that takes its blocks from `inner`, and refuses the growth that it is told.
+/// An allocator that takes its blocks from `inner`, and refuses the growth of a chosen number.
 ///
-/// A growth is an `allocate` or a `grow`. A block is freed or made smaller at all times.
+/// A growth is an `allocate` or a `grow`. A block can be freed or made smaller at all times.
 pub struct RefusingHeap<B: Allocator> {
     inner: B,
     counts: Counts,
@@ -30,7 +32,7 @@ impl<B: Allocator> Drop for RefusingHeap<B> {
 }
 
 impl<B: Allocator> RefusingHeap<B> {
-    /// A heap that takes its blocks from `inner`, and refuses no growth until it is told one.
+    /// A heap that takes its blocks from `inner`, and refuses no growth until one is chosen.
     pub fn new(inner: B) -> RefusingHeap<B> {
         RefusingHeap {
             inner,

@@ -15,7 +15,7 @@ IsJob book job = (1 ≤ job) × (job ≤ length book.grants)
 abbrev pub grant_of : BookState → ℕ → Option Grant
 grant_of book job = slice_index_or book.grants (job - 1) None
 
--- the words of a grant, and those of them that are held; where there is no grant, 0
+-- the words of a grant, and those of them that are held; 0 without a grant
 abbrev pub words_of : Option Grant → ℕ
 words_of None = 0
 words_of (Some grant) = grant.words
@@ -51,6 +51,6 @@ with_grant book job grant = record { region = book.region; grants = slice_set bo
 abbrev pub new_grant : ℕ → Grant
 new_grant words = record { words = words; held = 0 }
 
--- the book after a job came to hold so many of its words
+-- the book after a job holds this number of its words
 abbrev pub with_held : BookState → ℕ → ℕ → BookState
 with_held book job held = with_grant book job (Some (record { words = words_granted_to book job; held = held }))

@@ -59,7 +59,7 @@ impl<A: Allocator> Model for Book<A> {
 }
 
 impl<A: Allocator> Book<A> {
-    /// A book over a region of so many words, for jobs `1..=jobs`, none of which has a grant.
+    /// A book over a region of `region` words, for jobs `1..=jobs`, none of which has a grant.
     ///
     /// An error means that the allocator refused the memory.
     pub fn new(alloc: A, region: usize, jobs: usize) -> Result<Self, AllocError>
@@ -75,7 +75,7 @@ impl<A: Allocator> Book<A> {
 
     /// Grants words to a job that has no grant. It holds none of them yet. A grant may be of 0 words.
     ///
-    /// `NotNow` exactly where all granted words and these together are more than the region has; then nothing changes.
+    /// `NotNow` exactly if all granted words and these together are more than the region has; then nothing changes.
     pub fn grant(&mut self, job: usize, words: usize) -> Result<(), NotNow>
         requires is_job { IsJob self.old job }
         requires no_grant { grant_of self.old job ≡ None }
@@ -91,16 +91,16 @@ impl<A: Allocator> Book<A> {
         Ok(())
     }
 
-    /// Whether `grant` of so many words to a job that has no grant would be `Ok` now.
+    /// Whether `grant` of this number of words to a job that has no grant would be `Ok` now.
     pub fn fits(&self, words: usize) -> bool
         ensures { IsTrue result ↔ (granted_words self.now + words ≤ self.now.region) }
     {
         words <= self.region - self.granted
     }
 
-    /// A job, which has a grant, comes to hold `n` words more.
+    /// A job that has a grant holds `n` words more.
     ///
-    /// `Spent` exactly where that is more than its grant has; then nothing changes.
+    /// `Spent` exactly if that is more than its grant; then nothing changes.
     pub fn charge(&mut self, job: usize, n: usize) -> Result<(), Spent>
         requires is_job { IsJob self.old job }
         requires has_grant { IsSome (grant_of self.old job) }
@@ -121,9 +121,9 @@ impl<A: Allocator> Book<A> {
         self.grants[job - 1].as_mut().unwrap().held -= n;
     }
 
-    /// A job, which has a grant, gives back `back` of the words that it holds, and comes to hold `n` words more.
+    /// A job that has a grant gives back `back` of the words that it holds, and then holds `n` words more.
     ///
-    /// `Spent` exactly where those that it keeps and these are more than its grant has; then nothing changes.
+    /// `Spent` exactly if the words that it keeps and these are more than its grant; then nothing changes.
     pub fn exchange(&mut self, job: usize, back: usize, n: usize) -> Result<(), Spent>
         requires is_job { IsJob self.old job }
         requires has_grant { IsSome (grant_of self.old job) }
@@ -152,7 +152,7 @@ impl<A: Allocator> Book<A> {
         self.granted -= grant.words;
     }
 
-    /// The words that a job holds: at most its grant's, and 0 where it has no grant.
+    /// The words that a job holds: at most its grant's, and 0 without a grant.
     pub fn held(&self, job: usize) -> usize
         requires { IsJob self.now job }
         ensures value { result ≡ words_held_by self.now job }

@@ -9,7 +9,7 @@ const OWNER: usize = 7;
 
 const WORDS: &[i64] = &[4, 5, 6];
 
-/// One reference more to a block, which so many name then.
+/// One reference more to a block, and how many it then has.
 fn shares<M: VectorMemory>(
     rt: &impl Abort,
     shared: &mut SharedMemory<M, Global>,
@@ -21,7 +21,7 @@ fn shares<M: VectorMemory>(
     assert_eq!(rt; shared.count(id), count);
 }
 
-/// One reference less to a block, which so many name then; whether that was the last one.
+/// One reference less to a block, and how many it then has; whether that was the last one.
 fn releases<M: VectorMemory>(
     rt: &impl Abort,
     shared: &mut SharedMemory<M, Global>,

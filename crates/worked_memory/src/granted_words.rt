@@ -8,7 +8,7 @@ use std::alloc::Global;
 use std::process::Abort;
 use std::test::Fail;
 
-/// A call of a book for a job, with the words and what it is to come to.
+/// A call of a book for a job, with the words and the wanted answer.
 #[derive(Clone, Copy)]
 enum Call {
     /// For a job that has no grant.
@@ -16,11 +16,11 @@ enum Call {
     Charge(usize, usize, Result<(), Spent>),
     /// Of words that the job holds.
     Refund(usize, usize),
-    /// Of words that the job holds, for so many others.
+    /// Words that the job gives back, the words that it takes for them, and the answer.
     Exchange(usize, usize, usize, Result<(), Spent>),
     /// For a job that holds nothing.
     Close(usize),
-    /// The job has this grant, and so many words are granted in all.
+    /// The job has this grant, and this number of words is granted in all.
     Has(usize, Option<reservations::Grant>, usize),
 }
 
@@ -121,7 +121,7 @@ fn follows(rt: &impl Abort, book: &mut Book<Global>, calls: &[Call]) {
     }
 }
 
-/// A grant of so many words, of which so many are held.
+/// A grant of `words` words, of which `held` are held.
 fn grant(words: usize, held: usize) -> Option<reservations::Grant> {
     Some(reservations::Grant { words, held })
 }

@@ -1,4 +1,4 @@
-//! The largest region: filled, and filled again where every other block was.
+//! The largest region: filled, and filled again at the places of every other block.
 use block_memory::{BlockId, NoRoom, RegionMemory, SlidingMemory, VectorMemory};
 use holes::Holes;
 use std::alloc::{AllocError, Global};
@@ -45,7 +45,7 @@ fn reads<M: VectorMemory>(
     assert_eq!(rt; &*words, expected);
 }
 
-/// So many blocks, which are placed in order. The words of each are its number, again and again.
+/// `blocks` blocks, which are placed in order. The words of each are its number, again and again.
 fn put_all<M: VectorMemory>(
     rt: &impl Abort,
     alloc: Global,

@@ -4,7 +4,7 @@ use Rattle.std.specs.List.{All, between}
 use Rattle.std.proofs.lemmas.List.Edits.{length-between, get_or-between}
 use Rattle.holes.specs.FreeWords.{NoneFree}
 
--- where the list of a range has no free word, no word of the range is free
+-- if the list of a range has no free word, no word of the range is free
 pub none_in_range : (words : List Bool) (place len : ℕ) → place + len ≤ length words →
     All (λ word. word ≡ false) (between place (place + len) words) → NoneFree words place len
 none_in_range words place len within taken word from to =

@@ -1,8 +1,8 @@
-//! What lines of the table come to.
+//! What lines of the table give.
 
 use crate::blocks::{Blocks, Placing};
 use crate::free_words::FreeWords;
-use crate::lines::{Line, read_line};
+use crate::lines::{TableLine, read_line};
 use block_memory::{NoRoom, PlainMemory, RegionMemory, SlidingMemory, VectorMemory};
 use std::alloc::{AllocError, Global};
 
@@ -16,7 +16,7 @@ pub enum Made {
     Sliding(Blocks<SlidingMemory<Global>>),
 }
 
-/// Does what a line says, and answers what it comes to.
+/// Does what a line says, and gives the answer.
 pub fn answer(alloc: Global, made: &mut Made, line: &str) -> Result<String, AllocError> {
     let Some(line) = read_line(alloc, line)? else {
         return String::from_str(alloc, "no case");
@@ -30,20 +30,20 @@ pub fn answer(alloc: Global, made: &mut Made, line: &str) -> Result<String, Allo
 }
 
 /// What a line makes, if it makes something that there can be.
-fn make(alloc: Global, line: &Line) -> Result<Option<Made>, AllocError> {
+fn make(alloc: Global, line: &TableLine) -> Result<Option<Made>, AllocError> {
     match line {
-        Line::Holes { size, most } if *most >= 1 => {
+        TableLine::Holes { size, most } if *most >= 1 => {
             Ok(Some(Made::Holes(FreeWords::new(alloc, *size, *most)?)))
         }
-        Line::Plain { size, most } => {
+        TableLine::Plain { size, most } => {
             let memory = PlainMemory::new(alloc, *size, *most)?;
             Ok(Some(Made::Plain(Blocks::new(alloc, memory))))
         }
-        Line::Packed { size, most } => {
+        TableLine::Packed { size, most } => {
             let memory = RegionMemory::new(alloc, *size, *most)?;
             Ok(Some(Made::Packed(Blocks::new(alloc, memory))))
         }
-        Line::Sliding { size, most } => {
+        TableLine::Sliding { size, most } => {
             let memory = SlidingMemory::new(alloc, *size, *most)?;
             Ok(Some(Made::Sliding(Blocks::new(alloc, memory))))
         }
@@ -51,7 +51,7 @@ fn make(alloc: Global, line: &Line) -> Result<Option<Made>, AllocError> {
     }
 }
 
-/// An answer, and behind it what there is.
+/// An answer, and after it what there is.
 fn told(alloc: Global, what: &str, made: &Made) -> Result<String, AllocError> {
     match made {
         Made::Nothing => String::from_str(alloc, what),
@@ -78,8 +78,8 @@ fn blocks_told<M: VectorMemory>(
     format!(in alloc; "{what}, used {used}, blocks {count}, moved {moved}")
 }
 
-/// Does a call on what there is, and answers what it comes to.
-fn call(alloc: Global, made: &mut Made, line: &Line) -> Result<String, AllocError> {
+/// Does a call on what there is, and gives the answer.
+fn call(alloc: Global, made: &mut Made, line: &TableLine) -> Result<String, AllocError> {
     match made {
         Made::Nothing => String::from_str(alloc, "refused"),
         Made::Holes(words) => call_holes(alloc, words, line),
@@ -89,11 +89,15 @@ fn call(alloc: Global, made: &mut Made, line: &Line) -> Result<String, AllocErro
     }
 }
 
-fn call_holes(alloc: Global, words: &mut FreeWords, line: &Line) -> Result<String, AllocError> {
+fn call_holes(
+    alloc: Global,
+    words: &mut FreeWords,
+    line: &TableLine,
+) -> Result<String, AllocError> {
     match line {
-        Line::Take { len } => take(alloc, words, *len),
-        Line::Give { place, len } => give(alloc, words, *place, *len),
-        Line::Reset { place } => reset(alloc, words, *place),
+        TableLine::Take { len } => take(alloc, words, *len),
+        TableLine::Give { place, len } => give(alloc, words, *place, *len),
+        TableLine::Reset { place } => reset(alloc, words, *place),
         _ => String::from_str(alloc, "refused"),
     }
 }
@@ -132,16 +136,16 @@ fn reset(alloc: Global, words: &mut FreeWords, place: usize) -> Result<String, A
 fn call_blocks<M: VectorMemory>(
     alloc: Global,
     blocks: &mut Blocks<M>,
-    line: &Line,
+    line: &TableLine,
 ) -> Result<String, AllocError> {
     match line {
-        Line::Place { owner, words } => placing_told(alloc, blocks.place(*owner, words)?),
-        Line::Free { number } => freed_told(alloc, blocks.free(*number)),
-        Line::Pack => {
+        TableLine::Place { owner, words } => placing_told(alloc, blocks.place(*owner, words)?),
+        TableLine::Free { number } => freed_told(alloc, blocks.free(*number)),
+        TableLine::Pack => {
             blocks.pack();
             String::from_str(alloc, "packed")
         }
-        Line::Words { number } => block_told(alloc, blocks.block(*number)),
+        TableLine::Words { number } => block_told(alloc, blocks.block(*number)),
         _ => String::from_str(alloc, "refused"),
     }
 }

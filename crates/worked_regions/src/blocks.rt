@@ -6,14 +6,14 @@ ghost use Rattle.block_memory.specs.Content.{IsLive};
 use block_memory::{BlockId, NoRoom, VectorMemory};
 use std::alloc::{AllocError, Global};
 
-/// A memory, with the number that it gave to each block that was placed. None where the block is gone.
+/// A memory, with the number that it gave to each block that was placed. None if the block is gone.
 #[derive(Drop)]
 pub struct Blocks<M> {
     memory: M,
     placed: Vec<Option<BlockId>>,
 }
 
-/// What placing a block comes to.
+/// The result of placing a block.
 #[derive(Clone, Copy, Debug)]
 pub enum Placing {
     /// The block's number among those that were placed.
@@ -38,7 +38,7 @@ impl<M: VectorMemory> Blocks<M> {
         &self.memory
     }
 
-    /// Places a block, where the memory has a number for it.
+    /// Places a block, if the memory has a number for it.
     pub fn place(&mut self, owner: usize, words: &[i64]) -> Result<Placing, AllocError> {
         if self.memory.blocks() >= self.memory.ids() {
             return Ok(Placing::NoNumber);

@@ -29,7 +29,7 @@ impl Model for FreeWords {
 }
 
 impl FreeWords {
-    /// So many words, all free, with room for `most` holes.
+    /// `size` words, all free, with room for `most` holes.
     pub fn new(alloc: Global, size: usize, most: usize) -> Result<Self, AllocError>
         requires { 1 ≤ most }
         ensures { IfOk result (λ words. words ≡ record { free = replicate size true; most = most }) }
@@ -39,7 +39,7 @@ impl FreeWords {
         Ok(FreeWords { holes, words })
     }
 
-    /// Takes so many words, and answers their place.
+    /// Takes `len` words, and answers their place.
     pub fn take(&mut self, len: usize) -> Option<usize>
         requires { 1 ≤ len }
         ensures lowest { IfSome result (IsLowestFit self.old.free len) }

@@ -15,8 +15,8 @@ loop-leaf-preserved c =
       same_length = length-set c.loop-leaf.nodes _ c.summary.result ∙ i.same_length;
       leaves = leaf_more c.args.bits.now c.args.nodes.now c.loop-leaf.nodes leaf c.args.end c.summary.result
           i.same_length is (omega (arith, c.requires.within)) i.leaves;
-      beside = leaf_beside c.args.nodes.now c.loop-leaf.nodes c.args.first c.args.end leaf c.summary.result (omega arith)
-          (omega arith) i.beside;
+      beside = leaf_beside c.args.nodes.now c.loop-leaf.nodes c.args.first c.args.end leaf c.summary.result
+          (omega arith) (omega arith) i.beside;
     }
 
 pub returns-clause-leaves : goal.returns-clause-leaves

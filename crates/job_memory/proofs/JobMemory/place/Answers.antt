@@ -30,7 +30,8 @@ invariant_of-self-2 g c =
     c.self.view_is in
     let fresh = c.in-Ok.ensures.fresh in
     rw (c.in-Ok.ensures.made, c.in_ok-charge.ensures.charged)
-    (booked_placed c.making_changes_only_own.ensures c.self.inside.memory c.self.inside.book c.args.job c.in-Ok.id c.args.words.now _ c.self.invariant
+    (booked_placed c.making_changes_only_own.ensures c.self.inside.memory c.self.inside.book c.args.job c.in-Ok.id
+    c.args.words.now _ c.self.invariant
     is fresh.0 fresh.1 refl)
 
 pub returns-clause-placed : goal.returns-clause-placed

@@ -20,7 +20,8 @@ invariant_of-self g c =
     let after : c.give.new.self.free ≡ set_range free old.place old.len true =
     ap (λ (region : Region). region.free) c.give.ensures in
     record {
-      within = subst (λ free. All (λ (span : Span). span.place + span.len ≤ length free) (set spans number new)) (sym after)
+      within = subst (λ free. All (λ (span : Span). span.place + span.len ≤ length free) (set spans number new))
+          (sym after)
           (all_within free spans number new old.place old.len true c.args.self.now.within (omega arith) inside);
       apart = subst (λ free. AreApart free (set spans number new)) (sym after)
           (subst (λ (range : Span). AreApart (set_range free range.place range.len true) (set spans number new)) same

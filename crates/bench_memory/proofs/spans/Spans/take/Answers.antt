@@ -21,7 +21,8 @@ invariant_of-self g c =
     let after : c.take.new.self.free ≡ set_range free place c.args.len false =
     ap (λ (region : Region). region.free) c.in-Some-take.ensures.taken in
     record {
-      within = subst (λ free. All (λ (span : Span). span.place + span.len ≤ length free) (set spans number new)) (sym after)
+      within = subst (λ free. All (λ (span : Span). span.place + span.len ≤ length free) (set spans number new))
+          (sym after)
           (all_within free spans number new place c.args.len false c.args.self.now.within c.in-Some-take.ensures.within
           c.in-Some-take.ensures.within);
       apart = subst (λ free. AreApart free (set spans number new)) (sym after)

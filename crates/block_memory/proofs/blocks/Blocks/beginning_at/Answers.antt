@@ -1,22 +1,29 @@
 use Rattle.std.proofs.Common.{◌<◌, ◌∙◌, option_copied, ap, sym, arith}
-use Rattle.block_memory.proofs.BlocksLemmas.{none_begins, begins-span}
+use Rattle.block_memory.proofs.BlocksLemmas.{spans_of, none_begins, none_past, begins-span}
 use Rattle.block_memory.proofs.Lists.{same_some, None≢Some}
 use Rattle.block_memory.proofs.blocks.Blocks.beginning_at.Goals as goal
+
+pub returns-then-place-reached-clause-none : goal.returns-then-place-reached-clause-none
+returns-then-place-reached-clause-none g c =
+    let here = c.self.inside in
+    rw (← c.self.view_is)
+    (none_past here.words.items here.starts.items here.spans c.args.place (spans_of _ _ _ _ _ _ c.self.invariant)
+    (omega (arith, here.starts.ok.0)))
 
 pub returns-in_err-span-clause-none : goal.returns-in_err-span-clause-none
 returns-in_err-span-clause-none g c =
     let here = c.self.inside in
     rw (c.from_residual.ensures, ← c.self.view_is)
-    (none_begins here.words.items here.starts.items here.spans c.args.place c.index-number.result.now c.self.invariant
-    (rw (← c.self.view_is) at c.requires) c.index-number.ensures
+    (none_begins here.words.items here.starts.items here.spans c.args.place c.index-number.result.now
+    (spans_of _ _ _ _ _ _ c.self.invariant) (omega (arith, here.starts.ok.0)) c.index-number.ensures
     (λ s there _ _. None≢Some s (sym (ap option_copied c.in_err-span.was) ∙ (c.find.ensures ∙ there))))
 
 pub returns-then-span-place-clause-none : goal.returns-then-span-place-clause-none
 returns-then-span-place-clause-none g c =
     let here = c.self.inside in
     rw (← c.self.view_is)
-    (none_begins here.words.items here.starts.items here.spans c.args.place c.index-number.result.now c.self.invariant
-    (rw (← c.self.view_is) at c.requires) c.index-number.ensures
+    (none_begins here.words.items here.starts.items here.spans c.args.place c.index-number.result.now
+    (spans_of _ _ _ _ _ _ c.self.invariant) (omega (arith, here.starts.ok.0)) c.index-number.ensures
     (λ s there block_at_place _. c.if-span-place.true
     (rw (sym (same_some s c.in_ok-span.span.now
     (sym there ∙ (sym c.find.ensures ∙ ap option_copied c.in_ok-span.was)))) block_at_place)))
@@ -25,8 +32,8 @@ pub returns-then-span-eq0-clause-none : goal.returns-then-span-eq0-clause-none
 returns-then-span-eq0-clause-none g c =
     let here = c.self.inside in
     rw (← c.self.view_is)
-    (none_begins here.words.items here.starts.items here.spans c.args.place c.index-number.result.now c.self.invariant
-    (rw (← c.self.view_is) at c.requires) c.index-number.ensures
+    (none_begins here.words.items here.starts.items here.spans c.args.place c.index-number.result.now
+    (spans_of _ _ _ _ _ _ c.self.invariant) (omega (arith, here.starts.ok.0)) c.index-number.ensures
     (λ s there _ some. let none = c.if-span-eq0.true in let more : 0 < c.in_ok-span.span.now.len =
     rw (sym (same_some s c.in_ok-span.span.now
     (sym there ∙ (sym c.find.ensures ∙ ap option_copied c.in_ok-span.was)))) some in omega arith))
@@ -37,5 +44,6 @@ returns-clause-found g c =
     let some : 0 < c.in_ok-span.span.now.len = omega arith in
     rw (← c.self.view_is)
     (begins-span here.words.items here.starts.items here.spans c.index-number.result.now c.args.place
-    c.in_ok-span.span.now c.self.invariant (sym c.find.ensures ∙ ap option_copied c.in_ok-span.was)
+    c.in_ok-span.span.now (spans_of _ _ _ _ _ _ c.self.invariant)
+    (sym c.find.ensures ∙ ap option_copied c.in_ok-span.was)
     c.if-span-place.false some)

@@ -1,42 +1,62 @@
-use Rattle.std.proofs.Common.{length, ap, ◌∙◌, slice_set, arith}
+use Rattle.std.proofs.Common.{◌+◌, ◌≤◌, vec_capacity, length, take, drop, ap, ◌∙◌, slice_set, refl, arith}
 use Rattle.block_memory.specs.Layout.{layout_after_move}
 use Rattle.block_memory.specs.BlocksInside.{slots_from}
 use Rattle.block_memory.proofs.Lists.{items_after_write}
-use Rattle.block_memory.proofs.BlocksLemmas.{after_move, moved_block, same_layout, length-words_of-span}
+use Rattle.block_memory.proofs.BlocksLemmas.{IsAfterWrite, spans_of, are_blocks, after_move, moved_block, same_layout}
+use Rattle.block_memory.proofs.BlocksLemmas.{length-words_of-span}
+use Rattle.block_memory.proofs.blocks.Blocks.slide.Given.{Over}
 use Rattle.block_memory.proofs.blocks.Blocks.slide.Goals as goal
+use Rattle.block_memory.proofs.blocks.Blocks.slide.Goals.{After-mark_start}
+
+after : (g : Over) (c : After-mark_start g) →
+    let s = c.value.result.now in
+    IsAfterWrite c.self.inside.words.items c.move_words-moved.new.region c.mark_start.new.starts c.self.inside.spans
+    c.args.number (record { owner = s.owner; place = c.args.to; len = s.len })
+    (take s.len (drop s.place c.self.inside.words.items))
+after g c =
+    let here = c.self.inside in
+    after_move here.words.items c.reach.new.words.items c.move_words-moved.new.region here.starts.items
+    c.reach.new.starts.items c.mark_start.new.starts here.spans c.args.number c.args.to c.value.result.now
+    (spans_of _ _ _ _ _ _ c.self.invariant) c.value.ensures c.reach.ensures.words_lengthened
+    c.reach.ensures.starts_lengthened
+    (rw (← c.self.view_is) at c.requires.clear) (rw c.deref_mut.ensures.value at c.move_words-moved.ensures.written)
+    (rw c.deref_mut-2.ensures.value at c.mark_start.ensures)
 
 pub invariant_of-self : goal.invariant_of-self
 invariant_of-self g c =
     let here = c.self.inside in
     let moved = c.move_words-moved in
     let words =
-    items_after_write here.words c.deref_mut.result.now moved.new.region c.deref_mut.ensures.value
+    items_after_write c.reach.new.words c.deref_mut.result.now moved.new.region c.deref_mut.ensures.value
     moved.ensures.written.same_size in
     let starts =
-    items_after_write here.starts c.deref_mut-2.result.now c.mark_start.new.starts c.deref_mut-2.ensures.value
-    c.mark_start.ensures.same_size in
-    rw (words, starts, c.set.ensures)
-    (after_move here.words.items moved.new.region here.starts.items c.mark_start.new.starts here.spans c.args.number
-    c.args.to c.value.result.now c.self.invariant c.value.ensures
-    (rw (← c.self.view_is) at c.requires.within) (rw (← c.self.view_is) at c.requires.clear)
-    (rw c.deref_mut.ensures.value at moved.ensures.written)
-    (rw c.deref_mut-2.ensures.value at c.mark_start.ensures)).are_spans
+    items_after_write c.reach.new.starts c.deref_mut-2.result.now c.mark_start.new.starts
+    c.deref_mut-2.ensures.value c.mark_start.ensures.same_size in
+    let within = rw (← c.self.view_is) at c.requires.within in
+    let size =
+    length-words_of-span here.words.items here.starts.items here.spans c.args.number c.value.result.now
+    (spans_of _ _ _ _ _ _ c.self.invariant) c.value.ensures in
+    let fits : c.args.to + c.value.result.now.len ≤ here.size = omega (arith, within, size) in
+    let long = moved.ensures.written.same_size ∙ ap length c.deref_mut.ensures.value in
+    let room : here.size ≤ vec_capacity c.reach.new.words =
+    omega (arith, c.reach.ensures.words_capacity, c.self.invariant.words_room) in
+    let starts_room : here.size ≤ vec_capacity c.reach.new.starts =
+    omega (arith, c.reach.ensures.starts_capacity, c.self.invariant.starts_room) in
+    rw (words, starts, c.set.ensures) (are_blocks here.words.items c.reach.new.words.items
+    moved.new.region c.mark_start.new.starts _ here.size (c.args.to + c.value.result.now.len) _ _
+    (after g (goal.at.invariant_of-self g c).After-mark_start).are_spans c.reach.ensures.words_lengthened long
+    c.self.invariant.few fits room starts_room)
 
 pub returns-clause-moved : goal.returns-clause-moved
 returns-clause-moved g c =
     let here = c.self.inside in
     let moved = c.move_words-moved in
     let words =
-    items_after_write here.words c.deref_mut.result.now moved.new.region c.deref_mut.ensures.value
+    items_after_write c.reach.new.words c.deref_mut.result.now moved.new.region c.deref_mut.ensures.value
     moved.ensures.written.same_size in
     rw (words, c.set.ensures)
-    (same_layout (length here.words.items) (length moved.new.region)
-    _ _ (moved.ensures.written.same_size ∙ ap length c.deref_mut.ensures.value)
-    ((after_move here.words.items moved.new.region here.starts.items c.mark_start.new.starts here.spans c.args.number
-    c.args.to c.value.result.now c.self.invariant c.value.ensures
-    (rw (← c.self.view_is) at c.requires.within) (rw (← c.self.view_is) at c.requires.clear)
-    (rw c.deref_mut.ensures.value at moved.ensures.written)
-    (rw c.deref_mut-2.ensures.value at c.mark_start.ensures)).slots
+    (same_layout here.size here.size _ _ refl
+    ((after g (goal.at.returns-clause-moved g c).After-mark_start).slots
     ∙ ap (λ o. slice_set (slots_from here.words.items here.spans) c.args.number o)
     (moved_block here.words.items here.spans c.args.number c.args.to c.value.result.now c.value.ensures)))
     ∙ ap (λ layout. layout_after_move layout c.args.number c.args.to) c.self.view_is
@@ -46,5 +66,5 @@ returns-clause-few g c =
     let here = c.self.inside in
     let long =
     length-words_of-span here.words.items here.starts.items here.spans c.args.number c.value.result.now
-    c.self.invariant c.value.ensures in
+    (spans_of _ _ _ _ _ _ c.self.invariant) c.value.ensures in
     rw (← c.self.view_is) (omega (arith, long, c.move_words-moved.ensures.few))

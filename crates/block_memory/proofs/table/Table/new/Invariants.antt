@@ -3,7 +3,7 @@ use Rattle.slab.specs.Slab.{slab_len}
 use Rattle.block_memory.specs.TableInside.{value_under_key, AreKeys}
 use Rattle.block_memory.proofs.table.Table.new.Given as goal
 
--- so many keys are listed and so many numbers are empty, the last first, and there is room for the rest
+-- the first keys are listed and their numbers are empty, the last first, and there is room for the rest
 abbrev pub invariant-loop-number : goal.invariant-loop-number
 invariant-loop-number g l = record {
   listed : length l.keys.items ≡ l.number;

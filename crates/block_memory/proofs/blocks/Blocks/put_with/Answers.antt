@@ -1,0 +1,129 @@
+use Rattle.std.proofs.Common.{◌≡◌, ℤ, ◌+◌, ◌≤◌, vec_capacity, List, length, take, drop, map, Some, refl, sym, ap, ◌∙◌}
+use Rattle.std.proofs.Common.{subst, arith}
+use Rattle.std.proofs.Math.Nat.{le-max_right}
+use Rattle.std.specs.Prelude.{All, MatchResult, Option}
+use Rattle.block_memory.specs.Layout.{Layout, PlacedBlock, IsBare, words_at, with_slot}
+use Rattle.block_memory.specs.Writing.{IsApart, span_at, words_in}
+use Rattle.block_memory.proofs.Lists.{items_after_write}
+use Rattle.block_memory.proofs.LayoutLemmas.{length-part}
+use Rattle.block_memory.proofs.BlocksLemmas.{
+  IsAfterWrite,
+  IsLonger,
+  spans_of,
+  are_blocks,
+  longer,
+  after_put,
+  same_layout,
+}
+use Rattle.block_memory.proofs.BlocksLemmas.{span_apart, all_by_span}
+use Rattle.block_memory.proofs.blocks.Blocks.put_with.Given.{Over}
+use Rattle.block_memory.proofs.blocks.Blocks.put_with.Goals as goal
+use Rattle.block_memory.proofs.blocks.Blocks.put_with.Goals.{
+  After-lengthen-2,
+  After-write_lent-written,
+  After-mark_start,
+}
+
+-- what lies in the lists that were made longer
+now : (g : Over) (c : goal.After-lengthen-2 g) →
+    IsLonger c.self.inside.words.items c.lengthen.new.list.items c.lengthen-2.new.list.items c.self.inside.spans
+now g c =
+    let here = c.self.inside in
+    longer here.words.items c.lengthen.new.list.items here.starts.items c.lengthen-2.new.list.items here.spans
+    (c.args.place + c.args.len) (spans_of _ _ _ _ _ _ c.self.invariant) c.lengthen.ensures.lengthened
+    c.lengthen-2.ensures.lengthened
+
+pub write_lent-written-requires-clause-apart : goal.write_lent-written-requires-clause-apart
+write_lent-written-requires-clause-apart g c =
+    let here = c.self.inside in
+    let after = now g (goal.at.write_lent-written-requires-clause-apart g c).After-lengthen-2 in
+    let bare : IsBare c.args.self.now.slots c.args.place c.args.len = c.requires.bare in
+    subst (λ (ws : List ℤ). All (λ id. IsApart (length ws) c.args.place c.args.len (span_at here.spans id))
+    c.args.lent.now) (sym c.deref_mut.ensures.value)
+    (λ k d within. span_apart c.lengthen.new.list.items c.lengthen-2.new.list.items here.spans _ c.args.place c.args.len
+    after.are_spans (rw after.slots (rw (← c.self.view_is) at bare)))
+
+pub write_lent-written-requires-clause-can : goal.write_lent-written-requires-clause-can
+write_lent-written-requires-clause-can g c =
+    let here = c.self.inside in
+    let at = goal.at.write_lent-written-requires-clause-can g c in
+    let lists : map (λ id. words_in c.deref_mut.result.now (span_at here.spans id)) c.args.lent.now
+    ≡ map (words_at c.args.self.now.slots) c.args.lent.now =
+    ap (λ (ws : List ℤ). map (λ id. words_in ws (span_at here.spans id)) c.args.lent.now) c.deref_mut.ensures.value
+    ∙ (all_by_span c.lengthen.new.list.items here.spans c.args.lent.now
+    ∙ (ap (λ (slots : List (Option PlacedBlock)). map (words_at slots) c.args.lent.now)
+    (now g at.After-lengthen-2).slots
+    ∙ ap (λ (l : Layout). map (words_at l.slots) c.args.lent.now) c.self.view_is)) in
+    subst (λ ws. g.W.Writer.can_write c.args.writer.now ws c.args.len) (sym lists) c.requires.can
+
+-- the words that were written are as many as were asked for
+long : (g : Over) (c : goal.After-write_lent-written g) →
+    length (take c.args.len (drop c.args.place c.write_lent-written.new.words)) ≡ c.args.len
+long g c =
+    let size = c.write_lent-written.ensures.written.same_size ∙ ap length c.deref_mut.ensures.value in
+    let reached = le-max_right (length c.self.inside.words.items) (c.args.place + c.args.len) in
+    length-part c.write_lent-written.new.words c.args.place c.args.len
+    (omega (arith, size, reached, c.lengthen.ensures.lengthened.long))
+
+after : (g : Over) (c : goal.After-mark_start g) →
+    length (take c.args.len (drop c.args.place c.write_lent-written.new.words)) ≡ c.args.len →
+    IsAfterWrite c.self.inside.words.items c.write_lent-written.new.words c.mark_start.new.starts c.self.inside.spans
+    c.insert-number.result (record { owner = c.args.owner; place = c.args.place; len = c.args.len })
+    (take c.args.len (drop c.args.place c.write_lent-written.new.words))
+after g c size =
+    let here = c.self.inside in
+    after_put here.words.items c.lengthen.new.list.items c.write_lent-written.new.words here.starts.items
+    c.lengthen-2.new.list.items c.mark_start.new.starts here.spans c.insert-number.result c.args.owner c.args.place
+    c.args.len (spans_of _ _ _ _ _ _ c.self.invariant) c.lengthen.ensures.lengthened c.lengthen-2.ensures.lengthened
+    (rw (← c.self.view_is) at c.requires.bare) size (rw c.deref_mut.ensures.value at
+    c.write_lent-written.ensures.written)
+    (rw c.deref_mut-2.ensures.value at c.mark_start.ensures) c.insert-number.ensures.in_range
+
+pub invariant_of-self : goal.invariant_of-self
+invariant_of-self g c =
+    let here = c.self.inside in
+    let words =
+    items_after_write c.lengthen.new.list c.deref_mut.result.now c.write_lent-written.new.words
+    c.deref_mut.ensures.value
+    c.write_lent-written.ensures.written.same_size in
+    let starts =
+    items_after_write c.lengthen-2.new.list c.deref_mut-2.result.now c.mark_start.new.starts
+    c.deref_mut-2.ensures.value c.mark_start.ensures.same_size in
+    let at = goal.at.invariant_of-self g c in
+    let fits = rw (← c.self.view_is) at c.requires.within in
+    let size = c.write_lent-written.ensures.written.same_size ∙ ap length c.deref_mut.ensures.value in
+    let room : here.size ≤ vec_capacity c.lengthen.new.list =
+    omega (arith, c.lengthen.ensures.capacity, c.self.invariant.words_room) in
+    let starts_room : here.size ≤ vec_capacity c.lengthen-2.new.list =
+    omega (arith, c.lengthen-2.ensures.capacity, c.self.invariant.starts_room) in
+    rw (words, starts, c.insert-number.ensures.inserted) (are_blocks here.words.items c.lengthen.new.list.items
+    c.write_lent-written.new.words c.mark_start.new.starts _ here.size (c.args.place + c.args.len) _ _
+    (after g at.After-mark_start (long g at.After-write_lent-written)).are_spans c.lengthen.ensures.lengthened size
+    c.self.invariant.few fits room starts_room)
+
+pub returns-clause-put : goal.returns-clause-put
+returns-clause-put g c =
+    let here = c.self.inside in
+    let at = goal.at.returns-clause-put g c in
+    let new = take c.args.len (drop c.args.place c.write_lent-written.new.words) in
+    let words =
+    items_after_write c.lengthen.new.list c.deref_mut.result.now c.write_lent-written.new.words
+    c.deref_mut.ensures.value
+    c.write_lent-written.ensures.written.same_size in
+    let lists : map (λ id. words_in c.deref_mut.result.now (span_at here.spans id)) c.args.lent.now
+    ≡ map (words_at c.args.self.now.slots) c.args.lent.now =
+    ap (λ (ws : List ℤ). map (λ id. words_in ws (span_at here.spans id)) c.args.lent.now) c.deref_mut.ensures.value
+    ∙ (all_by_span c.lengthen.new.list.items here.spans c.args.lent.now
+    ∙ (ap (λ (slots : List (Option PlacedBlock)). map (words_at slots) c.args.lent.now)
+    (now g at.After-lengthen-2).slots
+    ∙ ap (λ (l : Layout). map (words_at l.slots) c.args.lent.now) c.self.view_is)) in
+    let written =
+    subst (λ ws. MatchResult c.write_lent-written.result (λ _. g.W.Writer.writes c.args.writer.now ws new)
+    (λ fault. g.W.Writer.faults c.args.writer.now ws fault)) lists c.write_lent-written.ensures.by_writer in
+    let placed =
+    rw (words, c.insert-number.ensures.inserted)
+    (same_layout here.size here.size _ _ refl
+    (after g at.After-mark_start (long g at.After-write_lent-written)).slots)
+    ∙ ap (λ layout. with_slot layout c.insert-number.result
+    (Some (record { owner = c.args.owner; place = c.args.place; words = new }))) c.self.view_is in
+    (new, (long g at.After-write_lent-written, written, placed))

@@ -1,0 +1,39 @@
+-- Words of a region outside of a block.
+use Rattle.std.specs.Prelude.{◌≡◌, ◌⊎◌, ℕ, ℤ, ◌+◌, ◌<◌, ◌≤◌, List, length, map, take, drop, Option, Some, None}
+use Rattle.std.specs.Borrow.{Bor}
+use Rattle.block_memory.specs.Table.{value_at}
+use Rattle.block_memory.specs.Layout.{Layout, with_slot}
+use Rattle.block_memory.specs.declared.span.Span.{Span}
+
+-- the lists that are lent
+abbrev pub contents : List (Bor (List ℤ)) → List (List ℤ)
+contents refs = map (λ r. r.now) refs
+
+-- the words of a span
+abbrev pub words_in : List ℤ → Span → List ℤ
+words_in words span = take span.len (drop span.place words)
+
+-- the span has no words, or lies in a region of so many words outside of place..place + len
+abbrev pub IsOutside : ℕ → ℕ → ℕ → Span → Type 0
+IsOutside size place len span =
+    (span.place + span.len ≤ size)
+    × ((span.len ≡ 0) ⊎ (span.place + span.len ≤ place) ⊎ (place + len ≤ span.place))
+
+-- the span lies in a region of so many words, and no word of it is among the others, if there are any
+abbrev pub IsApart : ℕ → ℕ → ℕ → Span → Type 0
+IsApart size place len span = (span.place + span.len ≤ size) × (0 < len → IsOutside size place len span)
+
+-- the span of a number, and one of no words where the number has none
+abbrev pub span_of : Option Span → Span
+span_of None = record { owner = 0; place = 0; len = 0 }
+span_of (Some s) = s
+
+abbrev pub span_at : List (Option Span) → ℕ → Span
+span_at spans id = span_of (value_at spans id)
+
+-- a block of so many words more, of which this is so
+abbrev pub IsPutWith : Layout → Layout → (number owner place len : ℕ) → (List ℤ → Type 0) → Type 0
+IsPutWith old new number owner place len is =
+    (words : List ℤ)
+    × ((length words ≡ len) × is words
+    × (new ≡ with_slot old number (Some (record { owner = owner; place = place; words = words }))))

@@ -1,0 +1,134 @@
+//! What writes the words of a new block where it lies, from the words of other blocks.
+ghost use Rattle.std.specs.Prelude.{◌≡◌, ◌≤◌, ◌+◌, ◌^◌, ◌<◌, ◌++◌, ℕ, ℤ, List, [], All, MatchResult, slice_index_or};
+ghost use Rattle.std.specs.Prelude.{length, take, drop, map};
+ghost use Rattle.std.specs.List.{SameBelow, SameFrom};
+ghost use Rattle.block_memory.specs.Writing.{contents, IsOutside, IsApart, words_in};
+
+use crate::span::Span;
+
+/// The most blocks whose words a writer is lent.
+pub const MOST_LENT: usize = 5;
+
+/// Writes the words of a new block from the words of other blocks.
+pub trait Writer {
+    ghost use Rattle.std.specs.Prelude.{List, ℤ, ℕ, MatchResult};
+
+    /// Why there are no words to write.
+    type Fault;
+
+    /// A block of so many words can be written from these lists.
+    ghost can_write: { Self → List (List ℤ) → ℕ → Type 0 };
+
+    /// These words are written from these lists.
+    ghost writes: { Self → List (List ℤ) → List ℤ → Type 0 };
+
+    /// These lists have this fault.
+    ghost faults: { Self → List (List ℤ) → Self.Fault → Type 0 };
+
+    /// Writes a block from lists that are lent.
+    ///
+    /// # Errors
+    ///
+    /// The fault that the lists have. Nothing is said of the block's words then.
+    fn write(&self, lent: &[&[i64]], block: &mut [i64]) -> Result<(), Self::Fault>
+        requires { can_write self.now (contents lent.now) (length block.old) }
+        ensures { MatchResult result (λ _. writes self.now (contents lent.now) block.new)
+            (λ fault. faults self.now (contents lent.now) fault) };
+}
+
+// The words of a span that lies outside of a block, or has none. `before` and `behind` are the words of the region
+// before
+// and after the block.
+fn words_outside<'a>(before: &'a [i64], behind: &'a [i64], len: usize, span: Span) -> &'a [i64]
+    requires outside { IsOutside (length before.now + len + length behind.now) (length before.now) len span }
+    requires size { length before.now + len + length behind.now < 2 ^ 64 }
+    ensures { (block : List ℤ) → length block ≡ len → result.now ≡ words_in (before.now ++ block ++ behind.now) span }
+{
+    if span.len == 0 {
+        return &[];
+    }
+    let end = before.len() + len;
+    if span.place < end {
+        &before[span.place..span.place + span.len]
+    } else {
+        let from = span.place - end;
+        &behind[from..from + span.len]
+    }
+}
+
+// The words of the span at this place of a list. After the last there are none.
+fn words_at<'a>(
+    before: &'a [i64],
+    behind: &'a [i64],
+    len: usize,
+    spans: &[Span],
+    index: usize,
+) -> &'a [i64]
+    requires outside { All (IsOutside (length before.now + len + length behind.now) (length before.now) len) spans.now }
+    requires size { length before.now + len + length behind.now < 2 ^ 64 }
+    ensures { (block : List ℤ) → length block ≡ len
+        → result.now ≡ slice_index_or (map (words_in (before.now ++ block ++ behind.now)) spans.now) index [] }
+{
+    match spans.get(index) {
+        Some(span) => words_outside(before, behind, len, *span),
+        None => &[],
+    }
+}
+
+// Writes a block from the words of spans outside of it.
+fn write_between<W: Writer>(
+    before: &[i64],
+    block: &mut [i64],
+    behind: &[i64],
+    spans: &[Span],
+    writer: &W,
+) -> Result<(), W::Fault>
+    requires few { length spans.now ≤ MOST_LENT }
+    requires outside { All (IsOutside (length before.now + length block.old + length behind.now) (length before.now)
+        (length block.old)) spans.now }
+    requires size { length before.now + length block.old + length behind.now < 2 ^ 64 }
+    requires can { W.can_write writer.now (map (words_in (before.now ++ block.old ++ behind.now)) spans.now)
+        (length block.old) }
+    ensures { let lent = map (words_in (before.now ++ block.old ++ behind.now)) spans.now in
+        MatchResult result (λ _. W.writes writer.now lent block.new) (λ fault. W.faults writer.now lent fault) }
+{
+    let len = block.len();
+    let lent = [
+        words_at(before, behind, len, spans, 0),
+        words_at(before, behind, len, spans, 1),
+        words_at(before, behind, len, spans, 2),
+        words_at(before, behind, len, spans, 3),
+        words_at(before, behind, len, spans, 4),
+    ];
+    writer.write(&lent[..spans.len()], block)
+}
+
+/// Writes `len` words of a region from a place on, from the words of spans outside of them.
+pub(crate) fn write_block<W: Writer>(
+    region: &mut [i64],
+    place: usize,
+    len: usize,
+    spans: &[Span],
+    writer: &W,
+) -> Result<(), W::Fault>
+    requires inside { place + len ≤ length region.old }
+    requires few { length spans.now ≤ MOST_LENT }
+    requires apart { All (IsApart (length region.old) place len) spans.now }
+    requires can { W.can_write writer.now (map (words_in region.old) spans.now) len }
+    ensures written { let lent = map (words_in region.old) spans.now in
+        MatchResult result (λ _. W.writes writer.now lent (take len (drop place region.new)))
+        (λ fault. W.faults writer.now lent fault) }
+    ensures same_size { length region.new ≡ length region.old }
+    ensures below { SameBelow region.old region.new place }
+    ensures behind { SameFrom region.old region.new (place + len) }
+{
+    if len == 0 {
+        return write_between(region, &mut [], &[], spans, writer);
+    }
+    let (before, rest) = region.split_at_mut(place);
+    let (block, behind) = rest.split_at_mut(len);
+    match write_between(before, block, behind, spans, writer) {
+        Ok(()) => Ok(()),
+        Err(fault) => Err(fault),
+    }
+}

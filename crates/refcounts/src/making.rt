@@ -1,0 +1,44 @@
+//! Making blocks that a writer writes.
+ghost use Rattle.std.specs.Prelude.{◌≡◌, ◌+◌, ◌<◌, ◌≤◌, length, map, IfOk, IfErr, OnErr};
+ghost use Rattle.block_memory.specs.declared.writer.TheConstants.{MOST_LENT};
+ghost use Rattle.refcounts.specs.SharedState.{AreLive, used_words, block_count};
+ghost use Rattle.refcounts.specs.Making.{IsMadeWith, words_at};
+
+use crate::SharedMemory;
+use block_memory::{BlockId, LendingMemory, Writer};
+use std::alloc::Allocator;
+
+impl<M: LendingMemory, A: Allocator> SharedMemory<M, A> {
+    /// A new block of `len` words, which fit, for an owner, with one reference. A writer writes it, and is lent the
+    /// words
+    /// of other blocks for that. There has to be a number without a block.
+    ///
+    /// # Errors
+    ///
+    /// The fault that the writer finds. Nothing changes then.
+    pub fn make_with<W: Writer>(
+        &mut self,
+        owner: usize,
+        len: usize,
+        lent: &[BlockId],
+        writer: &W,
+    ) -> Result<BlockId, W::Fault>
+        requires numbers { block_count self.old < length self.old.slots }
+        requires room { used_words self.old + len ≤ self.old.room }
+        requires few { length lent.now ≤ MOST_LENT }
+        requires live { AreLive self.old lent.now }
+        requires can { W.can_write writer.now (map (words_at self.old) lent.now) len }
+        ensures made { IfOk result (λ id. IsMadeWith self.old self.new id owner len
+            (W.writes writer.now (map (words_at self.old) lent.now))) }
+        ensures unchanged { OnErr result (self.new ≡ self.old) }
+        ensures fault { IfErr result (W.faults writer.now (map (words_at self.old) lent.now)) }
+    {
+        match self.memory.place_with(owner, len, lent, writer) {
+            Ok(id) => {
+                self.counts[id.number()] = 1;
+                Ok(id)
+            }
+            Err(fault) => Err(fault),
+        }
+    }
+}
