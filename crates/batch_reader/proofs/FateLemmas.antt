@@ -1,6 +1,7 @@
 -- What is read of a job, and what refuses it.
 use Rattle.std.proofs.Common.{◌≡◌, ℕ, ◌<◌, ◌≤◌, Bool, true, false, List, Some, None, Result, Ok, Err, refl, sym, ap}
-use Rattle.std.proofs.Common.{◌∙◌, arith, subst}
+use Rattle.std.proofs.Common.{◌∙◌, arith, subst, [], ◌++◌, append_assoc}
+use Rattle.std.proofs.lemmas.List.{append-nil}
 use Rattle.std.specs.Prelude.{nat_lt}
 use Rattle.std.proofs.lemmas.Bool.Decides.{nat_tests}
 use Rattle.vcode_base.specs.declared.limits.Limits.{Limits}
@@ -16,11 +17,11 @@ use Rattle.verifier.specs.Laws.{NoFaultWhereWellKinded}
 use Rattle.verifier.specs.Typed.{IsVerifiedBy}
 use Rattle.job_steps.specs.States.{JobValue}
 use Rattle.batch_reader.specs.declared.fault.JobFault.TheVariants.{WordsPastRegion, Sig, Read, Kind}
-use Rattle.batch_reader.specs.declared.head.Head.{Head}
+use Rattle.batch_reader.specs.declared.head.JobHeader.{JobHeader}
 use Rattle.batch_reader.specs.Batches.{JobText}
 use Rattle.batch_reader.specs.Fates.{JobRefusal, IsReady, limits_within, signatures_of, signed_program_of}
 use Rattle.batch_reader.specs.JobLines.{JobLine}
-use Rattle.batch_reader.specs.Standings.{HasRead, ShowsHead}
+use Rattle.batch_reader.specs.Standings.{HasRead, ShowsHead, with_code}
 
 -- ---- words
 
@@ -92,7 +93,42 @@ pub program_is : (region : ℕ) (job : JobText) (known : List Signature) (progra
 unfolding signed_program_of
 program_is region job known program e f k = rw (e, f, k) refl
 
--- ---- what has come to readers
+-- ---- more code
+
+-- no code changes the signatures
+same_signatures : (region : ℕ) (job : JobText) (text : List ℕ)
+    → signatures_of region (with_code job text) ≡ signatures_of region job
+unfolding signatures_of
+same_signatures region job text = refl
+
+-- a job whose code has a fault is refused, whatever code follows
+pub refused_in_code : (region : ℕ) (job : JobText) (known : List Signature) (first : ℕ) (text : List ℕ)
+    (fault : CodeFault) (line : ℕ)
+    → signatures_of region job ≡ Ok known → first ≡ job.code_line
+    → ((more : List ℕ) → code_reading first ((job.code ++ text) ++ more) ≡ Err (fault, line))
+    → (more : List ℕ) → signed_program_of region (with_code (with_code job text) more) ≡ Err (Read fault, line)
+refused_in_code region job known first text fault line e n f more =
+    refused_by_code region (with_code (with_code job text) more) known fault line
+    (same_signatures region (with_code job text) more ∙ (same_signatures region job text ∙ e))
+    (ap (λ k. code_reading k ((job.code ++ text) ++ more)) (sym n) ∙ f more)
+
+pub refused_with_more : (region : ℕ) (job : JobText) (refusal : JobRefusal) (text : List ℕ)
+    → ((more : List ℕ) → signed_program_of region (with_code job more) ≡ Err refusal)
+    → (more : List ℕ) → signed_program_of region (with_code (with_code job text) more) ≡ Err refusal
+refused_with_more region job refusal text h more =
+    ap (λ (bytes : List ℕ). let longer : JobText = record job { code = bytes } in signed_program_of region longer)
+    (append_assoc job.code text more)
+    ∙ h (text ++ more)
+
+pub refused_with_none : (region : ℕ) (job : JobText) (refusal : JobRefusal)
+    → ((more : List ℕ) → signed_program_of region (with_code job more) ≡ Err refusal)
+    → signed_program_of region job ≡ Err refusal
+refused_with_none region job refusal h =
+    ap (λ (bytes : List ℕ). let same : JobText = record job { code = bytes } in signed_program_of region same)
+    (sym (append-nil job.code))
+    ∙ h []
+
+-- ---- the bytes so far of readers
 
 pub code_comes_to : (region : ℕ) (known : List Signature) (r : CodeState) (job : JobText)
     (x : Result Program (CodeFault × ℕ)) → HasRead region known r job
@@ -102,7 +138,7 @@ code_comes_to region known r job x read answers =
     ap (λ n. code_reading n job.code) (sym read.first_line) ∙ answers job.code read.code
 
 -- what is run is well kinded by the signatures of the text
-pub is_ready : (region : ℕ) (job : JobText) (known : List Signature) (program : Program) (kept : Head (List ℕ))
+pub is_ready : (region : ℕ) (job : JobText) (known : List Signature) (program : Program) (kept : JobHeader (List ℕ))
     (ready : JobValue)
     → NoFaultWhereWellKinded → ShowsHead kept job.head job.line → signatures_of region job ≡ Ok known
     → code_reading job.code_line job.code ≡ Ok program → ready.verified.program ≡ program
@@ -122,13 +158,13 @@ is_ready region job known program kept ready law head e f same verified name lim
 
 -- ---- what is kept of a JOB line
 
-pub words_are_past : (region : ℕ) (kept : Head (List ℕ)) (head : JobLine) (job : ℕ) → ShowsHead kept head job
+pub words_are_past : (region : ℕ) (kept : JobHeader (List ℕ)) (head : JobLine) (job : ℕ) → ShowsHead kept head job
     → region < kept.limits.words → limits_within region head.limits job ≡ Err (WordsPastRegion, kept.line)
 words_are_past region kept head job same past =
     ap (λ l. limits_within region l job) (sym same.limits) ∙ ap (limits_within region kept.limits) (sym same.line)
     ∙ words_past region kept.limits kept.line past
 
-pub words_are_within : (region : ℕ) (kept : Head (List ℕ)) (head : JobLine) (job : ℕ) → ShowsHead kept head job
+pub words_are_within : (region : ℕ) (kept : JobHeader (List ℕ)) (head : JobLine) (job : ℕ) → ShowsHead kept head job
     → kept.limits.words ≤ region → limits_within region head.limits job ≡ Ok head.limits
 words_are_within region kept head job same fits =
     words_fit region head.limits job (subst (λ (l : Limits). l.words ≤ region) same.limits fits)

@@ -8,14 +8,18 @@ use Rattle.std.proofs.lemmas.List.{append-nil}
 use Rattle.vcode_base.specs.declared.limits.TheConstants.{MOST_BATCH_BYTES, MOST_JOBS}
 use Rattle.batch_reader.specs.declared.entry.Batch.{Batch}
 use Rattle.batch_reader.specs.declared.entry.Batch.TheVariants.{Refused as BatchRefused, Jobs}
-use Rattle.batch_reader.specs.Batches.{Refusal, RuledJobs, batch_in, jobs_of}
+use Rattle.batch_reader.specs.declared.fault.BatchFault.{BatchFault}
+use Rattle.batch_reader.specs.declared.stage.Stage.TheVariants as stage
+use Rattle.vcode_base.specs.declared.rule.Rule.{Rule}
+use Rattle.batch_reader.specs.Batches.{JobText, Refusal, RuledJobs, batch_in, jobs_of}
 use Rattle.batch_reader.specs.Fates.{JobEntry, AreEntries, IsBatch}
 use Rattle.batch_reader.specs.Feeds.{AnswersLines, ByLines, FeedState, HasCome, HasEnded, HoldsNoLineFeed}
-use Rattle.batch_reader.specs.Feeds.{IsFirstLine, IsOpenLine, IsWholeLine}
+use Rattle.batch_reader.specs.Feeds.{IsFirstLine, IsOpenLine, IsRefused, IsWholeLine}
 use Rattle.batch_reader.specs.Feeds.{LinesState, RefusesLongLine, Stands}
-use Rattle.batch_reader.specs.Headings.{line_of, numbered_lines}
+use Rattle.batch_reader.specs.Headings.{BatchLine, line_of, numbered_lines}
 use Rattle.batch_reader.specs.Lines.{lines}
-use Rattle.batch_reader.specs.Standings.{Fresh, JobStage, Shows}
+use Rattle.batch_reader.specs.Standings.{Fresh, Between, Headed, InSignatures, InCode, Ended, Refused, BatchStanding}
+use Rattle.batch_reader.specs.Standings.{JobStage, StageShows, jobs_behind, jobs_from}
 use Rattle.batch_reader.proofs.LineLemmas.{BeginsLine, begins_line, lines_nil, lines_of_last, lines_of_whole}
 use Rattle.batch_reader.proofs.LineLemmas.{numbered_next}
 use Rattle.batch_reader.proofs.LineLemmas.{no_feed_append, numbered_none, numbered_past, whole_begins_line, whole_with}
@@ -45,7 +49,7 @@ nothing_has_come region held s none first = record {
     room = MOST_JOBS;
     standing = Fresh;
     entries = subst (λ (es : List JobEntry). AreEntries s.region [] es) (sym first.entries) tt;
-    shown = subst (λ (k : JobStage). Shows s.region k Fresh) (sym first.stage) tt;
+    shown = subst (λ (k : JobStage). StageShows s.region k Fresh) (sym first.stage) tt;
     has_room = ap (λ es. length es + MOST_JOBS) first.entries;
     comes = λ ls. sym (behind_none (batch_in MOST_JOBS ls));
   };
@@ -135,6 +139,42 @@ long_rest_has_come f rest before held s none more_none cleared refuses long h =
       length-append f.held rest,
     )))
     refl cleared refuses (omega (arith, long, length-append f.held rest)) h
+
+-- ---- behind what refuses the batch
+
+settled : (region line : ℕ) (fault : BatchFault) (jobs : List JobText) (rule : Rule) (room : ℕ) (standing : BatchStanding)
+    → StageShows region (stage.Refused line fault) standing → (ls ms : List BatchLine)
+    → jobs_behind jobs (jobs_from rule room standing ls) ≡ jobs_behind jobs (jobs_from rule room standing ms)
+settled region line fault jobs rule room (Refused refusal) shown ls ms = refl
+settled region line fault jobs rule room Fresh shown ls ms = absurd shown
+settled region line fault jobs rule room Between shown ls ms = absurd shown
+settled region line fault jobs rule room (Headed head job) shown ls ms = absurd shown
+settled region line fault jobs rule room (InSignatures job) shown ls ms = absurd shown
+settled region line fault jobs rule room (InCode job) shown ls ms = absurd shown
+settled region line fault jobs rule room (Ended job) shown ls ms = absurd shown
+
+-- no line changes what a refused batch comes to
+all_the_same : (s : LinesState) (come : ByLines) → IsRefused s → Stands s come → (ls ms : List BatchLine)
+    → come ls ≡ come ms
+all_the_same s come refused h ls ms =
+    let shown : StageShows s.region (stage.Refused refused.0 refused.1) h.standing = subst (λ (k : JobStage).
+    StageShows s.region k h.standing) refused.2 h.shown in
+    h.comes ls
+    ∙ (settled s.region refused.0 refused.1 h.jobs s.rule h.room h.standing shown ls ms ∙ sym (h.comes ms))
+
+pub refused_has_come : (f : FeedState) (piece before held : List ℕ) (s : LinesState) → held ≡ [] → s ≡ f.lines
+    → IsRefused s → HasCome f before → HasCome (feed_with held s) (before ++ piece)
+refused_has_come f piece before held s cleared same refused h =
+    subst (λ (t : LinesState). HasCome (feed_with held t) (before ++ piece)) (sym same) (record {
+      whole = before ++ piece;
+      come = h.come;
+      bytes = sym (append-nil (before ++ piece)) ∙ ap (λ t. (before ++ piece) ++ t) (sym cleared);
+      batch = λ more.
+          ap jobs_of (append_assoc before piece more ∙ joined h.whole f.held (piece ++ more) before h.bytes)
+          ∙ (h.batch (f.held ++ (piece ++ more))
+          ∙ all_the_same f.lines h.come (subst (λ (t : LinesState). IsRefused t) same refused) h.stands _ _);
+      stands = h.stands;
+    })
 
 -- ---- the end
 

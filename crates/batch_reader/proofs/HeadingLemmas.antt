@@ -1,20 +1,25 @@
 -- Lines that are no heading.
-use Rattle.std.proofs.Common.{◌≡◌, ◌∙◌, ℕ, Bool, true, false, ◌||◌, ◌==◌, List, [], ◌∷◌, length, get_or, refl, ap, codes}
+use Rattle.std.proofs.Common.{◌≡◌, ◌∙◌, ℕ, Bool, true, false, ◌||◌, ◌&&◌, ◌==◌, List, [], ◌∷◌, length, refl, ap, codes}
+use Rattle.std.proofs.Common.{◌<◌, arith, get_or}
+use Rattle.std.specs.Prelude.{nat_lt}
+use Rattle.std.specs.List.{onto_first}
 use Rattle.std.specs.Str.{bytes_eq}
+use Rattle.std.proofs.lemmas.Bool.Decides.{nat_tests}
 use Rattle.vcode_base.specs.LineWords.{words_of_line, with_plain, begins_plain, is_separator}
 use Rattle.vcode_base.specs.declared.line_words.Parentheses.TheVariants.{StandInWords}
-use Rattle.batch_reader.specs.Headings.{heading_of, may_begin_heading}
+use Rattle.batch_reader.specs.Headings.{heading_of, may_begin_heading, may_go_on_in_code}
 use Rattle.batch_reader.specs.Lines.{batch_words}
 use Rattle.batch_reader.specs.declared.heading.Heading.TheVariants.{Other}
 
 -- no word of a heading is this
-pub other_word : (w : List ℕ) (ws : List (List ℕ)) → bytes_eq w (codes "CODE") ≡ false → bytes_eq w (codes "END") ≡ false
+pub other_word : (w : List ℕ) (ws : List (List ℕ)) → bytes_eq w (codes "CODE") ≡ false
+    → bytes_eq w (codes "END") ≡ false
     → bytes_eq w (codes "SIGNATURES") ≡ false → bytes_eq w (codes "BATCH") ≡ false → heading_of (w ∷ ws) ≡ Other
 other_word w [] code end signatures batch = rw (code, end, signatures) refl
 other_word w (v ∷ []) code end signatures batch = rw batch refl
 other_word w (v ∷ u ∷ ws) code end signatures batch = refl
 
--- the first word of a line begins with its first byte, if that doesn't stand between words
+-- the first word of a line begins with its first byte, if that isn't a separator
 with_plain_first : (x : ℕ) (b : Bool) (ws : List (List ℕ))
     → (t : List ℕ) × (rest : List (List ℕ)) × (with_plain x b ws ≡ (x ∷ t) ∷ rest)
 with_plain_first x true [] = ([], [], refl)
@@ -48,3 +53,45 @@ other_line (x ∷ xs) some h =
     let b = neither (is_separator x) (x == 66) c.0 in
     let first = first_byte x xs b.0 in
     ap heading_of first.2 ∙ other_first x first.0 first.1 b.1 c.1 e.1 s.1
+
+-- a byte that stands between words is no greater than the blank
+no_separator : (x : ℕ) → nat_lt x 33 ≡ false → is_separator x ≡ false
+no_separator x h = grind (arith, nat_tests)
+
+-- a byte that doesn't stand between words joins the word that follows it at once
+joins_words : (x y : ℕ) (ys : List ℕ) → is_separator x ≡ false → is_separator y ≡ false
+    → batch_words (x ∷ y ∷ ys) ≡ onto_first x (batch_words (y ∷ ys))
+unfolding words_of_line
+joins_words x y ys h k = rw (h, k) refl
+
+joins_word : (x y : ℕ) (ys t : List ℕ) (rest : List (List ℕ)) → is_separator x ≡ false → is_separator y ≡ false
+    → batch_words (y ∷ ys) ≡ t ∷ rest → batch_words (x ∷ y ∷ ys) ≡ (x ∷ t) ∷ rest
+joins_word x y ys t rest h k e = joins_words x y ys h k ∙ ap (onto_first x) e
+
+-- a first word that begins with C and isn't CODE, as its third byte shows
+other_third : (x y z : ℕ) (t : List ℕ) (ws : List (List ℕ)) → x ≡ 67 → (z == 68) ≡ false
+    → heading_of ((x ∷ y ∷ z ∷ t) ∷ ws) ≡ Other
+other_third x y z t ws is d =
+    other_word (x ∷ y ∷ z ∷ t) ws (rw (is, d) (no_third (y == 79))) (rw is refl) (rw is refl) (rw is refl)
+  where
+    no_third : (b : Bool) → (b && false) ≡ false
+    no_third true = refl
+    no_third false = refl
+
+-- a line that begins with C, and whose first word isn't CODE
+pub other_in_code : (t : List ℕ) → get_or t 0 0 ≡ 67 → 2 < length t
+    → may_go_on_in_code (get_or t 1 0) (get_or t 2 0) ≡ false → heading_of (batch_words t) ≡ Other
+other_in_code [] c long h = absurd (omega arith)
+other_in_code (x ∷ []) c long h = absurd (omega arith)
+other_in_code (x ∷ y ∷ []) c long h = absurd (omega arith)
+other_in_code (x ∷ y ∷ z ∷ zs) c long h =
+    let third = neither _ (nat_lt z 33) h in
+    let second = neither (z == 68) (nat_lt y 33) third.0 in
+    let z_in = no_separator z third.1 in
+    let y_in = no_separator y second.1 in
+    let x_in : is_separator x ≡ false = rw c refl in
+    let first = first_byte z zs z_in in
+    let after : batch_words (y ∷ z ∷ zs) ≡ (y ∷ z ∷ first.0) ∷ first.1 = joins_word y z zs (z ∷ first.0) first.1 y_in
+    z_in first.2 in
+    ap heading_of (joins_word x y (z ∷ zs) (y ∷ z ∷ first.0) first.1 x_in y_in after)
+    ∙ other_third x y z first.0 first.1 c second.0

@@ -1,4 +1,4 @@
--- What a JOB line's words come to.
+-- What a JOB line's words give.
 use Rattle.std.proofs.Common.{◌≡◌, ℕ, ◌+◌, ◌*◌, ◌^◌, ◌<◌, ◌≤◌, suc, zero, Bool, true, false, ◌&&◌, List, [], ◌∷◌}
 use Rattle.std.proofs.Common.{length, get_or, drop, add-one, Option, Some, None, refl, ap, ◌∙◌, arith}
 use Rattle.std.specs.Prelude.{nat_le, if◌then◌else◌}
@@ -38,7 +38,7 @@ limits_by words cells calls budget w c k b =
       budget_in_range = b;
     }
 
--- what keeps them in range tells no limits apart
+-- the test that keeps them in range doesn't distinguish limits
 same_limits : (words cells calls budget : ℕ) (w w' : words ≤ MOST_WORDS) (c c' : (1 ≤ cells) × (cells ≤ MOST_CELLS))
     (k k' : (1 ≤ calls) × (calls ≤ MOST_CALLS)) (b b' : budget ≤ MOST_BUDGET)
     → limits_by words cells calls budget w c k b ≡ limits_by words cells calls budget w' c' k' b'

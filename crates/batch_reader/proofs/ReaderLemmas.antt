@@ -9,7 +9,7 @@ use Rattle.vcode_base.specs.declared.rule.Rule.TheVariants.{First}
 use Rattle.batch_reader.specs.declared.entry.Batch.TheVariants.{Jobs}
 use Rattle.batch_reader.specs.declared.fault.BatchFault.TheVariants.{UnfinishedJob, TooLarge}
 use Rattle.batch_reader.specs.declared.stage.Stage.TheVariants as stage
-use Rattle.batch_reader.specs.declared.stage.Step.TheVariants.{To, Ends, Begins}
+use Rattle.batch_reader.specs.declared.stage.StageStep.TheVariants.{To, Ends, Begins}
 use Rattle.batch_reader.specs.Batches.{JobText, Refusal, RuledJobs, batch_in, jobs_after, jobs_in, job_from_code}
 use Rattle.batch_reader.specs.Batches.{job_and_later, job_from_signatures, lines_behind_blanks, under, whole_job}
 use Rattle.batch_reader.specs.Blocks.{block_of}
@@ -21,10 +21,10 @@ use Rattle.batch_reader.specs.declared.heading.Heading.TheVariants.{Blank}
 use Rattle.batch_reader.specs.Headings.{BatchLine, heading_of, is_blank, line_of, line_past_limit}
 use Rattle.batch_reader.specs.Lines.{batch_words}
 use Rattle.batch_reader.specs.JobLines.{JobLine}
-use Rattle.batch_reader.specs.Standings.{Standing, Fresh, Between, Headed, InSignatures, InCode, Ended, Refused}
+use Rattle.batch_reader.specs.Standings.{BatchStanding, Fresh, Between, Headed, InSignatures, InCode, Ended, Refused}
 use Rattle.batch_reader.specs.Standings.{HasRoom}
 use Rattle.batch_reader.specs.Standings.{JobStage}
-use Rattle.batch_reader.specs.Standings.{JobStep, Shows, ShowsStep, Turns, jobs_behind, jobs_from, rule_by}
+use Rattle.batch_reader.specs.Standings.{JobStep, StageShows, ShowsStep, Turns, jobs_behind, jobs_from, rule_by}
 use Rattle.batch_reader.proofs.StepLemmas.{past_limit, turns_at_blank, turns_at_first_blank, turns_of_fresh}
 
 pub entries_with : (region : ℕ) (jobs : List JobText) (entries : List JobEntry) (job : JobText) (entry : JobEntry)
@@ -46,13 +46,13 @@ behind_none (Err refusal) = refl
 
 -- ---- a line
 
--- where the jobs, the rule, the stage and the entries stand
+-- the jobs, the rule, the stage and the entries
 abbrev pub state_with : LinesState → ℕ → ℕ → Rule → JobStage → List JobEntry → LinesState
 state_with s number left rule kept entries =
     record { region = s.region; number = number; left = left; rule = rule; stage = kept; entries = entries }
 
 behind_end : (s : LinesState) (come : ByLines) (l : BatchLine) (entry : JobEntry) (number left : ℕ) (rule : Rule)
-    (room : ℕ) (next : Standing) (h : Stands s come)
+    (room : ℕ) (next : BatchStanding) (h : Stands s come)
     → ShowsStep s.region (Ends entry) next → HasRoom (length s.entries) room next
     → ((ls : List BatchLine) → come (l ∷ ls) ≡ jobs_behind h.jobs (jobs_from rule room next ls))
     → Stands (state_with s number left rule stage.Between (s.entries ++ entry ∷ [])) (λ ls. come (l ∷ ls))
@@ -115,22 +115,22 @@ kept_by s come l (Begins rule next) number left kept entries h t keeps =
       comes = turned s come l (Begins rule next) h t;
     })
 
--- what stands behind a line
+-- what follows a line
 pub stands_behind : (s : LinesState) (come : ByLines) (l : BatchLine) (step : JobStep) (number left : ℕ)
     (kept : JobStage) (entries : List JobEntry)
-    → ((room : ℕ) (standing : Standing) → Shows s.region s.stage standing → HasRoom (length s.entries) room standing
+    → ((room : ℕ) (standing : BatchStanding) → StageShows s.region s.stage standing → HasRoom (length s.entries) room standing
     → Turns s.region (length s.entries) room standing l step)
     → Keeps step s.entries entries kept → Stands s come
     → Stands (state_with s number left (rule_by step s.rule) kept entries) (λ ls. come (l ∷ ls))
 stands_behind s come l step number left kept entries turns keeps h =
     kept_by s come l step number left kept entries h (turns h.room h.standing h.shown h.has_room) keeps
 
--- the same, where what was handed to the step is known by equations
+-- the same, if what was handed to the step is known by equations
 pub stands_taken : (s : LinesState) (come : ByLines) (text : List ℕ) (heading : Heading) (step : JobStep)
     (number left ended : ℕ) (rule : Rule) (first kept next : JobStage) (entries : List JobEntry)
     → first ≡ s.stage → rule ≡ rule_by step s.rule → ended ≡ length s.entries
     → heading ≡ heading_of (batch_words text) → kept ≡ next
-    → ((room : ℕ) (standing : Standing) → Shows s.region first standing → HasRoom ended room standing
+    → ((room : ℕ) (standing : BatchStanding) → StageShows s.region first standing → HasRoom ended room standing
     → Turns s.region ended room standing (record {
       number = s.number;
       text = text;
@@ -148,13 +148,13 @@ stands_taken s come text heading step number left ended rule first kept next ent
       is_past =
           false;
     } in l in
-    let known : (room : ℕ) (standing : Standing) → Shows s.region s.stage standing
+    let known : (room : ℕ) (standing : BatchStanding) → StageShows s.region s.stage standing
     → HasRoom (length s.entries) room standing
     → Turns s.region (length s.entries) room standing (line_of s.number text) step =
     λ room standing shown has. subst (λ (k : Heading). Turns s.region (length s.entries) room standing (line k) step)
     same_heading
     (subst (λ (n : ℕ). Turns s.region n room standing (line heading) step) same_count
-    (turns room standing (subst (λ (k : JobStage). Shows s.region k standing) (sym same_stage) shown)
+    (turns room standing (subst (λ (k : JobStage). StageShows s.region k standing) (sym same_stage) shown)
     (subst (λ (n : ℕ). HasRoom n room standing) (sym same_count) has))) in
     subst (λ (r : Rule). Stands (state_with s number left r kept entries) (λ ls. come (line_of s.number text ∷ ls)))
     (sym same_rule)
@@ -163,8 +163,8 @@ stands_taken s come text heading step number left ended rule first kept next ent
     (sym same_next)
     (stands_behind s come (line_of s.number text) step number left next entries known keeps h))
 
-turns_between : (region ended : ℕ) (l : BatchLine) → is_blank l.heading ≡ true → (room : ℕ) (standing : Standing)
-    → Shows region stage.Between standing → HasRoom ended room standing
+turns_between : (region ended : ℕ) (l : BatchLine) → is_blank l.heading ≡ true → (room : ℕ) (standing : BatchStanding)
+    → StageShows region stage.Between standing → HasRoom ended room standing
     → Turns region ended room standing l (To stage.Between)
 turns_between region ended l blank room Fresh shown has = absurd shown
 turns_between region ended l blank room Between shown has = turns_at_blank region ended room l blank has
@@ -174,15 +174,15 @@ turns_between region ended l blank room (InCode job) shown has = absurd shown
 turns_between region ended l blank room (Ended job) shown has = absurd shown
 turns_between region ended l blank room (Refused refusal) shown has = absurd shown
 
-turns_fresh : (region ended : ℕ) (l : BatchLine) → is_blank l.heading ≡ true → (room : ℕ) (standing : Standing)
-    → Shows region stage.Fresh standing → HasRoom ended room standing
+turns_fresh : (region ended : ℕ) (l : BatchLine) → is_blank l.heading ≡ true → (room : ℕ) (standing : BatchStanding)
+    → StageShows region stage.Fresh standing → HasRoom ended room standing
     → Turns region ended room standing l (To stage.Fresh)
 turns_fresh region ended l blank = turns_of_fresh region ended l (To stage.Fresh) (λ room. turns_at_first_blank region
     ended room l blank)
 
 -- a blank line before the first job or between jobs changes nothing
 turns_outside : (region ended : ℕ) (kept : JobStage) (l : BatchLine) → IsOutside kept → is_blank l.heading ≡ true
-    → (room : ℕ) (standing : Standing) → Shows region kept standing → HasRoom ended room standing
+    → (room : ℕ) (standing : BatchStanding) → StageShows region kept standing → HasRoom ended room standing
     → Turns region ended room standing l (To kept)
 turns_outside region ended stage.Fresh l outside = turns_fresh region ended l
 turns_outside region ended stage.Between l outside = turns_between region ended l
@@ -203,7 +203,7 @@ stands_behind_blank s come text heading number left outside same blank h =
 
 -- ---- the line past the limit
 
-pub few_ended : (ended room : ℕ) (standing : Standing) → HasRoom ended room standing → ended ≤ MOST_JOBS
+pub few_ended : (ended room : ℕ) (standing : BatchStanding) → HasRoom ended room standing → ended ≤ MOST_JOBS
 few_ended ended room Fresh has = omega (arith, has)
 few_ended ended room Between has = omega (arith, has)
 few_ended ended room (Headed head line) has = omega (arith, has)
@@ -212,7 +212,7 @@ few_ended ended room (InCode job) has = omega (arith, has)
 few_ended ended room (Ended job) has = omega (arith, has)
 few_ended ended room (Refused refusal) has = has
 
-shows_no_end : (region : ℕ) (s : JobStage) (job : JobText) → Shows region s (Ended job) → ⊥
+shows_no_end : (region : ℕ) (s : JobStage) (job : JobText) → StageShows region s (Ended job) → ⊥
 shows_no_end region stage.Fresh job shown = shown
 shows_no_end region stage.Between job shown = shown
 shows_no_end region (stage.Headed kept) job shown = shown
@@ -222,7 +222,7 @@ shows_no_end region (stage.Refused line fault) job shown = shown
 shows_no_end region stage.Failed job shown = shown
 
 shows_no_refusal : (region : ℕ) (s : JobStage) (refusal : Refusal) → is_settled s ≡ false
-    → Shows region s (Refused refusal) → ⊥
+    → StageShows region s (Refused refusal) → ⊥
 shows_no_refusal region stage.Fresh refusal isnt shown = shown
 shows_no_refusal region stage.Between refusal isnt shown = shown
 shows_no_refusal region (stage.Headed kept) refusal isnt shown = shown
@@ -232,7 +232,7 @@ shows_no_refusal region (stage.Refused line fault) refusal isnt shown = cc
 shows_no_refusal region stage.Failed refusal isnt shown = shown
 
 refused_stands : (s : LinesState) (come : ByLines) (kept : JobStage) (refusal : Refusal) → Stands s come
-    → Shows s.region kept (Refused refusal)
+    → StageShows s.region kept (Refused refusal)
     → Stands (state_with s s.number s.left s.rule kept s.entries) (λ ls. Err refusal)
 refused_stands s come kept refusal h shown = record {
   jobs = h.jobs;
@@ -251,17 +251,17 @@ long_line_refuses s come isnt h = record {
   stands = refused_stands s come (stage.Refused s.number TooLarge) (TooLarge, s.number) h refl;
   comes = λ text. h.comes (line_past_limit s.number text ∷ [])
       ∙ ap (jobs_behind h.jobs) (past_limit s.rule h.room h.standing (line_past_limit s.number text) refl refl
-      (λ job e. shows_no_end s.region s.stage job (subst (λ (x : Standing). Shows s.region s.stage x) e h.shown))
-      (λ refusal e. shows_no_refusal s.region s.stage refusal isnt (subst (λ (x : Standing). Shows s.region s.stage
+      (λ job e. shows_no_end s.region s.stage job (subst (λ (x : BatchStanding). StageShows s.region s.stage x) e h.shown))
+      (λ refusal e. shows_no_refusal s.region s.stage refusal isnt (subst (λ (x : BatchStanding). StageShows s.region s.stage
       x) e h.shown)));
 }
 
-settled_by : (s : LinesState) (come : ByLines) (kept : JobStage) (standing : Standing) (h : Stands s come)
-    → s.stage ≡ kept → h.standing ≡ standing → is_settled kept ≡ true → Shows s.region kept standing
+settled_by : (s : LinesState) (come : ByLines) (kept : JobStage) (standing : BatchStanding) (h : Stands s come)
+    → s.stage ≡ kept → h.standing ≡ standing → is_settled kept ≡ true → StageShows s.region kept standing
     → RefusesLongLine s s come
 settled_by s come (stage.Refused line fault) (Refused refusal) h e f is shown = record {
   refusal = refusal;
-  stands = refused_stands s come s.stage refusal h (subst (λ (x : Standing). Shows s.region s.stage x) f h.shown);
+  stands = refused_stands s come s.stage refusal h (subst (λ (x : BatchStanding). StageShows s.region s.stage x) f h.shown);
   comes = λ text. h.comes (line_past_limit s.number text ∷ [])
       ∙ ap (λ x. jobs_behind h.jobs (jobs_from s.rule h.room x (line_past_limit s.number text ∷ []))) f;
 }
@@ -288,7 +288,7 @@ pub settled_refuses : (s : LinesState) (come : ByLines) → is_settled s.stage �
     → RefusesLongLine s s come
 settled_refuses s come is h = settled_by s come s.stage h.standing h refl refl is h.shown
 
--- ---- where no line follows
+-- ---- if no line follows
 
 none_between : (room : ℕ) → jobs_in room [] ≡ Ok []
 unfolding jobs_in lines_behind_blanks
@@ -311,7 +311,7 @@ without_end : (job : JobText) → job_from_code job [] ≡ Err (UnfinishedJob, j
 unfolding job_from_code block_of
 without_end job = refl
 
--- what a stage gives under a rule where the lines end
+-- what a stage gives under a rule at the end of the lines
 abbrev pub EndsSo : Rule → JobStage → Result RuledJobs Refusal → Type 0
 EndsSo rule stage.Fresh r = r ≡ Ok (First, [])
 EndsSo rule stage.Between r = r ≡ Ok (rule, [])
@@ -321,7 +321,7 @@ EndsSo rule (stage.Code kept part) r = r ≡ Err (UnfinishedJob, kept.line)
 EndsSo rule (stage.Refused line fault) r = r ≡ Err (fault, line)
 EndsSo rule stage.Failed r = ⊥
 
-ends_so : (rule : Rule) (region room : ℕ) (kept : JobStage) (standing : Standing) → Shows region kept standing
+ends_so : (rule : Rule) (region room : ℕ) (kept : JobStage) (standing : BatchStanding) → StageShows region kept standing
     → EndsSo rule kept (jobs_from rule room standing [])
 ends_so rule region room stage.Fresh Fresh shown = none_at_all room
 ends_so rule region room stage.Between Between shown = ap (under rule) (none_between room)
@@ -340,7 +340,7 @@ ends_so rule region room _ _ shown = absurd shown
 pub at_end : (s : LinesState) (come : ByLines) (kept : JobStage) → s.stage ≡ kept → (h : Stands s come)
     → EndsSo s.rule kept (jobs_from s.rule h.room h.standing [])
 at_end s come kept e h =
-    ends_so s.rule s.region h.room kept h.standing (subst (λ (k : JobStage). Shows s.region k h.standing) e h.shown)
+    ends_so s.rule s.region h.room kept h.standing (subst (λ (k : JobStage). StageShows s.region k h.standing) e h.shown)
 
 pub jobs_at_end : (s : LinesState) (come : ByLines) (rule : Rule) (h : Stands s come)
     → jobs_from s.rule h.room h.standing [] ≡ Ok (rule, []) → AnswersLines s.region (Jobs rule s.entries) (come [])
@@ -357,7 +357,7 @@ pub refused_at_end : (s : LinesState) (come : ByLines) (h : Stands s come) (refu
     → jobs_from s.rule h.room h.standing [] ≡ Err refusal → come [] ≡ Err refusal
 refused_at_end s come h refusal e = h.comes [] ∙ ap (jobs_behind h.jobs) e
 
--- a long line refuses, where the new stage is known by an equation
+-- a long line refuses, if the new stage is known by an equation
 pub long_line_stands : (s : LinesState) (come : ByLines) (kept : JobStage)
     → kept ≡ stage.Refused s.number TooLarge → is_settled s.stage ≡ false → Stands s come
     → RefusesLongLine s (state_with s s.number s.left s.rule kept s.entries) come
@@ -365,12 +365,12 @@ long_line_stands s come kept same isnt h =
     subst (λ (k : JobStage). RefusesLongLine s (state_with s s.number s.left s.rule k s.entries) come) (sym same)
     (long_line_refuses s come isnt h)
 
--- what stands once a line is taken, where its number is known by an equation
+-- the state once a line is taken, if its number is known by an equation
 pub stands_taken_at : (s : LinesState) (come : ByLines) (text : List ℕ) (heading : Heading) (step : JobStep)
     (here number left ended : ℕ) (rule : Rule) (first kept next : JobStage) (entries : List JobEntry)
     → here ≡ s.number → first ≡ s.stage → rule ≡ rule_by step s.rule → ended ≡ length s.entries
     → heading ≡ heading_of (batch_words text) → kept ≡ next
-    → ((room : ℕ) (standing : Standing) → Shows s.region first standing → HasRoom ended room standing
+    → ((room : ℕ) (standing : BatchStanding) → StageShows s.region first standing → HasRoom ended room standing
     → Turns s.region ended room standing (record {
       number = here;
       text = text;
@@ -382,7 +382,7 @@ pub stands_taken_at : (s : LinesState) (come : ByLines) (text : List ℕ) (headi
 stands_taken_at s come text heading step here number left ended rule first kept next entries same same_stage same_rule
     same_count same_heading same_next turns keeps h =
     let all : (n : ℕ) → s.number ≡ n
-    → ((room : ℕ) (standing : Standing) → Shows s.region first standing → HasRoom ended room standing
+    → ((room : ℕ) (standing : BatchStanding) → StageShows s.region first standing → HasRoom ended room standing
     → Turns s.region ended room standing (record {
       number = n;
       text = text;
@@ -390,7 +390,7 @@ stands_taken_at s come text heading step here number left ended rule first kept 
       is_past = false;
     }) step)
     → Stands (state_with s number left rule kept entries) (λ ls. come (line_of n text ∷ ls)) =
-    λ n e. subst (λ (m : ℕ). ((room : ℕ) (standing : Standing) → Shows s.region first standing
+    λ n e. subst (λ (m : ℕ). ((room : ℕ) (standing : BatchStanding) → StageShows s.region first standing
     → HasRoom ended room standing
     → Turns s.region ended room standing (record {
       number = m;

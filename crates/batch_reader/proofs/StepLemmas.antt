@@ -10,9 +10,9 @@ use Rattle.vcode_base.specs.declared.rule.Rule.TheVariants.{First, Second}
 use Rattle.batch_reader.specs.declared.heading.Heading.{Heading}
 use Rattle.batch_reader.specs.declared.heading.Heading.TheVariants.{Blank, SecondRule, Signatures, Code, End, Other}
 use Rattle.batch_reader.specs.declared.fault.BatchFault.TheVariants.{BadJobLine, UnfinishedJob, TooLarge}
-use Rattle.batch_reader.specs.declared.head.Head.{Head}
+use Rattle.batch_reader.specs.declared.head.JobHeader.{JobHeader}
 use Rattle.batch_reader.specs.declared.stage.Stage.TheVariants as stage
-use Rattle.batch_reader.specs.declared.stage.Step.TheVariants.{To, Ends, Begins}
+use Rattle.batch_reader.specs.declared.stage.StageStep.TheVariants.{To, Ends, Begins}
 use Rattle.batch_reader.specs.Batches.{JobText, JobAndRest, PartText, Refusal, lines_behind_blanks, jobs_in}
 use Rattle.batch_reader.specs.Batches.{batch_in, job_and_later, under}
 use Rattle.batch_reader.specs.Batches.{job_from_code, job_from_signatures, job_without_parts, whole_job, part_in}
@@ -22,10 +22,10 @@ use Rattle.batch_reader.specs.Fates.{JobEntry, IsEntry}
 use Rattle.batch_reader.specs.Headings.{BatchLine, is_blank, is_second_rule, is_signatures}
 use Rattle.batch_reader.specs.JobLines.{JobLine, job_line_of}
 use Rattle.batch_reader.specs.Lines.{batch_words}
-use Rattle.batch_reader.specs.Standings.{Standing, Fresh, Between, Headed, InSignatures, InCode, Ended, Refused}
+use Rattle.batch_reader.specs.Standings.{BatchStanding, Fresh, Between, Headed, InSignatures, InCode, Ended, Refused}
 use Rattle.batch_reader.specs.Standings.{HasRoom}
 use Rattle.batch_reader.specs.Standings.{JobStage, CodePart, SignaturesPart, ShowsCode, ShowsSignatures, Stays}
-use Rattle.batch_reader.specs.Standings.{JobStep, Shows, SaysJob, Turns, jobs_from, with_signatures}
+use Rattle.batch_reader.specs.Standings.{JobStep, StageShows, SaysJob, Turns, jobs_from, with_signatures}
 use Rattle.batch_reader.specs.Standings.{with_code, with_code_line}
 
 -- ---- between jobs
@@ -81,7 +81,7 @@ turns_at_no_job region ended room l past blank none has = record {
   comes = λ rule ls. ap (under rule) (no_jobs room l ls past blank none);
 }
 
--- a JOB line behind as many jobs as a batch may have
+-- a JOB line after as many jobs as a batch may have
 pub turns_at_last_job : (region ended room line : ℕ) (l : BatchLine) (head : JobLine) → HasRoom ended room Between
     → SaysJob l head line → MOST_JOBS ≤ ended
     → Turns region ended room Between l (To (stage.Refused line TooLarge))
@@ -95,9 +95,9 @@ turns_at_last_job region ended zero line l head has says full = record {
 }
 turns_at_last_job region ended (suc room) line l head has says full = absurd (omega (arith, has))
 
--- and behind fewer
+-- and after fewer
 pub turns_at_job : (region ended room line : ℕ) (l : BatchLine) (head : JobLine) (s : JobStage)
-    → HasRoom ended room Between → SaysJob l head line → ended < MOST_JOBS → Shows region s (Headed head line)
+    → HasRoom ended room Between → SaysJob l head line → ended < MOST_JOBS → StageShows region s (Headed head line)
     → Turns region ended room Between l (To s)
 turns_at_job region ended zero line l head s has says few shown = absurd (omega (arith, has))
 turns_at_job region ended (suc room) line l head s has says few shown = record {
@@ -163,7 +163,7 @@ turns_without_rule region ended room l s blank isnt turns = record {
   comes = λ rule ls. batch_without_rule room l ls blank isnt ∙ turns.comes First ls;
 }
 
--- ---- behind a JOB line
+-- ---- after a JOB line
 
 pub isnt_blank : (h : Heading) → (h ≡ Blank → ⊥) → is_blank h ≡ false
 isnt_blank Blank n = absurd (n refl)
@@ -223,7 +223,7 @@ job_past head job l ls past = rw past refl
 
 pub turns_at_signatures : (region ended room : ℕ) (head : JobLine) (job : ℕ) (l : BatchLine) (s : JobStage)
     → l.is_past ≡ false → is_signatures l.heading ≡ true → HasRoom ended room (Headed head job)
-    → Shows region s (InSignatures (job_without_parts head job (l.number + 1)))
+    → StageShows region s (InSignatures (job_without_parts head job (l.number + 1)))
     → Turns region ended room (Headed head job) l (To s)
 turns_at_signatures region ended room head job l s past is has shown = record {
   room_behind = room;
@@ -330,7 +330,7 @@ signatures_past job l ls past =
 
 pub turns_in_signatures : (region ended room : ℕ) (job : JobText) (l : BatchLine) (s : JobStage) → l.is_past ≡ false
     → ends_signatures l.heading ≡ false → HasRoom ended room (InSignatures job)
-    → Shows region s (InSignatures (with_signatures job l.text))
+    → StageShows region s (InSignatures (with_signatures job l.text))
     → Turns region ended room (InSignatures job) l (To s)
 turns_in_signatures region ended room job l s past isnt has shown = record {
   room_behind = room;
@@ -342,7 +342,7 @@ turns_in_signatures region ended room job l s past isnt has shown = record {
 
 pub turns_at_code : (region ended room : ℕ) (job : JobText) (l : BatchLine) (s : JobStage) → l.is_past ≡ false
     → l.heading ≡ Code → HasRoom ended room (InSignatures job)
-    → Shows region s (InCode (with_code_line job (l.number + 1)))
+    → StageShows region s (InCode (with_code_line job (l.number + 1)))
     → Turns region ended room (InSignatures job) l (To s)
 turns_at_code region ended room job l s past is has shown = record {
   room_behind = room;
@@ -417,7 +417,7 @@ code_past job l ls past =
     ∙ rw past refl
 
 pub turns_in_code : (region ended room : ℕ) (job : JobText) (l : BatchLine) (s : JobStage) → l.is_past ≡ false
-    → is_end l.heading ≡ false → HasRoom ended room (InCode job) → Shows region s (InCode (with_code job l.text))
+    → is_end l.heading ≡ false → HasRoom ended room (InCode job) → StageShows region s (InCode (with_code job l.text))
     → Turns region ended room (InCode job) l (To s)
 turns_in_code region ended room job l s past isnt has shown = record {
   room_behind = room;
@@ -438,10 +438,10 @@ turns_at_end region ended room job l entry past is has shown = record {
   comes = λ rule ls. ap (λ r. under rule (job_and_later (jobs_in room) r)) (code_closes job l ls past is);
 }
 
--- ---- behind a refusal
+-- ---- after a refusal
 
 pub turns_behind_refusal : (region ended room : ℕ) (refusal : Refusal) (l : BatchLine) (s : JobStage)
-    → HasRoom ended room (Refused refusal) → Shows region s (Refused refusal)
+    → HasRoom ended room (Refused refusal) → StageShows region s (Refused refusal)
     → Turns region ended room (Refused refusal) l (To s)
 turns_behind_refusal region ended room refusal l s has shown = record {
   room_behind = room;
@@ -454,7 +454,7 @@ turns_behind_refusal region ended room refusal l s has shown = record {
 -- ---- past the limit
 
 -- a line past the limit refuses what isn't refused
-pub past_limit : (rule : Rule) (room : ℕ) (standing : Standing) (l : BatchLine) → l.is_past ≡ true → l.heading ≡ Other
+pub past_limit : (rule : Rule) (room : ℕ) (standing : BatchStanding) (l : BatchLine) → l.is_past ≡ true → l.heading ≡ Other
     → ((job : JobText) → standing ≡ Ended job → ⊥) → ((refusal : Refusal) → standing ≡ Refused refusal → ⊥)
     → jobs_from rule room standing (l ∷ []) ≡ Err (TooLarge, l.number)
 past_limit rule room Fresh l past other e r = batch_past room l [] past (ap is_blank other) (ap is_second_rule other)
@@ -471,10 +471,10 @@ past_limit rule room (Refused refusal) l past other e r = absurd (r refusal refl
 -- ---- stages
 
 -- what is known of a step among code, for any standing that it is shown at
-pub turns_of_code : (region ended : ℕ) (kept : Head (List ℕ)) (part : CodePart) (l : BatchLine) (s : JobStep)
-    → ((room : ℕ) (job : JobText) → Shows region (stage.Code kept part) (InCode job) → HasRoom ended room (InCode job)
+pub turns_of_code : (region ended : ℕ) (kept : JobHeader (List ℕ)) (part : CodePart) (l : BatchLine) (s : JobStep)
+    → ((room : ℕ) (job : JobText) → StageShows region (stage.Code kept part) (InCode job) → HasRoom ended room (InCode job)
     → Turns region ended room (InCode job) l s)
-    → (room : ℕ) (standing : Standing) → Shows region (stage.Code kept part) standing → HasRoom ended room standing
+    → (room : ℕ) (standing : BatchStanding) → StageShows region (stage.Code kept part) standing → HasRoom ended room standing
     → Turns region ended room standing l s
 turns_of_code region ended kept part l s turns room Fresh shown has = absurd shown
 turns_of_code region ended kept part l s turns room Between shown has = absurd shown
@@ -487,7 +487,7 @@ turns_of_code region ended kept part l s turns room (Refused refusal) shown has 
 -- and of a step before the first line that isn't blank
 pub turns_of_fresh : (region ended : ℕ) (l : BatchLine) (s : JobStep)
     → ((room : ℕ) → HasRoom ended room Fresh → Turns region ended room Fresh l s)
-    → (room : ℕ) (standing : Standing) → Shows region stage.Fresh standing → HasRoom ended room standing
+    → (room : ℕ) (standing : BatchStanding) → StageShows region stage.Fresh standing → HasRoom ended room standing
     → Turns region ended room standing l s
 turns_of_fresh region ended l s turns room Fresh shown has = turns room has
 turns_of_fresh region ended l s turns room Between shown has = absurd shown
@@ -500,10 +500,10 @@ turns_of_fresh region ended l s turns room (Refused refusal) shown has = absurd 
 -- ---- in place
 
 -- the same of a line that stays among signatures
-turns_of_signatures : (region ended : ℕ) (kept : Head (List ℕ)) (part : SignaturesPart) (l : BatchLine) (s : JobStep)
-    → ((room : ℕ) (job : JobText) → Shows region (stage.Signatures kept part) (InSignatures job)
+turns_of_signatures : (region ended : ℕ) (kept : JobHeader (List ℕ)) (part : SignaturesPart) (l : BatchLine) (s : JobStep)
+    → ((room : ℕ) (job : JobText) → StageShows region (stage.Signatures kept part) (InSignatures job)
     → HasRoom ended room (InSignatures job) → Turns region ended room (InSignatures job) l s)
-    → (room : ℕ) (standing : Standing) → Shows region (stage.Signatures kept part) standing
+    → (room : ℕ) (standing : BatchStanding) → StageShows region (stage.Signatures kept part) standing
     → HasRoom ended room standing → Turns region ended room standing l s
 turns_of_signatures region ended kept part l s turns room Fresh shown has = absurd shown
 turns_of_signatures region ended kept part l s turns room Between shown has = absurd shown
@@ -513,10 +513,10 @@ turns_of_signatures region ended kept part l s turns room (InCode job) shown has
 turns_of_signatures region ended kept part l s turns room (Ended job) shown has = absurd shown
 turns_of_signatures region ended kept part l s turns room (Refused refusal) shown has = absurd shown
 
-pub stays_in_code : (kept : Head (List ℕ)) (old new : CodePart) (was : JobStage) (l : BatchLine) → l.is_past ≡ false
+pub stays_in_code : (kept : JobHeader (List ℕ)) (old new : CodePart) (was : JobStage) (l : BatchLine) → l.is_past ≡ false
     → was ≡ stage.Code kept old → Stays was l.heading
     → ((region : ℕ) (job : JobText) → ShowsCode region old job → ShowsCode region new (with_code job l.text))
-    → (region ended room : ℕ) (standing : Standing) → Shows region was standing → HasRoom ended room standing
+    → (region ended room : ℕ) (standing : BatchStanding) → StageShows region was standing → HasRoom ended room standing
     → Turns region ended room standing l (To (stage.Code kept new))
 stays_in_code kept old new was l past is stays goes region ended room standing shown has =
     turns_of_code region ended kept old l (To (stage.Code kept new)) (λ room job shown has. turns_in_code region ended
@@ -525,11 +525,11 @@ stays_in_code kept old new was l past is stays goes region ended room standing s
       goes region job shown.1,
     )) room standing (rw is at shown) has
 
-pub stays_in_signatures : (kept : Head (List ℕ)) (old new : SignaturesPart) (was : JobStage) (l : BatchLine)
+pub stays_in_signatures : (kept : JobHeader (List ℕ)) (old new : SignaturesPart) (was : JobStage) (l : BatchLine)
     → l.is_past ≡ false → was ≡ stage.Signatures kept old → Stays was l.heading
     → ((region : ℕ) (job : JobText) → ShowsSignatures region old job
     → ShowsSignatures region new (with_signatures job l.text))
-    → (region ended room : ℕ) (standing : Standing) → Shows region was standing → HasRoom ended room standing
+    → (region ended room : ℕ) (standing : BatchStanding) → StageShows region was standing → HasRoom ended room standing
     → Turns region ended room standing l (To (stage.Signatures kept new))
 stays_in_signatures kept old new was l past is stays goes region ended room standing shown has =
     turns_of_signatures region ended kept old l (To (stage.Signatures kept new)) (λ room job shown has.

@@ -19,7 +19,7 @@ Refusal = BatchFault × ℕ
 
 -- ---- one job
 
--- a job as it stands in a batch: what its JOB line says and the line's number, its texts and the numbers of their
+-- a job as the batch has it: what its JOB line says and the line's number, its texts and the numbers of their
 -- first lines
 pub record JobText : Type 0 where
   pub head : JobLine
@@ -29,11 +29,11 @@ pub record JobText : Type 0 where
   pub code_line : ℕ
   pub code : List ℕ
 
--- a job and the lines behind it
+-- a job and the lines after it
 abbrev pub JobAndRest : Type 0
 JobAndRest = JobText × List BatchLine
 
--- a part of a job: its text, the number of the line behind its end, and the lines from there on
+-- a part of a job: its text, the number of the line after its end, and the lines from there on
 abbrev pub PartText : Type 0
 PartText = List ℕ × (ℕ × List BatchLine)
 
@@ -81,7 +81,7 @@ job_at_line head job l ls =
     else if is_signatures l.heading then job_from_signatures (job_without_parts head job (l.number + 1)) ls
     else Err (BadJobLine, l.number)
 
--- the job of this JOB line, and the lines behind its END
+-- the job of this JOB line, and the lines after its END
 unfoldable pub whole_job : JobLine → ℕ → List BatchLine → Result JobAndRest Refusal
 whole_job head job [] = Err (UnfinishedJob, job)
 whole_job head job (l ∷ ls) = job_at_line head job l ls
@@ -106,12 +106,12 @@ abbrev pub jobs_after : JobText → Result (List JobText) Refusal → Result (Li
 jobs_after job (Ok jobs) = Ok (job ∷ jobs)
 jobs_after job (Err refusal) = Err refusal
 
--- no job may stand here
+-- no job may be here
 abbrev pub no_job : List BatchLine → Result (List JobText) Refusal
 no_job [] = Ok []
 no_job (l ∷ ls) = result_and_then (head_of l) (λ head. Err (TooLarge, l.number))
 
--- a job, and what the lines behind it come to
+-- a job, and what the lines after it give
 abbrev pub job_and_later : (List BatchLine → Result (List JobText) Refusal) → Result JobAndRest Refusal
     → Result (List JobText) Refusal
 job_and_later later r = result_and_then r (λ found. jobs_after found.0 (later found.1))
@@ -120,7 +120,7 @@ abbrev pub one_job : (List BatchLine → Result (List JobText) Refusal) → List
 one_job later [] = Ok []
 one_job later (l ∷ ls) = result_and_then (head_of l) (λ head. job_and_later later (whole_job head l.number ls))
 
--- what lines between jobs come to, where so many jobs may stand
+-- what lines between jobs give, if `room` more jobs are allowed
 unfoldable pub jobs_in : ℕ → List BatchLine → Result (List JobText) Refusal
 jobs_in zero ls = no_job (lines_behind_blanks ls)
 jobs_in (suc room) ls = one_job (jobs_in room) (lines_behind_blanks ls)

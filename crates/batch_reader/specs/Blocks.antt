@@ -18,7 +18,7 @@ abbrev pub is_end : Heading → Bool
 is_end End = true
 is_end _ = false
 
--- lines joined, the line that ends them, if one does, and those behind it
+-- lines joined, the line that ends them, if one does, and those after it
 pub record Block : Type 0 where
   pub text : List ℕ
   pub end : Option BatchLine
@@ -28,7 +28,7 @@ pub record Block : Type 0 where
 abbrev pub longer_block : List ℕ → Block → Block
 longer_block text b = record { text = text ++ b.text; end = b.end; rest = b.rest }
 
--- the lines before the first of such a heading, or before the one that holds the first byte past the limit
+-- the lines before the first of such a heading, or before the line that holds the first byte past the limit
 unfoldable pub block_of : (Heading → Bool) → List BatchLine → Block
 block_of ends [] = record { text = []; end = None; rest = [] }
 block_of ends (l ∷ ls) =

@@ -1,4 +1,4 @@
--- What becomes of a job of a batch before it runs, and what a batch comes to.
+-- What becomes of a job of a batch before it runs, and the answer to a batch.
 use Rattle.std.specs.Prelude.{◌≡◌, ◌≤◌, ℕ, nat_lt, if◌then◌else◌, List, [], ◌∷◌, Option, Some, None, Result, Ok, Err}
 use Rattle.vcode_base.specs.declared.limits.Limits.{Limits}
 use Rattle.vcode_reader.specs.Reading.{reading as code_reading}
@@ -30,11 +30,11 @@ abbrev pub refusal_by : {A F : Type 0} → (F → JobFault) → Result A (F × �
 refusal_by job_fault (Ok found) = Ok found
 refusal_by job_fault (Err fault) = Err (job_fault fault.0, fault.1)
 
--- the limits of the job of this JOB line, where its words are no more than the region's
+-- the limits of the job of this JOB line, if its words are no more than the region's
 unfoldable pub limits_within : ℕ → Limits → ℕ → Result Limits JobRefusal
 limits_within region limits job = if nat_lt region limits.words then Err (WordsPastRegion, job) else Ok limits
 
--- its signatures, where its words are within the region
+-- its signatures, if its words are within the region
 unfoldable pub signatures_of : ℕ → JobText → Result (List Signature) JobRefusal
 signatures_of region job =
     result_and_then (limits_within region job.head.limits job.line) (λ limits.
@@ -48,7 +48,7 @@ abbrev pub signed_or_fault : SignedProgram → Option Fault → Result SignedPro
 signed_or_fault signed None = Ok signed
 signed_or_fault signed (Some fault) = Err (Kind fault.0, fault.1)
 
--- a program of these signatures, where it is well kinded
+-- a program of these signatures, if it is well kinded
 abbrev pub kinded_program : List Signature → Program → Result SignedProgram JobRefusal
 kinded_program signatures program = signed_or_fault (signatures, program) (kind_fault signatures program)
 
@@ -88,7 +88,7 @@ AreEntries region [] (entry ∷ entries) = ⊥
 AreEntries region (job ∷ jobs) [] = ⊥
 AreEntries region (job ∷ jobs) (entry ∷ entries) = IsEntry region job entry × AreEntries region jobs entries
 
--- what a batch comes to over a region of so many words
+-- the answer to a batch over a region of `region` words
 abbrev pub IsBatch : ℕ → List ℕ → Batch (List JobEntry) → Type 0
 IsBatch region input (BatchRefused line fault) = jobs_of input ≡ Err (fault, line)
 IsBatch region input (Jobs rule entries) =

@@ -5,17 +5,18 @@ use Rattle.vcode_base.specs.declared.limits.TheConstants.{MOST_BATCH_BYTES, MOST
 use Rattle.vcode_base.specs.Lines.{is_line_feed}
 use Rattle.vcode_base.specs.declared.rule.Rule.{Rule}
 use Rattle.batch_reader.specs.declared.stage.Stage.TheVariants as stage
-use Rattle.batch_reader.specs.declared.stage.Step.TheVariants.{To, Ends, Begins}
+use Rattle.batch_reader.specs.declared.stage.StageStep.TheVariants.{To, Ends, Begins}
+use Rattle.batch_reader.specs.declared.fault.BatchFault.{BatchFault}
 use Rattle.batch_reader.specs.declared.entry.Batch.{Batch}
 use Rattle.batch_reader.specs.declared.entry.Batch.TheVariants.{Refused, Jobs}
 use Rattle.batch_reader.specs.Batches.{JobText, Refusal, RuledJobs, jobs_of}
 use Rattle.batch_reader.specs.Fates.{JobEntry, AreEntries}
 use Rattle.batch_reader.specs.Headings.{BatchLine, line_past_limit, numbered_lines}
 use Rattle.batch_reader.specs.Lines.{lines}
-use Rattle.batch_reader.specs.Standings.{JobStage, JobStep, Standing, Shows, HasRoom, StageFits, jobs_behind, jobs_from}
+use Rattle.batch_reader.specs.Standings.{JobStage, JobStep, BatchStanding, StageShows, HasRoom, StageFits, jobs_behind, jobs_from}
 
 -- a batch between two lines: the number of the next, how many bytes there may be from there on, the rule of the batch
--- (which counts once a line that isn't blank has come), where the batch stands, and the jobs that have ended
+-- (which counts once a line that isn't blank has come), the standing of the batch, and the jobs that have ended
 pub record LinesState : Type 0 where
   pub region : ℕ
   pub number : ℕ
@@ -24,7 +25,7 @@ pub record LinesState : Type 0 where
   pub stage : JobStage
   pub entries : List JobEntry
 
--- the bytes of the open line, and where the batch stands before it
+-- the bytes of the open line, and the standing of the batch before it
 pub record FeedState : Type 0 where
   pub held : List ℕ
   pub lines : LinesState
@@ -67,13 +68,13 @@ pub record IsOpenLine (line : List ℕ) (left : ℕ) : Type 0 where
 abbrev pub ByLines : Type 0
 ByLines = List BatchLine → Result RuledJobs Refusal
 
--- what is to come is that of a standing, which the stage shows, behind the jobs that have ended
+-- what is to come is that of a standing, which the stage shows, after the jobs that have ended
 pub record Stands (s : LinesState) (come : ByLines) : Type 0 where
   pub jobs : List JobText
   pub room : ℕ
-  pub standing : Standing
+  pub standing : BatchStanding
   pub entries : AreEntries s.region jobs s.entries
-  pub shown : Shows s.region s.stage standing
+  pub shown : StageShows s.region s.stage standing
   pub has_room : HasRoom (length s.entries) room standing
   pub comes : (ls : List BatchLine) → come ls ≡ jobs_behind jobs (jobs_from s.rule room standing ls)
 
@@ -89,7 +90,7 @@ pub record RefusesLongLine (old new : LinesState) (come : ByLines) : Type 0 wher
 abbrev pub IsWholeLine : List ℕ → Type 0
 IsWholeLine line = (front : List ℕ) × HoldsNoLineFeed front × (line ≡ front ++ 10 ∷ [])
 
--- These bytes have come, the open line behind whole ones: whatever comes behind the whole lines, the batch is what the
+-- These bytes have come, the open line after whole ones: whatever follows the whole lines, the batch is what the
 -- stage makes of its lines. A feed that has failed shows no bytes.
 pub record HasCome (f : FeedState) (text : List ℕ) : Type 0 where
   pub whole : List ℕ
@@ -98,13 +99,17 @@ pub record HasCome (f : FeedState) (text : List ℕ) : Type 0 where
   pub batch : (rest : List ℕ) → jobs_of (whole ++ rest) ≡ come (numbered_lines f.lines.number f.lines.left (lines rest))
   pub stands : Stands f.lines come
 
+-- the batch is refused
+abbrev pub IsRefused : LinesState → Type 0
+IsRefused s = (line : ℕ) × (fault : BatchFault) × (s.stage ≡ stage.Refused line fault)
+
 -- memory was refused
 abbrev pub HasFailed : LinesState → Type 0
 HasFailed s = s.stage ≡ stage.Failed
 
 -- ---- steps
 
--- a step is kept: a job that ends goes behind the others
+-- a step is kept: a job that ends is added after the others
 abbrev pub Keeps : JobStep → List JobEntry → List JobEntry → JobStage → Type 0
 Keeps (To next) old new behind = (behind ≡ next) × (new ≡ old)
 Keeps (Ends entry) old new behind = (behind ≡ stage.Between) × (new ≡ old ++ entry ∷ [])
@@ -135,7 +140,7 @@ abbrev pub HasFewJobs : Batch (List JobEntry) → Type 0
 HasFewJobs (Refused line fault) = Unit {0}
 HasFewJobs (Jobs rule entries) = length entries ≤ MOST_JOBS
 
--- what lines come to over a region
+-- what lines give over a region
 abbrev pub AnswersLines : ℕ → Batch (List JobEntry) → Result RuledJobs Refusal → Type 0
 AnswersLines region (Refused line fault) come = come ≡ Err (fault, line)
 AnswersLines region (Jobs rule entries) come =
@@ -147,7 +152,7 @@ HasComeIn old new piece rest =
     (front : List ℕ) × (piece ≡ front ++ rest) × ((before : List ℕ) → HasCome old before
     → HasCome new (before ++ front))
 
--- nothing stands before the first line
+-- nothing comes before the first line
 pub record IsFirstLine (size : ℕ) (s : LinesState) : Type 0 where
   pub region : s.region ≡ size
   pub number : s.number ≡ 1

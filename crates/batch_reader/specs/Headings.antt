@@ -20,9 +20,13 @@ marker_of w =
 abbrev pub pair_of : List ℕ → List ℕ → Heading
 pair_of w v = if bytes_eq w (codes "BATCH") && bytes_eq v (codes "2") then SecondRule else Other
 
--- the byte stands between words, or begins the first word of a line that marks something
+-- the byte separates words, or begins the first word of a line that marks something
 abbrev pub may_begin_heading : ℕ → Bool
 may_begin_heading b = is_separator b || b == 66 || b == 67 || b == 69 || b == 83
+
+-- the second and the third byte of a line may be those of CODE, or one of them ends the first word
+abbrev pub may_go_on_in_code : ℕ → ℕ → Bool
+may_go_on_in_code second third = third == 68 || nat_lt second 33 || nat_lt third 33
 
 -- a line of these words
 abbrev pub heading_of : List (List ℕ) → Heading
@@ -53,11 +57,11 @@ pub record BatchLine : Type 0 where
 abbrev pub line_of : ℕ → List ℕ → BatchLine
 line_of number text = record { number = number; text = text; heading = heading_of (batch_words text); is_past = false }
 
--- a line that passes the limit, behind which nothing is read
+-- a line that passes the limit, after which nothing is read
 abbrev pub line_past_limit : ℕ → List ℕ → BatchLine
 line_past_limit number text = record { number = number; text = text; heading = Other; is_past = true }
 
--- these lines, the first of which has this number, where so many bytes are left of the limit
+-- these lines, the first of which has this number, if `left` bytes are left of the limit
 unfoldable pub numbered_lines : ℕ → ℕ → List (List ℕ) → List BatchLine
 numbered_lines number left [] = []
 numbered_lines number left (t ∷ ts) =

@@ -52,7 +52,7 @@ limit_facts words cells calls budget h = record {
   budget_fit = grind (arith, nat_tests);
 }
 
--- limits of these numbers, where they are within their ranges
+-- limits of these numbers, if they are within their ranges
 abbrev pub limits_where : (words cells calls budget : ℕ) (b : Bool) → are_limits words cells calls budget ≡ b
     → Option Limits
 limits_where words cells calls budget true h = Some (record {

@@ -6,7 +6,7 @@ ghost use Rattle.vcode_base.specs.declared.limits.TheConstants.{MOST_BATCH_BYTES
 
 use crate::heading::Heading;
 
-/// A line of a batch that is within its limit: its number, its bytes, with the LF that ends it where one
+/// A line of a batch that is within its limit: its number, its bytes, with the LF that ends it if one
 /// does, and what it is.
 #[derive(Clone, Copy)]
 pub(crate) struct BatchLine<'a> {

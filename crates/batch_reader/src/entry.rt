@@ -1,4 +1,4 @@
-//! What a batch comes to.
+//! The answer to a batch.
 
 use crate::fault::{BatchFault, JobFault};
 use job_steps::{Job, JobName};
@@ -22,7 +22,7 @@ pub struct Entry<N, F> {
     pub fate: F,
 }
 
-/// What a batch comes to, over the type of the list of its jobs.
+/// The answer to a batch, over the type of the list of its jobs.
 #[derive(PartialEq, Eq, Debug, Drop)]
 pub enum Batch<L> {
     /// It is refused as a whole, at this line, for this fault: the first from the front.
@@ -31,7 +31,7 @@ pub enum Batch<L> {
     Jobs(Rule, L),
 }
 
-/// A job that owns its name, and its program where it may run.
+/// A job that owns its name, and its program if it may run.
 pub type JobEntry<A> = Entry<JobName<A>, Fate<Job<A>>>;
 
 /// The jobs of a batch in the order of their lines.

@@ -9,7 +9,7 @@ ghost use Rattle.batch_reader.specs.Standings.{HasRead, ShowsCode, ShowsHead};
 
 use crate::entry::{Fate, JobEntry};
 use crate::fault::JobFault;
-use crate::head::Head;
+use crate::head::JobHeader;
 use crate::part::Part;
 use crate::stage::CodeReading;
 use job_steps::{Job, JobName};
@@ -22,7 +22,7 @@ use verifier::{VerifyFault, verify};
 /// The job of this JOB line, whose code is whole.
 pub(crate) fn job_entry<A: Allocator + Copy>(
     alloc: A,
-    head: Head<JobName<A>>,
+    head: JobHeader<JobName<A>>,
     part: Part<CodeReading<A>>,
 ) -> Result<JobEntry<A>, AllocError>
     requires { IsName head.name }
@@ -47,7 +47,7 @@ pub(crate) fn job_entry<A: Allocator + Copy>(
 /// What becomes of a job of these signatures, whose code has come to this reader.
 fn read_fate<A: Allocator + Copy>(
     alloc: A,
-    head: &Head<JobName<A>>,
+    head: &JobHeader<JobName<A>>,
     signatures: &Signatures<A>,
     reader: CodeReader<A>,
 ) -> Result<Fate<Job<A>>, AllocError>
@@ -65,7 +65,7 @@ fn read_fate<A: Allocator + Copy>(
 /// What becomes of a job of these signatures and this program.
 fn verified_fate<A: Allocator + Copy>(
     alloc: A,
-    head: &Head<JobName<A>>,
+    head: &JobHeader<JobName<A>>,
     signatures: &Signatures<A>,
     program: Program<A>,
 ) -> Result<Fate<Job<A>>, AllocError>

@@ -13,7 +13,7 @@ pub enum BatchFault {
     /// A line between jobs that is neither blank nor a good JOB line, or another in the place of
     /// `SIGNATURES`.
     BadJobLine,
-    /// A job that the batch ends inside, or whose `END` comes before `CODE`. It stands at the JOB line.
+    /// A job that the batch ends inside, or whose `END` comes before `CODE`. Its line is the JOB line.
     UnfinishedJob,
     /// One job too many, or one byte.
     TooLarge,
@@ -22,7 +22,7 @@ pub enum BatchFault {
 /// Why one job is refused.
 #[derive(Clone, Copy, PartialEq, Eq, Debug)]
 pub enum JobFault {
-    /// Its words are more than the region has. It stands at the JOB line.
+    /// Its words are more than the region has. Its line is the JOB line.
     WordsPastRegion,
     /// Its signatures have this fault.
     Sig(SignatureFault),

@@ -7,21 +7,21 @@ ghost use Rattle.batch_reader.specs.Feeds.{ByLines, HasCome, HasComeIn, HasEnded
 ghost use Rattle.batch_reader.specs.Feeds.{HoldsNoLineFeed, IsWholeLine};
 
 use crate::entry::{Batch, JobEntries};
-use crate::job_reader::JobReader;
 use crate::line::first_line;
+use crate::line_reader::LineReader;
 use std::alloc::{AllocError, Allocator};
 use std::marker::Model;
 
 /// Reads a batch that comes in pieces: what counts are the pieces joined, wherever they are cut.
 ///
 /// A line is held back until it is whole, and each job is read and verified by its `END` line; of the lines
-/// before the open one nothing is kept but the jobs. Where memory is refused the feed has failed, and no
+/// before the open one nothing is kept but the jobs. If memory is refused the feed has failed, and no
 /// later call succeeds.
 #[derive(Drop)]
 pub struct Feed<A: Allocator> {
     alloc: A,
     held: Vec<u8, A>,
-    lines: JobReader<A>,
+    lines: LineReader<A>,
 }
 
 impl<A: Allocator> Model for Feed<A> {
@@ -46,16 +46,16 @@ impl<A: Allocator> Model for Feed<A> {
 }
 
 impl<A: Allocator + Copy> Feed<A> {
-    /// A batch of which nothing has come, over a region of so many words.
+    /// A batch of which nothing has come, over a region of `region` words.
     ///
     /// # Errors
     ///
-    /// [`AllocError`] where memory for the list of its jobs is refused.
+    /// [`AllocError`] if memory for the list of its jobs is refused.
     pub fn new(alloc: A, region: usize) -> Result<Feed<A>, AllocError>
         ensures come { IfOk result (λ f. HasCome f []) }
         ensures region { IfOk result (λ f. f.lines.region ≡ region) }
     {
-        let lines = JobReader::new(alloc, region)?;
+        let lines = LineReader::new(alloc, region)?;
         Ok(Feed {
             alloc,
             held: Vec::new(alloc),
@@ -67,9 +67,9 @@ impl<A: Allocator + Copy> Feed<A> {
     ///
     /// # Errors
     ///
-    /// [`AllocError`] where memory is refused, and from then on at each piece.
+    /// [`AllocError`] if memory is refused, and from then on at each piece.
     pub fn feed(&mut self, piece: &[u8]) -> Result<(), AllocError>
-        // Behind the bytes before stand those of the piece.
+        // The bytes of the piece follow the bytes before.
         ensures fed { OnOk result ((before : List ℕ) → HasCome self.old before
             → HasCome self.new (before ++ piece.now)) }
         ensures region { self.new.lines.region ≡ self.old.lines.region }
@@ -79,16 +79,20 @@ impl<A: Allocator + Copy> Feed<A> {
         if self.lines.has_failed() {
             return Err(AllocError);
         }
+        if self.lines.is_refused() {
+            self.held.clear();
+            return Ok(());
+        }
         let rest = self.feed_lines(piece)?;
         self.hold(rest)
     }
 
-    /// What the pieces come to: the jobs of the batch in the order of their lines, each ready to run or with
+    /// The answer to the pieces: the jobs of the batch in the order of their lines, each ready to run or with
     /// the first refusal of its own, or else the refusal of the batch that is met first from the front.
     ///
     /// # Errors
     ///
-    /// [`AllocError`] where memory is refused, or was in a piece.
+    /// [`AllocError`] if memory is refused, or was in a piece.
     pub fn end(self) -> Result<Batch<JobEntries<A>>, AllocError>
         ensures batch { IfOk result (λ batch. (bytes : List ℕ) → HasCome self bytes
             → IsBatch self.lines.region bytes batch) }
@@ -101,7 +105,7 @@ impl<A: Allocator + Copy> Feed<A> {
     }
 
     /// The lines with the open one, which nothing follows.
-    fn into_lines(self) -> Result<JobReader<A>, AllocError>
+    fn into_lines(self) -> Result<LineReader<A>, AllocError>
         ensures ended { IfOk result (λ lines. (bytes : List ℕ) → HasCome self bytes → HasEnded lines bytes) }
         ensures region { IfOk result (λ lines. lines.region ≡ self.lines.region) }
         ensures failed { HasFailed self.lines → IfOk result HasFailed }
@@ -118,7 +122,7 @@ impl<A: Allocator + Copy> Feed<A> {
         Ok(lines)
     }
 
-    /// Takes the lines of a piece that an LF ends, and answers what is behind them.
+    /// Takes the lines of a piece that an LF ends, and answers the rest after them.
     fn feed_lines<'p>(&mut self, piece: &'p [u8]) -> Result<&'p [u8], AllocError>
         ensures fed { MatchResult result
             (λ rest. HoldsNoLineFeed rest.now × HasComeIn self.old self.new piece.now rest.now)
@@ -181,11 +185,11 @@ impl<A: Allocator + Copy> Feed<A> {
     }
 }
 
-/// Holds more bytes back. Where memory is refused they are as before, and the lines have failed.
+/// Holds more bytes back. If memory is refused they are as before, and the lines have failed.
 fn keep<A: Allocator + Copy>(
     held: &mut Vec<u8, A>,
     more: &[u8],
-    lines: &mut JobReader<A>,
+    lines: &mut LineReader<A>,
 ) -> Result<(), AllocError>
     ensures kept { OnOk result (held.new.items ≡ held.old.items ++ more.now) }
     ensures lines { OnOk result (lines.new ≡ lines.old) }

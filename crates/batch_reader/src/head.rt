@@ -4,7 +4,7 @@ use vcode_base::Limits;
 
 /// What a good JOB line says, over the type of names, with the number of the line.
 #[derive(Drop)]
-pub struct Head<N> {
+pub struct JobHeader<N> {
     /// The job's name.
     pub name: N,
     /// What the job may use.

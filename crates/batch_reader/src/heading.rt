@@ -1,7 +1,7 @@
 //! What a line of a batch is by itself.
 
 ghost use Rattle.std.specs.Prelude.{◌≡◌, ◌∷◌, List, false, ℕ};
-ghost use Rattle.batch_reader.specs.Headings.{heading_of, marker_of, may_begin_heading, pair_of};
+ghost use Rattle.batch_reader.specs.Headings.{heading_of, marker_of, may_begin_heading, may_go_on_in_code, pair_of};
 ghost use Rattle.batch_reader.specs.Lines.{batch_words};
 ghost use Rattle.batch_reader.specs.declared.heading.Heading.TheVariants.{Other};
 
@@ -47,17 +47,28 @@ pub(crate) fn heading_of(line: &[u8]) -> Heading
     }
 }
 
-/// Whether a line may be a heading, or have no word, as its first byte says. Few lines of code may.
+/// Whether a line may be a heading, or have no word, as its first bytes say. Few lines of code may.
 fn may_be_heading(line: &[u8]) -> bool
     ensures { result ≡ false → heading_of (batch_words line.now) ≡ Other }
 {
     if line.is_empty() {
         return true;
     }
+    if line[0] == b'C' && line.len() > 2 {
+        return may_go_on_in_code(line[1], line[2]);
+    }
     may_begin_heading(line[0])
 }
 
-/// Whether a byte stands between words, or begins the first word of a heading.
+/// Whether these may be the bytes after the first of a line whose first word is `CODE`. Those of most instructions that
+/// begin with `C` may not.
+fn may_go_on_in_code(second: u8, third: u8) -> bool
+    ensures { result ≡ may_go_on_in_code second third }
+{
+    third == b'D' || second <= b' ' || third <= b' '
+}
+
+/// Whether a byte separates words, or begins the first word of a heading.
 fn may_begin_heading(byte: u8) -> bool
     ensures { result ≡ may_begin_heading byte }
 {

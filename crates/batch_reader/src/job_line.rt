@@ -52,7 +52,7 @@ pub(crate) fn job_line(line: &[u8]) -> Option<JobLine<'_>>
     })
 }
 
-/// The words of a line, where there are six.
+/// The words of a line, if there are six.
 fn six_words(line: &[u8]) -> Option<SixWords<'_>>
     ensures { MatchOption result (job_line_of (batch_words line.now) ≡ None)
         (λ s. batch_words line.now ≡ s.keyword.now ∷ s.name.now ∷ s.words.now ∷ s.cells.now ∷ s.calls.now ∷ s.budget.now ∷ []) }
@@ -123,7 +123,7 @@ fn number(word: &[u8]) -> Option<u64>
     Some(value)
 }
 
-/// These limits, where all four are numbers within their ranges.
+/// These limits, if all four are numbers within their ranges.
 fn limits(
     words: Option<u64>,
     cells: Option<u64>,
@@ -135,7 +135,7 @@ fn limits(
     limits_within(words?, cells?, calls?, budget?)
 }
 
-/// These limits, where they are within their ranges.
+/// These limits, if they are within their ranges.
 fn limits_within(words: u64, cells: u64, calls: u64, budget: u64) -> Option<Limits>
     ensures { result ≡ limits_of (Some words) (Some cells) (Some calls) (Some budget) }
 {

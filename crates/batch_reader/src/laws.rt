@@ -2,7 +2,7 @@
 
 ghost use Rattle.batch_reader.specs.Laws.{OneBatch, OneEntry};
 
-/// Whatever the bytes and the region, the batch comes to one answer: to one refusal, or to one list of jobs with one
+/// Whatever the bytes and the region, the batch has one answer: one refusal, or one list of jobs with one
 /// fate each.
 pub fn one_batch()
     ensures { OneBatch }

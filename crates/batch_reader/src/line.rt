@@ -5,7 +5,7 @@ ghost use Rattle.batch_reader.specs.Feeds.{HoldsNoLineFeed, IsWholeLine};
 
 use memchr::memchr;
 
-/// The first line of a text that an LF ends, with that LF, and what is behind; `None` where no LF is.
+/// The first line of a text that an LF ends, with that LF, and the rest after it; `None` if there is no LF.
 pub(crate) fn first_line(text: &[u8]) -> Option<(&[u8], &[u8])>
     ensures { MatchOption result (HoldsNoLineFeed text.now)
         (λ parts. IsWholeLine parts.0.now × (text.now ≡ parts.0.now ++ parts.1.now)) }

@@ -1,15 +1,15 @@
-//! Where a batch stands between two of its lines.
+//! The stage of a batch between two of its lines.
 
 use crate::entry::JobEntry;
 use crate::fault::BatchFault;
-use crate::head::Head;
+use crate::head::JobHeader;
 use crate::part::Part;
 use job_steps::JobName;
 use signatures::{SigReader, Signatures};
 use vcode_base::Rule;
 use vcode_reader::CodeReader;
 
-/// Where a batch stands between two lines, over the types of names, of what reads signatures and of what
+/// The stage of a batch between two lines, over the types of names, of what reads signatures and of what
 /// reads code.
 #[derive(Drop)]
 pub enum Stage<N, S, C> {
@@ -17,12 +17,12 @@ pub enum Stage<N, S, C> {
     Fresh,
     /// Between jobs.
     Between,
-    /// Behind a JOB line.
-    Headed(Head<N>),
+    /// After a JOB line.
+    Headed(JobHeader<N>),
     /// Among the signature lines of a job.
-    Signatures(Head<N>, Part<S>),
+    Signatures(JobHeader<N>, Part<S>),
     /// Among the code lines of a job.
-    Code(Head<N>, Part<C>),
+    Code(JobHeader<N>, Part<C>),
     /// The batch is refused, at this line for this fault, and its further lines are passed over.
     Refused(u64, BatchFault),
     /// Memory was refused.
@@ -31,12 +31,12 @@ pub enum Stage<N, S, C> {
 
 /// What a line makes of a stage, over the types of stages and of entries.
 #[derive(Drop)]
-pub enum Step<S, E> {
-    /// It stands here then.
+pub enum StageStep<S, E> {
+    /// The new stage.
     To(S),
-    /// The job ends, and the batch stands between jobs.
+    /// The job ends, and the batch is between jobs.
     Ends(E),
-    /// The batch has this rule, and stands here then.
+    /// The batch has this rule, and this is the new stage.
     Begins(Rule, S),
 }
 
@@ -47,4 +47,4 @@ pub type CodeReading<A> = (Signatures<A>, CodeReader<A>);
 pub type JobStage<A> = Stage<JobName<A>, SigReader<A>, CodeReading<A>>;
 
 /// A step of such a stage.
-pub type JobStep<A> = Step<JobStage<A>, JobEntry<A>>;
+pub type JobStep<A> = StageStep<JobStage<A>, JobEntry<A>>;

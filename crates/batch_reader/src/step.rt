@@ -3,12 +3,14 @@
 ghost use Rattle.std.specs.Prelude.{◌≡◌, ◌+◌, ℕ, [], IsErr, IfOk, OnOk};
 ghost use Rattle.job_steps.specs.Jobs.{IsName};
 ghost use Rattle.batch_reader.specs.declared.stage.Stage.TheVariants as stages;
-ghost use Rattle.batch_reader.specs.declared.stage.Step.TheVariants.{To};
+ghost use Rattle.batch_reader.specs.declared.stage.StageStep.TheVariants.{To};
+ghost use Rattle.batch_reader.specs.declared.fault.JobFault.TheVariants.{Read};
+ghost use Rattle.batch_reader.specs.declared.part.Part.TheVariants.{Refused as PartRefused};
 ghost use Rattle.batch_reader.specs.Batches.{JobText, job_without_parts};
 ghost use Rattle.batch_reader.specs.Headings.{BatchLine as SpecLine};
 ghost use Rattle.batch_reader.specs.JobLines.{JobLine as JobLineOf};
-ghost use Rattle.batch_reader.specs.Standings.{Fresh, Between, Headed, InSignatures, InCode, Standing};
-ghost use Rattle.batch_reader.specs.Standings.{HasRoom, Shows, ShowsHead};
+ghost use Rattle.batch_reader.specs.Standings.{Fresh, Between, Headed, InSignatures, InCode, BatchStanding};
+ghost use Rattle.batch_reader.specs.Standings.{HasRoom, StageShows, ShowsHead};
 ghost use Rattle.batch_reader.specs.Standings.{ShowsSignatures, ShowsCode, SaysJob, SignaturesFit, CodeFits, StageFits};
 ghost use Rattle.batch_reader.specs.Standings.{Stays, StepFits, Turns, shown_line, with_signatures, with_code_line};
 ghost use Rattle.batch_reader.specs.Standings.{with_code};
@@ -16,19 +18,19 @@ ghost use Rattle.batch_reader.specs.Standings.{with_code};
 use crate::batch_line::BatchLine;
 use crate::fate::job_entry;
 use crate::fault::{BatchFault, JobFault};
-use crate::head::Head;
+use crate::head::JobHeader;
 use crate::heading::Heading;
 use crate::job_line::{JobLine, job_line};
 use crate::part::Part;
-use crate::stage::{CodeReading, JobStage, JobStep, Stage, Step};
+use crate::stage::{CodeReading, JobStage, JobStep, Stage, StageStep};
 use job_steps::JobName;
 use signatures::{SigFault, SigReader};
 use std::alloc::{AllocError, Allocator};
 use vcode_base::Rule;
 use vcode_base::limits::MOST_JOBS;
-use vcode_reader::CodeReader;
+use vcode_reader::{CodeFault, CodeReader};
 
-/// What this line makes of a stage, where so many jobs have ended, over a region of so many words.
+/// What this line makes of a stage, if `ended` jobs have ended, over a region of `region` words.
 pub(crate) fn step<A: Allocator + Copy>(
     alloc: A,
     region: usize,
@@ -38,22 +40,24 @@ pub(crate) fn step<A: Allocator + Copy>(
 ) -> Result<JobStep<A>, AllocError>
     requires { StageFits line.number stage }
     ensures fits { IfOk result (StepFits (line.entry.number + 1)) }
-    ensures turns { IfOk result (λ s. (room : ℕ) (standing : Standing) → Shows region stage standing
+    ensures turns { IfOk result (λ s. (room : ℕ) (standing : BatchStanding) → StageShows region stage standing
         → HasRoom ended room standing → Turns region ended room standing (shown_line line.entry) s) }
     ensures failed { stage ≡ stages.Failed → IsErr result }
 {
     match stage {
         Stage::Fresh => step_at_front(alloc, ended, line),
-        Stage::Between => Ok(Step::To(step_between(alloc, ended, line)?)),
-        Stage::Headed(head) => Ok(Step::To(step_behind_head(alloc, region, head, line))),
-        Stage::Signatures(head, part) => Ok(Step::To(step_in_signatures(alloc, head, part, line)?)),
+        Stage::Between => Ok(StageStep::To(step_between(alloc, ended, line)?)),
+        Stage::Headed(head) => Ok(StageStep::To(step_behind_head(alloc, region, head, line))),
+        Stage::Signatures(head, part) => Ok(StageStep::To(step_in_signatures(
+            alloc, head, part, line,
+        )?)),
         Stage::Code(head, part) => step_in_code(alloc, head, part, line),
-        Stage::Refused(number, fault) => Ok(Step::To(Stage::Refused(number, fault))),
+        Stage::Refused(number, fault) => Ok(StageStep::To(Stage::Refused(number, fault))),
         Stage::Failed => Err(AllocError),
     }
 }
 
-/// A line before which nothing but blank lines stands.
+/// A line before which there are only blank lines.
 fn step_at_front<A: Allocator + Copy>(
     alloc: A,
     ended: usize,
@@ -64,9 +68,9 @@ fn step_at_front<A: Allocator + Copy>(
         → Turns region ended room Fresh (shown_line line.entry) s) }
 {
     match line.heading {
-        Heading::Blank => Ok(Step::To(Stage::Fresh)),
-        Heading::SecondRule => Ok(Step::Begins(Rule::Second, Stage::Between)),
-        _ => Ok(Step::Begins(Rule::First, step_between(alloc, ended, line)?)),
+        Heading::Blank => Ok(StageStep::To(Stage::Fresh)),
+        Heading::SecondRule => Ok(StageStep::Begins(Rule::Second, Stage::Between)),
+        _ => Ok(StageStep::Begins(Rule::First, step_between(alloc, ended, line)?)),
     }
 }
 
@@ -105,18 +109,18 @@ fn step_at_job<A: Allocator + Copy>(
         return Ok(Stage::Refused(line, BatchFault::TooLarge));
     }
     let name = JobName::from_vec(Vec::from_slice(alloc, job.name)?);
-    Ok(Stage::Headed(Head {
+    Ok(Stage::Headed(JobHeader {
         name,
         limits: job.limits,
         line,
     }))
 }
 
-/// The line behind a JOB line.
+/// The line after a JOB line.
 fn step_behind_head<A: Allocator + Copy>(
     alloc: A,
     region: usize,
-    head: Head<JobName<A>>,
+    head: JobHeader<JobName<A>>,
     line: BatchLine<'_>,
 ) -> JobStage<A>
     requires { IsName head.name }
@@ -138,7 +142,7 @@ fn step_behind_head<A: Allocator + Copy>(
 fn signatures_part<A: Allocator + Copy>(
     alloc: A,
     region: usize,
-    head: &Head<JobName<A>>,
+    head: &JobHeader<JobName<A>>,
     first_line: u64,
 ) -> Part<SigReader<A>>
     ensures fits { SignaturesFit first_line result }
@@ -151,10 +155,10 @@ fn signatures_part<A: Allocator + Copy>(
     Part::Reading(SigReader::new(alloc, first_line))
 }
 
-/// A line behind `SIGNATURES`.
+/// A line after `SIGNATURES`.
 fn step_in_signatures<A: Allocator + Copy>(
     alloc: A,
-    head: Head<JobName<A>>,
+    head: JobHeader<JobName<A>>,
     mut part: Part<SigReader<A>>,
     line: BatchLine<'_>,
 ) -> Result<JobStage<A>, AllocError>
@@ -162,7 +166,7 @@ fn step_in_signatures<A: Allocator + Copy>(
     requires part { SignaturesFit line.number part }
     ensures fits { IfOk result (StageFits (line.entry.number + 1)) }
     ensures turns { IfOk result (λ s. (region ended room : ℕ) (job : JobText)
-        → Shows region (stages.Signatures head part) (InSignatures job) → HasRoom ended room (InSignatures job)
+        → StageShows region (stages.Signatures head part) (InSignatures job) → HasRoom ended room (InSignatures job)
         → Turns region ended room (InSignatures job) (shown_line line.entry) (To s)) }
 {
     match line.heading {
@@ -217,10 +221,10 @@ fn code_part<A: Allocator + Copy>(
     }
 }
 
-/// A line behind `CODE`.
+/// A line after `CODE`.
 fn step_in_code<A: Allocator + Copy>(
     alloc: A,
-    head: Head<JobName<A>>,
+    head: JobHeader<JobName<A>>,
     mut part: Part<CodeReading<A>>,
     line: BatchLine<'_>,
 ) -> Result<JobStep<A>, AllocError>
@@ -228,19 +232,19 @@ fn step_in_code<A: Allocator + Copy>(
     requires part { CodeFits line.number part }
     ensures fits { IfOk result (StepFits (line.entry.number + 1)) }
     ensures turns { IfOk result (λ s. (region ended room : ℕ) (job : JobText)
-        → Shows region (stages.Code head part) (InCode job) → HasRoom ended room (InCode job)
+        → StageShows region (stages.Code head part) (InCode job) → HasRoom ended room (InCode job)
         → Turns region ended room (InCode job) (shown_line line.entry) s) }
 {
     match line.heading {
-        Heading::End => Ok(Step::Ends(job_entry(alloc, head, part)?)),
+        Heading::End => Ok(StageStep::Ends(job_entry(alloc, head, part)?)),
         _ => {
             more_code(&mut part, line)?;
-            Ok(Step::To(Stage::Code(head, part)))
+            Ok(StageStep::To(Stage::Code(head, part)))
         }
     }
 }
 
-/// Takes one line more of the signatures or of the code, and leaves the stage where it is.
+/// Takes one line more of the signatures or of the code, and leaves the stage as it is.
 ///
 /// # Errors
 ///
@@ -252,7 +256,7 @@ pub(crate) fn step_inside<A: Allocator + Copy>(
     requires fits { StageFits line.number stage.old }
     requires stays { Stays stage.old line.heading }
     ensures fits { OnOk result (StageFits (line.entry.number + 1) stage.new) }
-    ensures turns { OnOk result ((region ended room : ℕ) (standing : Standing) → Shows region stage.old standing
+    ensures turns { OnOk result ((region ended room : ℕ) (standing : BatchStanding) → StageShows region stage.old standing
         → HasRoom ended room standing → Turns region ended room standing (shown_line line.entry) (To stage.new)) }
 {
     match stage {
@@ -262,7 +266,7 @@ pub(crate) fn step_inside<A: Allocator + Copy>(
     }
 }
 
-/// Takes one line more of the code.
+/// Takes one line more of the code. Once the code has a fault, no further line is read.
 fn more_code<A: Allocator + Copy>(
     part: &mut Part<CodeReading<A>>,
     line: BatchLine<'_>,
@@ -273,7 +277,25 @@ fn more_code<A: Allocator + Copy>(
         → ShowsCode region part.new (with_code job line.entry.text.now)) }
 {
     match part {
-        Part::Reading((_, reader)) => reader.feed(line.text),
+        Part::Reading((_, reader)) => {
+            reader.feed(line.text)?;
+            match reader.fault() {
+                None => Ok(()),
+                Some((fault, number)) => {
+                    refuse_code(part, fault, number);
+                    Ok(())
+                }
+            }
+        }
         Part::Refused(..) => Ok(()),
     }
+}
+
+/// The code is refused for this fault at this line.
+#[cold]
+#[inline(never)]
+fn refuse_code<A: Allocator>(part: &mut Part<CodeReading<A>>, fault: CodeFault, line: u64)
+    ensures { part.new ≡ PartRefused line (Read fault) }
+{
+    *part = Part::Refused(line, JobFault::Read(fault));
 }

@@ -12,7 +12,7 @@ use Rattle.signatures.specs.Signatures.{Signature}
 use Rattle.signatures.specs.Spelling.{GoodLinesHaveGoodBytes, word_of, list_words, arrow_words, signature_words}
 use Rattle.signatures.specs.Spelling.{is_name, is_name_byte, is_line_byte}
 
--- a byte that may stand in a line, or the LF behind it
+-- a byte that may be in a line, or the LF after it
 abbrev is_text_byte : ℕ → Bool
 is_text_byte b = is_separator b || is_parenthesis b || is_name_byte b
 
@@ -92,7 +92,7 @@ of_signature s h =
     ap (λ x. x && good_words (arrow_words s.operands s.results)) (of_name s.name h)
     ∙ of_list s.operands (codes "->" ∷ list_words s.results []) (of_list s.results [] refl)
 
--- ---- no LF stands in a line
+-- ---- a line holds no LF
 
 not_feed : (separator feed parenthesis name : Bool) → feed ≡ false → (separator || parenthesis || name) ≡ true
     → ((separator && not feed) || parenthesis || name) ≡ true

@@ -1,4 +1,4 @@
--- What a text comes to byte by byte is what its lines come to.
+-- What a text gives byte by byte is what its lines give.
 use Rattle.std.proofs.Common.{◌≡◌, ◌∙◌, ℕ, suc, ◌+◌, ◌<◌, ◌≤◌, Bool, true, false, cond, refl, arith, ap, add-zero, sym}
 use Rattle.std.proofs.Common.{List, [], ◌∷◌, ◌++◌, length, drop, get_or, add-one, drop-cons, append_assoc, append-nil}
 use Rattle.std.proofs.Common.{Option, Some, None, is_some, Result, Ok, Err}
@@ -53,9 +53,9 @@ feed_counts b bs h = rw h (omega arith)
 
 -- ---- a byte at an index of a piece
 
--- what is known at the byte at an index, behind which this is left of the piece
+-- what is known at the byte at an index, after which this is left of the piece
 pub record AtByte (s : Scan) (b : ℕ) (left rest : List ℕ) (most : ℕ) : Type 0 where
-  -- the next line's number fits where the byte ends a line
+  -- the next line's number fits if the byte ends a line
   pub room : is_line_feed b ≡ true → s.number + 1 < most
   pub later_room : (new : Scan) → new ≡ scan_after_byte s b → new.number + line_feeds rest < most
   pub later_same : (new : Scan) → new ≡ scan_after_byte s b → scan_after_bytes s left ≡ scan_after_bytes new rest
@@ -82,7 +82,7 @@ scan_after_bytes-append (b ∷ xs) ys s = scan_after_bytes-append xs ys (scan_af
 
 -- ---- the lines of a text
 
--- the bytes of an open line before the lines of what is behind them
+-- the bytes of an open line before the lines of the rest
 join : List ℕ → List (List ℕ) → List (List ℕ)
 join begun [] = begun ∷ []
 join begun (l ∷ ls) = (begun ++ l) ∷ ls
@@ -112,12 +112,12 @@ join_nothing (b ∷ bs) = join_nothing-chosen (is_line_feed b) b (lines bs)
 abbrev state : List Signature → Option Fault → List ℕ → ℕ → Scan
 state known fault line number = record { known = known; fault = fault; line = line; number = number }
 
--- what lines come to behind these signatures, or behind a fault
+-- what lines give after these signatures, or after a fault
 from : Option Fault → List Signature → ℕ → List (List ℕ) → Result (List Signature) Fault
 from None known number ls = lines_reading known number ls
 from (Some fault) known number ls = Err fault
 
--- what lines come to behind a scan, with this number for the first
+-- what lines give after a scan, with this number for the first
 abbrev from_scan : Scan → ℕ → List (List ℕ) → Result (List Signature) Fault
 from_scan s number ls = from s.fault s.known number ls
 
@@ -141,12 +141,13 @@ module _ (known : List Signature) (line : List ℕ) (number : ℕ) where
   ended (Err e) ls = refl
 
   ended_line : (fault : Option Fault) (ls : List (List ℕ))
-      → from_scan (scan_after_line (state known fault line number)) (number + 1) ls ≡ from fault known number (line ∷ ls)
+      → from_scan (scan_after_line (state known fault line number))
+      (number + 1) ls ≡ from fault known number (line ∷ ls)
   unfolding from scan_after_line lines_reading
   ended_line (Some f) ls = refl
   ended_line None ls = ended (after_line known line) ls
 
--- behind every open line, these bytes come to what the lines come to that they make with it
+-- after every open line, these bytes give what the lines give that they make with it
 ComeToLines : List ℕ → Type 0
 ComeToLines bs =
     (known : List Signature) (fault : Option Fault) (line : List ℕ) (number : ℕ)

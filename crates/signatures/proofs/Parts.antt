@@ -45,7 +45,7 @@ pub no_kind : (ks : List Kind) (w : List ℕ) (ws : List (List ℕ)) → bytes_e
     → kind_of w ≡ None → kinds_from ks (w ∷ ws) ≡ None
 no_kind ks w ws h e = not_closed ks w ws h ∙ ap (option_and_then (λ k. kinds_from (ks ++ k ∷ []) ws)) e
 
--- ---- what is behind a name
+-- ---- what follows a name
 
 module _ (ws : List (List ℕ)) where
   pub no_list : list_in ws ≡ None → arrow_in ws ≡ None

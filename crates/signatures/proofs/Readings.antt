@@ -12,11 +12,11 @@ use Rattle.signatures.specs.Reading.{after_line, from_line, lines_reading, readi
 use Rattle.signatures.specs.Signatures.{Signature}
 use Rattle.signatures.proofs.Said.{adds_after, good_line, bad_line, wrong_after}
 
--- what these lines and those behind them come to, once this one has come to something
+-- what these lines and those after them give, once this one has given something
 abbrev behind_line : ℕ → List (List ℕ) → Result (List Signature) SignatureFault → Result (List Signature) Fault
 behind_line number ls r = from_line r number (λ next. lines_reading next (number + 1) ls)
 
--- the first fault among lines behind these signatures, the first line of this number
+-- the first fault among lines after these signatures, the first line of this number
 record LineFault (known : List Signature) (number : ℕ) (ls : List (List ℕ)) (fault : Fault) : Type 0 where
   before : List (List ℕ)
   line : List ℕ
@@ -95,7 +95,8 @@ to_reading (Err fault) first text h =
 
 pub every_text_is_read : EveryTextIsRead
 unfolding reading
-every_text_is_read first text = to_reading (lines_reading [] first (lines text)) first text (are_read (lines text) [] first)
+every_text_is_read first text = to_reading (lines_reading [] first (lines text)) first text (are_read
+    (lines text) [] first)
 
 good_lines : (ls : List (List ℕ)) (known new : List Signature) (number : ℕ) → AddAll known ls new
     → lines_reading known number ls ≡ Ok new
@@ -110,7 +111,8 @@ at_fault r fault n m h e = e ∙ ap (λ k. Err (fault, k)) h
 
 module _ (line : List ℕ) (after : List (List ℕ)) (now : List Signature) (fault : SignatureFault) where
   faulty_lines : (before : List (List ℕ)) (known : List Signature) (number : ℕ) → AddAll known before now
-      → IsWrong fault now line → lines_reading known number (before ++ line ∷ after) ≡ Err (fault, number + length before)
+      → IsWrong fault now line → lines_reading known number (before ++ line ∷ after) ≡ Err
+      (fault, number + length before)
   unfolding lines_reading
   faulty_lines [] known number good wrong =
       let here : IsWrong fault known line = subst (λ k. IsWrong fault k line) (sym good) wrong in

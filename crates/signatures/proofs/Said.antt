@@ -97,7 +97,7 @@ adds_after known new line (inl h) = ap (after_words known) h.0 ∙ ap Ok (sym h.
 adds_after known new line (inr h) =
     says_after known line h.0 h.1 ∙ (add_new known h.0 (small known h.0 h.2) (none_is _ h.3) ∙ ap Ok (sym h.4))
 
--- what a line adds or what is wrong with it, by what it comes to
+-- what a line adds or what is wrong with it, by its reading
 LineReading : List Signature → List ℕ → Result (List Signature) SignatureFault → Type 0
 LineReading known line (Ok new) = Adds known line new
 LineReading known line (Err fault) = IsWrong fault known line
@@ -116,7 +116,7 @@ module _ (known : List Signature) (line : List ℕ) (s : Signature) (says : Says
   by_size true h = (s, says, λ f. true≢false (sym h ∙ small known s f))
   by_size false h = by_twice (is_some (kinds_of known s.name)) h refl
 
--- a line with this first word and these behind it
+-- a line with this first word and these after it
 module _ (known : List Signature) (line w : List ℕ) (ws : List (List ℕ)) (h : line_words line ≡ w ∷ ws) where
   some_words : line_words line ≢ []
   some_words e = let c : w ∷ ws ≡ [] = sym h ∙ e in cc
@@ -145,7 +145,8 @@ module _ (known : List Signature) (line w : List ℕ) (ws : List (List ℕ)) (h 
   by_arrow (Some kinds) n a =
       by_size known line (signature w kinds) (said kinds n a) (is_too_large known (signature w kinds)) refl
 
-  by_name : (b : Bool) → is_name w ≡ b → LineReading known line (cond b (after_name known w (arrow_in ws)) (Err BadLine))
+  by_name : (b : Bool) → is_name w ≡ b → LineReading known line (cond b (after_name known w (arrow_in ws))
+      (Err BadLine))
   unfolding LineReading
   by_name true n = by_arrow (arrow_in ws) n refl
   by_name false n =

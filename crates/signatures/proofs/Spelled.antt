@@ -62,7 +62,7 @@ words_behind-is : (expected : List ℕ) (ws more : List (List ℕ)) → words_be
 words_behind-is expected [] more h = cc
 words_behind-is expected (w ∷ ws) more h = the_word (bytes_eq w expected) expected w ws more refl h
 
--- kinds and a closing parenthesis, read behind kinds
+-- kinds and a closing parenthesis, read after kinds
 record AreListed (before : List Kind) (ws : List (List ℕ)) (out : List Kind × List (List ℕ)) : Type 0 where
   kinds : List Kind
   kinds_are : out.0 ≡ before ++ kinds

@@ -1,4 +1,4 @@
--- What can be wrong with a line of signatures, its names as the report prints them, and what a line comes to.
+-- What can be wrong with a line of signatures, its names as the report prints them, and what a line gives.
 use Rattle.std.specs.Prelude.{◌≡◌, ℕ, List, codes, Result, Err}
 use Rattle.signatures.specs.declared.fault.SignatureFault.{SignatureFault}
 use Rattle.signatures.specs.declared.fault.SignatureFault.TheVariants.{BadLine, NameTwice, TooLarge}
@@ -14,7 +14,7 @@ signature_fault_text TooLarge = codes "G3 TOO_LARGE"
 abbrev pub Fault : Type 0
 Fault = SignatureFault × ℕ
 
--- what a line came to is what is wanted, unless there was no memory
+-- the result of a line is the wanted one, unless there was no memory
 abbrev pub OnWrong : {B : Type 0} → EntryFault → Result B SignatureFault → Type 0
 OnWrong Memory wanted = Unit {0}
 OnWrong (Wrong fault) wanted = wanted ≡ Err fault

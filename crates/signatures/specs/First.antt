@@ -10,19 +10,19 @@ use Rattle.signatures.specs.Reading.{reading}
 use Rattle.signatures.specs.Signatures.{Signature, kinds_of}
 use Rattle.signatures.specs.Spelling.{Says, Fits}
 
--- a good line: a blank one adds nothing; another adds what it says, where that fits the limits and its name is new
+-- a good line: a blank one adds nothing; another adds what it says, if that fits the limits and its name is new
 abbrev pub Adds : List Signature → List ℕ → List Signature → Type 0
 Adds known line new =
     ((line_words line ≡ []) × (new ≡ known))
     ⊎ ((s : Signature) × Says line s × Fits known s × (kinds_of known s.name ≡ None) × (new ≡ known ++ s ∷ []))
 
--- what is wrong with a line behind these signatures
+-- what is wrong with a line after these signatures
 abbrev pub IsWrong : SignatureFault → List Signature → List ℕ → Type 0
 IsWrong BadLine known line = (line_words line ≢ []) × ((s : Signature) → Says line s → ⊥)
 IsWrong TooLarge known line = (s : Signature) × Says line s × (Fits known s → ⊥)
 IsWrong NameTwice known line = (s : Signature) × Says line s × Fits known s × IsSome (kinds_of known s.name)
 
--- good lines, which take the signatures before them to those behind them
+-- good lines, which take the signatures before them to those after them
 abbrev pub AddAll : List Signature → List (List ℕ) → List Signature → Type 0
 AddAll known [] new = known ≡ new
 AddAll known (line ∷ more) new = (next : List Signature) × Adds known line next × AddAll next more new
@@ -31,7 +31,7 @@ AddAll known (line ∷ more) new = (next : List Signature) × Adds known line ne
 abbrev pub TextSays : List ℕ → List Signature → Type 0
 TextSays text signatures = AddAll [] (lines text) signatures
 
--- the first line with a fault, where the first line of the text has this number
+-- the first line with a fault, if the first line of the text has this number
 pub record FirstFault (first : ℕ) (text : List ℕ) (fault : Fault) : Type 0 where
   pub before : List (List ℕ)
   pub line : List ℕ
@@ -47,7 +47,7 @@ abbrev pub IsReading : Result (List Signature) Fault → ℕ → List ℕ → Ty
 IsReading (Ok signatures) first text = TextSays text signatures
 IsReading (Err fault) first text = FirstFault first text fault
 
--- the same of an answer that may be want of memory
+-- the same of an answer that may be out of memory
 abbrev pub IsAnswer : Result (List Signature) (TextFault SignatureFault) → ℕ → List ℕ → Type 0
 IsAnswer (Ok signatures) first text = TextSays text signatures
 IsAnswer (Err Memory) first text = Unit {0}

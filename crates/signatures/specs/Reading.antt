@@ -1,4 +1,4 @@
--- What a text of signatures comes to: its signatures, or its first fault with the line.
+-- The reading of a text of signatures: its signatures, or its first fault with the line.
 use Rattle.std.specs.Prelude.{ℕ, ◌+◌, Bool, ◌||◌, nat_lt, nat_le, if◌then◌else◌, List, [], ◌∷◌, ◌++◌, length, codes}
 use Rattle.std.specs.Prelude.{Option, Some, None, is_some, option_and_then, Result, Ok, Err}
 use Rattle.std.specs.Str.{bytes_eq}
@@ -21,23 +21,23 @@ kind_of word =
     else if bytes_eq word (codes "SEGDES") then Some Segdes
     else None
 
--- the words behind one that must stand
+-- the words after a required one
 abbrev pub words_behind : List ℕ → List (List ℕ) → Option (List (List ℕ))
 words_behind expected [] = None
 words_behind expected (w ∷ ws) = if bytes_eq w expected then Some ws else None
 
--- kinds up to a closing parenthesis, behind those so far, and the words behind it
+-- kinds up to a closing parenthesis, after those so far, and the words after it
 unfoldable pub kinds_from : List Kind → List (List ℕ) → Option (List Kind × List (List ℕ))
 kinds_from ks [] = None
 kinds_from ks (w ∷ ws) =
     if bytes_eq w (codes ")") then Some (ks, ws)
     else option_and_then (λ k. kinds_from (ks ++ k ∷ []) ws) (kind_of w)
 
--- a list of kinds in parentheses, and the words behind it
+-- a list of kinds in parentheses, and the words after it
 abbrev pub list_in : List (List ℕ) → Option (List Kind × List (List ℕ))
 list_in ws = option_and_then (kinds_from []) (words_behind (codes "(") ws)
 
--- the kinds, where no word is left
+-- the kinds, if no word is left
 abbrev pub whole_arrow : List Kind → List Kind × List (List ℕ) → Option (List Kind × List Kind)
 whole_arrow operands (results, []) = Some (operands, results)
 whole_arrow operands (results, w ∷ ws) = None
@@ -48,11 +48,11 @@ after_arrow operands ws = option_and_then (whole_arrow operands) (list_in ws)
 abbrev pub after_operands : List Kind × List (List ℕ) → Option (List Kind × List Kind)
 after_operands taken = option_and_then (after_arrow taken.0) (words_behind (codes "->") taken.1)
 
--- the kinds that the words behind a name say
+-- the kinds that the words after a name say
 unfoldable pub arrow_in : List (List ℕ) → Option (List Kind × List Kind)
 arrow_in ws = option_and_then after_operands (list_in ws)
 
--- ---- a line behind these signatures
+-- ---- a line after these signatures
 
 abbrev pub is_too_large : List Signature → Signature → Bool
 is_too_large known s =
@@ -66,7 +66,8 @@ add known s =
     else if is_some (kinds_of known s.name) then Err NameTwice
     else Ok (known ++ s ∷ [])
 
-abbrev pub after_name : List Signature → List ℕ → Option (List Kind × List Kind) → Result (List Signature) SignatureFault
+abbrev pub after_name : List Signature → List ℕ → Option (List Kind × List Kind)
+    → Result (List Signature) SignatureFault
 after_name known name None = Err BadLine
 after_name known name (Some kinds) = add known (signature name kinds)
 
@@ -80,18 +81,18 @@ after_line known line = after_words known (line_words line)
 
 -- ---- a text
 
--- what the lines behind this one come to, or the fault of this one with its number
+-- what the lines after this one give, or the fault of this one with its number
 abbrev pub from_line : Result (List Signature) SignatureFault → ℕ → (List Signature → Result (List Signature) Fault)
     → Result (List Signature) Fault
 from_line (Ok known) number rest = rest known
 from_line (Err fault) number rest = Err (fault, number)
 
--- what these lines come to, the first of this number, behind these signatures
+-- what these lines give, the first of this number, after these signatures
 unfoldable pub lines_reading : List Signature → ℕ → List (List ℕ) → Result (List Signature) Fault
 lines_reading known number [] = Ok known
 lines_reading known number (line ∷ more) =
     from_line (after_line known line) number (λ next. lines_reading next (number + 1) more)
 
--- what a text comes to whose first line has this number
+-- the reading of a text whose first line has this number
 unfoldable pub reading : ℕ → List ℕ → Result (List Signature) Fault
 reading first text = lines_reading [] first (lines text)

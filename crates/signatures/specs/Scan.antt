@@ -1,4 +1,4 @@
--- A text that comes byte by byte: where it stands, and what each byte does.
+-- A text that comes byte by byte: its state, and what each byte does.
 use Rattle.std.specs.Prelude.{◌≡◌, ℕ, ◌+◌, Bool, false, if◌then◌else◌, List, [], ◌∷◌, ◌++◌}
 use Rattle.std.specs.Prelude.{Option, Some, None, is_some, Result, Ok, Err}
 use Rattle.vcode_base.specs.Lines.{is_line_feed}
@@ -17,12 +17,12 @@ pub record Scan : Type 0 where
 abbrev pub beginning : ℕ → Scan
 beginning first = record { known = []; fault = None; line = []; number = first }
 
--- with what the open line comes to
+-- with the reading of the open line
 abbrev pub scan_with : Result (List Signature) SignatureFault → Scan → Scan
 scan_with (Ok known) s = record s { known = known }
 scan_with (Err fault) s = record s { fault = Some (fault, s.number) }
 
--- the open line is whole; behind a fault no line counts
+-- the open line is whole; after a fault no line counts
 unfoldable pub scan_after_line : Scan → Scan
 scan_after_line s = if is_some s.fault then s else scan_with (after_line s.known s.line) s
 
@@ -41,11 +41,11 @@ abbrev pub fault_or_known : Option Fault → List Signature → Result (List Sig
 fault_or_known None known = Ok known
 fault_or_known (Some fault) known = Err fault
 
--- what the bytes so far come to, if the text ends behind them
+-- what the bytes so far give, if the text ends after them
 unfoldable pub outcome : Scan → Result (List Signature) Fault
 outcome s = let e = scan_after_line s in fault_or_known e.fault e.known
 
--- a reader of pieces: where its text stands, and whether it failed for want of memory
+-- a reader of pieces: the state of its text, and whether it failed for lack of memory
 pub record ReaderState : Type 0 where
   pub scan : Scan
   pub failed : Bool

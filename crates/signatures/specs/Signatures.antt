@@ -13,7 +13,7 @@ pub record Signature : Type 0 where
 abbrev pub signature : List ℕ → List Kind × List Kind → Signature
 signature name kinds = record { name = name; operands = kinds.0; results = kinds.1 }
 
--- the kinds that the function of this name takes and gives, where it has a signature
+-- the kinds that the function of this name takes and gives, if it has a signature
 abbrev pub kinds_of : List Signature → List ℕ → Option (List Kind × List Kind)
 kinds_of [] name = None
 kinds_of (s ∷ ss) name = if bytes_eq name s.name then Some (s.operands, s.results) else kinds_of ss name

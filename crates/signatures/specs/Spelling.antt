@@ -43,12 +43,13 @@ pub record Says (line : List ℕ) (s : Signature) : Type 0 where
 abbrev pub is_line_byte : ℕ → Bool
 is_line_byte b = (is_separator b && not (is_line_feed b)) || is_parenthesis b || is_name_byte b
 
--- a line, which holds no LF, has no other bytes where it says a signature
+-- a line, which holds no LF, has no other bytes if it says a signature
 abbrev pub GoodLinesHaveGoodBytes : Type 0
 GoodLinesHaveGoodBytes =
-    (line : List ℕ) (s : Signature) → list_any is_line_feed line ≡ false → Says line s → list_all is_line_byte line ≡ true
+    (line : List ℕ) (s : Signature) → list_any is_line_feed line ≡ false → Says line s
+    → list_all is_line_byte line ≡ true
 
--- a signature that fits the limits behind those before it
+-- a signature that fits the limits after those before it
 pub record Fits (known : List Signature) (s : Signature) : Type 0 where
   pub name : length s.name ≤ LONGEST_NAME
   pub operands : length s.operands ≤ MOST_KINDS

@@ -9,13 +9,13 @@ pub fn every_text_is_read()
 {}
 
 /// A text has one reading: it doesn't say two lists of signatures, has no second first fault, and
-/// doesn't say signatures where it has a fault.
+/// doesn't say signatures if it has a fault.
 pub fn one_reading()
     ensures { OneReading }
 {}
 
 /// A line, which holds no LF, has no bytes but blank, tab, CR and those from 33 to 126, and no brace,
-/// where it says a signature.
+/// if it says a signature.
 pub fn good_lines_have_good_bytes()
     ensures { GoodLinesHaveGoodBytes }
 {}

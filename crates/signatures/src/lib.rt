@@ -6,15 +6,15 @@
 //! without braces, also `->` or `INT`. The kinds are `INT`, `BOOL` and `SEGDES`. Lines without words are
 //! passed over.
 //!
-//! The first line with a fault is answered: [`SignatureFault::BadLine`] where it is no such line, also
+//! The first line with a fault is answered: [`SignatureFault::BadLine`] if it is no such line, also
 //! for a byte that no word has; [`SignatureFault::TooLarge`] for a name of more bytes than
 //! `LONGEST_NAME`, a list of more kinds than `MOST_KINDS`, or one signature more than `MOST_FUNCTIONS`
 //! (of [`vcode_base::limits`]); [`SignatureFault::NameTwice`] for a name that an earlier line has; in
-//! this order where two could be.
+//! this order if there are two.
 //!
 //! `specs/Lines` has the lines of a text, `specs/Spelling` the words of a signature, `specs/First` what
-//! a text says and its first fault, as relations. That each text is read so stands in [`laws`] and on
-//! [`read`]. [`SigReader`] reads a text that comes in pieces.
+//! a text says and its first fault, as relations. [`laws`] and [`read`] say that each text is read so.
+//! [`SigReader`] reads a text that comes in pieces.
 #![tactic(auto)]
 
 mod fault;

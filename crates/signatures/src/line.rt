@@ -25,7 +25,7 @@ fn kind_of(word: &[u8]) -> Option<Kind>
     }
 }
 
-/// Whether a byte may stand in a name.
+/// Whether a byte may be in a name.
 fn is_name_byte(byte: u8) -> bool
     ensures { result ≡ is_name_byte byte }
 {
@@ -39,7 +39,7 @@ pub(crate) fn is_name(word: &[u8]) -> bool
     word.iter().all(|byte| is_name_byte(*byte))
 }
 
-/// Takes a word that must stand.
+/// Takes a required word.
 fn expect(words: &mut LineWords<'_>, expected: &[u8]) -> Result<(), EntryFault>
     ensures { MatchResult result
         (λ _. words_behind expected.now words.old ≡ Some words.new)
@@ -80,7 +80,7 @@ fn kinds<A: Allocator>(alloc: A, words: &mut LineWords<'_>) -> Result<Vec<Kind, 
     Err(EntryFault::Wrong(SignatureFault::BadLine))
 }
 
-/// The kinds that the words behind a name say.
+/// The kinds that the words after a name say.
 pub(crate) fn arrow<A: Allocator + Clone>(
     alloc: A,
     mut words: LineWords<'_>,

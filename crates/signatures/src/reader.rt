@@ -41,7 +41,7 @@ fn add_line<A: Allocator + Copy>(
     }
 }
 
-/// Where a text stands that comes byte by byte.
+/// The state of a text that comes byte by byte.
 #[derive(Drop)]
 struct Scanner<A: Allocator> {
     signatures: Signatures<A>,
@@ -128,7 +128,7 @@ impl<A: Allocator + Copy> Scanner<A> {
 /// Reads a text of signatures that comes in pieces, as [`read`] does one that is there at once: what
 /// counts are the pieces joined, wherever they are cut.
 ///
-/// The first fault of a text is kept, and the pieces behind it are passed over. Where memory is refused
+/// The first fault of a text is kept, and the pieces after it are passed over. If memory is refused
 /// the reader has failed, and no later call succeeds.
 #[derive(Drop)]
 pub struct SigReader<A: Allocator> {
@@ -162,7 +162,7 @@ impl<A: Allocator + Copy> SigReader<A> {
     ///
     /// # Errors
     ///
-    /// [`AllocError`] where memory is refused, and from then on at each piece.
+    /// [`AllocError`] if memory is refused, and from then on at each piece.
     pub fn feed(&mut self, piece: &[u8]) -> Result<(), AllocError>
         requires { self.old.failed ≡ false → self.old.scan.number + line_feeds piece.now < 2 ^ 64 }
         // What has come is what had come before and then the piece.
@@ -182,11 +182,11 @@ impl<A: Allocator + Copy> SigReader<A> {
         fed
     }
 
-    /// What the pieces come to.
+    /// The reading of the pieces.
     ///
     /// # Errors
     ///
-    /// The first fault of the text with its line; `Memory` where memory is refused, or was in a piece.
+    /// The first fault of the text with its line; `Memory` if memory is refused, or was in a piece.
     pub fn finish(self) -> Result<Signatures<A>, SigFault>
         ensures answer { (first : ℕ) (bytes : List ℕ) → HasCome self first bytes → Answers result (reading first bytes) }
         ensures failed { IsTrue self.failed → IsErrOf result Memory }
@@ -201,7 +201,7 @@ impl<A: Allocator + Copy> SigReader<A> {
 /// Reads a text of signatures.
 ///
 /// It answers what the lines say, or what is wrong with the first wrong line and that line's number, or
-/// `Memory` where memory is refused. The lines are numbered upwards from `first_line`, and the last
+/// `Memory` if memory is refused. The lines are numbered upwards from `first_line`, and the last
 /// number must fit.
 pub fn read<A: Allocator + Copy>(
     alloc: A,

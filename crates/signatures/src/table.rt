@@ -57,7 +57,7 @@ impl<A: Allocator + Copy> Signatures<A> {
         }
     }
 
-    /// Adds a signature behind the others, where it fits the limits and its name is new. At an `Err`
+    /// Adds a signature after the others, if it fits the limits and its name is new. At an `Err`
     /// they are as before.
     pub(crate) fn add(&mut self, name: &[u8], arrow: Arrow<A>) -> Result<(), EntryFault>
         ensures added { MatchResult result
@@ -87,7 +87,7 @@ impl<A: Allocator> Signatures<A> {
     }
 
     /// The kinds that the function of this name takes and those that it gives, from bottom to top;
-    /// `None` where it has no signature.
+    /// `None` if it has no signature.
     pub fn get(&self, name: &[u8]) -> Option<(&[Kind], &[Kind])>
         ensures { MatchOption result (kinds_of self.now name.now ≡ None)
             (λ kinds. kinds_of self.now name.now ≡ Some (kinds.0.now, kinds.1.now)) }

@@ -88,7 +88,8 @@ of_two xs ys n h = (
 
 -- each element or whole operands beside a descriptor
 pub in_shape : (s : List ℤ) (each whole : List (List ℤ)) → shape_in s each whole ≡ None
-    → (list_any (λ x. wrong_length x (length s)) each ≡ false) × (list_any (λ x. wrong_length x (total s)) whole ≡ false)
+    → (list_any (λ x. wrong_length x (length s)) each ≡ false) × (list_any (λ x. wrong_length x
+    (total s)) whole ≡ false)
 in_shape s each whole h =
     let a = no_fault (list_any (λ x. wrong_length x (length s)) each) SegmentCount
     ((list_any (λ x. wrong_length x (total s)) whole, SegmentTotal) ∷ []) h in
@@ -107,7 +108,8 @@ between_shapes s r of_s of_r h =
 
 -- ---- rows
 
-pub zipped_long : {X Y : Type 0} (xs : List X) (ys : List Y) (n : ℕ) → length xs ≡ n → length ys ≡ n → length (zip xs ys) ≡ n
+pub zipped_long : {X Y : Type 0} (xs : List X) (ys : List Y) (n : ℕ) → length xs ≡ n → length ys ≡ n
+    → length (zip xs ys) ≡ n
 zipped_long xs ys n e f = length-zip xs ys ∙ omega arith
 
 pub pairs_long : (f : ℤ → ℤ → ℤ) (xs ys : List ℤ) → length ys ≡ length xs → length (two_by_two f xs ys) ≡ length xs

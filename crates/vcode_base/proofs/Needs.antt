@@ -1,4 +1,4 @@
--- For every instruction: where it has no fault, its results have the needed lengths.
+-- For every instruction: if it has no fault, its results have the needed lengths.
 use Rattle.std.proofs.Common.{◌≡◌, ℕ, zero, suc, ◌<◌, ℤ, false, List, [], ◌∷◌, length, None, refl, sym, ◌∙◌, arith}
 use Rattle.std.specs.List.{list_any}
 use Rattle.std.proofs.lemmas.List.{length-map}
@@ -78,7 +78,8 @@ segmented_long (BackPermute k) xs h =
     let fits = lengths.between_shapes s r (v ∷ []) (i ∷ []) h in
     lengths.pair _ _ _ _ (lengths.back_permuted_long s r v i fits.0 (lengths.of_one i (total r) fits.2)) refl
 segmented_long (DefaultPermute k) xs h =
-    let v = operand xs 0 in let i = operand xs 1 in let d = operand xs 2 in let s = operand xs 3 in let r = operand xs 4 in
+    let v = operand xs 0 in let i = operand xs 1 in let d = operand xs 2 in let s = operand xs 3 in let r = operand xs 4
+    in
     let fits = lengths.between_shapes s r (v ∷ i ∷ []) (d ∷ []) h in
     lengths.pair _ _ _ _ (lengths.default_permuted_long s r v i d fits.0 (lengths.of_one d (total r) fits.2)) refl
 segmented_long (Extract k) xs h =

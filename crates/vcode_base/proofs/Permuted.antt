@@ -1,4 +1,4 @@
--- Where no index comes twice, each element stands at its index.
+-- If no index comes twice, each element is at its index.
 use Rattle.std.proofs.Common.{◌≡◌, ℕ, zero, suc, ◌<◌, ℤ, pos, Bool, true, false, ◌||◌, List, [], ◌∷◌, length}
 use Rattle.std.proofs.Common.{get_or, zip, replicate, refl, ap, ◌∙◌, arith, zero-add, unsigned_abs}
 use Rattle.std.proofs.Common.{if◌then◌else◌}
@@ -27,7 +27,7 @@ unnamed (i ∷ is) (x ∷ xs) q d none =
 names_own : (i : ℤ) → names (unsigned_abs i) i ≡ true
 names_own i = grind arith
 
--- where no two indices are equal, the element at p arrives at its index
+-- if no two indices are equal, the element at p arrives at its index
 arrives : (is xs : List ℤ) (p : ℕ) (d : ℤ) → has_twice is ≡ false → length is ≡ length xs → p < length xs
     → arrival (zip is xs) (unsigned_abs (get_or is p (pos 0))) d ≡ get_or xs p (pos 0)
 arrives [] xs p d once same h = absurd (omega arith)
@@ -49,7 +49,7 @@ inside n [] p h l = absurd (omega arith)
 inside n (i ∷ is) zero h l = below n i (first_false (is_outside n i) (list_any (is_outside n) is) h)
 inside n (i ∷ is) (suc p) h l = inside n is p (last_false (is_outside n i) (list_any (is_outside n) is) h) (omega arith)
 
--- what stands at place q of a moved list
+-- the element at place q of a moved list
 pub moved_at : (xs is there : List ℤ) (q : ℕ) → q < length there → get_or (scatter_of xs is there) q (pos 0)
     ≡ arrival (zip is xs) q (get_or there q (pos 0))
 moved_at xs is there q h =

@@ -27,7 +27,8 @@ shift_right : result_of (Elementwise (Arith ShiftRight))
 unfolding result_of
 shift_right = refl
 
-shift_left : result_of (Elementwise (Arith ShiftLeft)) ((pos 1 ∷ []) ∷ (pos 63 ∷ []) ∷ []) ≡ negsuc 9223372036854775807 ∷ []
+shift_left : result_of (Elementwise (Arith ShiftLeft)) ((pos 1 ∷ []) ∷
+    (pos 63 ∷ []) ∷ []) ≡ negsuc 9223372036854775807 ∷ []
 unfolding result_of int_wrap
 shift_left = refl
 

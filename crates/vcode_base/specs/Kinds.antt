@@ -97,7 +97,7 @@ segmented_results (Pack k) = kind_of k ∷ Segdes ∷ []
 segmented_results MakeSegdes = Segdes ∷ []
 segmented_results Lengths = Int ∷ []
 
--- the operands that are of the same kinds wherever the instruction stands, from the bottom up;
+-- the operands whose kinds are the same at every use of the instruction, from the bottom up;
 -- those of a motion of the stack are of any kinds, and those of a call are its signature's
 abbrev pub operand_kinds : Op → List Kind
 operand_kinds (Const k) = []

@@ -16,7 +16,7 @@ abbrev pub stands_alone : Parentheses → ℕ → Bool
 stands_alone AreWords b = is_parenthesis b
 stands_alone StandInWords b = false
 
--- a byte that stands in a word with others
+-- a byte that forms a word together with its neighbours
 abbrev pub is_plain : Parentheses → ℕ → Bool
 is_plain p b = not (is_separator b || stands_alone p b)
 
@@ -28,12 +28,12 @@ abbrev pub begins_with_word : List ℕ → Bool
 begins_with_word [] = false
 begins_with_word (b ∷ bs) = not (is_separator b)
 
--- a plain byte before the words of what is behind it, whose first it begins where that is plain too
+-- a plain byte before the words of the text after it: it begins the first of them if that begins with a plain byte
 abbrev pub with_plain : ℕ → Bool → List (List ℕ) → List (List ℕ)
 with_plain b true ws = onto_first b ws
 with_plain b false ws = (b ∷ []) ∷ ws
 
--- the words of a line: each byte that stands alone, and each run of plain bytes
+-- the words of a line: each parenthesis or other byte that is a word alone, and each run of plain bytes
 unfoldable pub words_of_line : Parentheses → List ℕ → List (List ℕ)
 words_of_line p [] = []
 words_of_line p (b ∷ bs) =

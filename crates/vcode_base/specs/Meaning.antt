@@ -1,4 +1,5 @@
--- For each instruction: when the shapes of its operands don't fit, how long its results are, when it has none, and what they are.
+-- For each instruction: when the shapes of its operands don't fit, how long its results are, when it has none, and what
+-- they are.
 use Rattle.std.specs.Prelude.{ℕ, ℤ, pos, ◌==◌, nat_lt, Bool, not, ◌||◌, if◌then◌else◌, List, [], ◌∷◌, length}
 use Rattle.std.specs.Prelude.{map, zip, flat_map, filter, count_by, replicate, slice_index_or, slice_set}
 use Rattle.std.specs.Prelude.{unsigned_abs, Option, Some, None, int_lt}
@@ -110,7 +111,7 @@ abbrev pub elementwise_fault : ElementwiseOp → List (List ℤ) → Option Data
 elementwise_fault (Arith op) xs = arithmetic_fault op (operand xs 1)
 elementwise_fault _ xs = None
 
--- an index outside its segment goes before two that are equal, wherever they stand
+-- an index outside its segment comes before two equal indices, at whatever places they are
 abbrev pub segmented_fault : SegmentedOp → List (List ℤ) → Option DataFault
 segmented_fault (Permute k) xs = first_fault
     ((any_outside (sizes (operand xs 2)) (segments (operand xs 2) (operand xs 1)), BadIndex)
@@ -168,14 +169,15 @@ segmented_result (BackPermute k) xs = flat_map (λ (v, is). map (element v) is)
 segmented_result (DefaultPermute k) xs = flat_map (λ (v, p). scatter_of v p.0 p.1)
     (zip (segments (operand xs 3) (operand xs 0))
     (zip (segments (operand xs 3) (operand xs 1)) (segments (operand xs 4) (operand xs 2))))
-segmented_result (Extract k) xs = map (λ (v, i). element v i) (zip (segments (operand xs 2) (operand xs 0)) (operand xs 1))
+segmented_result (Extract k) xs = map (λ (v, i). element v i) (zip (segments (operand xs 2) (operand xs 0))
+    (operand xs 1))
 segmented_result (Replace k) xs = flat_map (λ (v, p). slice_set v (unsigned_abs p.0) p.1)
     (zip (segments (operand xs 3) (operand xs 0)) (zip (operand xs 1) (operand xs 2)))
 segmented_result (Pack k) xs = flagged_elements (operand xs 0) (operand xs 1)
 segmented_result MakeSegdes xs = operand xs 0
 segmented_result Lengths xs = operand xs 0
 
--- the first result, where there is no fault
+-- the first result, if there is no fault
 unfoldable pub result_of : Op → List (List ℤ) → List ℤ
 result_of (Const k) xs = operand xs 0
 result_of (Elementwise op) xs = elementwise_result op xs

@@ -42,7 +42,7 @@ element xs i = slice_index_or xs (unsigned_abs i) (pos 0)
 abbrev pub names : ℕ → ℤ → Bool
 names q i = unsigned_abs i == q
 
--- what stands at place q once each element has gone to its index: at first there is d
+-- the element at place q after each element has gone to its index; before, it is d
 abbrev pub arrival : List (ℤ × ℤ) → ℕ → ℤ → ℤ
 arrival moves q d = fold (λ there (i, x). if names q i then x else there) d moves
 
@@ -50,7 +50,7 @@ arrival moves q d = fold (λ there (i, x). if names q i then x else there) d mov
 abbrev pub scatter_of : List ℤ → List ℤ → List ℤ → List ℤ
 scatter_of xs is there = map (λ (q, d). arrival (zip is xs) q d) (enumerate_from 0 there)
 
--- each element gone to its index, where the indices are those of the list, each once
+-- each element gone to its index, if the indices are those of the list, each once
 abbrev pub permutation_of : List ℤ → List ℤ → List ℤ
 permutation_of xs is = scatter_of xs is (replicate (length xs) (pos 0))
 

@@ -1,4 +1,4 @@
--- What is answered about a text, beside what is wanted: the same, or want of memory.
+-- The answer about a text in code, beside the definition's: the same, or out of memory.
 use Rattle.std.specs.Prelude.{◌≡◌, ℕ, Result, Ok, Err}
 use Rattle.vcode_base.specs.declared.fault.TextFault.{TextFault}
 use Rattle.vcode_base.specs.declared.fault.TextFault.TheVariants.{Memory, At}

@@ -1,5 +1,4 @@
-//! What two numbers of 64 bits come to, for the instructions that work element by element and for
-//! the scans and reductions.
+//! The arithmetic of two numbers of 64 bits, for the elementwise instructions and for the scans and reductions.
 
 #![tactic(auto, using(std::proofs::lemmas::Int::wraps))]
 

@@ -3,12 +3,12 @@
 ghost use Rattle.vcode_base.specs.Laws.{ResultsHaveNeededLengths, EachElementAtItsIndex};
 ghost use Rattle.vcode_base.specs.LineLaws.{LineFeedsAreFew};
 
-/// Where an instruction has no fault, its results have the lengths that `need` gives.
+/// If an instruction has no fault, its results have the lengths that `need` gives.
 pub fn results_have_needed_lengths()
     ensures { ResultsHaveNeededLengths }
 {}
 
-/// Where no index of a segment comes twice and none is outside it, `PERMUTE` puts the element at
+/// If no index of a segment comes twice and none is outside it, `PERMUTE` puts the element at
 /// place `p` of the segment to the place that the index at `p` names.
 pub fn each_element_at_its_index()
     ensures { EachElementAtItsIndex }

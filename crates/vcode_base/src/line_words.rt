@@ -11,7 +11,7 @@ use std::marker::Model;
 pub enum Parentheses {
     /// Each is a word by itself, as in a signature.
     AreWords,
-    /// They stand in words like other bytes, as in a job's name.
+    /// They are part of words like other bytes, as in a job's name.
     StandInWords,
 }
 
@@ -43,7 +43,7 @@ impl<'a> LineWords<'a> {
         }
     }
 
-    /// Takes the first word off, where there is one.
+    /// Takes the first word off, if there is one.
     pub fn next(&mut self) -> Option<&'a [u8]>
         ensures { MatchOption result
             ((self.old ≡ []) × (self.new ≡ []))
@@ -55,7 +55,7 @@ impl<'a> LineWords<'a> {
     }
 }
 
-/// Whether a byte stands between words.
+/// Whether a byte separates words.
 fn is_separator(byte: u8) -> bool
     ensures { result ≡ is_separator byte }
 {
@@ -72,7 +72,7 @@ fn stands_alone(byte: u8, parentheses: Parentheses) -> bool
     }
 }
 
-/// The first word of a line and what is behind it; `None` where there is no word.
+/// The first word of a line and the rest after it; `None` if there is no word.
 fn first_word(line: &[u8], parentheses: Parentheses) -> Option<(&[u8], &[u8])>
     ensures { MatchOption result (words_of_line parentheses line.now ≡ [])
         (λ parts. words_of_line parentheses line.now
@@ -86,7 +86,7 @@ fn first_word(line: &[u8], parentheses: Parentheses) -> Option<(&[u8], &[u8])>
     None
 }
 
-/// The word at the front and what is behind it.
+/// The word at the front and the rest after it.
 fn split_word(text: &[u8], parentheses: Parentheses) -> (&[u8], &[u8])
     requires { begins_with_word text.now ≡ true }
     ensures { words_of_line parentheses text.now

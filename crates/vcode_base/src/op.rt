@@ -55,9 +55,9 @@ pub enum Elementwise {
     Logic(Logic, Scalar),
     /// `NOT`: each bit turned, and of truth values the other one.
     Not(Scalar),
-    /// `SELECT`: the element of the second operand where the flag is T, else of the third.
+    /// `SELECT`: the element of the second operand if the flag is T, else of the third.
     Select(Scalar),
-    /// `I_TO_B`: T exactly where the number is not 0.
+    /// `I_TO_B`: T exactly if the number is not 0.
     IntToBool,
     /// `B_TO_I`: 1 for T and 0 for F.
     BoolToInt,
@@ -121,8 +121,8 @@ impl Op {
     ghost use Rattle.std.specs.Prelude.{◌≡◌};
     ghost use Rattle.vcode_base.specs.Kinds.{operand_kinds, result_kinds, source_kinds};
 
-    /// The kinds of the operands from the bottom of the stack up, where they are the same wherever
-    /// the instruction stands: none for `CONST`, a motion of the stack, `CALL` and `RET`.
+    /// The kinds of the operands from the bottom of the stack up, if they are the same at every use of
+    /// the instruction: none for `CONST`, a motion of the stack, `CALL` and `RET`.
     #[inline(always)]
     pub fn operand_kinds(self) -> &'static [Kind]
         ensures { result.now ≡ operand_kinds self }

@@ -52,7 +52,7 @@ impl<T, A: Allocator> Sequence<T, A> {
 }
 
 impl<T: Drop, A: Allocator> Sequence<T, A> {
-    /// Puts one element behind the others. Where its memory is refused, nothing changes.
+    /// Adds one element at the end. If its memory is refused, nothing changes.
     pub fn push(&mut self, element: T) -> Result<(), AllocError>
         ensures pushed { OnOk result (self.new ≡ self.old ++ element ∷ []) }
         ensures unchanged { OnErr result (self.new ≡ self.old) }
@@ -69,7 +69,7 @@ impl<T: Drop, A: Allocator> Sequence<T, A> {
     }
 }
 
-/// Equal where the elements are, place by place.
+/// Equal if the elements are, place by place.
 impl<T: PartialEq, A: Allocator> PartialEq for Sequence<T, A> {
     ghost use Rattle.std.specs.Cmp.Lexicographic.{pointwise};
     ghost use Rattle.std.specs.Cmp.Rules.{comparing};

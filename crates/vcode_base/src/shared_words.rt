@@ -6,8 +6,8 @@ use std::alloc::{AllocError, Allocator};
 use std::marker::Model;
 use std::sync::Arc;
 
-/// The words of a vector, which several vectors may own together: they stand in memory once. The last owner gives their
-/// memory back.
+/// The words of a vector. Several vectors may own them together, and they are in memory once. The last owner gives
+/// their memory back.
 #[derive(Debug, Drop)]
 pub struct SharedWords<A: Allocator> {
     words: Arc<Vec<i64, A>, A>,

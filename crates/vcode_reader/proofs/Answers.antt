@@ -30,7 +30,7 @@ word_at t l = record { text = t; line = l }
 some_not_none : {A : Type 0} (x : A) → Some x ≡ None → ⊥
 some_not_none x h = cc
 
--- what the words so far came to
+-- the reading of the words so far
 of_words : Scan (List Word) → Scan Parse
 of_words r = record { found = run start r.found; line = r.line; word = r.word; comment = r.comment }
 
@@ -102,7 +102,7 @@ read_words first bytes =
     (ap (λ x. scan_all take x bytes) (at_beginning first) ∙ scan_all-of_words bytes (beginning [] first))
     ∙ end_word-of_words (scan_all add_word (beginning [] first) bytes)
 
--- ---- where a text ends
+-- ---- at the end of a text
 
 open_place : (place : Place) (ws : List Word) (line : ℕ) → (run start ws).fault ≡ None →
     (run start ws).place ≡ place → (place ≡ Outside → ⊥) →

@@ -9,8 +9,8 @@ use Rattle.vcode_base.specs.declared.kind.Scalar.TheVariants as scalar
 use Rattle.vcode_base.specs.Kinds.{IsFlag, HasKind, kind_of}
 use Rattle.vcode_reader.specs.declared.keyword.Keyword.{Keyword}
 use Rattle.vcode_reader.specs.declared.keyword.Keyword.TheVariants as keyword
-use Rattle.vcode_reader.specs.declared.keyword.Slot.{Slot}
-use Rattle.vcode_reader.specs.declared.keyword.Slot.TheVariants.{Values}
+use Rattle.vcode_reader.specs.declared.keyword.WordSlot.{WordSlot}
+use Rattle.vcode_reader.specs.declared.keyword.WordSlot.TheVariants.{Values}
 use Rattle.vcode_reader.specs.First.{IsReading}
 use Rattle.vcode_reader.specs.Gram.{AreValues, FillOne, Fill, IsInstruction, IsElse, IsBody, AreFunctions}
 use Rattle.vcode_reader.specs.Heads.{slots_of, head_slots}
@@ -63,7 +63,7 @@ kind_of_list before after ws (inr h) =
     subst HasListKind (sym listed.9) (kind_of_values before.kind listed.3 listed.2 listed.8)
 
 -- a kind and then values
-kind_of_constant : (s : Slot) (before after : ItemParts) (ws : List Word) → Fill (s ∷ Values ∷ []) before after ws →
+kind_of_constant : (s : WordSlot) (before after : ItemParts) (ws : List Word) → Fill (s ∷ Values ∷ []) before after ws →
     HasListKind after
 kind_of_constant s before after ws h =
     let behind = h.5 in
@@ -128,7 +128,7 @@ proper_reading first bytes fs e =
     let read = subst (λ r. IsReading r first bytes) e (every_text_is_read first bytes) in
     proper_functions fs _ read.1.1.spelled
 
--- the functions that bytes come to
+-- the functions that bytes spell
 pub proper_outcome : (s : Scan Parse) (first : ℕ) (failed : Bool) (fs : List Function) →
     IsOfBytes s first failed → failed ≡ false → outcome s ≡ Ok fs → HaveProperBodies fs
 unfolding reading

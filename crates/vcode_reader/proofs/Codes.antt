@@ -1,4 +1,4 @@
--- The lines of a body, with more behind them, and where they go on.
+-- The lines of a body, with more after them, and their targets.
 use Rattle.std.proofs.Common.{◌≡◌, ℕ, zero, suc, ◌+◌, List, [], ◌∷◌, ◌++◌, length, drop, Some, refl, ap, ◌∙◌, sym}
 use Rattle.std.proofs.Common.{arith, append_assoc, length-append}
 use Rattle.std.specs.Prelude.{slice_get}
@@ -34,9 +34,9 @@ AreBodyLines-then xs i l h =
     ap (λ z. body_lines (tree_of z)) (sym more)
     ∙ (ap body_lines (tree_of-body_lines (then_body (tree_of xs) (Do i l End))) ∙ more)
 
--- ---- where lines go on
+-- ---- the targets of lines
 
--- what waits behind a body waits before it
+-- what waits after a body waits before it
 waits-body_lines : (b : Body) (place : ℕ) (rest : List CodeLine) →
     (jumps_from place (body_lines b ++ rest)).waits ≡ (jumps_from (place + length (body_lines b)) rest).waits
 unfolding jumps_from

@@ -1,5 +1,24 @@
 -- The value of digits.
-use Rattle.std.proofs.Common.{◌≡◌, ℕ, zero, suc, ◌+◌, ◌-◌, ◌*◌, ◌<◌, ◌≤◌, Bool, true, false, ◌&&◌, List, [], ◌∷◌, Option, Some}
+use Rattle.std.proofs.Common.{
+  ◌≡◌,
+  ℕ,
+  zero,
+  suc,
+  ◌+◌,
+  ◌-◌,
+  ◌*◌,
+  ◌<◌,
+  ◌≤◌,
+  Bool,
+  true,
+  false,
+  ◌&&◌,
+  List,
+  [],
+  ◌∷◌,
+  Option,
+  Some,
+}
 use Rattle.std.proofs.Common.{None, cond, length, refl, arith, ap, ◌∙◌}
 use Rattle.std.specs.Prelude.{nat_le, nat_lt}
 use Rattle.std.proofs.lemmas.Bool.Decides.{nat_tests}
@@ -32,7 +51,7 @@ past_digit m n c s rest e h =
 
 -- ---- few digits always fit
 
--- the greatest number that n and so many digits after it come to
+-- the greatest number that n and this many digits after it can be
 abbrev pub greatest : ℕ → ℕ → ℕ
 greatest n zero = n
 greatest n (suc k) = greatest (10 * n + 9) k
@@ -60,7 +79,8 @@ next_fits m n d k h room = omega (arith, ordered k (10 * n + d) (10 * n + 9) (om
 now_fits : (m n d k : ℕ) → d ≤ 9 → greatest n (suc k) < m → 10 * n + d < m
 now_fits m n d k h room = omega (arith, grows k (10 * n + 9), room)
 
-pub rest_fits : (m n d all i : ℕ) → d ≤ 9 → i < all → greatest n (all - i) < m → greatest (10 * n + d) (all - (i + 1)) < m
+pub rest_fits : (m n d all i : ℕ) → d ≤ 9 → i < all → greatest n (all - i) < m
+    → greatest (10 * n + d) (all - (i + 1)) < m
 rest_fits m n d all i h lt room =
     let e : all - i ≡ suc (all - (i + 1)) = omega arith in
     next_fits m n d (all - (i + 1)) h (rw e at room)

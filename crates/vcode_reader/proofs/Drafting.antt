@@ -149,7 +149,7 @@ endif_draft e (j ∷ is) lines i f h =
     subst (λ (k : OpenIf). IsDraft is (lines_after_endif k e lines)) (sym same)
     (open_endif e is lines j.has_else j.line h)
 
--- the same lines and open IFs, told otherwise
+-- the same lines and open IFs, in other words
 pub draft_at : (lines after : List CodeLine) (ifs is : List OpenIf) → lines ≡ after → ifs ≡ is → IsDraft is after →
     IsDraft ifs lines
 draft_at lines after ifs is e f h = subst (λ z. IsDraft z lines) (sym f) (subst (IsDraft is) (sym e) h)
@@ -170,7 +170,7 @@ whole_draft (i ∷ is) lines o h = absurd (differ o)
     differ : true ≡ false → ⊥
     differ h = cc
 
--- what a function holds, of the lines of a body and a RET behind them
+-- what a function holds, of the lines of a body and a RET after them
 pub holds_function : (name : List ℕ) (line ret : ℕ) (xs lines : List CodeLine) (targets : List (Option ℕ)) →
     lines ≡ xs ++ instruction_line Return ret ∷ [] → targets ≡ targets_of lines → AreBodyLines xs →
     HoldsFunction name line lines targets

@@ -1,4 +1,4 @@
--- Where the derived `==` of an enum's values is true: where they are one.
+-- When the derived `==` of an enum's values is true: if they are one.
 use Rattle.std.proofs.Common.{◌≡◌, ◌∙◌, ◌⊎◌, inl, inr, Bool, true, false, ◌&&◌, List, [], ◌∷◌, refl, ap, sym}
 use Rattle.std.specs.Bool.{Decides}
 use Rattle.std.proofs.lemmas.Bool.Decides.{Decides-and, Decides-like, Decides-eqb}
@@ -26,7 +26,7 @@ use Rattle.std.specs.declared.cmp.PartialEq.{Ghosts}
 use denote.RattleType.{RattleType}
 use mir.Syntax.{Dict}
 
--- each variant's test of its fields is true where they are equal
+-- each variant's test of its fields is true if they are equal
 abbrev pub AreExact : (Fss : List (List Field)) → Each Bool Fss → Type 0
 AreExact [] each = Unit {0}
 AreExact (Fs ∷ Fss) each = ((x y : Values Fs) → Decides (each.0 x y) (x ≡ y)) × AreExact Fss each.1

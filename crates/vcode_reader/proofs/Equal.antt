@@ -1,4 +1,4 @@
--- Programs are equal where their parts are.
+-- Programs are equal if their parts are.
 use Rattle.std.proofs.Common.{◌≡◌, ◌∙◌, ℕ, Option, Some, None, Bool, ◌&&◌, refl, ap, sym}
 use Rattle.std.specs.Bool.{Decides}
 use Rattle.std.specs.Cmp.Lexicographic.{pointwise}

@@ -1,13 +1,19 @@
 -- What has come in pieces.
-use Rattle.std.proofs.Common.{◌≡◌, ℕ, ◌+◌, Bool, true, false, List, ◌++◌, Result, Ok, Err, ap, ◌∙◌, sym}
-use Rattle.std.specs.Prelude.{OnOk, is_err}
+use Rattle.std.proofs.Common.{◌≡◌, ℕ, ◌+◌, Bool, true, false, List, [], ◌∷◌, ◌++◌, Option, Some, None, Result, Ok, Err}
+use Rattle.std.proofs.Common.{ap, ◌∙◌, sym}
+use Rattle.std.specs.Prelude.{OnOk, is_err, is_some, if◌then◌else◌}
 use Rattle.vcode_base.specs.declared.fault.TextFault.TheVariants.{Memory, At}
-use Rattle.vcode_reader.specs.Parsing.{Parse, start, take}
+use Rattle.vcode_reader.specs.declared.class.Class.{Class}
+use Rattle.vcode_reader.specs.declared.class.Class.TheVariants.{LineFeed, Blank, OpenBrace, CloseBrace, Parenthesis}
+use Rattle.vcode_reader.specs.declared.class.Class.TheVariants.{Plain, Refused}
+use Rattle.vcode_reader.specs.Classes.{class_of}
+use Rattle.vcode_reader.specs.Parsing.{Parse, at_place, start, take}
 use Rattle.vcode_reader.specs.Reading.{ReaderState, HasCome, HasScanned, IsOfBytes, outcome, program_at, reading}
-use Rattle.vcode_reader.specs.Refusals.{ReadFault}
+use Rattle.vcode_reader.specs.Reading.{result_at_end}
+use Rattle.vcode_reader.specs.Refusals.{Fault, ReadFault}
 use Rattle.vcode_base.specs.Lines.{line_feeds}
 use Rattle.vcode_base.specs.TextAnswers.{Fails}
-use Rattle.vcode_reader.specs.Scan.{Scan, beginning, scan_all}
+use Rattle.vcode_reader.specs.Scan.{Scan, beginning, by_comment, end_word, ends_word, lone_word, scan_all, scan_byte}
 use Rattle.vcode_reader.specs.Trees.{Function}
 use Rattle.vcode_reader.proofs.Lines.{scan_all-line, scan_all-append}
 
@@ -16,7 +22,7 @@ fed_more : (old new : Scan Parse) (first : ℕ) (piece : List ℕ) → new ≡ s
 fed_more old new first piece e before h = e
     ∙ (ap (λ r. scan_all take r piece) h ∙ sym (scan_all-append take before piece (beginning start first)))
 
--- with the bytes before stand those of the piece
+-- the bytes of the piece follow the bytes before
 pub of_more_bytes : {A E : Type 0} (r : Result A E) (old new : Scan Parse) (first : ℕ)
     (failed : Bool) (piece : List ℕ) → false ≡ is_err r → OnOk r (new ≡ scan_all take old piece) →
     IsOfBytes old first failed → IsOfBytes new first failed
@@ -60,3 +66,63 @@ pub answer_err : (fault : ReadFault) (r : ReaderState) → Fails fault (outcome 
     HasCome r bytes → Fails fault (reading r.first_line bytes)
 answer_err Memory r e bytes h = tt
 answer_err (At refusal line) r e bytes h = came r bytes h ∙ ap (program_at r.first_line) e
+
+-- ---- a text that has a fault
+
+kept_by : (o : Option Fault) (p q : Parse) (f : Fault) → o ≡ Some f → p.fault ≡ Some f →
+    (if is_some o then p else q).fault ≡ Some f
+kept_by (Some g) p q f e h = h
+kept_by None p q f e h = absurd (let none : None ≡ Some f = e in cc)
+
+fault_stays : (t : List ℕ) (l : ℕ) (p : Parse) (f : Fault) → p.fault ≡ Some f → (take t l p).fault ≡ Some f
+unfolding take
+fault_stays t l p f h = kept_by p.fault p (at_place p.place t l p) f h h
+
+in_word : (t : List ℕ) (s : Scan Parse) (f : Fault) → s.found.fault ≡ Some f →
+    (ends_word take t s).found.fault ≡ Some f
+in_word [] s f h = h
+in_word (b ∷ t) s f h = fault_stays (b ∷ t) s.line s.found f h
+
+at_word_end : (s : Scan Parse) (f : Fault) → s.found.fault ≡ Some f → (end_word take s).found.fault ≡ Some f
+unfolding end_word
+at_word_end s f h = in_word s.word s f h
+
+in_byte : (o : Option ℕ) (c : Class) (b : ℕ) (s : Scan Parse) (f : Fault) → s.found.fault ≡ Some f →
+    (by_comment take o c b s).found.fault ≡ Some f
+unfolding lone_word
+in_byte None LineFeed b s f h = at_word_end s f h
+in_byte None Blank b s f h = at_word_end s f h
+in_byte None OpenBrace b s f h = at_word_end s f h
+in_byte None CloseBrace b s f h = fault_stays (b ∷ []) _ _ f (at_word_end s f h)
+in_byte None Parenthesis b s f h = fault_stays (b ∷ []) _ _ f (at_word_end s f h)
+in_byte None Refused b s f h = fault_stays (b ∷ []) _ _ f (at_word_end s f h)
+in_byte None Plain b s f h = h
+in_byte (Some l) LineFeed b s f h = h
+in_byte (Some l) Blank b s f h = h
+in_byte (Some l) OpenBrace b s f h = h
+in_byte (Some l) CloseBrace b s f h = h
+in_byte (Some l) Parenthesis b s f h = h
+in_byte (Some l) Refused b s f h = h
+in_byte (Some l) Plain b s f h = h
+
+in_bytes : (bs : List ℕ) (s : Scan Parse) (f : Fault) → s.found.fault ≡ Some f →
+    (scan_all take s bs).found.fault ≡ Some f
+unfolding scan_all scan_byte
+in_bytes [] s f h = h
+in_bytes (b ∷ bs) s f h = in_bytes bs (scan_byte take s b) f (in_byte s.comment (class_of b) b s f h)
+
+outcome_of_fault : (s : Scan Parse) (f : Fault) → s.found.fault ≡ Some f → outcome s ≡ Err f
+unfolding outcome
+outcome_of_fault s f h =
+    let e = end_word take s in ap (λ o. result_at_end o e.comment e.found) (at_word_end s f h)
+
+-- the first fault of the bytes so far is that of each longer text
+pub longer_text : (r : ReaderState) (f : Fault) → r.scan.found.fault ≡ Some f → (bytes more : List ℕ) →
+    HasCome r bytes → reading r.first_line (bytes ++ more) ≡ Err f
+unfolding reading
+longer_text r f e bytes more h =
+    let after : scan_all take (beginning start r.first_line) (bytes ++ more) ≡ scan_all take r.scan more =
+    scan_all-append take bytes more (beginning start r.first_line)
+    ∙ ap (λ s. scan_all take s more) (sym h.scanned) in
+    ap (λ s. program_at r.first_line (outcome s)) after
+    ∙ ap (program_at r.first_line) (outcome_of_fault (scan_all take r.scan more) f (in_bytes more r.scan f e))

@@ -10,8 +10,8 @@ use Rattle.vcode_base.specs.declared.limits.TheConstants.{LONGEST_NAME, MOST_MOV
 use Rattle.vcode_reader.specs.declared.fault.CodeFault.{CodeFault}
 use Rattle.vcode_reader.specs.declared.fault.CodeFault.TheVariants.{BadWord, TooLarge}
 use Rattle.vcode_reader.specs.declared.keyword.Entries.{Entries}
-use Rattle.vcode_reader.specs.declared.keyword.Slot.{Slot}
-use Rattle.vcode_reader.specs.declared.keyword.Slot.TheVariants.{Int, Kind, Values, Count, Callee}
+use Rattle.vcode_reader.specs.declared.keyword.WordSlot.{WordSlot}
+use Rattle.vcode_reader.specs.declared.keyword.WordSlot.TheVariants.{Int, Kind, Values, Count, Callee}
 use Rattle.vcode_reader.specs.Gram.{IsCount, Fits}
 use Rattle.vcode_reader.specs.Keywords.{ItemParts}
 use Rattle.vcode_reader.specs.Numbers.{number_of, natural, natural_of, value_of}
@@ -94,7 +94,7 @@ callee_fits t q r h =
           (same_ok _ _ short.1),
     )
 
-pub given_fits : (s : Slot) (t : List ℕ) (q r : ItemParts) → word_in s t q ≡ Ok r → Fits s t q r
+pub given_fits : (s : WordSlot) (t : List ℕ) (q r : ItemParts) → word_in s t q ≡ Ok r → Fits s t q r
 given_fits Int t q r h = int_fits (bytes_eq t (codes "INT")) t q r refl h
 given_fits Kind t q r h = kind_fits (bytes_eq t (codes "INT")) (bytes_eq t (codes "BOOL")) t q r refl refl h
 given_fits Values t q r h = value_fits (value_of q.kind t) t q r refl h
@@ -108,7 +108,7 @@ no_list h = absurd (differ h)
     differ h = cc
 
 -- a list begins in one slot alone, with its parenthesis
-pub list_begins : (s : Slot) (t : List ℕ) → begins_list s t ≡ true → (s ≡ Values) × (t ≡ codes "(")
+pub list_begins : (s : WordSlot) (t : List ℕ) → begins_list s t ≡ true → (s ≡ Values) × (t ≡ codes "(")
 list_begins Int t h = no_list h
 list_begins Kind t h = no_list h
 list_begins Values t h = (refl, (bytes_eq-Decides t (codes "(")).0 h)

@@ -6,8 +6,8 @@ use Rattle.vcode_base.specs.declared.kind.Scalar.{Scalar}
 use Rattle.vcode_base.specs.declared.kind.Scalar.TheVariants as scalar
 use Rattle.vcode_reader.specs.declared.head.Head.TheVariants as head
 use Rattle.vcode_reader.specs.declared.keyword.Keyword.{Keyword}
-use Rattle.vcode_reader.specs.declared.keyword.Slot.{Slot}
-use Rattle.vcode_reader.specs.declared.keyword.Slot.TheVariants.{Int, Kind, Values, Count, Callee}
+use Rattle.vcode_reader.specs.declared.keyword.WordSlot.{WordSlot}
+use Rattle.vcode_reader.specs.declared.keyword.WordSlot.TheVariants.{Int, Kind, Values, Count, Callee}
 use Rattle.vcode_reader.specs.declared.place.Place.TheVariants.{Outside}
 use Rattle.vcode_reader.specs.declared.place.OpenIf.{OpenIf}
 use Rattle.vcode_reader.specs.Drafts.{open_if}
@@ -49,7 +49,7 @@ unfolding number_of
 zero_number = refl
 
 -- a word for each slot
-fitting : (s : Slot) (q : ItemParts) → (t : List ℕ) × (r : ItemParts) × Fits s t q r
+fitting : (s : WordSlot) (q : ItemParts) → (t : List ℕ) × (r : ItemParts) × Fits s t q r
 fitting Int q = (codes "INT", _, (refl, refl))
 fitting Kind q = (codes "INT", _, inl (refl, refl))
 fitting Values q = let (t, n, h) = value q.kind in (t, _, (n, h, refl))
@@ -94,7 +94,7 @@ ifs_end (i ∷ is) b fs name line code =
 inside_ends : (b : Bool) (o : Open) → Ends (within b o)
 inside_ends b o = ifs_end o.ifs b o.functions o.name o.line o.code
 
-going_ends : (slots : List Slot) (k : Keyword) (begun : ℕ) (q : ItemParts) (o : Open) → Ends (going k begun slots q o)
+going_ends : (slots : List WordSlot) (k : Keyword) (begun : ℕ) (q : ItemParts) (o : Open) → Ends (going k begun slots q o)
 unfolding going
 going_ends [] k begun q o = inside_ends (takes_int k) (with_item o (instruction_of k q) begun)
 going_ends (s ∷ slots) k begun q o =
@@ -131,7 +131,7 @@ outside_gram p ws (at_words k s slots ns o first done e g) h = absurd (let d = a
 outside_gram p ws (at_elements k slots before ns o first opened done inner e u f g t m le) h =
     absurd (let d = ap (λ (q : Parse). q.place) e in cc)
 
--- what stands can be completed
+-- the present words can be completed
 pub stands_good : (p : Parse) (ws : List Word) → Stands p ws → IsGood ws
 unfolding Ends between
 stands_good p ws st =
@@ -149,7 +149,7 @@ faulty_not_good ws x h (more, fs, g) =
     (sym (faulty_run more (run start ws) x h)
     ∙ (sym (run-append start ws more) ∙ gram_run fs (ws ++ more) g)))
 
--- the words so far, where they have no fault
+-- the words so far, if they have no fault
 pub run_stands : (ws : List Word) → (run start ws).fault ≡ None → Stands (run start ws) ws
 run_stands ws h = run_sound ws start [] at_start h
 
@@ -171,7 +171,7 @@ faulty_word before ws w fault h k = record {
   refusal = k;
 }
 
--- where the words have a fault, one of them is the first that has one
+-- if the words have a fault, one of them is the first that has one
 pub faulty : (ws before : List Word) (fault : Fault) → (run start before).fault ≡ None →
     (run (run start before) ws).fault ≡ Some fault → FirstFault (before ++ ws) fault
 faulty [] before fault h k =

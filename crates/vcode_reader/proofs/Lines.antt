@@ -90,7 +90,7 @@ pub later_same : {P : Type 0} (emit : Emit P) (r n : Scan P) (b : ℕ) (rest all
 unfolding scan_all
 later_same emit r n b rest all e f = ap (scan_all emit r) e ∙ sym (ap (λ x. scan_all emit x rest) f)
 
--- each byte of a text moves the line on where it is an LF
+-- each byte of a text moves the line on if it is an LF
 pub scan_all-line : {P : Type 0} (emit : Emit P) (bs : List ℕ) (r : Scan P) →
     (scan_all emit r bs).line ≡ r.line + line_feeds bs
 unfolding scan_all

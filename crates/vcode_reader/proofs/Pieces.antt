@@ -1,7 +1,7 @@
 -- Words that lie whole in a piece.
 use Rattle.std.proofs.Common.{◌≡◌, ◌∙◌, ℕ, suc, ◌+◌, ◌==◌, ◌<◌, ◌≤◌, true, false, List, [], ◌∷◌, ◌++◌, Some, None, refl}
 use Rattle.std.proofs.Common.{arith, ap, sym, length, take, drop, get_or, append_assoc}
-use Rattle.std.specs.Prelude.{if◌then◌else◌}
+use Rattle.std.specs.Prelude.{if◌then◌else◌, Option, is_some}
 use Rattle.std.proofs.lemmas.Bool.Decides.{nat_tests}
 use Rattle.vcode_reader.specs.declared.class.Class.{Class}
 use Rattle.vcode_reader.specs.declared.class.Class.TheVariants.{LineFeed, Blank, OpenBrace, CloseBrace, Parenthesis}
@@ -30,7 +30,7 @@ pub none_at : (t : List ℕ) (i : ℕ) → i < length t → is_plain (class_of (
     plain_length (drop i t) ≡ 0
 none_at t i lt h = ap plain_length (drop_next t i lt) ∙ rw h refl
 
--- ---- what is behind the plain bytes
+-- ---- what follows the plain bytes
 
 -- the length of the plain bytes at the front of a text that begins with a byte of this class
 abbrev front : Class → List ℕ → ℕ
@@ -152,7 +152,40 @@ whole_word {P = P} emit t plain rest s none empty front behind some more =
     ∙ rw (front, behind) (whole_by emit s (take (plain_length t) t) (drop (plain_length t) t) none empty
     (rw front at some) (rw behind at more) (none_follows t)))
 
--- ---- whether there are bytes
+-- ---- one byte between words, where no word is open
+
+blank_passed : {P : Type 0} (emit : Emit P) (s : Scan P) (rest : List ℕ) → s.comment ≡ None → s.word ≡ [] →
+    scan_all emit s (32 ∷ rest) ≡ scan_all emit s rest
+unfolding scan_all scan_byte end_word class_of
+blank_passed {P = P} emit s rest none empty = ap (λ (r : Scan P). scan_all emit r rest) (rw (none, empty) refl)
+
+feed_passed : {P : Type 0} (emit : Emit P) (s : Scan P) (rest : List ℕ) → s.comment ≡ None → s.word ≡ [] →
+    scan_all emit s (10 ∷ rest) ≡ scan_all emit (record s { line = s.line + 1 }) rest
+unfolding scan_all scan_byte end_word class_of
+feed_passed {P = P} emit s rest none empty = ap (λ (r : Scan P). scan_all emit r rest) (rw (none, empty) refl)
+
+-- a text that begins with a byte
+begins_with : (t : List ℕ) (b : ℕ) → 1 ≤ length t → get_or t 0 0 ≡ b → t ≡ b ∷ drop 1 t
+begins_with t b some h = drop_next t 0 some ∙ ap (λ x. x ∷ drop 1 t) h
+
+pub passes_blank : {P : Type 0} (emit : Emit P) (s : Scan P) (t rest : List ℕ) → s.comment ≡ None → s.word ≡ [] →
+    1 ≤ length t → get_or t 0 0 ≡ 32 → rest ≡ drop 1 t → scan_all emit s t ≡ scan_all emit s rest
+passes_blank emit s t rest none empty some h e =
+    ap (scan_all emit s) (begins_with t 32 some h)
+    ∙ (blank_passed emit s (drop 1 t) none empty ∙ ap (scan_all emit s) (sym e))
+
+pub passes_feed : {P : Type 0} (emit : Emit P) (s : Scan P) (t rest : List ℕ) → s.comment ≡ None → s.word ≡ [] →
+    1 ≤ length t → get_or t 0 0 ≡ 10 → rest ≡ drop 1 t →
+    scan_all emit s t ≡ scan_all emit (record s { line = s.line + 1 }) rest
+passes_feed emit s t rest none empty some h e =
+    ap (scan_all emit s) (begins_with t 10 some h)
+    ∙ (feed_passed emit s (drop 1 t) none empty ∙ ap (scan_all emit (record s { line = s.line + 1 })) (sym e))
+
+-- ---- whether there are bytes, or an open comment
+
+pub is_none : (o : Option ℕ) → is_some o ≡ false → o ≡ None
+is_none None h = refl
+is_none (Some l) h = cc
 
 pub some_bytes : (t : List ℕ) → (length t == 0) ≡ false → 1 ≤ length t
 some_bytes [] h = cc

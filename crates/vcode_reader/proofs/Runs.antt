@@ -1,4 +1,4 @@
--- What the words of the grammar come to: the program that it relates to them.
+-- What the words of the grammar give: the program that it relates to them.
 use Rattle.std.proofs.Common.{◌≡◌, ◌≢◌, ℕ, suc, ℤ, ◌<◌, ◌≤◌, Bool, true, false, inl, inr, List, [], ◌∷◌, ◌++◌, length}
 use Rattle.std.proofs.Common.{Some, None, Ok, refl, arith, ap, ◌∙◌, sym, codes, append_assoc, length-append}
 use Rattle.std.specs.Prelude.{nat_lt}
@@ -12,8 +12,8 @@ use Rattle.vcode_base.specs.declared.limits.TheConstants.{LONGEST_NAME, MOST_FUN
 use Rattle.vcode_base.specs.declared.limits.TheConstants.{MOST_MOVED}
 use Rattle.vcode_reader.specs.declared.head.Head.TheVariants as head
 use Rattle.vcode_reader.specs.declared.keyword.Keyword.{Keyword}
-use Rattle.vcode_reader.specs.declared.keyword.Slot.{Slot}
-use Rattle.vcode_reader.specs.declared.keyword.Slot.TheVariants.{Int, Kind, Values, Count, Callee}
+use Rattle.vcode_reader.specs.declared.keyword.WordSlot.{WordSlot}
+use Rattle.vcode_reader.specs.declared.keyword.WordSlot.TheVariants.{Int, Kind, Values, Count, Callee}
 use Rattle.vcode_reader.specs.declared.place.Place.{Place}
 use Rattle.vcode_reader.specs.declared.place.Place.TheVariants.{Name, Words, Elements}
 use Rattle.vcode_reader.specs.Decode.{tree_of, tree_of-body_lines}
@@ -93,7 +93,7 @@ close_is_no_value scalar.Int = refl
 close_is_no_value scalar.Bool = refl
 
 -- a word that fills a slot begins no list there
-fits_no_list : (s : Slot) (t : List ℕ) (q r : ItemParts) → Fits s t q r → begins_list s t ≡ false
+fits_no_list : (s : WordSlot) (t : List ℕ) (q r : ItemParts) → Fits s t q r → begins_list s t ≡ false
 fits_no_list Int t q r h = refl
 fits_no_list Kind t q r h = refl
 fits_no_list Values t q r (n, h, e) = paren_is_no_value q.kind 40 (open_is_no_value q.kind) t n h
@@ -107,7 +107,7 @@ counted t n (h, le) =
     ap (λ o. count_in o t) same ∙ rw (not_less MOST_MOVED n le) refl
 
 -- it gives what the grammar says
-fits_given : (s : Slot) (t : List ℕ) (q r : ItemParts) → Fits s t q r → word_in s t q ≡ Ok r
+fits_given : (s : WordSlot) (t : List ℕ) (q r : ItemParts) → Fits s t q r → word_in s t q ≡ Ok r
 fits_given Int t q r (h, e) = ap (λ z. word_in Int z q) h ∙ ap Ok (sym e)
 fits_given Kind t q r (inl (h, e)) = ap (λ z. word_in Kind z q) h ∙ ap Ok (sym e)
 fits_given Kind t q r (inr (h, e)) = ap (λ z. word_in Kind z q) h ∙ ap Ok (sym e)
@@ -117,7 +117,7 @@ fits_given Callee t q r (h, e) = rw (h.bare, h.good, not_less LONGEST_NAME (leng
 
 -- ---- the states that the grammar leads to
 
--- a function that is open, behind whole ones
+-- a function that is open, after whole ones
 pub record Open : Type 0 where
   pub functions : List Function
   pub name : List ℕ
@@ -183,7 +183,7 @@ between fs = record start { functions = fs }
 unfoldable pub naming_at : List Function → ℕ → Parse
 naming_at fs l = record start { functions = fs; place = Name; line = l }
 
--- inside a function, where an item may begin, or where b also a word INT may stand
+-- inside a function, at a place of an item, and if b also of a word INT
 unfoldable pub within : Bool → Open → Parse
 within b o = record {
   functions = o.functions;
@@ -196,17 +196,17 @@ within b o = record {
   fault = None;
 }
 
--- behind some words of an instruction
-unfoldable pub going : Keyword → ℕ → List Slot → ItemParts → Open → Parse
+-- after some words of an instruction
+unfoldable pub going : Keyword → ℕ → List WordSlot → ItemParts → Open → Parse
 going k begun [] q o = within (takes_int k) (with_item o (instruction_of k q) begun)
 going k begun (s ∷ slots) q o = record (within false o) { place = Words k s begun; slots = slots; parts = q }
 
 -- in a list
-unfoldable pub in_elements : Keyword → ℕ → ℕ → List Slot → ItemParts → Open → Parse
+unfoldable pub in_elements : Keyword → ℕ → ℕ → List WordSlot → ItemParts → Open → Parse
 in_elements k begun opened slots q o =
     record (within false o) { place = Elements k begun opened; slots = slots; parts = q }
 
-pub after_slot-going : (k : Keyword) (begun : ℕ) (slots : List Slot) (place : Place) (left : List Slot)
+pub after_slot-going : (k : Keyword) (begun : ℕ) (slots : List WordSlot) (place : Place) (left : List WordSlot)
     (q : ItemParts) (o : Open) →
     after_slot k begun slots (record (within false o) { place = place; slots = left; parts = q })
     ≡ going k begun slots q o
@@ -239,25 +239,25 @@ pub take_int : (l : ℕ) (o : Open) → take (codes "INT") l (within true o) ≡
 unfolding take within
 take_int l o = refl
 
-pub take_word : (s : Slot) (t : List ℕ) (q r : ItemParts) (k : Keyword) (begun l : ℕ) (slots : List Slot)
+pub take_word : (s : WordSlot) (t : List ℕ) (q r : ItemParts) (k : Keyword) (begun l : ℕ) (slots : List WordSlot)
     (o : Open) → Fits s t q r →
     take t l (going k begun (s ∷ slots) q o) ≡ going k begun slots r o
 unfolding take going within
 take_word s t q r k begun l slots o h =
     rw (fits_no_list s t q r h, fits_given s t q r h) (after_slot-going k begun slots (Words k s begun) slots r o)
 
-pub take_open : (k : Keyword) (begun l : ℕ) (slots : List Slot) (q : ItemParts) (o : Open) →
+pub take_open : (k : Keyword) (begun l : ℕ) (slots : List WordSlot) (q : ItemParts) (o : Open) →
     take (codes "(") l (going k begun (Values ∷ slots) q o)
     ≡ in_elements k begun l slots (record q { numbers = [] }) o
 unfolding take going within in_elements
 take_open k begun l slots q o = refl
 
-pub take_close : (k : Keyword) (begun opened l : ℕ) (slots : List Slot) (q : ItemParts) (o : Open) →
+pub take_close : (k : Keyword) (begun opened l : ℕ) (slots : List WordSlot) (q : ItemParts) (o : Open) →
     take (codes ")") l (in_elements k begun opened slots q o) ≡ going k begun slots q o
 unfolding take within in_elements
 take_close k begun opened l slots q o = after_slot-going k begun slots (Elements k begun opened) slots q o
 
-take_element : (t : List ℕ) (n : ℤ) (k : Keyword) (begun opened l : ℕ) (slots : List Slot) (q : ItemParts)
+take_element : (t : List ℕ) (n : ℤ) (k : Keyword) (begun opened l : ℕ) (slots : List WordSlot) (q : ItemParts)
     (o : Open) → value_of q.kind t ≡ Some n → length q.numbers < MOST_ELEMENTS →
     take t l (in_elements k begun opened slots q o)
     ≡ in_elements k begun opened slots (record q { numbers = q.numbers ++ n ∷ [] }) o
@@ -266,7 +266,7 @@ take_element t n k begun opened l slots q o h lt =
     rw (paren_is_no_value q.kind 41 (close_is_no_value q.kind) t n h, h, less (length q.numbers) MOST_ELEMENTS lt)
     refl
 
-elements_run : (ns : List ℤ) (ws : List Word) (k : Keyword) (begun opened : ℕ) (slots : List Slot) (q : ItemParts)
+elements_run : (ns : List ℤ) (ws : List Word) (k : Keyword) (begun opened : ℕ) (slots : List WordSlot) (q : ItemParts)
     (o : Open) (done : List ℤ) → AreValues q.kind ns ws → length (done ++ ns) ≤ MOST_ELEMENTS →
     run (in_elements k begun opened slots (record q { numbers = done }) o) ws
     ≡ in_elements k begun opened slots (record q { numbers = done ++ ns }) o
@@ -281,7 +281,7 @@ elements_run (n ∷ ns) (w ∷ ws) k begun opened slots q o done h le =
     (elements_run ns ws k begun opened slots q o (done ++ n ∷ []) h.1 (rw regroup le)
     ∙ ap (λ z. in_elements k begun opened slots (record q { numbers = z }) o) regroup)
 
-list_run : (before after : ItemParts) (ws : List Word) (k : Keyword) (begun : ℕ) (slots : List Slot) (o : Open) →
+list_run : (before after : ItemParts) (ws : List Word) (k : Keyword) (begun : ℕ) (slots : List WordSlot) (o : Open) →
     AreListed before after ws →
     run (going k begun (Values ∷ slots) before o) ws ≡ going k begun slots after o
 list_run before after ws k begun slots o (opened, closed, inner, ns, e, f, g, le, h, r) =
@@ -293,7 +293,7 @@ list_run before after ws k begun slots o (opened, closed, inner, ns, e, f, g, le
     (take_close k begun opened.line closed.line slots (record before { numbers = ns }) o))
     (no_run _ ∙ ap (λ z. going k begun slots z o) (sym r)))))
 
-one_run : (s : Slot) (before after : ItemParts) (ws : List Word) (k : Keyword) (begun : ℕ) (slots : List Slot)
+one_run : (s : WordSlot) (before after : ItemParts) (ws : List Word) (k : Keyword) (begun : ℕ) (slots : List WordSlot)
     (o : Open) → FillOne s before after ws →
     run (going k begun (s ∷ slots) before o) ws ≡ going k begun slots after o
 one_run s before after ws k begun slots o (inl (w, e, h)) =
@@ -301,7 +301,7 @@ one_run s before after ws k begun slots o (inl (w, e, h)) =
 one_run s before after ws k begun slots o (inr (e, h)) =
     ap (λ z. run (going k begun (z ∷ slots) before o) ws) e ∙ list_run before after ws k begun slots o h
 
-fill_run : (slots : List Slot) (before after : ItemParts) (ws : List Word) (k : Keyword) (begun : ℕ) (o : Open) →
+fill_run : (slots : List WordSlot) (before after : ItemParts) (ws : List Word) (k : Keyword) (begun : ℕ) (o : Open) →
     Fill slots before after ws →
     run (going k begun slots before o) ws ≡ within (takes_int k) (with_item o (instruction_of k after) begun)
 unfolding going
@@ -372,7 +372,7 @@ take_endif_alone b w fs name line code l is h =
     take_item b w (opened fs name line code (open_if l false ∷ is)) (λ e. endif_not_other (sym h ∙ e))
     ∙ ap (λ x. inside x (slots_of w.text) w.line (within b (opened fs name line code (open_if l false ∷ is)))) h
 
--- a body behind these lines
+-- a body after these lines
 abbrev Runs : Bool → Body → List Word → Open → Type 0
 Runs b body ws o = (c : Bool) × (run (within b o) ws ≡ within c (with_code o (o.code ++ body_lines body)))
 

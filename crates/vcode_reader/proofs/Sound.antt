@@ -1,4 +1,4 @@
--- What the words so far are, where they have no fault: the place that they lead to, and the part of the grammar that
+-- What the words so far are, if they have no fault: the place that they lead to, and the part of the grammar that
 -- they spell.
 use Rattle.std.proofs.Common.{◌≡◌, ◌≢◌, ℕ, suc, ℤ, ◌<◌, ◌≤◌, Bool, true, false, inl, inr, ◌||◌, List, [], ◌∷◌, ◌++◌}
 use Rattle.std.proofs.Common.{length, Option, Some, None, Result, Ok, Err, cond, refl, arith, ap, ◌∙◌, sym, subst}
@@ -15,8 +15,8 @@ use Rattle.vcode_reader.specs.declared.fault.CodeFault.TheVariants.{TooLarge}
 use Rattle.vcode_reader.specs.declared.head.Head.{Head}
 use Rattle.vcode_reader.specs.declared.head.Head.TheVariants as head
 use Rattle.vcode_reader.specs.declared.keyword.Keyword.{Keyword}
-use Rattle.vcode_reader.specs.declared.keyword.Slot.{Slot}
-use Rattle.vcode_reader.specs.declared.keyword.Slot.TheVariants.{Values}
+use Rattle.vcode_reader.specs.declared.keyword.WordSlot.{WordSlot}
+use Rattle.vcode_reader.specs.declared.keyword.WordSlot.TheVariants.{Values}
 use Rattle.vcode_reader.specs.declared.place.Place.TheVariants.{Words, Elements}
 use Rattle.vcode_reader.specs.declared.line.CodeItem.TheVariants as code_item
 use Rattle.vcode_reader.specs.declared.place.OpenIf.{OpenIf}
@@ -61,7 +61,7 @@ some_is_none x h = absurd (differ x h)
 not_faulty : {B : Type 0} (p : Parse) → IsFaulty p → p.fault ≡ None → B
 not_faulty p h k = some_none p.fault h.0 h.1 k
 
--- of two outcomes, the one without a fault where the other has one
+-- of two outcomes, the one without a fault if the other has one
 chosen_second : (b : Bool) (x y : Parse) → IsFaulty x → (cond b x y).fault ≡ None →
     (b ≡ false) × (cond b x y ≡ y) × (y.fault ≡ None)
 chosen_second true x y h k = not_faulty x h k
@@ -127,19 +127,19 @@ AreFunctions-then [] f u v h k = (v, [], ap (λ z. z ++ v) h ∙ sym (add_nil v)
 AreFunctions-then (g ∷ fs) f u v (a, b, e, h, t) k =
     (a, b ++ v, ap (λ z. z ++ v) e ∙ append_assoc a b v, h, AreFunctions-then fs f b v t k)
 
--- words that fill the first slots of an instruction: where further words fill the others, all of them do
-abbrev Filled : List ℕ → List Slot → ItemParts → List Word → Type 0
+-- words that fill the first slots of an instruction: if further words fill the others, all of them do
+abbrev Filled : List ℕ → List WordSlot → ItemParts → List Word → Type 0
 Filled word slots q done = (after : ItemParts) (rest : List Word) → Fill slots q after rest →
     Fill (slots_of word) no_parts after (done ++ rest)
 
--- ---- where words lead to
+-- ---- the place that words lead to
 
--- the words of the second part of an IF that has no ELSE yet; behind an ELSE there are none
+-- the words of the second part of an IF that has no ELSE yet; after an ELSE there are none
 abbrev IsRest : Bool → ℕ → Body → List Word → Type 0
 IsRest false n second ws = IsElse (IsBody n second) second ws
 IsRest true n second ws = ws ≡ []
 
--- words that close the open IFs, behind a rest of the innermost part
+-- words that close the open IFs, after a rest of the innermost part
 abbrev Completes : List OpenIf → Body → List Closing → List Word → Type 0
 Completes [] b cs ws = IsBody 0 b ws
 Completes (i ∷ is) b cs ws =
@@ -178,7 +178,7 @@ pub record Within (o : Open) (ws : List Word) : Type 0 where
   pub closes : Closes o.ifs o.code inner
 
 -- an open function, and the words of an open instruction
-pub record Begun (k : Keyword) (slots : List Slot) (q : ItemParts) (o : Open) (first : Word) (done : List Word)
+pub record Begun (k : Keyword) (slots : List WordSlot) (q : ItemParts) (o : Open) (first : Word) (done : List Word)
     (ws : List Word) : Type 0 where
   pub front : List Word
   pub words_are : ws ≡ front ++ first ∷ done
@@ -186,7 +186,7 @@ pub record Begun (k : Keyword) (slots : List Slot) (q : ItemParts) (o : Open) (f
   pub filled : Filled first.text slots q done
   pub inside : Within o front
 
--- where b one word INT more means nothing
+-- if b one word INT more means nothing
 abbrev TakesInt : Bool → Open → List Word → Type 0
 TakesInt b o ws = b ≡ true → (w : Word) → w.text ≡ codes "INT" → Within o (ws ++ w ∷ [])
 
@@ -197,10 +197,10 @@ pub data Stands (p : Parse) (ws : List Word) : Type 0 where
       (f : ws ≡ u ++ func ∷ []) (h : head_of func.text ≡ head.Func) (g : Gram fs u)
       (r : length fs < MOST_FUNCTIONS) → Stands p ws
   at_inside : (b : Bool) (o : Open) (e : p ≡ within b o) (h : Within o ws) (m : TakesInt b o ws) → Stands p ws
-  at_words : (k : Keyword) (s : Slot) (slots : List Slot) (q : ItemParts) (o : Open) (first : Word)
+  at_words : (k : Keyword) (s : WordSlot) (slots : List WordSlot) (q : ItemParts) (o : Open) (first : Word)
       (done : List Word) (e : p ≡ going k first.line (s ∷ slots) q o)
       (h : Begun k (s ∷ slots) q o first done ws) → Stands p ws
-  at_elements : (k : Keyword) (slots : List Slot) (before : ItemParts) (ns : List ℤ) (o : Open)
+  at_elements : (k : Keyword) (slots : List WordSlot) (before : ItemParts) (ns : List ℤ) (o : Open)
       (first opened : Word) (done inner : List Word)
       (e : p ≡ in_elements k first.line opened.line slots (record before { numbers = ns }) o)
       (u : List Word) (f : ws ≡ u ++ opened ∷ inner) (h : Begun k (Values ∷ slots) before o first done u)
@@ -334,7 +334,7 @@ whole_instruction k q o first done ws last h m =
       m,
     ))
 
-going_stands : (slots : List Slot) (k : Keyword) (q : ItemParts) (o : Open) (first : Word) (done ws : List Word) →
+going_stands : (slots : List WordSlot) (k : Keyword) (q : ItemParts) (o : Open) (first : Word) (done ws : List Word) →
     Begun k slots q o first done ws → Stands (going k first.line slots q o) ws
 unfolding going
 going_stands [] k q o first done ws h =
@@ -344,7 +344,7 @@ going_stands [] k q o first done ws h =
     (λ t w e. whole_instruction k q o first done ws (w ∷ []) h (inr (t, w, refl, e)))
 going_stands (s ∷ slots) k q o first done ws h = at_words k s slots q o first done refl h
 
-begun_more : (k : Keyword) (s : Slot) (slots : List Slot) (before next : ItemParts) (o : Open) (first : Word)
+begun_more : (k : Keyword) (s : WordSlot) (slots : List WordSlot) (before next : ItemParts) (o : Open) (first : Word)
     (done ws u : List Word) → Begun k (s ∷ slots) before o first done ws → FillOne s before next u →
     Begun k slots next o first (done ++ u) (ws ++ u)
 begun_more k s slots before next o first done ws u h i = record {
@@ -534,7 +534,7 @@ unfolding within
 item_step true o ws w h m n = int_step (bytes_eq w.text (codes "INT")) o ws w h m refl n
 item_step false o ws w h m n = inside_step (head_of w.text) false o ws w h refl n
 
-settled_step : (v : Result ItemParts CodeFault) (s : Slot) (k : Keyword) (slots : List Slot) (q : ItemParts)
+settled_step : (v : Result ItemParts CodeFault) (s : WordSlot) (k : Keyword) (slots : List WordSlot) (q : ItemParts)
     (o : Open) (first : Word) (done ws : List Word) (w : Word) → Begun k (s ∷ slots) q o first done ws →
     word_in s w.text q ≡ v →
     (after_part v k first.line w.line (going k first.line (s ∷ slots) q o)).fault ≡ None →
@@ -546,7 +546,7 @@ settled_step (Ok r) s k slots q o first done ws w h e n =
     (going_stands slots k r o first (done ++ w ∷ []) (ws ++ w ∷ [])
     (begun_more k s slots q r o first done ws (w ∷ []) h (inl (w, refl, given_fits s w.text q r e))))
 
-slot_step : (b : Bool) (s : Slot) (k : Keyword) (slots : List Slot) (q : ItemParts) (o : Open) (first : Word)
+slot_step : (b : Bool) (s : WordSlot) (k : Keyword) (slots : List WordSlot) (q : ItemParts) (o : Open) (first : Word)
     (done ws : List Word) (w : Word) → Begun k (s ∷ slots) q o first done ws → begins_list s w.text ≡ b →
     let p = cond b (in_elements k first.line w.line slots (record q { numbers = [] }) o)
     (after_part (word_in s w.text q) k first.line w.line (going k first.line (s ∷ slots) q o)) in
@@ -558,7 +558,7 @@ slot_step true s k slots q o first done ws w h e n =
 slot_step false s k slots q o first done ws w h e n =
     settled_step (word_in s w.text q) s k slots q o first done ws w h refl n
 
-in_slot_step : (s : Slot) (k : Keyword) (slots : List Slot) (q : ItemParts) (o : Open) (first : Word)
+in_slot_step : (s : WordSlot) (k : Keyword) (slots : List WordSlot) (q : ItemParts) (o : Open) (first : Word)
     (done ws : List Word) (w : Word) → Begun k (s ∷ slots) q o first done ws →
     (in_slot s k first.line w.text w.line (going k first.line (s ∷ slots) q o)).fault ≡ None →
     Stands (in_slot s k first.line w.text w.line (going k first.line (s ∷ slots) q o)) (ws ++ w ∷ [])
@@ -567,7 +567,7 @@ in_slot_step s k slots q o first done ws w h n =
     slot_step (begins_list s w.text) s k slots q o first done ws w h refl n
 
 -- the words of an open list, with one more
-pub record Listed (k : Keyword) (slots : List Slot) (before : ItemParts) (ns : List ℤ) (o : Open)
+pub record Listed (k : Keyword) (slots : List WordSlot) (before : ItemParts) (ns : List ℤ) (o : Open)
     (first opened : Word) (done inner ws : List Word) : Type 0 where
   pub front : List Word
   pub words_are : ws ≡ front ++ opened ∷ inner
@@ -576,11 +576,11 @@ pub record Listed (k : Keyword) (slots : List Slot) (before : ItemParts) (ns : L
   pub numbers : AreValues before.kind ns inner
   pub few : length ns ≤ MOST_ELEMENTS
 
-abbrev elements : Keyword → List Slot → ItemParts → List ℤ → Open → Word → Word → Parse
+abbrev elements : Keyword → List WordSlot → ItemParts → List ℤ → Open → Word → Word → Parse
 elements k slots before ns o first opened =
     in_elements k first.line opened.line slots (record before { numbers = ns }) o
 
-room_step : (b : Bool) (m : ℤ) (k : Keyword) (slots : List Slot) (before : ItemParts) (ns : List ℤ) (o : Open)
+room_step : (b : Bool) (m : ℤ) (k : Keyword) (slots : List WordSlot) (before : ItemParts) (ns : List ℤ) (o : Open)
     (first opened : Word) (done inner ws : List Word) (w : Word) →
     Listed k slots before ns o first opened done inner ws → value_of before.kind w.text ≡ Some m →
     nat_lt (length ns) MOST_ELEMENTS ≡ b →
@@ -593,7 +593,7 @@ room_step true m k slots before ns o first opened done inner ws w h e lt n =
     (ap (λ z. z ++ w ∷ []) h.words_are ∙ append_assoc h.front (opened ∷ inner) (w ∷ [])) h.begun h.is_opened
     (AreValues-then before.kind ns inner m w h.numbers e) (more_room ns m lt)
 
-element_step : (v : Option ℤ) (k : Keyword) (slots : List Slot) (before : ItemParts) (ns : List ℤ) (o : Open)
+element_step : (v : Option ℤ) (k : Keyword) (slots : List WordSlot) (before : ItemParts) (ns : List ℤ) (o : Open)
     (first opened : Word) (done inner ws : List Word) (w : Word) →
     Listed k slots before ns o first opened done inner ws → value_of before.kind w.text ≡ v →
     (one_element v w.text w.line (elements k slots before ns o first opened)).fault ≡ None →
@@ -603,7 +603,7 @@ element_step None k slots before ns o first opened done inner ws w h e n = some_
 element_step (Some m) k slots before ns o first opened done inner ws w h e n =
     room_step (nat_lt (length ns) MOST_ELEMENTS) m k slots before ns o first opened done inner ws w h e refl n
 
-list_step : (b : Bool) (k : Keyword) (slots : List Slot) (before : ItemParts) (ns : List ℤ) (o : Open)
+list_step : (b : Bool) (k : Keyword) (slots : List WordSlot) (before : ItemParts) (ns : List ℤ) (o : Open)
     (first opened : Word) (done inner ws : List Word) (w : Word) →
     Listed k slots before ns o first opened done inner ws → bytes_eq w.text (codes ")") ≡ b →
     let q = cond b (going k first.line slots (record before { numbers = ns }) o)
@@ -633,7 +633,7 @@ list_step true k slots before ns o first opened done inner ws w h e n =
 list_step false k slots before ns o first opened done inner ws w h e n =
     element_step (value_of before.kind w.text) k slots before ns o first opened done inner ws w h refl n
 
-in_list_step : (k : Keyword) (slots : List Slot) (before : ItemParts) (ns : List ℤ) (o : Open) (first opened : Word)
+in_list_step : (k : Keyword) (slots : List WordSlot) (before : ItemParts) (ns : List ℤ) (o : Open) (first opened : Word)
     (done inner ws : List Word) (w : Word) →
     Listed k slots before ns o first opened done inner ws →
     (in_list k first.line w.text w.line (elements k slots before ns o first opened)).fault ≡ None →
@@ -651,7 +651,7 @@ in_list_step k slots before ns o first opened done inner ws w h n =
     (list_step (bytes_eq w.text (codes ")")) k slots before ns o first opened done inner ws w h refl
     (sym (ap (λ (x : Parse). x.fault) c) ∙ n))
 
--- one word more, where it makes no fault
+-- one word more, if it makes no fault
 step_sound : (p : Parse) (ws : List Word) (w : Word) → Stands p ws → (take w.text w.line p).fault ≡ None →
     Stands (take w.text w.line p) (ws ++ w ∷ [])
 unfolding between naming_at within going in_elements

@@ -8,7 +8,7 @@ use Rattle.std.proofs.lemmas.Bool.Decides.{nat_tests}
 use Rattle.std.proofs.lemmas.Slice.Eq.{bytes_eq-Decides}
 use Rattle.vcode_reader.specs.declared.head.Head.{Head}
 use Rattle.vcode_reader.specs.declared.head.Head.TheVariants.{Other}
-use Rattle.vcode_reader.specs.declared.keyword.Slot.{Slot}
+use Rattle.vcode_reader.specs.declared.keyword.WordSlot.{WordSlot}
 use Rattle.vcode_reader.specs.Heads.{Row, rows, look_up, rows_with, head_of_length, head_longer, head_slots, head_of}
 use Rattle.vcode_reader.specs.Heads.{slots_of}
 
@@ -58,7 +58,7 @@ pub no_word : (word : List ℕ) → length word ≡ 0 → Other ≡ head_of word
 unfolding head_of_length rows
 no_word word h = among_length 0 word h
 
--- ---- what stands behind a word, by what the word begins
+-- ---- what follows a word, by what the word begins
 
 abbrev agrees : Row → Type 0
 agrees r = r.slots ≡ head_slots r.head
@@ -69,7 +69,7 @@ look_up-slots [] word h = refl
 look_up-slots (r ∷ rs) word h =
     chosen (bytes_eq word r.word) r _ _ h.0 (look_up-slots rs word h.1)
   where
-    chosen : (t : Bool) (r : Row) (slots : List Slot) (head : Head) → agrees r → slots ≡ head_slots head →
+    chosen : (t : Bool) (r : Row) (slots : List WordSlot) (head : Head) → agrees r → slots ≡ head_slots head →
         cond t r.slots slots ≡ head_slots (cond t r.head head)
     chosen true r slots head e f = e
     chosen false r slots head e f = f

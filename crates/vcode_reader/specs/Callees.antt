@@ -7,7 +7,7 @@ use Rattle.vcode_reader.specs.declared.line.CodeItem.TheVariants as code_item
 use Rattle.vcode_reader.specs.Targets.{target_in}
 use Rattle.vcode_reader.specs.Trees.{Item, Function, instruction_line, lines_of}
 
--- the place of the first function that a CALL names, where there is one
+-- the place of the first function that a CALL names, if there is one
 abbrev pub callee_of : List Function → CodeItem Item → Option ℕ
 callee_of fs (code_item.Do (Call name)) = position (λ f. bytes_eq f.name name) fs
 callee_of fs _ = None

@@ -1,4 +1,4 @@
--- The function that lines stand for: a body's lines read from the end give its tree, and no other.
+-- The function whose lines these are: a body's lines read from the end give its tree, and no other.
 use Rattle.std.specs.Prelude.{◌≡◌, ℕ, List, [], ◌∷◌, ◌++◌, Option, Some, None, refl}
 use Rattle.std.specs.Coded.{Coded, code_by, coded_ℕ, coded×, coded_list}
 use Rattle.std.proofs.Common.{ap, sym, ◌∙◌, append_assoc}
@@ -8,7 +8,7 @@ use Rattle.vcode_reader.specs.declared.line.CodeItem.TheVariants as code_item
 use Rattle.vcode_reader.specs.Trees.{Item, Body, End, Do, Choice, CodeLine, Function, Program, line_of}
 use Rattle.vcode_reader.specs.Trees.{instruction_line, body_lines, lines_of}
 
--- what waits for the front of an IF: its second body, or both, with the line of its ENDIF and the body behind it
+-- what waits for the front of an IF: its second body, or both, with the line of its ENDIF and the body after it
 pub data Waits : Type 0 where
   ForElse : (end : ℕ) (rest : Body) → Waits
   ForIf : (second : Body) (end : ℕ) (rest : Body) → Waits
@@ -73,7 +73,7 @@ abbrev pub function_of : List ℕ → ℕ → List CodeLine → Function
 function_of name line lines =
     record { name = name; line = line; body = body_in (split_last lines); ret = ret_in (split_last lines) }
 
--- the lines are those of the function that they stand for
+-- the lines are those of their function
 abbrev pub AreLines : List ℕ → ℕ → List CodeLine → Type 0
 AreLines name line lines = lines_of (function_of name line lines) ≡ lines
 
@@ -120,7 +120,7 @@ unfolding tree_of tail_of then_tail
 tree_of-body_lines b = ap tree_of (sym (add_nil (body_lines b)))
     ∙ (ap (λ (t : Tail). t.body) (tail_of-body_lines b []) ∙ then_end b)
 
--- ---- lines with a RET behind them
+-- ---- lines with a RET after them
 
 pub split_last-then : (xs : List CodeLine) (ret : ℕ) →
     split_last (xs ++ instruction_line Return ret ∷ []) ≡ Some (xs, ret)
@@ -146,9 +146,9 @@ pub AreLines-then : (name : List ℕ) (line : ℕ) (xs : List CodeLine) (ret : �
 AreLines-then name line xs ret h =
     ap lines_of (function_of-then name line xs ret) ∙ ap (λ ys. ys ++ instruction_line Return ret ∷ []) h
 
--- ---- what tells programs apart
+-- ---- what identifies a program
 
--- a function is told apart by its name, its line and its lines
+-- a function is identified by its name, its line and its lines
 abbrev pub function_code : Coded CodeLine → Coded Function
 function_code line =
     code_by (List ℕ × (ℕ × List CodeLine)) (coded× (coded_list coded_ℕ) (coded× coded_ℕ (coded_list line)))

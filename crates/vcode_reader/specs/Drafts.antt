@@ -58,18 +58,17 @@ endif_in e (i ∷ is) lines = record { lines = lines_after_endif i e lines; ifs 
 abbrev pub with_endif : ℕ → DraftState → DraftState
 with_endif e d = endif_in e d.ifs d.lines
 
--- what closes an open IF: its second part where it has no ELSE yet, the line of its ENDIF, and what stands behind
--- that
+-- what closes an open IF: its second part if it has no ELSE yet, the line of its ENDIF, and what follows that
 pub record Closing : Type 0 where
   pub second : Body
   pub end : ℕ
   pub after : Body
 
--- the lines of an ELSE and the part behind it, where the IF has none yet
+-- the lines of an ELSE and the part after it, if the IF has none yet
 abbrev pub else_part : OpenIf → Body → List CodeLine
 else_part i second = if i.has_else then [] else line_of code_item.Else i.line ∷ body_lines second
 
--- the first of them; where none is given, an empty part
+-- the first of them; if none is given, an empty part
 abbrev pub first_closing : List Closing → Closing
 first_closing [] = record { second = End; end = 0; after = End }
 first_closing (c ∷ cs) = c
@@ -78,7 +77,7 @@ abbrev pub other_closings : List Closing → List Closing
 other_closings [] = []
 other_closings (c ∷ cs) = cs
 
--- the lines that close open IFs, behind a rest of the innermost part
+-- the lines that close open IFs, after a rest of the innermost part
 abbrev pub endings : List OpenIf → Body → List Closing → List CodeLine
 endings [] b cs = body_lines b
 endings (i ∷ is) b cs =

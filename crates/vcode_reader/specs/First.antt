@@ -13,12 +13,12 @@ use Rattle.vcode_reader.specs.Trees.{Function, Program}
 abbrev pub IsGood : List Word → Type 0
 IsGood ws = (more : List Word) × (fs : List Function) × Gram fs (ws ++ more)
 
--- what stands open behind the words
+-- what is open after the words
 unfoldable pub run : Parse → List Word → Parse
 run p [] = p
 run p (w ∷ ws) = run (take w.text w.line p) ws
 
--- the first word behind the longest good front, and what the table says of it there
+-- the first word after the longest good front, and what the table says of it there
 pub record FirstFault (ws : List Word) (fault : Fault) : Type 0 where
   pub before : List Word
   pub word : Word
@@ -35,7 +35,7 @@ pub record IsUnfinished (ws : List Word) (comment : Option ℕ) (fault : Fault) 
   pub is_unfinished : fault.0 ≡ Unfinished
   pub line : result_at_end None comment (run start ws) ≡ Err fault
 
--- the functions that the grammar relates to the words, where they end in no comment, or the first fault
+-- the functions that the grammar relates to the words, if they end in no comment, or the first fault
 abbrev pub IsWanted : Result (List Function) Fault → List Word → Option ℕ → Type 0
 IsWanted (Ok fs) ws comment = (comment ≡ None) × Gram fs ws
 IsWanted (Err fault) ws comment = FirstFault ws fault ⊎ IsUnfinished ws comment fault
@@ -46,7 +46,7 @@ IsReading (Ok p) first bytes =
     (p.first_line ≡ first) × IsWanted (Ok p.functions) (words first bytes) (open_comment first bytes)
 IsReading (Err fault) first bytes = IsWanted (Err fault) (words first bytes) (open_comment first bytes)
 
--- the same of an answer that may be want of memory
+-- the same of an answer that may be out of memory
 abbrev pub IsAnswer : Result Program ReadFault → ℕ → List ℕ → Type 0
 IsAnswer (Ok p) first bytes = IsReading (Ok p) first bytes
 IsAnswer (Err Memory) first bytes = Unit {0}

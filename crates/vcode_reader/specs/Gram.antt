@@ -9,8 +9,8 @@ use Rattle.vcode_base.specs.declared.limits.TheConstants.{MOST_MOVED}
 use Rattle.vcode_reader.specs.declared.head.Head.{Head}
 use Rattle.vcode_reader.specs.declared.head.Head.TheVariants.{Func, Return, If, Else, Endif, Start}
 use Rattle.vcode_reader.specs.declared.keyword.Keyword.{Keyword}
-use Rattle.vcode_reader.specs.declared.keyword.Slot.{Slot}
-use Rattle.vcode_reader.specs.declared.keyword.Slot.TheVariants.{Int, Kind, Values, Count, Callee}
+use Rattle.vcode_reader.specs.declared.keyword.WordSlot.{WordSlot}
+use Rattle.vcode_reader.specs.declared.keyword.WordSlot.TheVariants.{Int, Kind, Values, Count, Callee}
 use Rattle.vcode_reader.specs.Heads.{head_of, slots_of}
 use Rattle.vcode_reader.specs.Keywords.{ItemParts, no_parts, takes_int, instruction_of}
 use Rattle.vcode_reader.specs.Numbers.{number_of, value_of}
@@ -29,7 +29,7 @@ abbrev pub IsCount : List ℕ → ℕ → Type 0
 IsCount t n = (number_of t ≡ Some (pos n)) × (n ≤ MOST_MOVED)
 
 -- one word that fills a slot; what the words before it gave, and what they gave with it
-abbrev pub Fits : Slot → List ℕ → ItemParts → ItemParts → Type 0
+abbrev pub Fits : WordSlot → List ℕ → ItemParts → ItemParts → Type 0
 Fits Int t before after = (t ≡ codes "INT") × (after ≡ record before { kind = scalar.Int })
 Fits Kind t before after =
     ((t ≡ codes "INT") × (after ≡ record before { kind = scalar.Int }))
@@ -46,7 +46,7 @@ AreValues k [] (w ∷ ws) = ⊥
 AreValues k (n ∷ ns) [] = ⊥
 AreValues k (n ∷ ns) (w ∷ ws) = (value_of k w.text ≡ Some n) × AreValues k ns ws
 
--- so many values in parentheses
+-- this number of values in parentheses
 abbrev pub AreListed : ItemParts → ItemParts → List Word → Type 0
 AreListed before after ws =
     (opened closed : Word) × (inner : List Word) × (ns : List ℤ) × (ws ≡ opened ∷ (inner ++ closed ∷ [])) ×
@@ -54,17 +54,17 @@ AreListed before after ws =
     AreValues before.kind ns inner × (after ≡ record before { numbers = ns })
 
 -- words that fill one slot
-abbrev pub FillOne : Slot → ItemParts → ItemParts → List Word → Type 0
+abbrev pub FillOne : WordSlot → ItemParts → ItemParts → List Word → Type 0
 FillOne s before after ws =
     ((w : Word) × (ws ≡ w ∷ []) × Fits s w.text before after) ⊎ ((s ≡ Values) × AreListed before after ws)
 
 -- words that fill the slots
-abbrev pub Fill : List Slot → ItemParts → ItemParts → List Word → Type 0
+abbrev pub Fill : List WordSlot → ItemParts → ItemParts → List Word → Type 0
 Fill [] before after ws = (before ≡ after) × (ws ≡ [])
 Fill (s ∷ slots) before after ws = (next : ItemParts) × (u rest : List Word) × (ws ≡ u ++ rest) ×
     FillOne s before next u × Fill slots next after rest
 
--- nothing, or where it may stand one word INT
+-- nothing, or if it is allowed one word INT
 abbrev pub MayBeInt : Bool → List Word → Type 0
 MayBeInt may ws = (ws ≡ []) ⊎ ((may ≡ true) × (w : Word) × (ws ≡ w ∷ []) × (w.text ≡ codes "INT"))
 
@@ -85,7 +85,7 @@ IsElse is_part second ws =
     ((ws ≡ []) × (second ≡ End))
     ⊎ ((w : Word) × (u : List Word) × (ws ≡ w ∷ u) × (head_of w.text ≡ Else) × is_part u)
 
--- the items of a body, round which so many IFs are open
+-- the items of a body inside this number of open IFs
 abbrev pub IsBody : ℕ → Body → List Word → Type 0
 IsBody n End ws = ws ≡ []
 IsBody n (Do i l b) ws = (u v : List Word) × (ws ≡ u ++ v) × IsInstruction i l u × IsBody n b v

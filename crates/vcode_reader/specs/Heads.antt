@@ -1,5 +1,5 @@
--- The table of words: what each begins where an item of a function or a function must stand, and what the words
--- behind it must be.
+-- The table of words: what each begins at the place of an item of a function or of a function, and what the words
+-- after it must be.
 use Rattle.std.specs.Prelude.{ℕ, Bool, ◌==◌, nat_lt, List, [], ◌∷◌, if◌then◌else◌, length, codes}
 use Rattle.std.specs.Str.{bytes_eq}
 use Rattle.vcode_base.specs.declared.op.Arith.TheVariants.{Add, Subtract, Multiply, Divide, Remainder, ShiftLeft}
@@ -18,22 +18,22 @@ use Rattle.vcode_reader.specs.declared.keyword.Keyword.TheVariants.{IntToBool, B
 use Rattle.vcode_reader.specs.declared.keyword.Keyword.TheVariants.{Index, Permute, BackPermute, DefaultPermute}
 use Rattle.vcode_reader.specs.declared.keyword.Keyword.TheVariants.{Extract, Replace, Pack, MakeSegdes, Lengths, Move}
 use Rattle.vcode_reader.specs.declared.keyword.Keyword.TheVariants.{Call}
-use Rattle.vcode_reader.specs.declared.keyword.Slot.{Slot}
-use Rattle.vcode_reader.specs.declared.keyword.Slot.TheVariants.{Int, Kind, Values, Count, Callee}
+use Rattle.vcode_reader.specs.declared.keyword.WordSlot.{WordSlot}
+use Rattle.vcode_reader.specs.declared.keyword.WordSlot.TheVariants.{Int, Kind, Values, Count, Callee}
 use Rattle.vcode_reader.specs.Keywords.{keyword_slots}
 
--- a word, what it begins, and what each word behind it must be
+-- a word, what it begins, and what each word after it must be
 pub record Row : Type 0 where
   pub word : List ℕ
   pub head : Head
-  pub slots : List Slot
+  pub slots : List WordSlot
 
 -- a word of the frame of functions and IFs
 abbrev pub frame : List ℕ → Head → Row
 frame word head = record { word = word; head = head; slots = [] }
 
 -- the first word of an instruction
-abbrev pub row : List ℕ → Keyword → List Slot → Row
+abbrev pub row : List ℕ → Keyword → List WordSlot → Row
 row word keyword slots = record { word = word; head = Start keyword; slots = slots }
 
 unfoldable pub rows : List Row
@@ -94,7 +94,7 @@ rows =
     ∷ row (codes "CALL") Call (Callee ∷ [])
     ∷ []
 
--- what the first row of a word has in a column; where no row has the word, this
+-- what the first row of a word has in a column; if no row has the word, this
 abbrev pub look_up : {A : Type 0} → (Row → A) → A → List Row → List ℕ → A
 look_up column missing [] word = missing
 look_up column missing (r ∷ rs) word = if bytes_eq word r.word then column r else look_up column missing rs word
@@ -103,8 +103,8 @@ look_up column missing (r ∷ rs) word = if bytes_eq word r.word then column r e
 unfoldable pub head_of : List ℕ → Head
 head_of word = look_up (λ r. r.head) Other rows word
 
--- what each word behind it must be
-unfoldable pub slots_of : List ℕ → List Slot
+-- what each word after it must be
+unfoldable pub slots_of : List ℕ → List WordSlot
 slots_of word = look_up (λ r. r.slots) [] rows word
 
 -- ---- the same, sought among the words of a length, and by what a word begins
@@ -121,7 +121,7 @@ head_of_length n word = look_up (λ r. r.head) Other (rows_with (λ m. m == n) r
 unfoldable pub head_longer : ℕ → List ℕ → Head
 head_longer n word = look_up (λ r. r.head) Other (rows_with (nat_lt n) rows) word
 
--- what each word behind one that begins this must be
-abbrev pub head_slots : Head → List Slot
+-- what each word after one that begins this must be
+abbrev pub head_slots : Head → List WordSlot
 head_slots (Start k) = keyword_slots k
 head_slots _ = []

@@ -12,27 +12,27 @@ use Rattle.vcode_reader.specs.declared.keyword.Folding.{Folding}
 use Rattle.vcode_reader.specs.declared.keyword.Folding.TheVariants as folding
 use Rattle.vcode_reader.specs.declared.keyword.Keyword.{Keyword}
 use Rattle.vcode_reader.specs.declared.keyword.Keyword.TheVariants as keyword
-use Rattle.vcode_reader.specs.declared.keyword.Slot.{Slot}
-use Rattle.vcode_reader.specs.declared.keyword.Slot.TheVariants as slot
+use Rattle.vcode_reader.specs.declared.keyword.WordSlot.{WordSlot}
+use Rattle.vcode_reader.specs.declared.keyword.WordSlot.TheVariants as slot
 use Rattle.vcode_reader.specs.declared.parts.Parts.{Parts}
 use Rattle.vcode_reader.specs.Trees.{Item}
 
--- what the words of an instruction give, behind its first
+-- what the words of an instruction give, after its first
 abbrev pub ItemParts : Type 0
 ItemParts = Parts (List ℤ) (List ℕ)
 
 abbrev pub no_parts : ItemParts
 no_parts = record { kind = scalar.Int; lower = 0; upper = 0; numbers = []; callee = [] }
 
-abbrev pub folding_slots : Folding → List Slot
+abbrev pub folding_slots : Folding → List WordSlot
 folding_slots folding.Sum = slot.Int ∷ []
 folding_slots folding.Product = slot.Int ∷ []
 folding_slots folding.Max = slot.Int ∷ []
 folding_slots folding.Min = slot.Int ∷ []
 folding_slots (folding.Logic op) = slot.Kind ∷ []
 
--- what each word behind the first must be, by the first: as the table of words says
-abbrev pub keyword_slots : Keyword → List Slot
+-- what each word after the first must be, by the first: as the table of words says
+abbrev pub keyword_slots : Keyword → List WordSlot
 keyword_slots keyword.Const = slot.Kind ∷ slot.Values ∷ []
 keyword_slots (keyword.Arith op) = slot.Int ∷ []
 keyword_slots (keyword.Compare op) = slot.Int ∷ []
@@ -56,7 +56,7 @@ keyword_slots keyword.Lengths = []
 keyword_slots (keyword.Move motion) = slot.Count entries.Lower ∷ slot.Count entries.Upper ∷ []
 keyword_slots keyword.Call = slot.Callee ∷ []
 
--- behind these one word INT may stand, which means nothing
+-- after these one word INT is allowed, which means nothing
 abbrev pub takes_int : Keyword → Bool
 takes_int keyword.Index = true
 takes_int keyword.MakeSegdes = true

@@ -6,7 +6,7 @@ use Rattle.std.specs.Str.{bytes_eq}
 use Rattle.vcode_base.specs.declared.kind.Scalar.{Scalar}
 use Rattle.vcode_base.specs.declared.kind.Scalar.TheVariants.{Int, Bool}
 
--- what digits come to, behind digits of value n
+-- the value of digits, after digits of value n
 abbrev pub digits_from : ℕ → List ℕ → Option ℕ
 digits_from n [] = Some n
 digits_from n (c ∷ cs) = if nat_le 48 c && nat_lt c 58 then digits_from (10 * n + (c - 48)) cs else None
@@ -28,12 +28,12 @@ unfoldable pub number_of : List ℕ → Option ℤ
 number_of [] = None
 number_of (c ∷ cs) = if c == 45 then negative (decimal cs) else positive (decimal (c ∷ cs))
 
--- the value, where it is below m
+-- the value, if it is below m
 abbrev pub below : ℕ → Option ℕ → Option ℕ
 below m None = None
 below m (Some n) = if nat_lt n m then Some n else None
 
--- the number, where it isn't negative
+-- the number, if it isn't negative
 abbrev pub natural : Option ℤ → Option ℕ
 natural None = None
 natural (Some (pos n)) = Some n

@@ -1,7 +1,7 @@
--- What tells one state of a reading from another: its parts.
+-- The parts that identify a state of a reading.
 use Rattle.std.specs.Prelude.{ℕ, Bool, List, Option, refl}
 use Rattle.std.specs.Coded.{Coded, code_by, coded_ℕ, coded_bool, coded×, coded_list}
-use Rattle.vcode_reader.specs.declared.keyword.Slot.{Slot}
+use Rattle.vcode_reader.specs.declared.keyword.WordSlot.{WordSlot}
 use Rattle.vcode_reader.specs.declared.place.OpenIf.{OpenIf}
 use Rattle.vcode_reader.specs.declared.place.Place.{Place}
 use Rattle.vcode_reader.specs.Decode.{function_code}
@@ -13,10 +13,10 @@ use Rattle.vcode_reader.specs.Refusals.{Fault}
 use Rattle.vcode_reader.specs.Scan.{Scan}
 use Rattle.vcode_reader.specs.Trees.{CodeLine, Function}
 
-abbrev pub parse_code : Coded CodeLine → Coded OpenIf → Coded Place → Coded Slot → Coded ItemParts →
+abbrev pub parse_code : Coded CodeLine → Coded OpenIf → Coded Place → Coded WordSlot → Coded ItemParts →
     Coded (Option Fault) → Coded Parse
 parse_code line ifs place slot parts fault =
-    code_by (List Function × (Place × (List ℕ × (ℕ × (DraftState × (List Slot × (ItemParts × Option Fault)))))))
+    code_by (List Function × (Place × (List ℕ × (ℕ × (DraftState × (List WordSlot × (ItemParts × Option Fault)))))))
     (coded× (coded_list (function_code line))
     (coded× place
     (coded× (coded_list coded_ℕ)

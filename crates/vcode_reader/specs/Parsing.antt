@@ -1,4 +1,4 @@
--- The table of refusals: what stands open after the words so far, and what one word more makes of it.
+-- The table of refusals: what is open after the words so far, and what one word more does to it.
 use Rattle.std.specs.Prelude.{ℕ, ℤ, Bool, true, false, ◌||◌, ◌==◌, nat_lt, List, [], ◌∷◌, ◌++◌, length, Option, Some}
 use Rattle.std.specs.Prelude.{None, is_some, Result, Ok, Err, if◌then◌else◌, codes}
 use Rattle.std.specs.Str.{bytes_eq}
@@ -14,8 +14,8 @@ use Rattle.vcode_reader.specs.declared.head.Head.TheVariants as head
 use Rattle.vcode_reader.specs.declared.keyword.Entries.{Entries}
 use Rattle.vcode_reader.specs.declared.keyword.Entries.TheVariants.{Lower, Upper}
 use Rattle.vcode_reader.specs.declared.keyword.Keyword.{Keyword}
-use Rattle.vcode_reader.specs.declared.keyword.Slot.{Slot}
-use Rattle.vcode_reader.specs.declared.keyword.Slot.TheVariants as slot
+use Rattle.vcode_reader.specs.declared.keyword.WordSlot.{WordSlot}
+use Rattle.vcode_reader.specs.declared.keyword.WordSlot.TheVariants as slot
 use Rattle.vcode_reader.specs.declared.place.Place.{Place}
 use Rattle.vcode_reader.specs.declared.place.Place.TheVariants.{Outside, Name, Inside, InsideOrInt, Words, Elements}
 use Rattle.vcode_reader.specs.Decode.{tree_of}
@@ -35,7 +35,7 @@ pub record Parse : Type 0 where
   pub name : List ℕ
   pub line : ℕ
   pub draft : DraftState
-  pub slots : List Slot
+  pub slots : List WordSlot
   pub parts : ItemParts
   pub fault : Option Fault
 
@@ -55,7 +55,7 @@ start =
 abbrev pub with_fault : CodeFault → ℕ → Parse → Parse
 with_fault r l p = record p { fault = Some (r, l) }
 
--- a byte that stands in no word
+-- a byte that is part of no word
 abbrev pub is_bad_byte : ℕ → Bool
 is_bad_byte b = nat_lt b 33 || nat_lt 126 b || b == 123 || b == 125
 
@@ -73,7 +73,7 @@ is_no_name t = is_parenthesis t || is_bad t
 
 -- ---- what one word gives to an instruction, or why it is refused
 
--- a word that isn't the number that must stand: a byte that stands in no word is no word at all
+-- what is wrong with a word that isn't the required number: a byte that is part of no word is no word at all
 abbrev pub no_number : List ℕ → CodeFault
 no_number t = if is_bad t then BadWord else BadNumber
 
@@ -114,7 +114,7 @@ with_callee t q =
     if is_no_name t then Err BadWord else if nat_lt LONGEST_NAME (length t) then Err TooLarge else Ok
     (record q { callee = t })
 
-abbrev pub word_in : Slot → List ℕ → ItemParts → Result ItemParts CodeFault
+abbrev pub word_in : WordSlot → List ℕ → ItemParts → Result ItemParts CodeFault
 word_in slot.Int t q = with_kind (int_of t) q
 word_in slot.Kind t q = with_kind (kind_of t) q
 word_in slot.Values t q = with_value (value_of q.kind t) t q
@@ -123,13 +123,13 @@ word_in slot.Callee t q = with_callee t q
 
 -- ---- the words of an instruction
 
--- where an item may stand; behind some instructions also a word INT
+-- the place of an item; after some instructions also of a word INT
 abbrev pub item_place : Bool → Place
 item_place true = InsideOrInt
 item_place false = Inside
 
--- the next words of the instruction that began at this line must be these; where none is left, it is whole
-abbrev pub after_slot : Keyword → ℕ → List Slot → Parse → Parse
+-- the next words of the instruction that began at this line must be these; if none is left, it is whole
+abbrev pub after_slot : Keyword → ℕ → List WordSlot → Parse → Parse
 after_slot k begun [] p =
     record p {
       place = item_place (takes_int k);
@@ -144,11 +144,11 @@ abbrev pub after_part : Result ItemParts CodeFault → Keyword → ℕ → ℕ �
 after_part (Ok parts) k begun l p = after_slot k begun p.slots (record p { parts = parts })
 after_part (Err r) k begun l p = with_fault r l p
 
-abbrev pub begins_list : Slot → List ℕ → Bool
+abbrev pub begins_list : WordSlot → List ℕ → Bool
 begins_list slot.Values t = bytes_eq t (codes "(")
 begins_list _ t = false
 
-abbrev pub in_slot : Slot → Keyword → ℕ → List ℕ → ℕ → Parse → Parse
+abbrev pub in_slot : WordSlot → Keyword → ℕ → List ℕ → ℕ → Parse → Parse
 in_slot s k begun t l p =
     if begins_list s t then record p {
       place = Elements k begun l;
@@ -199,7 +199,7 @@ after_return l p =
       draft = no_lines;
     }
 
-abbrev pub inside : Head → List Slot → ℕ → Parse → Parse
+abbrev pub inside : Head → List WordSlot → ℕ → Parse → Parse
 inside head.Return slots l p = if is_open p.draft.ifs then with_fault Misplaced l p else after_return l p
 inside head.If slots l p =
     if nat_lt

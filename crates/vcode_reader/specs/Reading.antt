@@ -1,4 +1,4 @@
--- What a text comes to: its program, or its first fault with the line.
+-- The reading of a text: its program, or its first fault with the line.
 use Rattle.std.specs.Prelude.{◌≡◌, ℕ, Bool, false, List, Option, Some, None, Result, Ok, Err, Vec}
 use Rattle.vcode_reader.specs.declared.fault.CodeFault.TheVariants.{Unfinished}
 use Rattle.vcode_base.specs.TextAnswers.{Fails}
@@ -19,7 +19,7 @@ at_end InsideOrInt p = Err (Unfinished, innermost_line p.draft.ifs p.line)
 at_end (Words k s begun) p = Err (Unfinished, begun)
 at_end (Elements k begun opened) p = Err (Unfinished, opened)
 
--- what the words come to where the text ends behind them: in a comment that began at this line, or in none
+-- the reading of the words if the text ends after them: in a comment that began at this line, or in none
 abbrev pub result_at_end : Option Fault → Option ℕ → Parse → Result (List Function) Fault
 result_at_end (Some fault) comment p = Err fault
 result_at_end None (Some l) p = Err (Unfinished, l)
@@ -30,7 +30,7 @@ abbrev pub unless : Option Fault → List Function → Result (List Function) Fa
 unless None fs = Ok fs
 unless (Some fault) fs = Err fault
 
--- what the bytes so far come to, if the text ends behind them
+-- the reading of the bytes so far, if the text ends after them
 unfoldable pub outcome : Scan Parse → Result (List Function) Fault
 outcome s = let e = end_word take s in result_at_end e.found.fault e.comment e.found
 
@@ -38,7 +38,7 @@ abbrev pub program_at : ℕ → Result (List Function) Fault → Result Program 
 program_at first (Ok fs) = Ok (record { first_line = first; functions = fs })
 program_at first (Err fault) = Err fault
 
--- what a text comes to, whose first line has this number
+-- the reading of a text whose first line has this number
 unfoldable pub reading : ℕ → List ℕ → Result Program Fault
 reading first bytes = program_at first (outcome (scan_all take (beginning start first) bytes))
 
@@ -55,7 +55,7 @@ HasScanned s first bytes = s ≡ scan_all take (beginning start first) bytes
 abbrev pub IsOfBytes : Scan Parse → ℕ → Bool → Type 0
 IsOfBytes s first failed = failed ≡ false → (bytes : List ℕ) × HasScanned s first bytes
 
--- a reader of pieces: where its text stands, the number of the first line, and whether it failed for want of memory
+-- a reader of pieces: the state of its text, the number of the first line, and whether it failed for lack of memory
 pub record ReaderState : Type 0 where
   pub scan : Scan Parse
   pub first_line : ℕ

@@ -17,6 +17,6 @@ refusal_text TooLarge = codes "S6 TOO_LARGE"
 abbrev pub Fault : Type 0
 Fault = CodeFault × ℕ
 
--- the same, or want of memory
+-- the same, or out of memory
 abbrev pub ReadFault : Type 0
 ReadFault = TextFault CodeFault

@@ -10,7 +10,7 @@ pub record Word : Type 0 where
   pub text : List ℕ
   pub line : ℕ
 
--- where a text stands: what its whole words came to, the line, the bytes of the open word, the line where the open
+-- the state of a text: the reading of its whole words, the line, the bytes of the open word, the line at which the open
 -- comment began
 pub record Scan (P : Type 0) : Type 0 where
   pub found : P
@@ -18,7 +18,7 @@ pub record Scan (P : Type 0) : Type 0 where
   pub word : List ℕ
   pub comment : Option ℕ
 
--- what a word with its line makes of what the words before it came to
+-- what a word with its line makes of the reading of the words before it
 abbrev pub Emit : Type 0 → Type 0
 Emit P = List ℕ → ℕ → P → P
 
@@ -74,6 +74,6 @@ scan_of first bytes = end_word add_word (scan_all add_word (beginning [] first) 
 abbrev pub words : ℕ → List ℕ → List Word
 words first bytes = (scan_of first bytes).found
 
--- the line where a comment begins that the text leaves open
+-- the line of a comment that the text leaves open
 abbrev pub open_comment : ℕ → List ℕ → Option ℕ
 open_comment first bytes = (scan_of first bytes).comment

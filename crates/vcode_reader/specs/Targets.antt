@@ -1,10 +1,11 @@
--- Where the code goes on, where that isn't the next line: an IF behind its ELSE, and an ELSE behind its ENDIF.
+-- The targets of lines: an IF goes on after its ELSE, and an ELSE after its ENDIF. Every other line goes on at the
+-- next.
 use Rattle.std.specs.Prelude.{◌≡◌, ℕ, ◌+◌, List, [], ◌∷◌, ◌++◌, length, drop, Option, Some, None, slice_get}
 use Rattle.vcode_reader.specs.declared.line.CodeItem.{CodeItem}
 use Rattle.vcode_reader.specs.declared.line.CodeItem.TheVariants as code_item
 use Rattle.vcode_reader.specs.Trees.{Item, Body, CodeLine, line_of, body_lines}
 
--- the targets of a tail of the code, and the places behind its lines that an earlier IF or ELSE goes on at
+-- the targets of a tail of the code, and the places after its lines that are targets of an earlier IF or ELSE
 pub record Jumps : Type 0 where
   pub list : List (Option ℕ)
   pub waits : List ℕ
@@ -33,7 +34,7 @@ jumps_from place (x ∷ xs) = jumps_before x.item place (jumps_from (place + 1) 
 unfoldable pub targets_of : List CodeLine → List (Option ℕ)
 targets_of lines = (jumps_from 0 lines).list
 
--- where the line at a place goes on, where that isn't the next
+-- the target of the line at a place, if that isn't the next line
 abbrev pub target_in : Option (Option ℕ) → Option ℕ
 target_in None = None
 target_in (Some target) = target
@@ -47,9 +48,8 @@ EachTargetIsFirst =
     (lines : List CodeLine) (place : ℕ) (x : CodeLine) (rest : List CodeLine) → drop place lines ≡ x ∷ rest →
     target_at lines place ≡ target_in (slice_get (jumps_from place (x ∷ rest)).list 0)
 
--- The target at the place of a line that begins a part of an IF is the place behind the line that ends the part: for
--- an
--- IF the first line behind its ELSE, for an ELSE the first line behind its ENDIF.
+-- The target at the place of a line that begins a part of an IF is the place after the line that ends the part: for an
+-- IF the first line after its ELSE, for an ELSE the first line after its ENDIF.
 abbrev pub EachPartIsPassed : Type 0
 EachPartIsPassed =
     (lines : List CodeLine) (place line number : ℕ) (inner : Body) (rest : List CodeLine) →

@@ -13,8 +13,7 @@ abbrev pub Item : Type 0
 Item = Instr (List ℤ) (List ℕ)
 
 -- The items of a body one after another, each with its line. An IF is a choice of two bodies, with the line of its
--- ENDIF;
--- the second body is empty where there is no ELSE.
+-- ENDIF; the second body is empty if there is no ELSE.
 pub data Body : Type 0 where
   End : Body
   Do : (item : Item) (line : ℕ) (rest : Body) → Body
@@ -43,19 +42,20 @@ CodeLine = Numbered (CodeItem Item)
 abbrev pub instruction_line : Item → ℕ → CodeLine
 instruction_line i l = line_of (code_item.Do i) l
 
--- the lines of a body: ELSE stands in every IF, on the line of the IF
+-- the lines of a body: every IF has an ELSE, on the line of the IF
 abbrev pub body_lines : Body → List CodeLine
 body_lines End = []
 body_lines (Do i l b) = instruction_line i l ∷ body_lines b
 body_lines (Choice l first second e b) =
     line_of code_item.If l
-    ∷ (body_lines first ++ (line_of code_item.Else l ∷ (body_lines second ++ (line_of code_item.Endif e ∷ body_lines b))))
+    ∷ (body_lines first ++ (line_of code_item.Else l ∷ (body_lines second ++
+    (line_of code_item.Endif e ∷ body_lines b))))
 
 -- the lines of a function, RET among them
 abbrev pub lines_of : Function → List CodeLine
 lines_of f = body_lines f.body ++ instruction_line Return f.ret ∷ []
 
--- an instruction of a body: any but RET, which stands behind the body alone, and IF, which is a choice of two bodies;
+-- an instruction of a body: any but RET, which comes only after the body, and IF, which is a choice of two bodies;
 -- the list of a CONST is of its kind
 abbrev pub IsBodyInstruction : Item → Type 0
 IsBodyInstruction (Const k list) = HasKind (kind_of k) list

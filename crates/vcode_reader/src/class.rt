@@ -18,7 +18,7 @@ pub enum Class {
     Parenthesis,
     /// It is a part of a word.
     Plain,
-    /// It stands in no text outside a comment.
+    /// It is allowed only in a comment.
     Refused,
 }
 

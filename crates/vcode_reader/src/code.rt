@@ -1,4 +1,4 @@
-//! The lines of a function, and where they go on.
+//! The lines of a function, and their targets.
 
 ghost use Rattle.std.specs.Prelude.{◌≡◌, ◌+◌, ◌<◌, ◌^◌, ◌++◌, [], ◌∷◌, true, false, length, IfOk, OnOk};
 ghost use Rattle.std.specs.Prelude.{OnErr, IsErr, option_copied};
@@ -47,7 +47,7 @@ impl<A: Allocator + Clone> Draft<A> {
 }
 
 impl<A: Allocator> Draft<A> {
-    /// One instruction more, which stands on this line.
+    /// Adds an instruction, which is on this line.
     pub(crate) fn push(&mut self, instruction: Instruction<A>, line: u64) -> Result<(), AllocError>
         ensures { OnOk result (self.new ≡ with_item instruction line self.old) }
     {
@@ -119,7 +119,7 @@ impl<A: Allocator> Draft<A> {
         Ok(())
     }
 
-    /// The `ENDIF` of the innermost IF stands on this line. An IF that has no `ELSE` gets one.
+    /// The `ENDIF` of the innermost IF is on this line. An IF that has no `ELSE` gets one.
     pub(crate) fn end_if(&mut self, line: u64) -> Result<(), AllocError>
         ensures { OnOk result (self.new ≡ with_endif line self.old) }
     {
@@ -139,7 +139,7 @@ impl<A: Allocator> Draft<A> {
     }
 }
 
-/// After want of memory: no line and no open IF.
+/// After a refusal of memory: no line and no open IF.
 fn give_up<A: Allocator>(
     lines: &mut Vec<CodeLine<A>, A>,
     ifs: &mut FrontList<OpenIf, A>,
@@ -175,7 +175,7 @@ fn add_open<A: Allocator>(
     Ok(())
 }
 
-/// The `ENDIF` of an IF that was taken off, behind an `ELSE` where the IF has none.
+/// The `ENDIF` of an IF that was taken off, after an `ELSE` if the IF has none.
 fn close<A: Allocator>(
     lines: &mut Vec<CodeLine<A>, A>,
     ifs: &mut FrontList<OpenIf, A>,
@@ -227,6 +227,15 @@ impl<T: Drop, A: Allocator> FrontList<T, A> {
         }
     }
 
+    /// No element, and room for so many.
+    fn with_capacity(alloc: A, capacity: usize) -> Result<FrontList<T, A>, AllocError>
+        ensures { IfOk result (λ list. list ≡ []) }
+    {
+        Ok(FrontList {
+            elements: Vec::with_capacity(alloc, capacity)?,
+        })
+    }
+
     fn push(&mut self, element: T) -> Result<(), AllocError>
         ensures { OnOk result (self.new ≡ element ∷ self.old) }
     {
@@ -271,8 +280,8 @@ impl<T: Drop, A: Allocator> FrontList<T, A> {
 /// The targets from a place on, and the places that wait for an earlier IF or ELSE.
 #[derive(Drop)]
 struct Finder<A: Allocator> {
-    targets: FrontList<Option<usize>, A>,
-    waits: FrontList<usize, A>,
+    targets: FrontList<Option<u32>, A>,
+    waits: FrontList<u32, A>,
 }
 
 impl<A: Allocator> Model for Finder<A> {
@@ -284,8 +293,8 @@ impl<A: Allocator> Model for Finder<A> {
 }
 
 impl<A: Allocator> Finder<A> {
-    fn before(&mut self, item: &CodeItem<Instruction<A>>, place: usize) -> Result<(), AllocError>
-        requires { place + 1 < 2 ^ 64 }
+    fn before(&mut self, item: &CodeItem<Instruction<A>>, place: u32) -> Result<(), AllocError>
+        requires { place + 1 < 2 ^ 32 }
         ensures { OnOk result (self.new ≡ jumps_before item.now place self.old) }
     {
         match item {
@@ -312,25 +321,27 @@ impl<A: Allocator> Finder<A> {
         requires { self.old ≡ record { list = []; waits = [] } }
         ensures { OnOk result (self.new ≡ jumps_from 0 lines.now) }
     {
-        let mut place = lines.len();
+        let Ok(mut place) = u32::try_from(lines.len()) else {
+            return Err(AllocError);
+        };
         while place > 0 {
             place -= 1;
-            self.before(&lines[place].item, place)?;
+            self.before(&lines[place as usize].item, place)?;
         }
         Ok(())
     }
 }
 
-/// Where each line goes on, where that isn't the next.
+/// Where each line goes on, where that isn't the next. Places take 32 bits: more lines than that are out of memory.
 #[tactic(auto, unfolding(crate::specs::Targets::targets_of))]
 pub(crate) fn targets_of<A: Allocator + Clone>(
     alloc: A,
     lines: &[CodeLine<A>],
-) -> Result<Vec<Option<usize>, A>, AllocError>
+) -> Result<Vec<Option<u32>, A>, AllocError>
     ensures { IfOk result (λ found. found.items ≡ targets_of lines.now) }
 {
     let mut finder = Finder {
-        targets: FrontList::new(alloc.clone()?),
+        targets: FrontList::with_capacity(alloc.clone()?, lines.len())?,
         waits: FrontList::new(alloc),
     };
     finder.find(lines)?;

@@ -6,9 +6,9 @@ use vcode_base::TextFault;
 /// What is wrong with a text.
 #[derive(Clone, Copy, PartialEq, Eq, Debug)]
 pub enum CodeFault {
-    /// A word that may not stand where it does, or a byte that no text has.
+    /// A word that isn't allowed at its place, or a byte that no text has.
     BadWord,
-    /// A word that is no number where one must stand.
+    /// A word that is no number at the place of a number.
     BadNumber,
     /// The text ends inside something.
     Unfinished,

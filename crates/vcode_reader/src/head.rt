@@ -6,7 +6,7 @@ ghost use Rattle.vcode_reader.specs.Heads.{head_of_length, head_longer, head_of}
 use crate::keyword::{Folding, Keyword};
 use vcode_base::{Arith, Comparison, Logic, StackMove};
 
-/// What a word begins, where an item of a function or a function must stand.
+/// What a word begins, at the place of an item of a function or of a function.
 #[derive(Clone, Copy)]
 pub enum Head {
     Func,

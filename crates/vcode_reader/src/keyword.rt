@@ -62,7 +62,7 @@ pub enum Entries {
 
 /// What some words of an instruction must be.
 #[derive(Clone, Copy)]
-pub enum Slot {
+pub enum WordSlot {
     /// The kind `INT`.
     Int,
     /// A kind, `INT` or `BOOL`.
@@ -88,32 +88,35 @@ impl Folding {
         }
     }
 
-    fn slots(self) -> &'static [Slot]
+    fn slots(self) -> &'static [WordSlot]
         ensures { result.now ≡ folding_slots self }
     {
         match self {
-            Folding::Logic(_) => &[Slot::Kind],
-            _ => &[Slot::Int],
+            Folding::Logic(_) => &[WordSlot::Kind],
+            _ => &[WordSlot::Int],
         }
     }
 }
 
 impl Keyword {
-    /// What the words behind it must be.
+    /// What the words after it must be.
     pub(crate) fn slots(self) -> Slots
         ensures { result ≡ keyword_slots self }
     {
-        let left: &'static [Slot] = match self {
-            Keyword::Const => &[Slot::Kind, Slot::Values],
-            Keyword::Arith(_) | Keyword::Compare(_) => &[Slot::Int],
+        let left: &'static [WordSlot] = match self {
+            Keyword::Const => &[WordSlot::Kind, WordSlot::Values],
+            Keyword::Arith(_) | Keyword::Compare(_) => &[WordSlot::Int],
             Keyword::Scan(folding) | Keyword::Reduce(folding) => folding.slots(),
             Keyword::IntToBool
             | Keyword::BoolToInt
             | Keyword::Index
             | Keyword::MakeSegdes
             | Keyword::Lengths => &[],
-            Keyword::Move(_) => &[Slot::Count(Entries::Lower), Slot::Count(Entries::Upper)],
-            Keyword::Call => &[Slot::Callee],
+            Keyword::Move(_) => &[
+                WordSlot::Count(Entries::Lower),
+                WordSlot::Count(Entries::Upper),
+            ],
+            Keyword::Call => &[WordSlot::Callee],
             Keyword::Logic(_)
             | Keyword::Not
             | Keyword::Select
@@ -123,12 +126,12 @@ impl Keyword {
             | Keyword::DefaultPermute
             | Keyword::Extract
             | Keyword::Replace
-            | Keyword::Pack => &[Slot::Kind],
+            | Keyword::Pack => &[WordSlot::Kind],
         };
         Slots { left }
     }
 
-    /// Does a word `INT` behind it mean nothing?
+    /// Does a word `INT` after it mean nothing?
     pub(crate) fn takes_int(self) -> bool
         ensures { result ≡ takes_int self }
     {
@@ -200,14 +203,14 @@ fn take_list<T: Drop, A: Allocator + Clone>(
 /// What the next words of an instruction must be, in order.
 #[derive(Drop)]
 pub struct Slots {
-    left: &'static [Slot],
+    left: &'static [WordSlot],
 }
 
 impl Model for Slots {
     ghost use Rattle.std.specs.Prelude.{List};
-    ghost use Rattle.vcode_reader.specs.declared.keyword.Slot.{Slot};
+    ghost use Rattle.vcode_reader.specs.declared.keyword.WordSlot.{WordSlot};
 
-    ghost Value = { List Slot };
+    ghost Value = { List WordSlot };
 
     ghost view = { λ s. s.left.now };
 }
@@ -221,7 +224,7 @@ impl Slots {
     }
 
     /// Takes the next one off the front.
-    pub(crate) fn next(&mut self) -> Option<Slot>
+    pub(crate) fn next(&mut self) -> Option<WordSlot>
         ensures { TakesOff result self.old self.new }
     {
         let (next, left) = self.left.split_first()?;

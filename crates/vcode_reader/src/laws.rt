@@ -30,8 +30,8 @@ pub fn each_target_is_first()
     ensures { EachTargetIsFirst }
 {}
 
-/// In any code, the target of an IF whose first part is a body is the place behind its ELSE, and that
-/// of an ELSE whose part is a body the place behind its ENDIF.
+/// In any code, the target of an IF whose first part is a body is the place after its ELSE, and that
+/// of an ELSE whose part is a body the place after its ENDIF.
 pub fn each_part_is_passed()
     ensures { EachPartIsPassed }
 {}
@@ -41,7 +41,7 @@ pub fn each_call_is_found()
     ensures { EachCallIsFound }
 {}
 
-/// Two programs are `==` exactly where all that they hold is equal.
+/// Two programs are `==` exactly if all that they hold is equal.
 pub fn equal_programs<A: Allocator>(left: &Program<A>, right: &Program<A>) -> bool
     ensures { IsTrue result ↔ (left.now ≡ right.now) }
 {

@@ -1,6 +1,6 @@
 //! The reader of the code: bytes in, a program or its first fault with the line out.
 //!
-//! **Words.** Words stand apart by blanks, tabs, CRs and LFs, and each LF ends a line. Where no comment is
+//! **Words.** Words are separated by blanks, tabs, CRs and LFs, and each LF ends a line. If no comment is
 //! open, `{` opens one, and the first `}` after it closes it, be it lines later; whatever bytes it has, it
 //! counts for a separator. Each parenthesis is a word of its own; any other word is made of printable
 //! ASCII bytes other than the blank, braces and parentheses. A number is a row of decimal digits, or `-`
@@ -28,27 +28,27 @@
 //!
 //! A name is any word of at most 64 bytes but a parenthesis, also `RET`. Names of functions differ.
 //! `n` is a number within 0 to 4,096. There are at most 512 functions, at most 64 IFs open at a
-//! time, and at most 65,536 values in a list. An item stands on the line of its first word.
+//! time, and at most 65,536 values in a list. The line of an item is that of its first word.
 //!
-//! **Refusals.** The first word that no words behind it could make a program is refused, on its line:
-//! [`CodeFault::BadWord`] for one that is nothing known where an item or `FUNC` must stand, a kind that
-//! the instruction doesn't take, no truth value where one must stand, a parenthesis for a name, or a
-//! byte that no text has; [`CodeFault::BadNumber`] for one that isn't the number that must stand, or is
-//! negative where a count must; [`CodeFault::Misplaced`] for a known word in another's place;
-//! [`CodeFault::TooLarge`] past a limit; [`CodeFault::FunctionTwice`] for a name again; in this order where
-//! two could be. Where every word is good and the text ends inside something, it is
-//! [`CodeFault::Unfinished`] where the innermost begins: a comment, then a list, then an instruction, then
+//! **Refusals.** The first word after which no further words could make a program is refused, on its line:
+//! [`CodeFault::BadWord`] for an unknown word at the place of an item or `FUNC`, a kind that
+//! the instruction doesn't take, no truth value at the place of one, a parenthesis for a name, or a
+//! byte that no text has; [`CodeFault::BadNumber`] for a word that isn't a number at the place of one, or a
+//! negative number at the place of a count; [`CodeFault::Misplaced`] for a known word in another's place;
+//! [`CodeFault::TooLarge`] past a limit; [`CodeFault::FunctionTwice`] for a name again; in this order if
+//! there are two. If every word is good and the text ends inside something, it is
+//! [`CodeFault::Unfinished`] at the begin of the innermost: a comment, then a list, then an instruction, then
 //! an IF, then a function. An instruction that a word `INT` may follow, which means nothing, is whole
 //! without it.
 //!
-//! **What is read** is a [`Program`]: its functions with their lines. `RET` stands behind the body of each
-//! function alone, and `IF` only as the begin of a choice: no other line of a body is one of them, which
-//! is a fact of the type that [`Function::lines`] and [`Program::functions`] tell.
+//! **What is read** is a [`Program`]: its functions with their lines. The body of a function holds no `RET`,
+//! which comes only after it, and `IF` only as the begin of a choice. This is a fact of the types of
+//! [`Function::lines`] and [`Program::functions`].
 //!
-//! `specs/Heads` is the table of words: what each begins, and what must stand behind it; `specs/Keywords`
-//! the instruction that comes of it; `specs/Gram` the grammar as a relation, by cases; `specs/Parsing` the
-//! table of refusals; `specs/Scan` the words of a text; `specs/First` what the first fault is. That each
-//! text is read so stands in [`laws`] and on [`read`]. [`CodeReader`] reads a text that comes in pieces.
+//! `specs/Heads` is the table of words: what each begins, and what must follow it; `specs/Keywords`
+//! the instruction that it gives; `specs/Gram` the grammar as a relation, by cases; `specs/Parsing` the
+//! table of refusals; `specs/Scan` the words of a text; `specs/First` what the first fault is. [`laws`] and
+//! [`read`] say that each text is read so. [`CodeReader`] reads a text that comes in pieces.
 #![tactic(auto)]
 
 mod class;

@@ -1,8 +1,8 @@
 use vcode_base::Instruction;
 
-/// A line of the code: an instruction, or where an IF stands, its `ELSE` or its `ENDIF`.
+/// A line of the code: an instruction, an `IF`, its `ELSE` or its `ENDIF`.
 ///
-/// An `ELSE` stands in the code of every IF, between its two parts, and has the line of its `IF`.
+/// The code of every IF has an `ELSE` between its two parts, on the line of its `IF`.
 #[derive(PartialEq, Eq, Debug, Drop)]
 pub enum CodeItem<I> {
     Do(I),

@@ -10,11 +10,12 @@ use std::collections::BTreeMap;
 use std::marker::Model;
 use vcode_base::{Instr, Instruction, Sequence};
 
-/// The functions of a program, and the place of the first of each name.
+/// The functions of a program, and the place of the first of each name. Places take 16 bits: more functions than a
+/// program may have are out of memory.
 #[derive(Drop)]
 struct Linker<'a, A: Allocator> {
     functions: &'a [Function<A>],
-    places: BTreeMap<&'a [u8], usize, A>,
+    places: BTreeMap<&'a [u8], u16, A>,
 }
 
 impl<'a, A: Allocator> Model for Linker<'a, A> {
@@ -43,18 +44,20 @@ impl<'a, A: Allocator + Clone> Linker<'a, A> {
         ensures { IfOk result (λ linker. linker ≡ functions.now) }
     {
         let mut places = BTreeMap::new(alloc);
-        let mut place = functions.len();
+        let Ok(mut place) = u16::try_from(functions.len()) else {
+            return Err(AllocError);
+        };
         while place > 0 {
             place -= 1;
-            places.insert(functions[place].name(), place)?;
+            places.insert(functions[place as usize].name(), place)?;
         }
         Ok(Linker { functions, places })
     }
 }
 
 impl<A: Allocator> Linker<'_, A> {
-    /// The place of the function that this item calls, where there is one.
-    fn callee(&self, item: &CodeItem<Instruction<A>>) -> Option<usize>
+    /// The place of the function that this item calls, if there is one.
+    fn callee(&self, item: &CodeItem<Instruction<A>>) -> Option<u16>
         ensures { result ≡ callee_of self.now item.now }
     {
         match item {
@@ -64,7 +67,7 @@ impl<A: Allocator> Linker<'_, A> {
     }
 
     /// The same for each of these lines.
-    fn callees(&self, alloc: A, lines: &[CodeLine<A>]) -> Result<Vec<Option<usize>, A>, AllocError>
+    fn callees(&self, alloc: A, lines: &[CodeLine<A>]) -> Result<Vec<Option<u16>, A>, AllocError>
         ensures { IfOk result (λ found. found.items ≡ map (λ x. callee_of self.now x.item) lines.now) }
     {
         lines
@@ -79,7 +82,7 @@ impl<A: Allocator> Linker<'_, A> {
 pub(crate) fn callees_of<A: Allocator + Clone>(
     alloc: A,
     functions: &[Function<A>],
-) -> Result<Vec<Sequence<Option<usize>, A>, A>, AllocError>
+) -> Result<Vec<Sequence<Option<u16>, A>, A>, AllocError>
     ensures { IfOk result (λ found. found.items ≡ callees_of functions.now) }
 {
     let linker = Linker::new(alloc.clone()?, functions)?;

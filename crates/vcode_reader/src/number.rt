@@ -5,7 +5,7 @@ ghost use Rattle.vcode_reader.specs.Numbers.{below, decimal, natural_of, number_
 
 use vcode_base::Scalar;
 
-/// The value of one decimal digit or more, where it fits.
+/// The value of one decimal digit or more, if it fits.
 fn decimal(digits: &[u8]) -> Option<u64>
     ensures { result ≡ below (2 ^ 64) (decimal digits.now) }
 {
@@ -56,7 +56,7 @@ pub(crate) fn number_of(word: &[u8]) -> Option<i64>
     }
 }
 
-/// The number that a word is, where it isn't negative.
+/// The number of a word, if it isn't negative.
 #[tactic(auto, unfolding(crate::specs::Numbers::natural_of))]
 pub(crate) fn natural_of(word: &[u8]) -> Option<u64>
     ensures { result ≡ natural_of word.now }

@@ -15,7 +15,7 @@ ghost use Rattle.vcode_reader.specs.Reading.{result_at_end, unless, Gives};
 use crate::code::Draft;
 use crate::fault::{CodeFault, ReadFault};
 use crate::head::{Head, head_of};
-use crate::keyword::{Entries, Keyword, Slot, Slots};
+use crate::keyword::{Entries, Keyword, Slots, WordSlot};
 use crate::number::value_of;
 use crate::parts::{InstructionParts, no_parts};
 use crate::place::Place;
@@ -27,7 +27,7 @@ use std::mem;
 use vcode_base::limits::{LONGEST_NAME, MOST_ELEMENTS, MOST_FUNCTIONS, MOST_OPEN_IFS};
 use vcode_base::{FunctionName, Scalar};
 
-/// What the words so far come to, and what stands open behind them.
+/// The reading of the words so far, and what is open after them.
 #[derive(Drop)]
 pub struct Parser<A: Allocator> {
     functions: Vec<Function<A>, A>,
@@ -75,7 +75,7 @@ fn has_name<A: Allocator>(word: &[u8], functions: &[Function<A>]) -> bool
     false
 }
 
-/// Where an item may stand, or where `int` also a word `INT`.
+/// The place of an item, or if `int` also of a word `INT`.
 fn item_place(int: bool) -> Place
     ensures { result ≡ item_place int }
 {
@@ -142,7 +142,7 @@ impl<A: Allocator + Clone> Parser<A> {
         Ok(())
     }
 
-    /// Takes the word that gives the kind, where it is one.
+    /// Takes the word that gives the kind, if it is one.
     fn kind(
         &mut self,
         kind: Option<Scalar>,
@@ -232,7 +232,7 @@ impl<A: Allocator + Clone> Parser<A> {
 
     fn in_slot(
         &mut self,
-        slot: Slot,
+        slot: WordSlot,
         keyword: Keyword,
         begun: u64,
         word: &[u8],
@@ -241,9 +241,9 @@ impl<A: Allocator + Clone> Parser<A> {
         ensures { OnOk result (self.new ≡ in_slot slot keyword begun word.now line self.old) }
     {
         match slot {
-            Slot::Int => self.kind(int_of(word), keyword, begun, line),
-            Slot::Kind => self.kind(kind_of(word), keyword, begun, line),
-            Slot::Values => {
+            WordSlot::Int => self.kind(int_of(word), keyword, begun, line),
+            WordSlot::Kind => self.kind(kind_of(word), keyword, begun, line),
+            WordSlot::Values => {
                 if word == b"(".as_slice() {
                     self.parts.numbers.clear();
                     self.place = Place::Elements(keyword, begun, line);
@@ -252,8 +252,8 @@ impl<A: Allocator + Clone> Parser<A> {
                     self.one_value(keyword, begun, word, line)
                 }
             }
-            Slot::Count(entries) => self.count(entries, keyword, begun, word, line),
-            Slot::Callee => self.callee(keyword, begun, word, line),
+            WordSlot::Count(entries) => self.count(entries, keyword, begun, word, line),
+            WordSlot::Callee => self.callee(keyword, begun, word, line),
         }
     }
 
@@ -401,7 +401,14 @@ impl<A: Allocator + Clone> Parser<A> {
         Ok(())
     }
 
-    /// Takes the next word, which stands on this line.
+    /// The first fault of the words so far.
+    pub(crate) fn fault(&self) -> Option<(CodeFault, u64)>
+        ensures { result ≡ self.now.fault }
+    {
+        self.fault
+    }
+
+    /// Takes the next word, which is on this line.
     #[tactic(auto, unfolding(crate::specs::Parsing::take), using(crate::proofs::Spelling::slots_by_head))]
     pub(crate) fn take(&mut self, word: &[u8], line: u64) -> Result<(), AllocError>
         ensures { OnOk result (self.new ≡ take word.now line self.old) }
@@ -428,7 +435,7 @@ impl<A: Allocator + Clone> Parser<A> {
         Ok(())
     }
 
-    /// What is refused where the text ends here: in a comment that begins at this line, or in none.
+    /// The refusal if the text ends here: in a comment that begins at this line, or in none.
     fn refused_at_end(&self, comment: Option<u64>) -> Option<(CodeFault, u64)>
         ensures { result_at_end self.now.fault comment self.now ≡ unless result self.now.functions }
     {
@@ -446,7 +453,7 @@ impl<A: Allocator + Clone> Parser<A> {
         Some((CodeFault::Unfinished, line))
     }
 
-    /// What the text comes to, where it ends here: in a comment that begins at this line, or in none.
+    /// The reading of the text if it ends here: in a comment that begins at this line, or in none.
     pub(crate) fn result_at_end(
         self,
         comment: Option<u64>,

@@ -1,4 +1,4 @@
-//! What the words of an instruction give, behind its first.
+//! What the words of an instruction give, after its first.
 
 ghost use Rattle.std.specs.Prelude.{◌≡◌, IfOk};
 ghost use Rattle.vcode_reader.specs.Keywords.{no_parts};
@@ -9,7 +9,7 @@ use vcode_base::{FunctionName, Scalar, Words};
 /// What the words so far gave, over the types of a list and of a name.
 #[derive(Drop)]
 pub struct Parts<L, N> {
-    /// The kind that is written behind the first word.
+    /// The kind that is written after the first word.
     pub kind: Scalar,
     /// The count `i` of a motion of the stack.
     pub lower: u16,

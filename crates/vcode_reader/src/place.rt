@@ -1,6 +1,6 @@
-//! Where the next word stands.
+//! The place of the next word in the grammar.
 
-use crate::keyword::{Keyword, Slot};
+use crate::keyword::{Keyword, WordSlot};
 
 /// An IF that waits for its `ENDIF`.
 #[derive(Clone, Copy)]
@@ -23,8 +23,8 @@ pub enum Place {
     /// An item of a function, or the word `INT`, which means nothing here.
     InsideOrInt,
     /// A word of the instruction that begins with this keyword at this line.
-    Words(Keyword, Slot, u64),
-    /// An element or the end of a list of this instruction: the line where the instruction begins,
+    Words(Keyword, WordSlot, u64),
+    /// An element or the end of a list of this instruction: the line at which the instruction begins,
     /// and that of the list.
     Elements(Keyword, u64, u64),
 }

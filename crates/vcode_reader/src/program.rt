@@ -22,7 +22,7 @@ pub struct Function<A: Allocator> {
     name: FunctionName<A>,
     begun: u64,
     lines: Sequence<CodeLine<A>, A>,
-    targets: Sequence<Option<usize>, A>,
+    targets: Sequence<Option<u32>, A>,
 }
 
 impl<A: Allocator> Model for Function<A> {
@@ -51,7 +51,7 @@ impl<A: Allocator> Model for Function<A> {
 }
 
 impl<A: Allocator> Function<A> {
-    /// The function of these lines and a `RET` at line `ret` behind them.
+    /// The function of these lines and a `RET` at line `ret` after them.
     pub(crate) fn new(
         name: FunctionName<A>,
         line: u64,
@@ -68,6 +68,7 @@ impl<A: Allocator> Function<A> {
             item: CodeItem::Do(Instr::Return),
             number: ret,
         })?;
+        lines.shrink_to_fit();
         let targets = targets_of(lines.allocator().clone()?, lines.as_slice())?;
         Ok(Function {
             name,
@@ -98,19 +99,20 @@ impl<A: Allocator> Function<A> {
         self.lines.as_slice()
     }
 
-    /// The line at a place, counted from 0, where there is one.
+    /// The line at a place, counted from 0, if there is one.
     pub fn item(&self, place: usize) -> Option<&CodeLine<A>>
         ensures { option_copied result ≡ slice_get (lines_of self.now) place }
     {
         self.lines().get(place)
     }
 
-    /// Where the line at a place goes on, where that isn't the next: an IF without its first part
-    /// behind its ELSE, and an ELSE behind its ENDIF. None at any other place.
+    /// The target of the line at a place, if that isn't the next line: an IF without its first part goes on
+    /// after its ELSE, and an ELSE after its ENDIF. None at any other place.
     pub fn target(&self, place: usize) -> Option<usize>
         ensures { result ≡ target_at (lines_of self.now) place }
     {
-        *self.targets.as_slice().get(place)?
+        let target = (*self.targets.as_slice().get(place)?)?;
+        Some(target as usize)
     }
 }
 
@@ -120,7 +122,7 @@ impl<A: Allocator> Function<A> {
 pub struct Program<A: Allocator> {
     first_line: u64,
     functions: Sequence<Function<A>, A>,
-    callees: Sequence<Sequence<Option<usize>, A>, A>,
+    callees: Sequence<Sequence<Option<u16>, A>, A>,
 }
 
 impl<A: Allocator> Model for Program<A> {
@@ -192,12 +194,13 @@ impl<A: Allocator> Program<A> {
     }
 
     /// The place, among the program's functions, of the function that the CALL at this place of that
-    /// function names: of the first, where several have the name. None where no function has the name,
-    /// at any line but a CALL, and where there is no such line.
+    /// function names: of the first, if several have the name. None if no function has the name,
+    /// at any line but a CALL, and if there is no such line.
     pub fn callee(&self, function: usize, place: usize) -> Option<usize>
         ensures { result ≡ callee_at self.now.functions function place }
     {
         let callees = self.callees.as_slice().get(function)?;
-        *callees.as_slice().get(place)?
+        let callee = (*callees.as_slice().get(place)?)?;
+        Some(usize::from(callee))
     }
 }

@@ -1,7 +1,7 @@
 //! A text, byte by byte.
 
 ghost use Rattle.std.specs.Prelude.{◌≡◌, ◌+◌, ◌<◌, ◌≤◌, ◌^◌, OnOk, OnErr, IsErr, IsErrOf, IfOk, IsTrue, false, ℕ};
-ghost use Rattle.std.specs.Prelude.{List, [], ◌++◌, length, None};
+ghost use Rattle.std.specs.Prelude.{List, [], ◌++◌, length, None, Some, Err};
 ghost use Rattle.vcode_reader.specs.declared.class.Class.TheVariants.{LineFeed};
 ghost use Rattle.vcode_base.specs.Lines.{line_feeds};
 ghost use Rattle.vcode_base.specs.TextAnswers.{Answers};
@@ -10,16 +10,17 @@ ghost use Rattle.vcode_reader.specs.Classes.{class_of, plain_length};
 ghost use Rattle.vcode_reader.specs.First.{IsAnswer};
 ghost use Rattle.vcode_reader.specs.Parsing.{start, take};
 ghost use Rattle.vcode_reader.specs.Reading.{outcome, reading, Gives, HasCome};
+ghost use Rattle.vcode_reader.specs.Refusals.{Fault};
 ghost use Rattle.vcode_reader.specs.Scan.{beginning, end_word, lone_word, in_text, in_comment, scan_byte, scan_all};
 
 use crate::class::{Class, class_of, is_plain, plain_length};
-use crate::fault::ReadFault;
+use crate::fault::{CodeFault, ReadFault};
 use crate::parser::Parser;
 use crate::program::{Function, Program};
 use std::alloc::{AllocError, Allocator};
 use std::marker::Model;
 
-/// Where a text stands that comes byte by byte.
+/// The state of a text that comes byte by byte.
 #[derive(Drop)]
 struct Scanner<A: Allocator> {
     parser: Parser<A>,
@@ -139,7 +140,37 @@ impl<A: Allocator + Clone> Scanner<A> {
         Ok(rest)
     }
 
-    /// Takes the plain bytes at the front of a text, or else its first byte, and answers what is after them.
+    /// Passes over one blank or LF at the front of a text, if no word and no comment is open, and answers what is after
+    /// it.
+    #[inline(always)]
+    fn pass_separator<'p>(&mut self, text: &'p [u8]) -> &'p [u8]
+        requires { self.old.line + line_feeds text.now < 2 ^ 64 }
+        ensures same { scan_all take self.old text.now ≡ scan_all take self.new result.now }
+        ensures within { length result.now ≤ length text.now }
+    {
+        if text.is_empty() {
+            return text;
+        }
+        if self.comment.is_some() {
+            return text;
+        }
+        if !self.word.is_empty() {
+            return text;
+        }
+        let byte = text[0];
+        let (_, rest) = text.split_at(1);
+        if byte == b' ' {
+            return rest;
+        }
+        if byte == b'\n' {
+            self.line += 1;
+            return rest;
+        }
+        text
+    }
+
+    /// Takes the plain bytes at the front of a text, with the separator that ends them, or else its first byte, and
+    /// answers what is after them.
     #[inline(always)]
     fn front<'p>(&mut self, text: &'p [u8]) -> Result<&'p [u8], AllocError>
         requires some { 1 ≤ length text.now }
@@ -149,7 +180,8 @@ impl<A: Allocator + Clone> Scanner<A> {
     {
         let byte = text[0];
         if self.comment.is_none() && is_plain(byte) {
-            return self.plain_bytes(text);
+            let rest = self.plain_bytes(text)?;
+            return Ok(self.pass_separator(rest));
         }
         let (_, rest) = text.split_at(1);
         self.byte(byte)?;
@@ -179,7 +211,7 @@ impl<A: Allocator + Clone> Scanner<A> {
 /// Reads the code of a program that comes in pieces, as [`read`] does one that is there at once: what
 /// counts are the pieces joined, wherever they are cut.
 ///
-/// The first fault of a text is kept, and the pieces behind it are passed over. Where memory is refused
+/// The first fault of a text is kept, and the pieces after it are passed over. If memory is refused
 /// the reader has failed, and no later call succeeds.
 #[derive(Drop)]
 pub struct CodeReader<A: Allocator> {
@@ -211,7 +243,7 @@ impl<A: Allocator + Clone> CodeReader<A> {
     ///
     /// # Errors
     ///
-    /// [`AllocError`] where its memory is refused.
+    /// [`AllocError`] if its memory is refused.
     #[tactic(auto, unfolding(crate::specs::Scan::scan_all))]
     pub fn new(alloc: A, first_line: u64) -> Result<CodeReader<A>, AllocError>
         ensures come { IfOk result (λ r. HasCome r []) }
@@ -229,10 +261,10 @@ impl<A: Allocator + Clone> CodeReader<A> {
     ///
     /// # Errors
     ///
-    /// [`AllocError`] where memory is refused, and from then on at each piece.
+    /// [`AllocError`] if memory is refused, and from then on at each piece.
     pub fn feed(&mut self, piece: &[u8]) -> Result<(), AllocError>
         requires { self.old.failed ≡ false → self.old.scan.line + line_feeds piece.now < 2 ^ 64 }
-        // Behind the bytes before stand those of the piece.
+        // The bytes of the piece follow the bytes before.
         ensures fed { OnOk result ((before : List ℕ) → HasCome self.old before → HasCome self.new (before ++ piece.now)) }
         ensures first_line { self.new.first_line ≡ self.old.first_line }
         ensures line { OnOk result (self.new.scan.line ≡ self.old.scan.line + line_feeds piece.now) }
@@ -249,11 +281,20 @@ impl<A: Allocator + Clone> CodeReader<A> {
         fed
     }
 
-    /// What the pieces come to.
+    /// The first fault of the text with its line, if the pieces so far have one. No further piece changes it.
+    pub fn fault(&self) -> Option<(CodeFault, u64)>
+        ensures found { result ≡ self.now.scan.found.fault }
+        ensures stays { (fault : Fault) (bytes more : List ℕ) → result ≡ Some fault → HasCome self.now bytes
+            → reading self.now.first_line (bytes ++ more) ≡ Err fault }
+    {
+        self.scanner.parser.fault()
+    }
+
+    /// The reading of the pieces.
     ///
     /// # Errors
     ///
-    /// The first fault of the text with its line; `Memory` where memory is refused, or was in a piece.
+    /// The first fault of the text with its line; `Memory` if memory is refused, or was in a piece.
     pub fn finish(self) -> Result<Program<A>, ReadFault>
         ensures answer { (bytes : List ℕ) → HasCome self bytes → Answers result (reading self.first_line bytes) }
         ensures failed { IsTrue self.failed → IsErrOf result Memory }
@@ -271,7 +312,7 @@ impl<A: Allocator + Clone> CodeReader<A> {
 /// Reads a program from the bytes of its code, whose first line has the number `first_line`.
 ///
 /// The answer is the program that the grammar relates to the words of the text, or else the first fault
-/// of the text with its line, or want of memory. Lines are counted on from `first_line`; the number of
+/// of the text with its line, or out of memory. Lines are counted on from `first_line`; the number of
 /// the last must fit.
 #[tactic(auto, using(crate::proofs::Answers::is_answer))]
 pub fn read<A: Allocator + Clone>(

@@ -1,4 +1,4 @@
-//! What one word is, where a number, a kind or a name must stand.
+//! What one word is, at the place of a number, a kind or a name.
 
 ghost use Rattle.std.specs.Prelude.{◌≡◌};
 ghost use Rattle.vcode_reader.specs.Numbers.{natural_of};
@@ -16,7 +16,7 @@ fn is_bad_byte(byte: u8) -> bool
     byte < 33 || byte > 126 || byte == b'{' || byte == b'}'
 }
 
-/// Is the word a byte that stands in no text?
+/// Is the word a byte that no text has?
 fn is_bad(word: &[u8]) -> bool
     ensures { result ≡ is_bad word.now }
 {
@@ -38,7 +38,7 @@ pub(crate) fn is_no_name(word: &[u8]) -> bool
     is_parenthesis(word) || is_bad(word)
 }
 
-/// What is wrong with a word that is not the number that must stand.
+/// What is wrong with a word that is not the required number.
 fn no_number(word: &[u8]) -> CodeFault
     ensures { result ≡ no_number word.now }
 {
@@ -49,7 +49,7 @@ fn no_number(word: &[u8]) -> CodeFault
     }
 }
 
-/// What is wrong with a word that is no value of this kind where one must stand.
+/// What is wrong with a word that is no value of this kind at the place of one.
 pub(crate) fn no_value(kind: Scalar, word: &[u8]) -> CodeFault
     ensures { result ≡ no_value kind word.now }
 {
@@ -59,7 +59,7 @@ pub(crate) fn no_value(kind: Scalar, word: &[u8]) -> CodeFault
     }
 }
 
-/// The kind `INT`, where the word is that.
+/// The kind `INT`, if the word is that.
 pub(crate) fn int_of(word: &[u8]) -> Option<Scalar>
     ensures { result ≡ int_of word.now }
 {

@@ -24,14 +24,15 @@ arrow_at signatures program fs i f h same lt is =
     let (takes, gives, signature, body) = All-get_or (FitsSignature scope) fs i f lt all in
     ((takes, gives), ap (λ (g : Function). kinds_of signatures g.name) is ∙ signature)
 
--- an answer that is none only where there is no signature
+-- an answer that is none only if there is no signature
 pub is_known : {T : Type 0} (o : Option T) (P : T → Type 0) (known : Option Arrow) → MatchOption o (known ≡ None) P
     → ((arrow : Arrow) × (known ≡ Some arrow)) → IsSome o
 is_known None P known h k = absurd (let e : Some k.0 ≡ None = sym k.1 ∙ h in cc)
 is_known (Some x) P known h k = refl
 
--- and where there is an answer, it is the signature
-pub known_arrow : {T : Type 0} (o : Option T) (P : T → Type 0) (N : Type 0) (x : T) → MatchOption o N P → o ≡ Some x → P x
+-- and if there is an answer, it is the signature
+pub known_arrow : {T : Type 0} (o : Option T) (P : T → Type 0) (N : Type 0) (x : T) → MatchOption o N P → o ≡ Some x
+    → P x
 known_arrow None P N x h e = absurd (cc)
 known_arrow (Some y) P N x h e = let same : y ≡ x = cc in subst P same h
 

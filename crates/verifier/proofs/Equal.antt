@@ -1,4 +1,4 @@
--- What was verified is equal where its parts are.
+-- What was verified is equal if its parts are.
 use Rattle.std.proofs.Common.{◌≡◌, Bool, ◌&&◌, List, refl, ap}
 use Rattle.std.specs.Bool.{Decides}
 use Rattle.std.specs.Cmp.Lexicographic.{pointwise}

@@ -48,7 +48,7 @@ has_lines f lines d e = subst (λ ls. HasLines f ls d) (sym e) (own_lines f d)
 
 -- ---- the walk over a body
 
--- the walk over the lines of a body comes to what the body comes to
+-- the walk over the lines of a body gives what the body gives
 module _ (scope : Scope) (f : Function) (takes : List Kind) (lines : List CodeLine) (start : State)
     (same : lines ≡ body_lines f.body) (begins : start ≡ record { kinds = takes; kept = [] }) where
   walk_over_lines : state_after_lines scope (Ok (record { kinds = takes; kept = [] })) (body_lines f.body)
@@ -91,7 +91,7 @@ next_is : (fs items : List Function) (i : ℕ) (f : Function) → items ≡ fs �
 next_is fs items i f same lt is =
     ap (drop i) (sym same) ∙ (drop-cons items i f lt ∙ ap (λ g. g ∷ drop (suc i) items) (sym is))
 
--- where the functions before the one at a place have no fault, its fault is the first of all
+-- if the functions before the one at a place have no fault, its fault is the first of all
 pub first_fails : (v : TextFault KindFault) (scope : Scope) (all : Option Fault) (fs items : List Function) (i : ℕ)
     (f : Function) → all ≡ functions_fault scope (drop i fs) → items ≡ fs → i < length items → f ≡ get_or items i f
     → FaultIs v (function_fault scope f) → FaultIs v all
@@ -100,7 +100,7 @@ first_fails (At fault line) scope all fs items i f e same lt is k =
     e ∙ (ap (functions_fault scope) (next_is fs items i f same lt is)
     ∙ ap (λ o. or_else o (functions_fault scope (drop (suc i) items))) k)
 
--- the walk over a function's lines before the last, and the test of what stands at the last
+-- the walk over a function's lines before the last, and the test of the entries at the last
 module _ (scope : Scope) (f : Function) (takes gives : List Kind) (lines : List CodeLine) (start : State)
     (same : lines ≡ lines_of f) (begins : start ≡ record { kinds = takes; kept = [] }) where
   pub body_ok : {A : Type 0} (end : State) (entries : List Kind) (d : CodeLine) (r : Result A (TextFault KindFault))

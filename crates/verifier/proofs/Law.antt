@@ -1,4 +1,4 @@
--- A program has no kind fault exactly where it is well kinded.
+-- A program has no kind fault exactly if it is well kinded.
 use Rattle.std.proofs.Common.{◌≡◌, ◌∙◌, ℕ, ◌+◌, ◌<◌, ◌≤◌, Bool, true, false, cond, refl, sym, ap, arith}
 use Rattle.std.proofs.Common.{List, [], ◌∷◌, ◌++◌, length, take, drop, get_or, length-append}
 use Rattle.std.proofs.Common.{take-append-drop, append-nil}
@@ -64,7 +64,8 @@ record Replaces (takes gives ks out : List Kind) : Type 0 where
   before : ks ≡ rest ++ takes
   behind : out ≡ rest ++ gives
 
-arrow_replaces : (takes gives : List Kind) (line : ℕ) (ks out : List Kind) → stack_after_arrow takes gives line ks ≡ Ok out
+arrow_replaces : (takes gives : List Kind) (line : ℕ) (ks out : List Kind)
+    → stack_after_arrow takes gives line ks ≡ Ok out
     → Replaces takes gives ks out
 unfolding stack_after_arrow
 arrow_replaces takes gives line ks out h =
@@ -89,8 +90,10 @@ arrow_on takes gives rest line =
     let few : nat_lt (length ks) (length takes) ≡ false =
     ap (λ z. nat_lt z (length takes)) long ∙ no_fewer (length rest) (length takes) in
     let place : count_below (length takes) ks ≡ length rest = omega arith in
-    let top : drop (count_below (length takes) ks) ks ≡ takes = ap (λ z. drop z ks) place ∙ drop-append_seam rest takes in
-    let same : are_same_kinds (drop (count_below (length takes) ks) ks) takes ≡ true = (are_same_kinds-Decides _ _).1 top in
+    let top : drop (count_below (length takes) ks) ks ≡ takes = ap (λ z. drop z ks) place
+    ∙ drop-append_seam rest takes in
+    let same : are_same_kinds (drop (count_below (length takes) ks) ks) takes ≡ true =
+    (are_same_kinds-Decides _ _).1 top in
     let stays : take (count_below (length takes) ks) ks ≡ rest =
     ap (λ z. take z ks) place ∙ take-append_seam rest takes in
     rw (few, same, stays) refl
@@ -167,7 +170,8 @@ record Calls (scope : Scope) (name : List ℕ) (ks out : List Kind) : Type 0 whe
   arrow : arrow_of scope name ≡ Ok (takes, gives)
   replaces : Replaces takes gives ks out
 
-call_calls : (scope : Scope) (name : List ℕ) (r : Result (List Kind × List Kind) KindFault) (line : ℕ) (ks out : List Kind)
+call_calls : (scope : Scope) (name : List ℕ) (r : Result (List Kind × List Kind) KindFault) (line : ℕ)
+    (ks out : List Kind)
     → arrow_of scope name ≡ r → stack_after_call r line ks ≡ Ok out → Calls scope name ks out
 call_calls scope name (Ok (takes, gives)) line ks out e h =
     record { takes = takes; gives = gives; arrow = e; replaces = arrow_replaces takes gives line ks out h }
@@ -180,7 +184,7 @@ record Runs (scope : Scope) (item : Item) (ks out : List Kind) : Type 0 where
   turns : Turns scope item takes gives
   replaces : Replaces takes gives ks out
 
--- one that takes the same kinds wherever it stands
+-- one that takes the same kinds at every use
 fixed_runs : (scope : Scope) (item : Item) (takes gives : List Kind) (line : ℕ) (ks out : List Kind)
     → Turns scope item takes gives → stack_after_arrow takes gives line ks ≡ Ok out → Runs scope item ks out
 fixed_runs scope item takes gives line ks out turns h =
@@ -286,7 +290,7 @@ body_has_kinds scope (Choice line x y end b) before after h =
       body_has_kinds scope b other after (ap (stack_after_body scope b) same.1 ∙ h4),
     )
 
--- what a choice goes on with behind its ENDIF, behind its second body and behind its first
+-- what follows a choice after its ENDIF, after its second body and after its first
 module _ (scope : Scope) (y b : Body) (end : ℕ) where
   from_endif : List Kind → List Kind → Result (List Kind) Fault
   from_endif one other = stack_after_endif end one other >>= stack_after_body scope b
@@ -310,7 +314,7 @@ has_kinds_body scope (Choice line x y end b) before after (rest, next, p, hx, hy
 
 -- ---- functions
 
--- the signature's operands, where the function is MAIN, are none
+-- the signature's operands, if the function is MAIN, are none
 abbrev MainTakesNothing : Function → List Kind → Type 0
 MainTakesNothing f takes = is_main f ≡ true → takes ≡ []
 
@@ -487,7 +491,7 @@ no_fault_where_well_kinded signatures program = (
   λ h. without_fault signatures program h,
 )
 
--- ---- what is known where there is no fault
+-- ---- what is known if there is no fault
 
 -- the program is well kinded, and its MAIN has a signature, by which it takes nothing
 pub record HasNoFault (signatures : List Signature) (program : Program) : Type 0 where

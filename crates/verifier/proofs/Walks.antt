@@ -1,4 +1,4 @@
--- The walk over the lines of a body comes to what the body comes to.
+-- The walk over the lines of a body gives what the body gives.
 use Rattle.std.proofs.Common.{◌≡◌, ℕ, refl, sym, ap, ◌∙◌, List, [], ◌∷◌, ◌++◌, Result, Ok, Err, append_assoc}
 use Rattle.std.proofs.Common.{append-nil}
 use Rattle.vcode_base.specs.declared.fault.TextFault.{TextFault}
@@ -22,16 +22,16 @@ regroup : (x y b rest : List CodeLine) (i m n : CodeLine)
     → (i ∷ (x ++ (m ∷ (y ++ (n ∷ b))))) ++ rest ≡ i ∷ (x ++ (m ∷ (y ++ (n ∷ (b ++ rest)))))
 regroup x y b rest i m n = simp append_assoc
 
--- the state after lines, with these lists kept before and behind an answer
+-- the state after lines, with these lists kept before and after an answer
 abbrev after : Scope → List (List Kind) → Result (List Kind) Fault → List CodeLine → Result State Fault
 after scope kept r lines = state_after_lines scope (state_with kept r) lines
 
--- a body walked from these entries, with these lists kept, comes to what it comes to by itself
+-- a body walked from these entries, with these lists kept, gives what it gives by itself
 abbrev IsWalked : Scope → Body → List Kind → List (List Kind) → List CodeLine → Type 0
 IsWalked scope b ks kept rest =
     after scope kept (Ok ks) (body_lines b ++ rest) ≡ after scope kept (stack_after_body scope b ks) rest
 
--- two lists of lines behind a fault
+-- two lists of lines after a fault
 same_fault : (scope : Scope) (f : Fault) (xs ys : List CodeLine)
     → state_after_lines scope (Err f) xs ≡ state_after_lines scope (Err f) ys
 same_fault scope f xs ys = fault_stays scope f xs ∙ sym (fault_stays scope f ys)

@@ -1,4 +1,4 @@
--- The first kind fault of a program: the first place in the order of its text where it can't go on.
+-- The first kind fault of a program: the first place in the order of its text at which it can't go on.
 use Rattle.std.specs.Prelude.{◌≡◌, ◌+◌, ◌-◌, ℕ, Bool, false, nat_lt, if◌then◌else◌}
 use Rattle.std.specs.Prelude.{List, [], ◌∷◌, ◌++◌, length, take, drop, Option, Some, None, ok_or, Result, Ok, Err}
 use Rattle.std.specs.Str.{bytes_eq}
@@ -69,7 +69,7 @@ stack_after_instruction scope item line ks =
 unfoldable pub stack_after_endif : ℕ → List Kind → List Kind → Result (List Kind) Fault
 stack_after_endif end first second = if are_same_kinds first second then Ok second else Err (ArmsDiffer, end)
 
--- the entries after a body, or the first place where it can't go on
+-- the entries after a body, or the first place at which it can't go on
 abbrev pub stack_after_body : Scope → Body → List Kind → Result (List Kind) Fault
 stack_after_body scope End ks = Ok ks
 stack_after_body scope (Do item line rest) ks =
@@ -111,7 +111,7 @@ kind_fault signatures program =
     if has_function main_name program.functions then functions_fault (scope_of signatures program) program.functions
     else Some (NoMain, program.first_line)
 
--- what is answered at an error: want of memory, or the fault that there is
+-- the answer at an error: out of memory, or the fault that there is
 abbrev pub FaultIs : TextFault KindFault → Option Fault → Type 0
 FaultIs Memory found = Unit {0}
 FaultIs (At fault line) found = found ≡ Some (fault, line)

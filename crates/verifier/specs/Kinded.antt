@@ -1,4 +1,5 @@
--- When a program is well kinded: which kinds each instruction takes from the stack and leaves there, by cases on the tree.
+-- When a program is well kinded: which kinds each instruction takes from the stack and leaves there, by cases on the
+-- tree.
 use Rattle.std.specs.Prelude.{◌≡◌, ℕ, IsTrue, Bool, List, [], ◌∷◌, ◌++◌, length, position, is_some, Some, All}
 use Rattle.std.specs.Str.{bytes_eq}
 use Rattle.vcode_base.specs.declared.kind.Kind.{Kind}
@@ -28,7 +29,8 @@ Turns scope (Call name) takes gives =
     IsTrue (has_function name scope.functions) × (kinds_of scope.signatures name ≡ Some (takes, gives))
 Turns scope item takes gives = (takes ≡ operand_kinds (op_of item)) × (gives ≡ result_kinds (op_of item))
 
--- The body goes from these entries to those: what lies below the entries that an instruction takes stays, and both bodies
+-- The body goes from these entries to those: what lies below the entries that an instruction takes stays, and both
+-- bodies
 -- of an IF go from what lies below its flag to the same.
 abbrev pub HasKinds : Scope → Body → List Kind → List Kind → Type 0
 HasKinds scope End before after = before ≡ after

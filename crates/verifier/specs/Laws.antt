@@ -1,4 +1,4 @@
--- A program is well kinded exactly where it has no kind fault.
+-- A program is well kinded exactly if it has no kind fault.
 use Rattle.std.specs.Prelude.{◌≡◌, ◌↔◌, List, None}
 use Rattle.vcode_reader.specs.Trees.{Program}
 use Rattle.signatures.specs.Signatures.{Signature}

@@ -8,7 +8,8 @@ use Rattle.vcode_reader.specs.Decode.{program_code}
 use Rattle.signatures.specs.Signatures.{Signature, kinds_of}
 use Rattle.verifier.specs.Kinded.{IsWellKinded}
 
--- a program, for each of its functions in their order the kinds that it takes and gives, from the bottom up, and the kinds
+-- a program, for each of its functions in their order the kinds that it takes and gives, from the bottom up, and the
+-- kinds
 -- of the entries at the RET of its MAIN
 pub record TypedProgram : Type 0 where
   pub program : Program
@@ -28,7 +29,7 @@ pub record IsVerifiedBy (signatures : List Signature) (typed : TypedProgram) : T
 abbrev pub IsVerified : TypedProgram → Type 0
 IsVerified typed = (signatures : List Signature) × IsVerifiedBy signatures typed
 
--- it is told apart by its program and the kinds
+-- it is identified by its program and the kinds
 abbrev pub typed_program_code : Coded CodeLine → Coded Kind → Coded TypedProgram
 typed_program_code line kind =
     code_by (Program × (List (List Kind × List Kind) × List Kind))

@@ -1,12 +1,10 @@
--- The lines of a body one after another: the entries of the stack, and for each open IF the list of entries that its other
--- part goes from or has come to.
-use Rattle.std.specs.Prelude.{◌≡◌, ℕ, Bool, true, List, [], ◌∷◌, ◌++◌, take, Some, Result, Ok, Err, slice_get}
+-- The lines of a body one after another: the entries of the stack, and for each open IF the list of entries at which
+-- its other part begins, or with which it ended.
+use Rattle.std.specs.Prelude.{◌≡◌, ℕ, Bool, true, List, [], ◌∷◌, ◌++◌, Some, Result, Ok, Err, slice_get}
 use Rattle.vcode_base.specs.TextAnswers.{Fails}
 use Rattle.vcode_base.specs.declared.fault.TextFault.{TextFault}
 use Rattle.vcode_base.specs.declared.kind.Kind.{Kind}
 use Rattle.vcode_base.specs.declared.kind.Kind.TheVariants as kind
-use Rattle.vcode_base.specs.declared.op.StackMove.{StackMove}
-use Rattle.vcode_base.specs.declared.op.StackMove.TheVariants.{Copy, Pop, MoveToTop}
 use Rattle.vcode_base.specs.Kinds.{are_same_kinds}
 use Rattle.vcode_reader.specs.declared.line.CodeItem.{CodeItem}
 use Rattle.vcode_reader.specs.declared.line.CodeItem.TheVariants as code_item
@@ -35,7 +33,7 @@ abbrev pub state_after_else : List Kind → List (List Kind) → State
 state_after_else ks [] = record { kinds = ks; kept = [] }
 state_after_else ks (other ∷ kept) = record { kinds = other; kept = ks ∷ kept }
 
--- the entries are those that are kept last, where any are
+-- the entries are those that are kept last, if any are
 abbrev pub is_kept_last : List Kind → List (List Kind) → Bool
 is_kept_last ks [] = true
 is_kept_last ks (first ∷ kept) = are_same_kinds first ks
@@ -63,13 +61,7 @@ abbrev pub BeginsWith : List Function → ℕ → List CodeLine → Type 0
 BeginsWith fs place lines =
     (f : Function) × (rest : List CodeLine) × (slice_get fs place ≡ Some f) × (lines_of f ≡ lines ++ rest)
 
--- the answer, with what stands then, is the one that is wanted, unless there was no memory
+-- the answer, with the state then, is the one that is wanted, unless there was no memory
 abbrev pub Goes : {A B : Type 0} → Result A (TextFault KindFault) → B → Result B Fault → Type 0
 Goes (Ok x) now wanted = wanted ≡ Ok now
 Goes (Err fault) now wanted = Fails fault wanted
-
--- the entries with the lower and the upper ones of a motion moved, which lie on the first n
-abbrev pub stack_after_place : StackMove → ℕ → List Kind → List Kind → List Kind → List Kind
-stack_after_place Copy n lower upper ks = ks ++ lower
-stack_after_place Pop n lower upper ks = take n ks ++ upper
-stack_after_place MoveToTop n lower upper ks = (take n ks ++ upper) ++ lower

@@ -12,15 +12,15 @@ pub enum KindFault {
     WrongKind,
     /// A `CALL` of a name that no `FUNC` has.
     UnknownFunction,
-    /// The two parts of an `IF` end with other entries; it stands at the `ENDIF`.
+    /// The two parts of an `IF` end with other entries; its line is the `ENDIF`.
     ArmsDiffer,
     /// The entries at `RET` are not exactly the signature's results.
     ResultDiffers,
     /// A function without a signature, at its `FUNC` or at a `CALL` of it.
     NoSignature,
-    /// No function `MAIN`; it stands at the program's first line.
+    /// No function `MAIN`; its line is the program's first.
     NoMain,
-    /// The signature of `MAIN` has operands; it stands at its `FUNC`.
+    /// The signature of `MAIN` has operands; its line is that of the `FUNC`.
     MainTakes,
 }
 

@@ -7,7 +7,7 @@ ghost use Rattle.verifier.specs.Typed.{TypedProgram};
 use crate::verified::Verified;
 use std::alloc::Allocator;
 
-/// Whatever the signatures, a program has no kind fault exactly where it is well kinded.
+/// Whatever the signatures, a program has no kind fault exactly if it is well kinded.
 pub fn no_fault_where_well_kinded()
     ensures { NoFaultWhereWellKinded }
 {}
@@ -19,7 +19,7 @@ pub fn equality_is_exact<A: Allocator>()
         → (IsTrue (⟦<Verified<A> as PartialEq>⟧.eq left right) ↔ (left ≡ right)) }
 {}
 
-/// What was verified is `==` exactly where the programs, and the kinds that their functions take and
+/// What was verified is `==` exactly if the programs, and the kinds that their functions take and
 /// give, are equal.
 pub fn equal_verified<A: Allocator>(left: &Verified<A>, right: &Verified<A>) -> bool
     ensures { IsTrue result ↔ (left.now ≡ right.now) }

@@ -8,15 +8,15 @@
 //! operands of the signature of its function and leaves its results. At `RET` the entries are exactly the
 //! signature's results. `MAIN` takes nothing. A signature without a function is no fault.
 //!
-//! **Faults.** [`KindFault`] has them. That there is no `MAIN` goes before all others and stands at the
-//! program's first line; after it the first in the order of the text is answered. At one `FUNC` a missing
-//! signature goes before operands of `MAIN`; at one `CALL` an unknown function before a missing signature,
-//! before missing entries, before entries of other kinds.
+//! **Faults.** [`KindFault`] has them. A missing `MAIN` comes before all others, at the program's first
+//! line; after it the first in the order of the text is answered. At one `FUNC` a missing signature comes
+//! before operands of `MAIN`; at one `CALL` an unknown function before a missing signature, before missing
+//! entries, before entries of other kinds.
 //!
 //! `specs/Kinded` says when a program is well kinded, as a relation by cases on its tree; `specs/First`
 //! what its first fault is; `specs/Typed` what a [`Verified`] program keeps: for each function, by its
-//! place, the kinds that it takes and gives. That there is no fault exactly where the program is well
-//! kinded stands in [`laws`].
+//! place, the kinds that it takes and gives. [`laws`] says that there is no fault exactly if the program is
+//! well kinded.
 #![tactic(auto)]
 
 mod fault;

@@ -1,13 +1,13 @@
 //! The kinds of a body, line by line.
 
-ghost use Rattle.std.specs.Prelude.{◌≡◌, Ok, Err, OnOk, MatchResult, [], ◌∷◌};
+ghost use Rattle.std.specs.Prelude.{◌≡◌, ◌+◌, ◌≤◌, Ok, Err, OnOk, MatchResult, [], ◌∷◌, length};
 ghost use Rattle.vcode_base.specs.declared.instr.Instr.TheVariants.{Call};
 ghost use Rattle.vcode_base.specs.declared.kind.Kind.TheVariants as kind;
 ghost use Rattle.vcode_reader.specs.declared.line.CodeItem.TheVariants.{Do};
 ghost use Rattle.vcode_reader.specs.Callees.{callee_of};
-ghost use Rattle.verifier.specs.First.{stack_after_arrow, stack_after_move, stack_after_call};
+ghost use Rattle.verifier.specs.First.{stack_after_arrow, stack_after_move, stack_after_call, stack_with_move};
 ghost use Rattle.verifier.specs.First.{arrow_of, stack_after_instruction};
-ghost use Rattle.verifier.specs.Walk.{state_with, state_after_if, state_after_endif, stack_after_place};
+ghost use Rattle.verifier.specs.Walk.{state_with, state_after_if, state_after_endif};
 ghost use Rattle.verifier.specs.Walk.{state_after_line, state_after_lines, Goes, BeginsWith};
 
 use crate::fault::{KindFault, VerifyFault};
@@ -41,27 +41,23 @@ fn replace<A: Allocator + Clone>(
     Ok(())
 }
 
-/// Moves the lower and the upper entries, which lie on the first `below`.
+/// Moves the entries above the first `below`, of which so many are the lower ones.
 fn place<A: Allocator + Clone>(
     stack: &mut KindStack<A>,
     motion: StackMove,
     below: usize,
-    lower: &[Kind],
-    upper: &[Kind],
+    lower: usize,
 ) -> Result<(), AllocError>
+    requires { below + lower ≤ length stack.old.kinds }
     ensures { OnOk result (stack.new
-        ≡ record stack.old { kinds = stack_after_place motion below lower.now upper.now stack.old.kinds }) }
+        ≡ record stack.old { kinds = stack_with_move motion below lower stack.old.kinds }) }
 {
     match motion {
-        StackMove::Copy => stack.extend(lower),
-        StackMove::Pop => {
-            stack.truncate(below)?;
-            stack.extend(upper)
-        }
+        StackMove::Copy => stack.repeat(below, lower),
+        StackMove::Pop => stack.remove(below, lower),
         StackMove::MoveToTop => {
-            stack.truncate(below)?;
-            stack.extend(upper)?;
-            stack.extend(lower)
+            stack.repeat(below, lower)?;
+            stack.remove(below, lower)
         }
     }
 }
@@ -84,15 +80,12 @@ fn shift<A: Allocator + Clone>(
         return Err(VerifyFault::At(KindFault::MissingOperand, line));
     }
     let below = entries.len() - count;
-    let (low, up) = entries[below..].split_at(lower as usize);
-    let low = stack.copy(low)?;
-    let up = stack.copy(up)?;
-    place(stack, motion, below, low.as_slice(), up.as_slice())?;
+    place(stack, motion, below, lower as usize)?;
     Ok(())
 }
 
-/// What a `CALL` of this name takes and gives. Its callee is the place of the function that has the
-/// name, where there is one.
+/// What a `CALL` of this name takes and gives. Its callee is the place of the function with that name, if
+/// there is one.
 #[tactic(auto, unfolding(crate::specs::First::arrow_of))]
 fn arrow_of<'a, A: Allocator>(
     scope: &Scope<'a, A>,
@@ -171,7 +164,7 @@ fn end_if<A: Allocator + Clone>(stack: &mut KindStack<A>, line: u64) -> Result<(
     }
 }
 
-/// A line, with the place of the function that it calls, where it calls one.
+/// A line, with the place of the function that it calls, if it calls one.
 fn check_line<A: Allocator + Clone>(
     stack: &mut KindStack<A>,
     scope: &Scope<A>,

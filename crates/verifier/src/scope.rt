@@ -52,15 +52,14 @@ impl<'a, A: Allocator> Scope<'a, A> {
         self.program.functions()
     }
 
-    /// The place of the function that the line at this place of that function calls, where there is
-    /// one.
+    /// The place of the function that the line at this place of that function calls, if there is one.
     pub(crate) fn callee(&self, function: usize, place: usize) -> Option<usize>
         ensures { result ≡ callee_at self.now.functions function place }
     {
         self.program.callee(function, place)
     }
 
-    /// What the function of this name takes and gives; `None` where it has no signature.
+    /// What the function of this name takes and gives; `None` if it has no signature.
     pub(crate) fn signature(&self, name: &[u8]) -> Option<(&'a [Kind], &'a [Kind])>
         ensures { MatchOption result
             (kinds_of self.now.signatures name.now ≡ None)

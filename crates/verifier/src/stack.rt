@@ -1,9 +1,9 @@
 //! The kinds of a function's entries, and those that are kept for its open IFs.
 
-ghost use Rattle.std.specs.Prelude.{◌≡◌, ◌-◌, ◌<◌, ◌≤◌, ◌++◌, [], ◌∷◌, length, map, take};
-ghost use Rattle.std.specs.Prelude.{IfOk, OnOk, OnErr, MatchOption};
+ghost use Rattle.std.specs.Prelude.{◌≡◌, ◌-◌, ◌+◌, ◌<◌, ◌≤◌, ◌++◌, [], ◌∷◌, length, take, drop};
+ghost use Rattle.std.specs.Prelude.{IfOk, IsTrue, OnOk, OnErr, MatchOption};
 ghost use Rattle.vcode_base.specs.Kinds.{are_same_kinds};
-ghost use Rattle.verifier.specs.Kept.{whole_list, ShareAtMost, Releases};
+ghost use Rattle.verifier.specs.Kept.{whole_list, whole_lists, AreShared, SharesAtMost};
 ghost use Rattle.verifier.specs.Walk.{state_after_else, is_kept_last, others_of};
 
 use std::alloc::{AllocError, Allocator};
@@ -17,8 +17,9 @@ pub(crate) fn are_same_kinds(left: &[Kind], right: &[Kind]) -> bool
     left == right
 }
 
-/// A list of entries that is kept for an open IF: how many of the stack's lowest entries it begins
-/// with, and its entries above them, from the top down.
+/// A list of entries that is kept for an open IF: how many of the lowest entries it shares, and its entries above them,
+/// from the top down. The list of the innermost IF shares entries of the stack, and each other list shares entries of
+/// the list of the next IF inside.
 #[derive(Drop)]
 struct KeptList<A: Allocator> {
     shared: usize,
@@ -35,7 +36,7 @@ impl<A: Allocator> Model for KeptList<A> {
 }
 
 impl<A: Allocator> KeptList<A> {
-    /// The list of so many of the stack's entries and of these above them, from the bottom up.
+    /// The list of so many shared entries and of these above them, from the bottom up.
     fn new(shared: usize, mut above: Vec<Kind, A>) -> KeptList<A>
         ensures { result ≡ record { shared = shared; above = above.items } }
     {
@@ -43,7 +44,7 @@ impl<A: Allocator> KeptList<A> {
         KeptList { shared, above }
     }
 
-    /// How many of the stack's entries the list begins with.
+    /// How many entries the list shares.
     fn shared(&self) -> usize
         ensures { result ≡ self.now.shared }
     {
@@ -62,7 +63,7 @@ impl<A: Allocator> KeptList<A> {
         above
     }
 
-    /// Takes over the stack's entry that is the last shared.
+    /// Takes over the last entry that it shares.
     fn take_over(&mut self, kind: Kind) -> Result<(), AllocError>
         requires { 0 < self.old.shared }
         ensures taken { OnOk result (self.new
@@ -74,7 +75,7 @@ impl<A: Allocator> KeptList<A> {
         Ok(())
     }
 
-    /// Takes over the stack's entries above the first `len`, which are to go.
+    /// Takes over the shared entries above the first `len`.
     fn take_over_above(&mut self, len: usize, kinds: &[Kind]) -> Result<(), AllocError>
         requires { self.old.shared ≤ length kinds.now }
         ensures same { whole_list kinds.now self.new ≡ whole_list kinds.now self.old }
@@ -89,43 +90,140 @@ impl<A: Allocator> KeptList<A> {
     }
 }
 
-/// Takes over the stack's entries above the first `len` into each list.
-fn take_over_all<A: Allocator>(
-    kept: &mut [KeptList<A>],
-    len: usize,
-    kinds: &[Kind],
-) -> Result<(), AllocError>
-    requires { ShareAtMost (length kinds.now) kept.old }
-    ensures same { map (whole_list kinds.now) kept.new ≡ map (whole_list kinds.now) kept.old }
-    ensures within { ShareAtMost (length kinds.now) kept.new }
-    ensures below { OnOk result (ShareAtMost len kept.new) }
-{
-    for list in kept.iter_mut() {
-        list.take_over_above(len, kinds)?;
+/// The lists that are kept for the open IFs, the innermost first.
+#[derive(Drop)]
+struct KeptLists<A: Allocator> {
+    lists: Vec<KeptList<A>, A>,
+}
+
+impl<A: Allocator> Model for KeptLists<A> {
+    ghost use Rattle.std.specs.Prelude.{List, reverse};
+    ghost use Rattle.verifier.specs.Kept.{KeptList as KeptListOf};
+
+    ghost Value = { List KeptListOf };
+
+    ghost view = { λ s. reverse s.lists.items };
+}
+
+impl<A: Allocator> KeptLists<A> {
+    /// No list.
+    fn new(alloc: A) -> KeptLists<A>
+        ensures { result ≡ [] }
+    {
+        KeptLists {
+            lists: Vec::new(alloc),
+        }
     }
+
+    /// Adds a list before the others.
+    fn push(&mut self, list: KeptList<A>) -> Result<(), AllocError>
+        ensures pushed { OnOk result (self.new ≡ list ∷ self.old) }
+        ensures unchanged { OnErr result (self.new ≡ self.old) }
+    {
+        self.lists.push(list)?;
+        Ok(())
+    }
+
+    /// Takes the first list.
+    fn pop(&mut self) -> Option<KeptList<A>>
+        ensures { MatchOption result ((self.old ≡ []) × (self.new ≡ [])) (λ list. self.old ≡ list ∷ self.new) }
+    {
+        self.lists.pop()
+    }
+
+    /// Drops all lists.
+    fn clear(&mut self)
+        ensures { self.new ≡ [] }
+    {
+        self.lists.clear();
+    }
+
+    /// The first list takes over the entries above the first `len` that it shares with these entries.
+    fn take_over_above(&mut self, len: usize, kinds: &[Kind]) -> Result<(), AllocError>
+        requires { AreShared kinds.now self.old }
+        ensures same { whole_lists kinds.now self.new ≡ whole_lists kinds.now self.old }
+        ensures shared { AreShared kinds.now self.new }
+        ensures below { OnOk result (SharesAtMost len self.new) }
+    {
+        let Some(mut first) = self.lists.pop() else {
+            return Ok(());
+        };
+        let taken = first.take_over_above(len, kinds);
+        self.lists.push_reserved(first);
+        taken
+    }
+}
+
+/// Puts the entries of a list in the place of those that it doesn't share.
+fn restore<A: Allocator>(kinds: &mut Vec<Kind, A>, list: KeptList<A>) -> Result<(), AllocError>
+    ensures { OnOk result (kinds.new.items ≡ whole_list kinds.old.items list) }
+{
+    let shared = list.shared();
+    let above = list.into_above();
+    kinds.truncate(shared);
+    kinds.extend_from_slice(above.as_slice())?;
     Ok(())
+}
+
+/// The entries, and those of the list that was kept first, change places.
+fn swap_lists<A: Allocator + Clone>(
+    kinds: &mut Vec<Kind, A>,
+    first: KeptList<A>,
+    others: &mut KeptLists<A>,
+) -> Result<(), AllocError>
+    requires { AreShared kinds.old.items (first ∷ others.old) }
+    ensures kinds { OnOk result (kinds.new.items ≡ whole_list kinds.old.items first) }
+    ensures kept { OnOk result (whole_lists kinds.new.items others.new
+        ≡ kinds.old.items ∷ whole_lists (whole_list kinds.old.items first) others.old) }
+    ensures shared { OnOk result (AreShared kinds.new.items others.new) }
+{
+    let shared = first.shared();
+    let taken = Vec::from_slice(kinds.allocator().clone()?, &kinds[shared..])?;
+    restore(kinds, first)?;
+    others.take_over_above(shared, kinds.as_slice())?;
+    others.push(KeptList::new(shared, taken))
+}
+
+/// Whether these entries are those of a list that shares the lowest of them.
+fn is_whole_list<A: Allocator>(kinds: &[Kind], list: KeptList<A>) -> bool
+    requires { list.shared ≤ length kinds.now }
+    ensures { result ≡ are_same_kinds (whole_list kinds.now list) kinds.now }
+{
+    let shared = list.shared();
+    let above = list.into_above();
+    are_same_kinds(above.as_slice(), &kinds[shared..])
+}
+
+/// Takes out so many elements, from this place on.
+fn remove_range<A: Allocator>(kinds: &mut Vec<Kind, A>, from: usize, count: usize)
+    requires { from + count ≤ length kinds.old.items }
+    ensures { kinds.new.items ≡ take from kinds.old.items ++ drop (from + count) kinds.old.items }
+{
+    let len = kinds.len();
+    kinds.as_mut_slice().copy_within(from + count..len, from);
+    kinds.truncate(len - count);
 }
 
 /// The entries of a function from the bottom of its stack up, and a list that is kept for each open IF.
 ///
-/// A kept list shares the entries at the bottom with the stack: those that are taken off while an IF is
-/// open go over into it, so that nothing is copied where an IF begins.
+/// Nothing is copied where an IF begins: its list shares the entries with the stack, and takes over those that the
+/// stack loses while the IF is open. Lists of IFs outside share them with it, so that one copy is kept for all open
+/// IFs.
 #[derive(Drop)]
 pub struct KindStack<A: Allocator> {
     kinds: Vec<Kind, A>,
-    kept: Vec<KeptList<A>, A>,
+    kept: KeptLists<A>,
 }
 
 impl<A: Allocator> Model for KindStack<A> {
-    ghost use Rattle.std.specs.Prelude.{length, map, reverse};
-    ghost use Rattle.verifier.specs.Kept.{whole_list, ShareAtMost};
+    ghost use Rattle.verifier.specs.Kept.{whole_lists, AreShared};
     ghost use Rattle.verifier.specs.Walk.{State};
 
     ghost Value = { State };
 
-    ghost view = { λ s. record { kinds = s.kinds.items; kept = map (whole_list s.kinds.items) (reverse s.kept.items) } };
+    ghost view = { λ s. record { kinds = s.kinds.items; kept = whole_lists s.kinds.items s.kept } };
 
-    ghost invariant = { λ s. ShareAtMost (length s.kinds.items) s.kept.items };
+    ghost invariant = { λ s. AreShared s.kinds.items s.kept };
 }
 
 impl<A: Allocator + Clone> KindStack<A> {
@@ -135,7 +233,7 @@ impl<A: Allocator + Clone> KindStack<A> {
     {
         Ok(KindStack {
             kinds: kinds.to_vec(alloc.clone()?)?,
-            kept: Vec::new(alloc),
+            kept: KeptLists::new(alloc),
         })
     }
 
@@ -146,18 +244,11 @@ impl<A: Allocator + Clone> KindStack<A> {
         self.kinds.as_slice()
     }
 
-    /// Copies of these entries.
-    pub(crate) fn copy(&self, kinds: &[Kind]) -> Result<Vec<Kind, A>, AllocError>
-        ensures { IfOk result (λ copy. copy.items ≡ kinds.now) }
-    {
-        kinds.to_vec(self.kinds.allocator().clone()?)
-    }
-
     /// Takes off the entries above the first `len`.
     pub(crate) fn truncate(&mut self, len: usize) -> Result<(), AllocError>
         ensures { OnOk result (self.new ≡ record self.old { kinds = take len self.old.kinds }) }
     {
-        take_over_all(self.kept.as_mut_slice(), len, self.kinds.as_slice())?;
+        self.kept.take_over_above(len, self.kinds.as_slice())?;
         self.kinds.truncate(len);
         Ok(())
     }
@@ -170,23 +261,25 @@ impl<A: Allocator + Clone> KindStack<A> {
         Ok(())
     }
 
-    /// Keeps the list of the first `shared` entries and of these above them.
-    fn push_kept(&mut self, shared: usize, above: Vec<Kind, A>) -> Result<(), AllocError>
-        requires { shared ≤ length self.old.kinds }
+    /// Puts so many entries, from this place on, on top once more.
+    pub(crate) fn repeat(&mut self, from: usize, count: usize) -> Result<(), AllocError>
+        requires { from + count ≤ length self.old.kinds }
         ensures { OnOk result (self.new
-            ≡ record self.old { kept = (take shared self.old.kinds ++ above.items) ∷ self.old.kept }) }
+            ≡ record self.old { kinds = self.old.kinds ++ take count (drop from self.old.kinds) }) }
     {
-        self.kept.push(KeptList::new(shared, above))?;
+        self.kinds.extend_from_within(from..from + count)?;
         Ok(())
     }
 
-    /// Takes the list that was kept last.
-    fn pop_kept(&mut self) -> Option<KeptList<A>>
-        ensures { MatchOption result
-            ((self.old.kept ≡ []) × (self.new ≡ self.old))
-            (λ list. Releases self.old self.new list) }
+    /// Takes out so many entries, from this place on.
+    pub(crate) fn remove(&mut self, from: usize, count: usize) -> Result<(), AllocError>
+        requires { from + count ≤ length self.old.kinds }
+        ensures { OnOk result (self.new
+            ≡ record self.old { kinds = take from self.old.kinds ++ drop (from + count) self.old.kinds }) }
     {
-        self.kept.pop()
+        self.kept.take_over_above(from, self.kinds.as_slice())?;
+        remove_range(&mut self.kinds, from, count);
+        Ok(())
     }
 
     /// Keeps the entries for an IF that begins.
@@ -194,36 +287,38 @@ impl<A: Allocator + Clone> KindStack<A> {
         ensures { OnOk result (self.new ≡ record self.old { kept = self.old.kinds ∷ self.old.kept }) }
     {
         let above = Vec::new(self.kinds.allocator().clone()?);
-        let shared = self.kinds.len();
-        self.push_kept(shared, above)
+        self.kept.push(KeptList::new(self.kinds.len(), above))
     }
 
     /// The entries, and those that were kept last, change places.
     pub(crate) fn swap(&mut self) -> Result<(), AllocError>
         ensures { OnOk result (self.new ≡ state_after_else self.old.kinds self.old.kept) }
     {
-        let Some(kept) = self.pop_kept() else {
+        let Some(first) = self.kept.pop() else {
             return Ok(());
         };
-        let shared = kept.shared();
-        let above = kept.into_above();
-        let alloc = self.kinds.allocator().clone()?;
-        let taken = self.kinds[shared..].to_vec(alloc)?;
-        self.truncate(shared)?;
-        self.extend(above.as_slice())?;
-        self.push_kept(shared, taken)
+        match swap_lists(&mut self.kinds, first, &mut self.kept) {
+            Ok(()) => Ok(()),
+            Err(refused) => {
+                self.kept.clear();
+                Err(refused)
+            }
+        }
     }
 
-    /// Forgets the entries that were kept last, and tells whether they are those that there are.
+    /// Forgets the entries that were kept last, and reports whether they are those that there are. If they aren't, no
+    /// list is kept any longer.
     pub(crate) fn forget(&mut self) -> bool
         ensures same { result ≡ is_kept_last self.old.kinds self.old.kept }
-        ensures rest { self.new ≡ record self.old { kept = others_of self.old.kept } }
+        ensures rest { IsTrue result → self.new ≡ record self.old { kept = others_of self.old.kept } }
     {
-        let Some(kept) = self.pop_kept() else {
+        let Some(first) = self.kept.pop() else {
             return true;
         };
-        let shared = kept.shared();
-        let above = kept.into_above();
-        are_same_kinds(above.as_slice(), &self.kinds[shared..])
+        if is_whole_list(self.kinds.as_slice(), first) {
+            return true;
+        }
+        self.kept.clear();
+        false
     }
 }

@@ -79,8 +79,8 @@ impl<A: Allocator> Verified<A> {
     }
 }
 
-/// The program, where it is well kinded by the signatures, with what they let its functions take and
-/// give; else its first fault, or want of memory: that it has no `MAIN`, at its first line, and after
+/// The program, if it is well kinded by the signatures, with what they let its functions take and
+/// give; else its first fault, or out of memory: that it has no `MAIN`, at its first line, and after
 /// that the first in the order of its text. The program is spent in both cases.
 pub fn verify<A: Allocator + Clone>(
     alloc: A,
@@ -204,7 +204,7 @@ fn is_main_with_operands<A: Allocator>(function: &Function<A>, takes: &[Kind]) -
     }
 }
 
-/// A body that begins with these entries, and what stands at its `RET`.
+/// A body that begins with these entries, and the entries at its `RET`.
 fn check_body<A: Allocator + Clone>(
     alloc: A,
     scope: &Scope<A>,

@@ -37,7 +37,7 @@ const TWO_JOBS: &[u8] =
 const UNFINISHED: &[u8] =
     b"JOB a 9 16 4 100\nSIGNATURES\nCODE\nEND\n\nJOB b 9 16 4 100\nSIGNATURES\nCODE\n{ END }\n";
 
-/// Behind the job stands a line that is none of a job.
+/// After the job comes a line that is none of a job.
 const BAD_LINE: &[u8] = b"JOB a 9 16 4 100\nSIGNATURES\nCODE\nEND\r\nEND\r\nJOB b 9 16 4 100";
 
 /// Blank lines before the rule line and after it, and a job that is refused.
@@ -49,10 +49,10 @@ const RULE_TWICE: &[u8] = b"BATCH 2\n\nBATCH 2\nJOB a 9 16 4 100\n";
 /// The rule line comes after a job.
 const LATE_RULE: &[u8] = b"JOB a 9 16 4 100\nSIGNATURES\nCODE\nEND\nBATCH 2\n";
 
-/// What a batch comes to, or a refusal of memory.
+/// The answer to a batch, or a refusal of memory.
 type Reading<A> = Result<Batch<JobEntries<A>>, AllocError>;
 
-/// A batch in one piece. What `feed` refuses `end` tells again.
+/// A batch in one piece. What `feed` refuses `end` answers again.
 fn read<A: Allocator + Copy>(alloc: A, text: &[u8]) -> Reading<A> {
     let mut feed = Feed::new(alloc, REGION)?;
     let _ = feed.feed(text);

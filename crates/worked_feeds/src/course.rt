@@ -9,14 +9,14 @@ use std::alloc::AllocError;
 /// The most bytes of a text.
 pub const MOST_BYTES: usize = 1_000;
 
-/// Where a text is cut: its first piece has so many bytes, and each further one so many.
+/// How a text is cut: the length of its first piece, and that of each further one.
 #[derive(Clone, Copy)]
 pub struct Cuts {
     pub first: usize,
     pub further: usize,
 }
 
-/// What reading a text in pieces came to.
+/// The result of reading a text in pieces.
 #[derive(Clone, Copy, PartialEq, Eq, Debug)]
 pub enum Course {
     /// No memory was refused, and the answer is that of the text in one piece.
@@ -28,7 +28,7 @@ pub enum Course {
 }
 
 impl Course {
-    /// What the pieces come to, where the next one is answered so.
+    /// The result of the pieces, if the next one is answered so.
     fn behind(self, fed: Result<(), AllocError>) -> Course {
         match (self, fed) {
             (Course::Right, Ok(())) => Course::Right,
@@ -37,7 +37,7 @@ impl Course {
         }
     }
 
-    /// What a text comes to, where its end is answered as that of the text in one piece is, or otherwise, or refused.
+    /// The result of a text, if its end is answered as that of the text in one piece is, or otherwise, or refused.
     fn at_end(self, end: End) -> Course {
         match (self, end) {
             (Course::Right, End::Same) => Course::Right,
@@ -73,7 +73,7 @@ impl End {
 
 /// A reader that is fed a text, with memory of a heap.
 pub trait Reader<'h>: Drop {
-    /// What a text comes to, or a refusal of memory.
+    /// The reading of a text, or a refusal of memory.
     type Reading: Drop;
 
     /// The bytes that may still come are fewer.
@@ -92,11 +92,11 @@ pub trait Reader<'h>: Drop {
         requires { length piece.now < room self.old }
         ensures { room self.old ≤ length piece.now + room self.new };
 
-    /// How the text ends, beside what it comes to in one piece.
+    /// How the text ends, beside its reading in one piece.
     fn end_beside(self, whole: &Self::Reading) -> End;
 }
 
-/// What a text comes to in one piece, and then in pieces over a heap that runs short before one of the calls.
+/// The reading of a text in one piece, and then in pieces over a heap that runs short before one of the calls.
 pub(crate) fn read_in_pieces<'h, R: Reader<'h>>(
     heap: &'h LocalHeap,
     text: &[u8],
@@ -110,7 +110,7 @@ pub(crate) fn read_in_pieces<'h, R: Reader<'h>>(
     read_beside::<R>(heap, text, cuts, shortage, &whole)
 }
 
-/// What a text comes to in pieces, beside what it comes to in one.
+/// The reading of a text in pieces, beside its reading in one.
 fn read_beside<'h, R: Reader<'h>>(
     heap: &'h LocalHeap,
     text: &[u8],

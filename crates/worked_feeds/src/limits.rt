@@ -17,12 +17,12 @@ const EXCESSES: [usize; 2] = [1, 10_000];
 /// The line of the first blank.
 const BLANK_LINE: u64 = 5;
 
-/// How many bytes a batch may have behind so many.
+/// How many bytes a batch may have after the first `bytes`.
 fn bytes_behind(bytes: usize) -> usize {
     MOST_BATCH_BYTES.saturating_sub(bytes)
 }
 
-/// So many blanks.
+/// `count` blanks.
 fn blanks(alloc: Global, count: usize) -> Result<Vec<u8>, AllocError> {
     let mut blanks = Vec::new(alloc);
     for _ in 0..count {
@@ -31,7 +31,7 @@ fn blanks(alloc: Global, count: usize) -> Result<Vec<u8>, AllocError> {
     Ok(blanks)
 }
 
-/// Feeds so many blanks in pieces.
+/// Feeds `count` blanks in pieces.
 fn feed_blanks(feed: &mut Feed<Global>, piece: &[u8], count: usize) -> Result<(), AllocError> {
     let mut left = count;
     for _ in 0..count {
@@ -45,7 +45,7 @@ fn feed_blanks(feed: &mut Feed<Global>, piece: &[u8], count: usize) -> Result<()
     Ok(())
 }
 
-/// Feeds a job, and behind it blanks in pieces of this size, until so many bytes more have come than a batch may have.
+/// Feeds a job, and after it blanks in pieces of this size, until `more` more bytes have come than a batch may have.
 fn feed_past(
     feed: &mut Feed<Global>,
     alloc: Global,
@@ -58,7 +58,7 @@ fn feed_past(
     feed_blanks(feed, piece.as_slice(), count)
 }
 
-/// What a batch comes to that has so many bytes more than it may: a job, and blanks in pieces of this size.
+/// The answer to a batch that has `more` more bytes than it may: a job, and blanks in pieces of this size.
 fn ends(alloc: Global, size: usize, more: usize) -> Result<Option<(u64, BatchFault)>, AllocError> {
     let mut feed = Feed::new(alloc, REGION)?;
     feed_past(&mut feed, alloc, size, more)?;

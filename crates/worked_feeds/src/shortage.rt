@@ -8,10 +8,10 @@ pub const HEAP: usize = 262_144;
 /// The bytes of the shortest block of a heap, of which the length of each other is a multiple.
 pub const LEAST_BLOCK: usize = 16;
 
-/// The bytes of the blocks that are taken where all but a few are to go, the longest first.
+/// The bytes of the blocks that are taken if all but a few are to go, the longest first.
 const BLOCKS: [usize; 4] = [65_536, 4_096, 256, LEAST_BLOCK];
 
-/// Takes what is free of a heap before one of the calls of a run, but so many bytes.
+/// Takes what is free of a heap before one of the calls of a run, but for a number of bytes.
 #[derive(Drop)]
 pub struct Shortage<'h> {
     heap: &'h LocalHeap,
@@ -33,7 +33,7 @@ impl<'h> Shortage<'h> {
         }
     }
 
-    /// One before the call of this number, counted from 0, that leaves at most so many bytes.
+    /// Takes before the call of this number, counted from 0, and leaves at most `spare` bytes.
     pub(crate) fn before(
         alloc: Global,
         heap: &'h LocalHeap,

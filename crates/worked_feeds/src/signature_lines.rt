@@ -64,7 +64,7 @@ fn are_read_alike(left: &Reading<'_>, right: &Reading<'_>) -> bool {
 
 /// Whether both are the same signatures in the same order.
 fn are_same(left: &Signatures<&LocalHeap>, right: &Signatures<&LocalHeap>) -> bool {
-    // Behind the last both have none.
+    // After the last both have none.
     (0..=left.len()).all(|place| left.at(place) == right.at(place))
 }
 

@@ -52,7 +52,7 @@ fn reads_right<'h, R: Reader<'h>>(
     Ok(())
 }
 
-/// Whichever growth is refused of the text in pieces of so many bytes, each later call tells it; without a refusal the
+/// Whichever growth is refused of the text in pieces of this size, each later call answers it; without a refusal the
 /// answer is right.
 pub(crate) fn tells_each_refusal<'h, R: Reader<'h>>(
     rt: &impl Abort,
@@ -74,7 +74,7 @@ pub(crate) fn tells_each_refusal<'h, R: Reader<'h>>(
     Ok(())
 }
 
-/// What a text comes to over a heap of which at most so many bytes are left before the call of this number.
+/// The reading of a text over a heap of which at most this number of bytes is left before the call of this number.
 fn course_in_want<'h, R: Reader<'h>>(
     alloc: Global,
     heap: &'h LocalHeap,

@@ -1,4 +1,4 @@
-//! What a case comes to.
+//! The result of a case.
 
 use crate::escape::bytes_of;
 use crate::fault::CaseFault;
@@ -103,7 +103,7 @@ fn is_alike(
     Ok(equal_verified(left, &right))
 }
 
-/// What stands before the first `|` and behind it, without blanks at their ends.
+/// The texts before and after the first `|`, without blanks at their ends.
 fn halves(text: &str) -> Result<(&str, &str), CaseFault> {
     let (left, right) = text.split_once('|').ok_or(CaseFault::NoCase)?;
     Ok((left.trim(), right.trim()))

@@ -1,7 +1,7 @@
 //! Texts with escapes.
 //!
-//! `\n`, `\t`, `\r`, `\0`, `\\` and `\xNN` stand for a byte. `\[64 IF \]` stands for what is between the
-//! blank behind the number and `\]`, so many times, in which `\#` is the number of the time, from 0.
+//! `\n`, `\t`, `\r`, `\0`, `\\` and `\xNN` are each a byte. `\[64 IF \]` is the text between the
+//! blank after the number and `\]`, repeated that number of times; `\#` in it is the number of the time, from 0.
 
 ghost use Rattle.std.specs.Prelude.{◌≤◌, IfOk, vec_len};
 
@@ -9,10 +9,10 @@ use crate::fault::CaseFault;
 use bstr::ByteVec;
 use std::alloc::{AllocError, Global};
 
-/// A text of a case has at most so many bytes.
+/// The most bytes that a text of a case has.
 pub const MOST_BYTES: usize = 1_000_000;
 
-/// The bytes that a text stands for. Those of a text that is too long are no case.
+/// The bytes of a text with escapes. Those of a text that is too long are no case.
 pub fn bytes_of(alloc: Global, text: &str) -> Result<Vec<u8>, CaseFault>
     ensures { IfOk result (λ bytes. vec_len bytes ≤ MOST_BYTES) }
 {
@@ -38,7 +38,7 @@ fn written_out(alloc: Global, text: &str) -> Result<String, CaseFault> {
     Ok(written)
 }
 
-/// How often what is repeated, and what stands behind it.
+/// How often something is repeated, that text, and the text after it.
 fn repetition(part: &str) -> Option<(u32, &str, &str)> {
     let (within, behind) = part.split_once("\\]")?;
     let (count, repeated) = within.split_once(' ')?;

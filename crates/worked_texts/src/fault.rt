@@ -13,7 +13,7 @@ pub enum CaseFault {
     /// The line of the table is no case, or its text is longer than one may be.
     #[error("no case")]
     NoCase,
-    /// The text comes to something else where it comes in pieces.
+    /// The text gives something else if it comes in pieces.
     #[error("otherwise in pieces")]
     OtherInPieces,
     /// What was verified isn't the program that was read.

@@ -1,7 +1,7 @@
-//! Prints a table of texts with what each comes to.
+//! Prints a table of texts with what each gives.
 //!
 //! Each line of standard input is a case: a word that says what is tried, and a text with escapes. It is
-//! printed as it stands, and behind it ` = ` and the answer: what was read, or the fault with its line.
+//! printed as it is, and after it ` = ` and the answer: what was read, or the fault with its line.
 //! Blank lines and those that begin with `#` are printed alone.
 //!
 //! | Word | Text | Answer |
@@ -14,11 +14,11 @@
 //! | `kinds` | signatures, `\|`, code | whether the code is well kinded, and the kinds of what its `MAIN` leaves |
 //! | `same` | signatures, `\|`, signatures, `\|`, code | whether the code is verified alike by both |
 //!
-//! Each code and each text of signatures is read at once, and in pieces of 1 and of 7 bytes: where these
-//! come to something else, the answer is `otherwise in pieces`.
+//! Each code and each text of signatures is read at once, and in pieces of 1 and of 7 bytes: if these
+//! give something else, the answer is `otherwise in pieces`.
 //!
-//! The first line of a code is line 5, and that of signatures line 3. Of what is long only the number of
-//! its functions or signatures is told.
+//! The first line of a code is line 5, and that of signatures line 3. Of a long text only the number of
+//! its functions or signatures is printed.
 #![tactic(auto)]
 
 mod case;
@@ -30,7 +30,7 @@ mod show;
 use case::answer;
 use std::io;
 
-/// Prints a line of the table, and behind it what it comes to.
+/// Prints a line of the table, and after it the answer.
 fn show_line(rt: &HostRuntime, line: &str) -> io::Result<()> {
     if line.is_empty() || line.starts_with('#') {
         return println!(rt; "{line}");

@@ -44,7 +44,7 @@ fn is_read_in_pieces(alloc: Global, code: &[u8], whole: &Result<Program<Global>,
     true
 }
 
-/// The program of a code that comes in pieces of so many bytes.
+/// The program of a code that comes in pieces of `size` bytes.
 fn program_in_pieces(alloc: Global, code: &[u8], size: usize) -> Result<Program<Global>, ReadFault>
     requires few { length code.now ≤ MOST_BYTES }
     requires some { 1 ≤ size }
@@ -100,7 +100,7 @@ fn are_read_in_pieces(
     Ok(true)
 }
 
-/// The signatures of a text that comes in pieces of so many bytes.
+/// The signatures of a text that comes in pieces of `size` bytes.
 fn signatures_in_pieces(
     alloc: Global,
     text: &[u8],

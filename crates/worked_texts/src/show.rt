@@ -24,7 +24,7 @@ pub fn program_text(alloc: Global, program: &Program<Global>) -> Result<String, 
 }
 
 /// Appends the function of this number: its name, the line of its `FUNC`, and its lines. There is none
-/// at the place behind the last.
+/// at the place after the last.
 fn put_function(
     text: &mut String,
     program: &Program<Global>,
@@ -42,8 +42,7 @@ fn put_function(
     Ok(())
 }
 
-/// Appends the line at a place: its number, its item, and the place that it goes on at where that isn't
-/// the next.
+/// Appends the line at a place: its number, its item, and its target if that isn't the next.
 fn put_line(
     text: &mut String,
     function: &Function<Global>,
@@ -63,7 +62,7 @@ fn put_line(
     Ok(())
 }
 
-/// Appends the number of the function that a line calls, where there is one.
+/// Appends the number of the function that a line calls, if there is one.
 fn put_callee(text: &mut String, callee: Option<usize>) -> Result<(), AllocError> {
     match callee {
         Some(number) => write!(text, " -> function {number}"),
@@ -89,7 +88,7 @@ pub fn signatures_text(
     if signatures.is_empty() {
         text.push_str("no signatures")?;
     }
-    // There is none at the place behind the last.
+    // There is none at the place after the last.
     for place in 0..=signatures.len() {
         if let Some((name, takes, gives)) = signatures.at(place) {
             text.push_str(if place > 0 { " | " } else { "" })?;
@@ -112,7 +111,7 @@ pub fn verified_text(alloc: Global, verified: &Verified<Global>) -> Result<Strin
     format!(in alloc; "well kinded, {:?}", verified.results())
 }
 
-/// The text, or where it is long how many things it shows.
+/// The text, or if it is long how many things it shows.
 pub fn shortened(
     alloc: Global,
     text: String,

@@ -1,11 +1,11 @@
-use Rattle.batch_reader.proofs.FateLemmas.{refused_before_code}
+use Rattle.batch_reader.proofs.FateLemmas.{refused_with_none}
 use Rattle.batch_reader.proofs.fate.job_entry.Goals as goal
 
 pub returns-in-Refused : goal.returns-in-Refused
 returns-in-Refused g c =
     λ region job head shown. record {
       name = head.name;
-      fate = refused_before_code region job _ (rw c.in-Refused.is at shown);
+      fate = refused_with_none region job _ (rw c.in-Refused.is at shown);
     }
 
 pub returns-in_ok-fate-in-Reading : goal.returns-in_ok-fate-in-Reading

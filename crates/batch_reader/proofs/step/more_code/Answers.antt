@@ -1,19 +1,25 @@
 use Rattle.std.proofs.Common.{◌∙◌}
-use Rattle.std.proofs.lemmas.Result.{on_ok_weaker}
 use Rattle.batch_reader.specs.Fates.{signatures_of}
+use Rattle.batch_reader.proofs.FateLemmas.{refused_in_code, refused_with_more}
 use Rattle.batch_reader.proofs.step.more_code.Goals as goal
 
-pub returns-in-Reading-clause-shown : goal.returns-in-Reading-clause-shown
+pub returns-in-None-clause-shown : goal.returns-in-None-clause-shown
 unfolding signatures_of
-returns-in-Reading-clause-shown g c =
-    on_ok_weaker c.feed.result
-    (λ fed region job shown. let read = rw c.in-Reading.is at shown in record {
+returns-in-None-clause-shown g c =
+    λ region job shown. let read = rw c.in-Reading.is at shown in record {
       signatures = read.signatures;
       first_line = c.feed.ensures.first_line ∙ read.first_line;
-      code = fed _ read.code;
-    })
-    c.feed.ensures.fed
+      code = c.in_ok-feed-in-Reading.ensures.fed _ read.code;
+    }
+
+pub returns-in-Some-clause-shown : goal.returns-in-Some-clause-shown
+returns-in-Some-clause-shown g c =
+    λ region job shown. let read = rw c.in-Reading.is at shown in
+    rw c.refuse_code.ensures (refused_in_code region job _ _ c.args.line.text.now c.in-Some.fault c.in-Some.number
+    read.signatures (c.feed.ensures.first_line ∙ read.first_line) (λ more. c.fault.ensures.stays
+    (c.in-Some.fault, c.in-Some.number) _ more c.in-Some.is (c.in_ok-feed-in-Reading.ensures.fed _ read.code)))
 
 pub returns-in-Refused-clause-shown : goal.returns-in-Refused-clause-shown
-unfolding signatures_of
-returns-in-Refused-clause-shown g c = λ region job shown. rw c.in-Refused.is (rw c.in-Refused.is at shown)
+returns-in-Refused-clause-shown g c =
+    λ region job shown. rw c.in-Refused.is (refused_with_more region job _ c.args.line.text.now (rw c.in-Refused.is
+    at shown))

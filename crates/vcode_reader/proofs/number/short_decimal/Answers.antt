@@ -22,7 +22,8 @@ overflow_add-value c =
     omega (
       arith,
       digit_fits 18446744073709551616 c.loop-c.value c.from.result (length c.args.digits.now)
-          c.loop-c.c-index (omega (arith, c.from.ensures, c.if-c-gt57.false)) c.loop-c-test.true c.loop-c.invariant.room,
+          c.loop-c.c-index (omega (arith, c.from.ensures, c.if-c-gt57.false)) c.loop-c-test.true
+          c.loop-c.invariant.room,
     )
 
 pub loop-c-preserved : goal.loop-c-preserved

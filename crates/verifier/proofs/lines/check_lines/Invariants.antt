@@ -4,4 +4,5 @@ use Rattle.verifier.proofs.lines.check_lines.Given as goal
 
 abbrev pub invariant-loop-place : goal.invariant-loop-place
 invariant-loop-place g l =
-    state_after_lines l.scope (Ok l.initial.stack) l.lines ≡ state_after_lines l.scope (Ok l.stack) (drop l.place l.lines)
+    state_after_lines l.scope (Ok l.initial.stack) l.lines ≡ state_after_lines l.scope (Ok l.stack)
+    (drop l.place l.lines)

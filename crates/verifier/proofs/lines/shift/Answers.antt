@@ -1,14 +1,22 @@
-use Rattle.std.proofs.Common.{◌∙◌, ◌+◌, ◌≤◌, arith, length}
-use Rattle.verifier.proofs.Keeping.{is_split, moved}
+use Rattle.std.proofs.Common.{◌≡◌, ◌+◌, ◌-◌, ◌≤◌, ap, arith, length}
+use Rattle.verifier.specs.First.{count_below}
+use Rattle.verifier.proofs.Keeping.{moved}
 use Rattle.verifier.proofs.lines.shift.Goals as goal
+
+pub place-requires : goal.place-requires
+place-requires g c =
+    let few = c.if-entries-count.false in
+    let same : length c.as_slice-entries.result.now ≡ length c.args.stack.now.kinds =
+    ap length c.as_slice-entries.ensures in
+    omega arith
 
 pub returns : goal.returns
 returns g c =
     let few = c.if-entries-count.false in
-    let enough : c.args.lower + c.args.upper ≤ length c.as_slice-entries.result.now = omega arith in
-    let low = c.as_slice.ensures.value ∙ (c.in_ok-low.ensures ∙ c.split_at.ensures.front) in
-    let up = c.as_slice-2.ensures.value ∙ (c.in_ok-up.ensures ∙ c.split_at.ensures.back) in
-    let split = is_split c.args.lower c.args.upper c.args.stack.now.kinds c.as_slice-entries.result.now
-    c.as_slice.result.now c.as_slice-2.result.now c.as_slice-entries.ensures enough low up in
-    moved c.args.motion c.args.lower c.args.upper c.args.line c.args.stack.now c.place.new.stack _ _ _ split
-    c.in_ok-place.ensures
+    let seen = c.as_slice-entries.result.now in
+    let same : length seen ≡ length c.args.stack.now.kinds = ap length c.as_slice-entries.ensures in
+    let enough : c.args.lower + c.args.upper ≤ length c.args.stack.now.kinds = omega arith in
+    let below : length seen - (c.args.lower + c.args.upper)
+    ≡ count_below (c.args.lower + c.args.upper) c.args.stack.now.kinds = omega arith in
+    moved c.args.motion c.args.lower c.args.upper c.args.line c.args.stack.now c.place.new.stack
+    (length seen - (c.args.lower + c.args.upper)) enough below c.in_ok-place.ensures

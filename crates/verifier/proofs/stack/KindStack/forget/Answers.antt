@@ -1,14 +1,33 @@
-use Rattle.std.proofs.Common.{◌∙◌, ap}
-use Rattle.vcode_base.specs.Kinds.{are_same_kinds}
-use Rattle.verifier.specs.Walk.{State}
-use Rattle.verifier.proofs.Keeping.{forgotten, tail_all}
+use Rattle.std.proofs.Common.{◌∙◌, sym}
+use Rattle.verifier.proofs.Keeping.{forgotten, kept_last, others_shared, shares_first}
 use Rattle.verifier.proofs.stack.KindStack.forget.Goals as goal
+
+pub is_whole_list-requires : goal.is_whole_list-requires
+is_whole_list-requires g c =
+    shares_first c.self.inside.kinds.items c.as_slice.result.now c.self.inside.kept c.pop.new.self c.in-Some.first
+    c.as_slice.ensures.value c.in-Some.ensures c.self.invariant
+
+pub invariant_of-self-then-is_whole_list : goal.invariant_of-self-then-is_whole_list
+invariant_of-self-then-is_whole_list g c =
+    others_shared c.self.inside.kinds.items c.as_slice.result.now c.self.inside.kept c.pop.new.self c.in-Some.first
+    c.as_slice.ensures.value c.in-Some.ensures (sym c.is_whole_list.ensures ∙ c.if-is_whole_list.true) c.self.invariant
+
+pub returns-then-is_whole_list-clause-same : goal.returns-then-is_whole_list-clause-same
+returns-then-is_whole_list-clause-same g c =
+    sym c.if-is_whole_list.true
+    ∙ (c.is_whole_list.ensures
+    ∙ kept_last c.self.inside.kinds.items c.as_slice.result.now c.self.inside.kept c.pop.new.self c.in-Some.first
+    c.args.self.now c.self.view_is c.as_slice.ensures.value c.in-Some.ensures)
+
+pub returns-then-is_whole_list-clause-rest : goal.returns-then-is_whole_list-clause-rest
+returns-then-is_whole_list-clause-rest g c =
+    λ true. forgotten c.self.inside.kinds.items c.as_slice.result.now c.self.inside.kept c.pop.new.self c.in-Some.first
+    c.args.self.now c.self.view_is c.as_slice.ensures.value c.in-Some.ensures
+    (sym c.is_whole_list.ensures ∙ c.if-is_whole_list.true)
 
 pub returns-clause-same : goal.returns-clause-same
 returns-clause-same g c =
-    let kinds = c.deref.ensures.value ∙ ap (λ (s : State). s.kinds) c.self.view_is in
-    let above = c.as_slice.ensures.value ∙ c.into_above-above.ensures in
-    c.are_same_kinds.ensures
-    ∙ (ap (are_same_kinds c.as_slice.result.now) (tail_all c.deref.result.now c.shared-shared.result)
-    ∙ forgotten c.args.self.now c.pop_kept.new.self c.in-Some.kept c.deref.result.now c.as_slice.result.now
-    c.shared-shared.result c.in-Some.ensures kinds above c.shared-shared.ensures)
+    sym c.if-is_whole_list.false
+    ∙ (c.is_whole_list.ensures
+    ∙ kept_last c.self.inside.kinds.items c.as_slice.result.now c.self.inside.kept c.pop.new.self c.in-Some.first
+    c.args.self.now c.self.view_is c.as_slice.ensures.value c.in-Some.ensures)

@@ -1,17 +1,24 @@
-use Rattle.std.proofs.Common.{◌≡◌, ◌∙◌, List, length, sym, ap}
-use Rattle.std.proofs.lemmas.List.{with_items_is}
-use Rattle.verifier.specs.Kept.{KeptList}
-use Rattle.verifier.proofs.Keeping.{stack_state, same_count, truncated}
+use Rattle.verifier.proofs.Keeping.{TakesOver, truncated, truncated_shared}
 use Rattle.verifier.proofs.stack.KindStack.truncate.Goals as goal
 
 pub returns : goal.returns
 returns g c =
-    let seen = c.as_slice.result.now in
-    let news : List KeptList = c.take_over_all.new.kept in
-    let long : length news ≡ c.self.inside.kept.len =
-    same_count seen news _ c.in_ok-take_over_all.ensures.same
-    ∙ (ap length c.as_mut_slice.ensures.value ∙ sym c.self.inside.kept.ok.0) in
-    ap (λ (ls : List KeptList). stack_state c.truncate.new.self.items ls) (with_items_is c.self.inside.kept news long)
-    ∙ truncated c.self.inside.kinds.items c.truncate.new.self.items seen c.args.len c.self.inside.kept.items _ news
-    c.args.self.now c.self.view_is c.as_slice.ensures.value c.as_mut_slice.ensures.value c.truncate.ensures.items
-    c.in_ok-take_over_all.ensures.same c.in_ok-take_over_all.ensures.below
+    let takes : TakesOver c.as_slice.result.now c.args.len c.self.inside.kept c.take_over_above.new.self =
+    record {
+      same = c.in_ok-take_over_above.ensures.same;
+      shared = c.in_ok-take_over_above.ensures.shared;
+      below = c.in_ok-take_over_above.ensures.below;
+    } in
+    truncated c.self.inside.kinds.items c.truncate.new.self.items c.as_slice.result.now c.args.len c.self.inside.kept
+    c.take_over_above.new.self c.args.self.now c.self.view_is c.as_slice.ensures.value c.truncate.ensures.items takes
+
+pub invariant_of-self-2 : goal.invariant_of-self-2
+invariant_of-self-2 g c =
+    let takes : TakesOver c.as_slice.result.now c.args.len c.self.inside.kept c.take_over_above.new.self =
+    record {
+      same = c.in_ok-take_over_above.ensures.same;
+      shared = c.in_ok-take_over_above.ensures.shared;
+      below = c.in_ok-take_over_above.ensures.below;
+    } in
+    truncated_shared c.self.inside.kinds.items c.truncate.new.self.items c.as_slice.result.now c.args.len
+    c.self.inside.kept c.take_over_above.new.self c.as_slice.ensures.value c.truncate.ensures.items takes

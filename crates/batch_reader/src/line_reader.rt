@@ -1,9 +1,11 @@
 //! A batch whose lines come one after another.
 
-ghost use Rattle.std.specs.Prelude.{◌≡◌, ◌+◌, ◌≤◌, ◌↔◌, ℕ, List, [], ◌∷◌, length, IsErr, IsTrue, OnOk, OnErr, IfOk};
+ghost use Rattle.std.specs.Prelude.{◌≡◌, ◌+◌, ◌≤◌, ◌↔◌, ℕ, List, [], ◌∷◌, length, true, IsErr, IsTrue};
+ghost use Rattle.std.specs.Prelude.{OnOk, OnErr, IfOk};
 ghost use Rattle.vcode_base.specs.Lines.{line_feeds};
 ghost use Rattle.vcode_base.specs.declared.limits.TheConstants.{MOST_BATCH_BYTES};
-ghost use Rattle.batch_reader.specs.Feeds.{AnswersLines, ByLines, HasFailed, HasFewJobs, IsFirstLine, IsOutside, Keeps};
+ghost use Rattle.batch_reader.specs.Feeds.{AnswersLines, ByLines, HasFailed, HasFewJobs, IsFirstLine, IsOutside, IsRefused};
+ghost use Rattle.batch_reader.specs.Feeds.{Keeps};
 ghost use Rattle.batch_reader.specs.Feeds.{RefusesLongLine, Stands, is_settled};
 ghost use Rattle.batch_reader.specs.Headings.{heading_of, line_of};
 ghost use Rattle.batch_reader.specs.Lines.{batch_words};
@@ -15,7 +17,7 @@ use crate::batch_line::BatchLine;
 use crate::entry::{Batch, JobEntries};
 use crate::fault::BatchFault;
 use crate::heading::{Heading, heading_of};
-use crate::stage::{JobStage, JobStep, Stage, Step};
+use crate::stage::{JobStage, JobStep, Stage, StageStep};
 use crate::step::{step, step_inside};
 use std::alloc::{AllocError, Allocator};
 use std::marker::Model;
@@ -25,7 +27,7 @@ use vcode_base::{Rule, Sequence};
 
 /// Reads the jobs of a batch whose lines come one after another.
 #[derive(Drop)]
-pub(crate) struct JobReader<A: Allocator> {
+pub(crate) struct LineReader<A: Allocator> {
     alloc: A,
     region: usize,
     number: u64,
@@ -35,7 +37,7 @@ pub(crate) struct JobReader<A: Allocator> {
     entries: JobEntries<A>,
 }
 
-impl<A: Allocator> Model for JobReader<A> {
+impl<A: Allocator> Model for LineReader<A> {
     ghost use Rattle.std.specs.Coded.{codes};
     ghost use Rattle.vcode_reader.specs.ParseCode.{fed_code, parse_code, scan_code};
     ghost use Rattle.job_steps.specs.Jobs.{job_code};
@@ -63,13 +65,13 @@ impl<A: Allocator> Model for JobReader<A> {
     ghost invariant = { λ r. AreLinesWithin r.number r.left r.stage };
 }
 
-impl<A: Allocator + Copy> JobReader<A> {
+impl<A: Allocator + Copy> LineReader<A> {
     /// A batch before its first line.
-    pub(crate) fn new(alloc: A, region: usize) -> Result<JobReader<A>, AllocError>
+    pub(crate) fn new(alloc: A, region: usize) -> Result<LineReader<A>, AllocError>
         ensures first { IfOk result (IsFirstLine region) }
     {
         let entries = Vec::with_capacity(alloc, MOST_JOBS)?;
-        Ok(JobReader {
+        Ok(LineReader {
             alloc,
             region,
             number: 1,
@@ -94,6 +96,13 @@ impl<A: Allocator + Copy> JobReader<A> {
         matches!(self.stage, Stage::Failed)
     }
 
+    /// Whether the batch is refused, so that no further line changes what it comes to.
+    pub(crate) fn is_refused(&self) -> bool
+        ensures { result ≡ true → IsRefused self.now }
+    {
+        matches!(self.stage, Stage::Refused(..))
+    }
+
     /// Notes that memory was refused.
     pub(crate) fn fail(&mut self)
         ensures failed { HasFailed self.new }
@@ -107,7 +116,7 @@ impl<A: Allocator + Copy> JobReader<A> {
     ///
     /// # Errors
     ///
-    /// [`AllocError`] where memory is refused, and from then on at each line.
+    /// [`AllocError`] if memory is refused, and from then on at each line.
     pub(crate) fn take(&mut self, text: &[u8]) -> Result<(), AllocError>
         requires within { length text.now ≤ self.old.left }
         requires some { 1 ≤ length text.now }
@@ -191,14 +200,14 @@ impl<A: Allocator + Copy> JobReader<A> {
         );
     }
 
-    /// What the lines come to, where no more follow.
+    /// The answer to the lines, if no more follow.
     pub(crate) fn finish(self) -> Result<Batch<JobEntries<A>>, AllocError>
         ensures batch { IfOk result (λ batch. (come : ByLines) → Stands self come
             → AnswersLines self.region batch (come [])) }
         ensures few { IfOk result (λ batch. (come : ByLines) → Stands self come → HasFewJobs batch) }
         ensures failed { HasFailed self → IsErr result }
     {
-        let JobReader {
+        let LineReader {
             rule,
             stage,
             entries,
@@ -230,7 +239,7 @@ fn is_settled<A: Allocator>(stage: &JobStage<A>) -> bool
     matches!(stage, Stage::Refused(..) | Stage::Failed)
 }
 
-/// Whether a line of this heading is blank and stands before the first job or between jobs.
+/// Whether a line of this heading is blank and comes before the first job or between jobs.
 fn passes_over<A: Allocator>(stage: &JobStage<A>, heading: Heading) -> bool
     ensures { IsTrue result → IsOutside stage.now × (heading ≡ headings.Blank) }
 {
@@ -270,12 +279,12 @@ fn stage_behind<A: Allocator>(
     ensures rule { rule.new ≡ rule_by step rule.old }
 {
     match step {
-        Step::To(next) => Ok(next),
-        Step::Ends(entry) => {
+        StageStep::To(next) => Ok(next),
+        StageStep::Ends(entry) => {
             entries.push(entry)?;
             Ok(Stage::Between)
         }
-        Step::Begins(given, next) => {
+        StageStep::Begins(given, next) => {
             *rule = given;
             Ok(next)
         }

@@ -1,5 +1,5 @@
 use Rattle.batch_reader.proofs.ReaderLemmas.{stands_taken_at}
-use Rattle.batch_reader.proofs.job_reader.JobReader.take_other.Goals as goal
+use Rattle.batch_reader.proofs.line_reader.LineReader.take_other.Goals as goal
 
 pub returns-clause-taken : goal.returns-clause-taken
 returns-clause-taken g c =

@@ -1,6 +1,6 @@
 use Rattle.std.proofs.Common.{sym, ◌∙◌}
 use Rattle.batch_reader.proofs.ReaderLemmas.{long_line_stands, settled_refuses}
-use Rattle.batch_reader.proofs.job_reader.JobReader.take_long_line.Goals as goal
+use Rattle.batch_reader.proofs.line_reader.LineReader.take_long_line.Goals as goal
 
 pub returns-then-is_settled-clause-refused : goal.returns-then-is_settled-clause-refused
 returns-then-is_settled-clause-refused g c =

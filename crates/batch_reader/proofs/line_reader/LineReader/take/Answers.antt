@@ -1,7 +1,7 @@
 use Rattle.std.proofs.Common.{refl, length}
-use Rattle.batch_reader.specs.declared.stage.Step.TheVariants.{To}
+use Rattle.batch_reader.specs.declared.stage.StageStep.TheVariants.{To}
 use Rattle.batch_reader.proofs.ReaderLemmas.{stands_behind_blank, stands_taken}
-use Rattle.batch_reader.proofs.job_reader.JobReader.take.Goals as goal
+use Rattle.batch_reader.proofs.line_reader.LineReader.take.Goals as goal
 
 pub returns-then-passes_over-clause-taken : goal.returns-then-passes_over-clause-taken
 returns-then-passes_over-clause-taken g c =

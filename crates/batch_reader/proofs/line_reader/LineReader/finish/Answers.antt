@@ -1,5 +1,5 @@
 use Rattle.batch_reader.proofs.ReaderLemmas.{at_end, few_at_end, jobs_at_end, refused_at_end}
-use Rattle.batch_reader.proofs.job_reader.JobReader.finish.Goals as goal
+use Rattle.batch_reader.proofs.line_reader.LineReader.finish.Goals as goal
 
 pub returns-in-Fresh-clause-batch : goal.returns-in-Fresh-clause-batch
 returns-in-Fresh-clause-batch g c = rw (← c.self.view_is) (λ come stands. jobs_at_end _ come _ stands (at_end _ come _
