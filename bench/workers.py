@@ -1,13 +1,14 @@
 #!/usr/bin/env python3
-"""Times batches by 1, 2 and 4 workers: by bin/vjobs, and beside it by other programs of the same command line and reports.
+"""Times batches by workers, beside the calling thread alone: by bin/vjobs.
 
-    python3 bench/workers.py [--rounds N] [--batches FOLDER] [PROGRAM [ARGUMENT ..] [-- PROGRAM [ARGUMENT ..]] ..]
+    python3 bench/workers.py [--rounds N] [--scale X] [--batches FOLDER] [--program PROGRAM]
 
-Run it at the top of the repository, after `make`. The batches are loads of bench/steps.py by several jobs, or those of a folder: its files
-NAME.vcode, with the options in NAME.args where that file is. In each round every program takes each batch with each number of workers in
-turn, so that other work on the machine falls on all of them. Printed are the least wall seconds and the least processor seconds; `gain` is the
-wall time of 1 worker by that of 4, and `ratio` the wall time of bin/vjobs by that of the first other program, with 1 worker and with 4. All
-programs must print the same.
+Run it at the top of the repository, after `make`, on a machine with four free cores. The batches have equal jobs that repeat one instruction:
+each combination of instruction, length of the vectors and number of jobs. Or they are those of a folder: its files NAME.vcode, with the
+options in NAME.args where that file is. A run with the schedule `1` has no workers, and is the calling thread alone. In each round each batch is
+run by the calling thread and by each number of workers in turn, so that other work on the machine falls on all of them. Printed are the least
+wall seconds of the calling thread and its least processor seconds, and for each number of workers the ratio of its least times to these. All
+runs of a batch must print the same.
 """
 import argparse
 import os
@@ -22,6 +23,9 @@ import steps
 
 TOP = Path(__file__).resolve().parent.parent
 WORKERS = (1, 2, 4)
+LENGTHS, JOBS = (100, 1_000, 10_000, 30_000), (1, 4, 16)
+# Each job has room for so many vectors.
+VECTORS = 6
 
 
 @dataclass
@@ -39,20 +43,17 @@ def divisions(length, rounds):
     return steps.Load("divisions", rounds, "INT SEGDES", steps.numbers(length, 3), 2, ["CPOP 1 1", *divide * 10, "CPOP 1 1"])
 
 
-def own_batches():
-    """Four jobs that fit the region together, and 64 chains of one word."""
-    four = [
-        ("arithmetic", steps.sums(30_000, 400)),
-        ("scans", steps.scans(30_000, 400)),
-        ("permutations", steps.permutations(30_000, 200)),
-        ("divisions", divisions(30_000, 50)),
-        ("one-word chains", steps.chain("", 4_000)),
-        ("calls", replace(steps.recursion(), rounds=50)),
-    ]
-    for name, load in four:
-        yield name, [], steps.batch(replace(load, jobs=4), load.rounds)
-    many = steps.chain("", 250, jobs=64)
-    yield "64 chains", [], steps.batch(many, many.rounds)
+# What is repeated, and the words that its results have in all jobs of a batch together.
+INSTRUCTIONS = {"+": (steps.sums, 40_000_000), "/": (divisions, 10_000_000), "PERMUTE": (steps.permutations, 10_000_000)}
+
+
+def own_batches(scale):
+    for sign, (load, words) in INSTRUCTIONS.items():
+        for length in LENGTHS:
+            for jobs in JOBS:
+                if VECTORS * length <= steps.WORDS // jobs:
+                    rounds = max(1, int(scale * words / (10 * length * jobs)))
+                    yield f"{sign:8} {length:7} {jobs:5}", [], steps.batch(replace(load(length, rounds), jobs=jobs), rounds)
 
 
 def batches_of(folder):
@@ -61,11 +62,10 @@ def batches_of(folder):
         yield path.stem, options.read_text().split() if options.exists() else [], path.read_text("latin1")
 
 
-def run(program, options, workers, path):
+def run(words):
     """Wall seconds, processor seconds, and what was printed, with the exit status."""
     with tempfile.TemporaryFile() as report:
         begin = time.perf_counter()
-        words = [*program, *options, "--workers", str(workers), path]
         running = subprocess.Popen(words, stdin=subprocess.DEVNULL, stdout=report, stderr=subprocess.DEVNULL)
         _, status, used = os.wait4(running.pid, 0)
         wall = time.perf_counter() - begin
@@ -74,56 +74,42 @@ def run(program, options, workers, path):
         return wall, used.ru_utime + used.ru_stime, (report.read(), running.returncode)
 
 
-def measured(programs, rounds, options, path):
-    times = {(place, workers): Times() for place in range(len(programs)) for workers in WORKERS}
-    answers = set()
+def measured(program, rounds, options, path):
+    """The times of the calling thread alone, and of each number of workers."""
+    ways = [["--schedule", "1"], *(["--workers", str(workers)] for workers in WORKERS)]
+    times, answers = [Times() for _ in ways], set()
     for turn in range(rounds):
-        for workers in WORKERS:
-            for step in range(len(programs)):
-                place = (step + turn) % len(programs)
-                wall, processor, answer = run(programs[place], options, workers, path)
-                times[place, workers].least(wall, processor)
-                answers.add(answer)
+        for step in range(len(ways)):
+            place = (step + turn) % len(ways)
+            wall, processor, answer = run([program, *options, *ways[place], path])
+            times[place].least(wall, processor)
+            answers.add(answer)
     if len(answers) > 1:
         sys.exit(f"the reports on {path} differ")
     return times
 
 
-def rows(name, programs, times):
-    for place, program in enumerate(programs):
-        cells = "".join(f"{times[place, workers].wall:9.3f}{times[place, workers].processor:9.3f}" for workers in WORKERS)
-        gain = times[place, 1].wall / times[place, WORKERS[-1]].wall
-        ratio = ""
-        if place == 0 and len(programs) > 1:
-            ratio = "".join(f"{times[0, workers].wall / times[1, workers].wall:7.2f}" for workers in (1, WORKERS[-1]))
-        words = " ".join([Path(program[0]).name, *program[1:]])
-        print(f"{name if place == 0 else '':16} {words:18}{cells}{gain:7.2f}{ratio}", flush=True)
-
-
-def programs_of(words):
-    programs = [[str(TOP / "bin" / "vjobs")]]
-    for word in words:
-        if word == "--" or len(programs) == 1:
-            programs.append([])
-        if word != "--":
-            programs[-1].append(word)
-    return programs
+def row(name, times):
+    alone, *workers = times
+    cells = "".join(f"{time.wall / alone.wall:9.2f}{time.processor / alone.processor:6.2f}" for time in workers)
+    print(f"{name:22}{alone.wall:8.3f}{alone.processor:8.3f}{cells}", flush=True)
 
 
 def main():
     parser = argparse.ArgumentParser()
     parser.add_argument("--rounds", type=int, default=5)
+    parser.add_argument("--scale", type=float, default=1)
     parser.add_argument("--batches")
-    parser.add_argument("programs", nargs=argparse.REMAINDER)
+    parser.add_argument("--program", default=str(TOP / "bin" / "vjobs"))
     given = parser.parse_args()
-    programs = programs_of(given.programs)
-    head = "".join(f"{f'wall {workers}':>9}{f'cpu {workers}':>9}" for workers in WORKERS)
-    print(f"{'batch':16} {'program':18}{head}{'gain':>7}{'ratio 1':>7}{'4':>7}")
-    for name, options, text in batches_of(given.batches) if given.batches else own_batches():
+    head = "".join(f"{f'wall {workers}':>9}{'cpu':>6}" for workers in WORKERS)
+    name = "batch" if given.batches else f"{'':8} {'length':>7} {'jobs':>5}"
+    print(f"{name:22}{'wall':>8}{'cpu':>8}{head}")
+    for name, options, text in batches_of(given.batches) if given.batches else own_batches(given.scale):
         with tempfile.NamedTemporaryFile("w", encoding="latin1") as file:
             file.write(text)
             file.flush()
-            rows(name, programs, measured(programs, given.rounds, options, file.name))
+            row(name, measured(given.program, given.rounds, options, file.name))
 
 
 if __name__ == "__main__":

@@ -48,7 +48,7 @@ fn print_row(
     }
 }
 
-/// How often an instruction is filled in a row: once, where its words are new to the processor.
+/// How often an instruction is filled in a row: once, if its words are new to the processor.
 fn repeats(load: Load) -> u64 {
     match load.words {
         1 => REPEATS,
@@ -198,7 +198,7 @@ fn move_rows<'a>(
     row(rt, load, "DPERMUTE INT", default, &default_operands)
 }
 
-/// The lines of the same instructions, where the indices of a segment rise.
+/// The lines of the same instructions, if the indices of a segment rise.
 fn rising_rows<'a>(
     rt: &impl Runtime,
     load: Load,

@@ -43,7 +43,7 @@ pub enum Order {
     Mixed,
 }
 
-/// The length of the next segment, where `left` words are left.
+/// The length of the next segment, if `left` words are left.
 fn next_length(random: &mut Random, segments: Segments, left: u32) -> u32
     ensures { result ≤ left }
 {
@@ -133,7 +133,7 @@ pub fn indices<A: Allocator>(
     Ok(indices)
 }
 
-/// So many numbers that aren't 0, of both signs.
+/// `count` numbers that aren't 0, of both signs.
 pub fn numbers<A: Allocator>(alloc: A, count: usize) -> Result<Vec<i64, A>, AllocError>
     ensures { IfOk result (λ n. length n.items ≡ count) }
 {

@@ -1,8 +1,10 @@
 //! Times the vector and segment instructions.
 //!
 //! With no argument each instruction is filled over a hundred words, and the first and the last word of its result are
-//! printed. With the argument `time` a line has picoseconds an element. Vectors have 1, 100, 1,000 and 30,000 words, and
-//! for the segment instructions they are in segments of about ten words and in one segment. Each of several rounds prints
+//! printed. With the argument `time` a line has picoseconds an element. Vectors have 1, 100, 1,000 and 30,000 words,
+//! and
+//! for the segment instructions they are in segments of about ten words and in one segment. Each of several rounds
+//! prints
 //! all its lines, and has flags and orders of its own, which no processor has learned.
 #![tactic(auto)]
 
@@ -17,7 +19,7 @@ use std::{env, io};
 /// How often each instruction is timed.
 const ROUNDS: u64 = 41;
 
-/// The lines of all instructions over vectors of so many words.
+/// The lines of all instructions over vectors of `words` words.
 fn print_rows<R: Runtime>(rt: &R, shown: Shown, words: u32, random: &mut Random) -> io::Result<()> {
     println!(rt; "of {words}")?;
     let load = Load {

@@ -55,7 +55,8 @@ has_heads jobs slots passes place job slot d within same long job_is slot_is = r
 -- some job is at a place
 pub some_heads : (jobs : List JobValue) (slots : List SlotState) (passes : List ℕ) (place : ℕ) (slot : SlotState)
     (d : ℕ) → place < length slots → length slots ≡ length jobs → length passes ≡ length jobs →
-    slot ≡ get_or slots place slot → (job : JobValue) × HasHeads jobs slots passes place job slot (get_or passes place d)
+    slot ≡ get_or slots place slot → (job : JobValue) × HasHeads jobs slots passes place job slot (get_or passes place
+    d)
 some_heads jobs slots passes place slot d within same long slot_is =
     let slot_at = slice_get_read slots (length slots) place slot refl within slot_is in
     let job = beside_at slots jobs (sym same) place slot slot_at in (
@@ -64,7 +65,7 @@ some_heads jobs slots passes place slot d within same long slot_is =
           (sym (get_or_from_slice_get jobs place job.0 job.0 job.1)) slot_is,
     )
 
--- what a test of room tells
+-- the result of a test of room
 pub fits_by : (b : Bool) (room granted words own : ℕ) → b ≡ true → (IsTrue b ↔ (granted + words ≤ room)) →
     words ≡ own → granted + own ≤ room
 fits_by true room granted words own b_is both same = let fits = both.0 refl in omega (arith, fits, same)
@@ -237,7 +238,7 @@ counts_more standings old now new place next s c s_is waits next_is new_is =
     ∙ sym (before_more place standings old s (get_or now place 0) s_is (here standings old now place c 0))
     ∙ ap (λ (k : ℕ). passes_before k standings old) (sym next_is)
 
--- one that doesn't isn't
+-- one that doesn't fit isn't
 pub counts_still : (standings : List Standing) (old now new : List ℕ) (place next : ℕ) (s : Standing) →
     Counts standings old now place → slice_get standings place ≡ Some s → is_waiting s ≡ false → next ≡ suc place →
     new ≡ now → new ≡ passes_before next standings old

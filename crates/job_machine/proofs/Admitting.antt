@@ -30,7 +30,8 @@ use Rattle.job_machine.proofs.TurnLemmas.{shown_machine, HasTurn, turn_at, turn_
 
 next_is : (rule : Rule) (blocks : JobBlocks) (jobs : List JobValue) (slots : List SlotState) (passes : List ℕ) →
     IsSound blocks (map (ruled rule) jobs) slots passes →
-    next_by rule blocks jobs slots passes ≡ admission_in (shown_machine rule blocks (map (ruled rule) jobs) slots passes)
+    next_by rule blocks jobs slots passes ≡ admission_in (shown_machine rule blocks (map (ruled rule) jobs) slots
+    passes)
 unfolding admission
 next_is rule blocks jobs slots passes sound =
     ap
@@ -45,7 +46,7 @@ pub answer_is : {rule : Rule} {blocks : JobBlocks} (jobs : List JobValue) {slots
 answer_is {rule} {blocks} jobs {slots} {passes} sound view answer is =
     is ∙ next_is rule blocks jobs slots passes sound ∙ ap admission_in view
 
--- where nobody is admitted the machine stands as it stood
+-- if nobody is admitted the machine is as it was
 pub nobody_state : (m : MachineState) (answer : Admission) → answer ≡ admission_in m →
     ((job : ℕ) → answer ≡ Admitted job → ⊥) → m ≡ machine_after Admit m
 nobody_state m answer is nobody =
@@ -87,7 +88,8 @@ waits_by status.Ended n e = cc
 waits_by status.Collected n e = cc
 
 -- the job has the turn, waits, and has room
-pub record HasNext (blocks : JobBlocks) (tasks : List Task) (slots : List SlotState) (passes : List ℕ) (m : MachineState)
+pub record HasNext (blocks : JobBlocks) (tasks : List Task) (slots : List SlotState) (passes : List ℕ) (m :
+    MachineState)
     (job place : ℕ) (task : Task) (slot : SlotState) : Type 0 where
   pub turn : HasTurn tasks slots m job place task slot
   pub waits : slot.status ≡ status.Waiting
@@ -125,7 +127,7 @@ has_next {rule} {blocks} {tasks} {slots} {passes} job place task slot sound view
 
 -- ---- the machine after it
 
--- a result is good where the words fit
+-- a result is good if the words fit
 pub granted_ok : {T E : Type 0} {P : Type 0} {room n : ℕ} (r : Result T E) → (IsErr r ↔ (room < n)) → n ≤ room →
     OnOk r P → P
 granted_ok (Ok x) both fits p = p

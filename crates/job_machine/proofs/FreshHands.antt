@@ -1,4 +1,4 @@
--- A desk for each job, where no step has begun.
+-- A desk for each job, when no step has begun.
 use Rattle.std.proofs.Common.{◌≡◌, ℕ, zero, suc, ◌<◌, false, List, [], ◌∷◌, ◌++◌, length, map, take, get_or}
 use Rattle.std.proofs.Common.{slice_get, option_map, Some, refl, sym, ◌∙◌, ap, subst}
 use Rattle.std.proofs.Math.Seq.{take-suc}

@@ -88,7 +88,7 @@ takes_other of job old between new own own_is between_is new_is otherwise = (
 
 -- ---- an event of one job
 
--- a job that stands where it stood keeps its hand
+-- a job with the same standing keeps its hand
 stays_fit : {A : Type 0} (m new : MachineState) (job : ℕ) (h : Hand A) → new.tasks ≡ m.tasks →
     of_job job new.standings ≡ of_job job m.standings → FitsIn m job h → FitsIn new job h
 stays_fit m new job h tasks same f = record {
@@ -306,7 +306,7 @@ plays_no_begin m hands after job fit taken =
 
 -- ---- a step that is there no more
 
--- the event is closed where no step has begun
+-- the event is closed if no step has begun
 abbrev pub IsOfSteps : Event → Type 0
 IsOfSteps event =
     (task : Task) (standing : Standing) → is_in_flight standing ≡ false → next_standing event task standing ≡ None

@@ -15,7 +15,8 @@ one_more m [] place event is = absurd (none-some event is)
 one_more m (first ∷ events) zero event is = ap (λ k. machine_after k m) (same_Some first event is)
 one_more m (first ∷ events) (suc place) event is = one_more (machine_after first m) events place event is
 
-pub played_next : (m self new : MachineState) (events : List Event) (place next : ℕ) (event : Event) → next ≡ suc place →
+pub played_next : (m self new : MachineState) (events : List Event) (place next : ℕ) (event : Event) →
+    next ≡ suc place →
     place < length events → self ≡ after_all (take place events) m →
     new ≡ machine_after (get_or events place event) self → new ≡ after_all (take next events) m
 played_next m self new events place next event next_is within self_is new_is =
@@ -24,7 +25,7 @@ played_next m self new events place next event next_is within self_is new_is =
     ∙ (sym (one_more m events place (get_or events place event) (slice_get-get_or events place event within))
     ∙ ap (λ k. after_all (take k events) m) (sym next_is)))
 
--- where the event at a place is refused memory
+-- if the event at a place is refused memory
 pub refused_at : (m self new : MachineState) (events : List Event) (place : ℕ) (event : Event) → place < length events →
     self ≡ after_all (take place events) m → IsRefusable (get_or events place event) self → new ≡ self →
     IsRefusedAt events m place × (new ≡ after_all (take place events) m)

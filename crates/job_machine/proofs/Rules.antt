@@ -14,7 +14,7 @@ without_rule : (rule : Rule) (jobs : List JobValue) → map job_of (map (ruled r
 without_rule rule [] = refl
 without_rule rule (job ∷ jobs) = ap (λ (js : List JobValue). job ∷ js) (without_rule rule jobs)
 
--- jobs are equal where they are with one rule
+-- jobs are equal if they are with one rule
 pub same_without : (rule : Rule) (xs ys : List JobValue) → map (ruled rule) xs ≡ map (ruled rule) ys → xs ≡ ys
 same_without rule xs ys same =
     sym (without_rule rule xs) ∙ (ap (λ (ts : List Task). map job_of ts) same ∙ without_rule rule ys)

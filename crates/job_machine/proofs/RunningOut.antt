@@ -203,10 +203,11 @@ all_kept keep old new verified kept leads =
     subst (AreKept old.region old.tasks) leads.2.1
     (keep old.region old.tasks verified leads.2.0 (queue_of old) kept)
 
--- ---- an event that names its job, by where the job stands
+-- ---- an event that names its job, by the job's standing
 
 done_by : (event : Event) (job : ℕ) (m : MachineState) (new : Standing) → HasNoStep m →
-    recalled_standing new ≡ new → (after_event m.region m.tasks event (queue_of m)).standings ≡ with_standing job new m.standings →
+    recalled_standing new ≡ new → (after_event m.region m.tasks event (queue_of m)).standings ≡ with_standing job new
+    m.standings →
     HasNoStep (machine_after event m)
 done_by event job m new none same after =
     subst (λ (ss : List Standing). recalled_standings ss ≡ ss) (sym after)
@@ -224,7 +225,8 @@ no_step_after event job m none same (Opened o) =
 pub fewer_after : EventsUseUp → (event : Event) (job : ℕ) (m : MachineState) → All IsVerified m.tasks →
     AreKept m.region m.tasks (queue_of m) → is_recall event ≡ false →
     Happens m.region m.tasks event (queue_of m) job →
-    all_events_left m.tasks (after_event m.region m.tasks event (queue_of m)).standings ≤ all_events_left m.tasks m.standings
+    all_events_left m.tasks (after_event m.region m.tasks event (queue_of m)).standings ≤ all_events_left m.tasks
+    m.standings
 fewer_after use_up event job m verified kept other (Passed after closed) =
     let same = ap (λ (q : Queue). all_events_left m.tasks q.standings) after in omega (arith, same)
 fewer_after use_up event job m verified kept other (Opened o) =
@@ -393,7 +395,7 @@ all_by : (m : MachineState) → All IsWaitingOrCollected m.standings →
 all_by m idle none (inl all) = all
 all_by m idle none (inr goes) = absurd (nothing_open m idle none goes.0 goes.2)
 
--- where none is admitted though no job is under way, all are collected
+-- if none is admitted though no job is under way, all are collected
 pub all_collected : EventsGoOn → (m : MachineState) → All (λ task. task.limits.words ≤ m.region) m.tasks →
     AreKept m.region m.tasks (queue_of m) → All IsWaitingOrCollected m.standings →
     ((job : ℕ) → admission_in m ≡ Admitted job → ⊥) →

@@ -1,4 +1,4 @@
--- A machine with one slot changed is sound, and stands as an event leaves it.
+-- A machine with one slot changed is sound, and has the standings after an event.
 use Rattle.std.proofs.Common.{◌≡◌, ℕ, zero, suc, ◌+◌, ◌-◌, ◌<◌, ◌≤◌, Bool, true, false, cond, List}
 use Rattle.std.proofs.Common.{[], ◌∷◌}
 use Rattle.std.proofs.Common.{length, set, get_or, slice_get, All, Option, Some, None, refl, sym, ◌∙◌, ap, subst}
@@ -244,7 +244,7 @@ sound_passes blocks tasks slots old new sound same now_few =
       used = sound.used;
     }
 
--- ---- where an event leaves the jobs
+-- ---- the standings after an event
 
 pub standing_at : (slots : List SlotState) (place : ℕ) (slot : SlotState) → slice_get slots place ≡ Some slot →
     slice_get (standings_of slots) place ≡ Some (standing_of slot)
@@ -262,7 +262,7 @@ after_at region tasks event queue place task old changes at None e =
 after_at region tasks event queue place task old changes at (Some new) e =
     ap (λ (q : Queue). q.standings) (sym (changes.changed new e))
 
--- a slot that stands where an event leaves it, among the others
+-- a slot in the standing after an event, among the others
 pub stands_after : EventsChangeTheirJob → (region : ℕ) (tasks : List Task) (event : Event) (slots : List SlotState)
     (passes : List ℕ) (place : ℕ) (task : Task) (old new : SlotState) →
     job_of region tasks event (queue_by slots passes) ≡ Some (suc place) → slice_get tasks place ≡ Some task →
@@ -293,7 +293,7 @@ queue_at laws pass region tasks event queue place task old other job_is at here 
     let passes = pass region tasks event queue other in
     λ i. record { standings = standings i; passes = sym passes i }
 
--- a slot that stands where a begin of its job leaves it and a finish after it, among the others
+-- a slot in the standing after a begin of its job and a finish after it, among the others
 pub stands_after_step : EventsChangeTheirJob → OthersPassNobody → (region : ℕ) (tasks : List Task)
     (slots : List SlotState) (passes : List ℕ) (place : ℕ) (task : Task) (old new : SlotState) →
     slice_get tasks place ≡ Some task → slice_get slots place ≡ Some old →
@@ -318,7 +318,7 @@ stands_after_step laws pass region tasks slots passes place task old new at slot
     ∙ ap (after_event region tasks (Finish (suc place)))
     (queue_at laws pass region tasks (Begin (suc place)) queue place task (standing_of old) (λ e. cc) refl at here)
 
--- a slot that stands where it stood, among the others
+-- a slot in the same standing, among the others
 pub stands_still : (slots : List SlotState) (place : ℕ) (old new : SlotState) → slice_get slots place ≡ Some old →
     standing_of new ≡ standing_of old → standings_of (set slots place new) ≡ standings_of slots
 stands_still slots place old new slot_at stands =

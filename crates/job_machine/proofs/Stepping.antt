@@ -17,7 +17,8 @@ use Rattle.job_slots.specs.declared.answer.Finished.TheVariants as finished
 use Rattle.job_slots.specs.declared.answer.Stepped.{Stepped}
 use Rattle.job_slots.specs.declared.answer.Stepped.TheVariants as stepped
 use Rattle.job_slots.specs.Answers.{question_at, is_live, or_same, standing_after_step, after_stepped}
-use Rattle.job_machine.specs.Machines.{MachineState, queue_of, machine_after, after_step, HasNoStep, GoesOn, is_running, StepsIn}
+use Rattle.job_machine.specs.Machines.{MachineState, queue_of, machine_after, after_step, HasNoStep, GoesOn, is_running}
+use Rattle.job_machine.specs.Machines.{StepsIn}
 use Rattle.job_machine.specs.Machines.{FinishesIn, after_finished}
 use Rattle.job_machine.proofs.Places.{set_back}
 use Rattle.job_machine.proofs.RunningOut.{of_with, of_with_other, with_twice, no_step_with, beside, happens}
@@ -34,7 +35,7 @@ finished_by task filled finished.Ended old next question answer = refl
 finished_by task filled finished.Stale old next question answer =
     absurd (answer (record { flying = refl; question = question }))
 
--- ---- where an event leaves the jobs
+-- ---- the standings after an event
 
 with_back : (event : Event) (job : ℕ) (queue : Queue) (old : Standing) (next : Option Standing) →
     of_job job queue.standings ≡ Some old →
@@ -43,7 +44,7 @@ with_back event job queue old (Some new) is = refl
 with_back event zero queue old None is = absurd (none-some old is)
 with_back event (suc i) queue old None is = sym (set_back queue.standings i old is)
 
--- an event leaves its job at its next standing, or where it stood
+-- an event leaves its job in its next standing, or as it was
 after_by : (region : ℕ) (tasks : List Task) (event : Event) (queue : Queue) (job : ℕ) (task : Task)
     (old : Standing) → job_of region tasks event queue ≡ Some job → of_job job tasks ≡ Some task →
     of_job job queue.standings ≡ Some old →
@@ -68,7 +69,7 @@ after_open region tasks event queue job task old new job_is task_is old_is next 
     after_by region tasks event queue job task old job_is task_is old_is
     ∙ ap (λ (s : Option Standing). with_standing job (or_same old s) queue.standings) next
 
--- a begin and then a finish leave their job where a step does
+-- a begin and then a finish leave their job as a step does
 pub after_both : (m : MachineState) (job : ℕ) (task : Task) (old : Standing) → of_job job m.tasks ≡ Some task →
     of_job job m.standings ≡ Some old →
     (after_step job m).standings ≡ with_standing job (standing_after_step job task old) m.standings
@@ -103,7 +104,7 @@ can_step use_up keep job old m verified kept r =
     let now = kept_on keep old m verified kept r.goes_on.leads in
     record { verified = now.1; kept = now.0; none = r.goes_on.no_step }
 
--- the job was live, and is where no step of it has begun after this one
+-- the job was live, and after this no step of it has begun
 record HasTaken (m : MachineState) (job : ℕ) (after : Standing) : Type 0 where
   task : Task
   step : ℕ

@@ -26,16 +26,20 @@ use Rattle.job_slots.specs.declared.answer.Finished.{Finished}
 use Rattle.job_slots.specs.declared.answer.Finished.TheVariants as finished
 use Rattle.job_slots.specs.declared.answer.Stepped.{Stepped}
 use Rattle.job_slots.specs.declared.answer.Stepped.TheVariants as stepped
+use Rattle.job_slots.specs.Answers.{question_at}
 use Rattle.job_slots.specs.Answers.{Begins, Finishes, or_same, standing_after_begun, standing_after_finished}
 use Rattle.job_slots.specs.Answers.{Steps, standing_after_step, after_stepped}
 use Rattle.job_slots.specs.Laws.{OthersAreShown, ShownIsAlone}
 use Rattle.job_machine.specs.Machines.{MachineState, with_queue, place_of, machine_after, told, told_by, BeginsIn}
-use Rattle.job_machine.specs.Machines.{FinishesIn, StepsIn, after_begun, after_finished, after_step, outcome_in, outcome_by}
+use Rattle.job_machine.specs.Machines.{asked_in, asked_of}
+use Rattle.job_machine.specs.Machines.{FinishesIn, StepsIn, after_begun, after_finished, after_step, outcome_in}
+use Rattle.job_machine.specs.Machines.{outcome_by}
 use Rattle.job_machine.specs.SlotOf.{IsMissing, IsSlotOf}
 use Rattle.job_slots.specs.Slots.{SlotState, Shows, standing_of, standing_by, recalled_status, told_outcome, status_of}
 use Rattle.job_machine.specs.Sound.{IsSound, standings_of}
 use Rattle.job_machine.proofs.SoundLemmas.{queue_by, place_is, no_place, beside_at, standing_at, stands_after}
-use Rattle.job_machine.proofs.SoundLemmas.{stands_after_step, stands_still, missing_after, sound_with, sum_is, sum_within, granted_is}
+use Rattle.job_machine.proofs.SoundLemmas.{stands_after_step, stands_still, missing_after, sound_with, sum_is}
+use Rattle.job_machine.proofs.SoundLemmas.{sum_within, granted_is}
 
 abbrev pub shown_machine : Rule → JobBlocks → List Task → List SlotState → List ℕ → MachineState
 shown_machine rule blocks tasks slots passes = record {
@@ -69,7 +73,8 @@ turn_at rule passes tasks slots region job place task slot job_is task_at slot_a
   shown_standing = ap (λ (j : ℕ). of_job j (standings_of slots)) job_is ∙ standing_at slots place slot slot_at;
 }
 
-pub has_turn : {rule : Rule} {passes : List ℕ} (blocks : JobBlocks) (tasks : List Task) (slots : List SlotState) (m : MachineState)
+pub has_turn : {rule : Rule} {passes : List ℕ} (blocks : JobBlocks) (tasks : List Task) (slots : List SlotState) (m :
+    MachineState)
     (job place : ℕ)
     (o : Option ℕ) (task : Task) (slot : SlotState) → IsSound blocks tasks slots passes →
     shown_machine rule blocks tasks slots passes ≡ m → o ≡ place_of (length m.tasks) job → o ≡ Some place →
@@ -88,10 +93,12 @@ pub task_read : (rule : Rule) (jobs : List JobValue) (place : ℕ) (job : JobVal
     ruled rule job ≡ get_or (map (ruled rule) jobs) place (ruled rule job)
 task_read rule jobs place job is = ap (ruled rule) is ∙ sym (get_or-map (ruled rule) jobs place job)
 
--- the same where the task isn't read
-pub some_turn : {rule : Rule} {passes : List ℕ} (blocks : JobBlocks) (tasks : List Task) (slots : List SlotState) (m : MachineState)
+-- the same if the task isn't read
+pub some_turn : {rule : Rule} {passes : List ℕ} (blocks : JobBlocks) (tasks : List Task) (slots : List SlotState) (m :
+    MachineState)
     (job place : ℕ)
-    (o : Option ℕ) (slot : SlotState) → IsSound blocks tasks slots passes → shown_machine rule blocks tasks slots passes ≡ m →
+    (o : Option ℕ) (slot : SlotState) → IsSound blocks tasks slots passes →
+    shown_machine rule blocks tasks slots passes ≡ m →
     o ≡ place_of (length m.tasks) job → o ≡ Some place → slot ≡ get_or slots place slot →
     (task : Task) × HasTurn tasks slots m job place task slot
 some_turn {rule} {passes} blocks tasks slots m job place o slot sound view o_is some slot_is =
@@ -108,7 +115,8 @@ some_turn {rule} {passes} blocks tasks slots m job place o slot sound view o_is 
     o_is
 
 -- a place is within the jobs
-pub within_jobs : {rule : Rule} {passes : List ℕ} (blocks : JobBlocks) (tasks : List Task) (slots : List SlotState) (m : MachineState)
+pub within_jobs : {rule : Rule} {passes : List ℕ} (blocks : JobBlocks) (tasks : List Task) (slots : List SlotState) (m
+    : MachineState)
     (job place : ℕ)
     (o : Option ℕ) → IsSound blocks tasks slots passes → shown_machine rule blocks tasks slots passes ≡ m →
     o ≡ place_of (length m.tasks) job → o ≡ Some place → place < length tasks
@@ -118,13 +126,15 @@ within_jobs {rule} {passes} blocks tasks slots m job place o sound view o_is som
 
 -- ---- one slot, and the blocks of its job
 
-pub turn_shows : {passes : List ℕ} {blocks : JobBlocks} {tasks : List Task} {slots : List SlotState} {m : MachineState} {job place : ℕ}
+pub turn_shows : {passes : List ℕ} {blocks : JobBlocks} {tasks : List Task} {slots : List SlotState} {m :
+    MachineState} {job place : ℕ}
     {task : Task} {slot : SlotState} → IsSound blocks tasks slots passes → HasTurn tasks slots m job place task slot →
     Shows job blocks task slot
 turn_shows {passes} {blocks} {tasks} {slots} {m} {job} {place} {task} {slot} sound h =
     subst (λ (j : ℕ). Shows j blocks task slot) (sym h.job_is) (sound.each place task slot h.task_at h.slot_at)
 
-pub turn_sound : {passes : List ℕ} → OthersAreShown → {old new : JobBlocks} {tasks : List Task} {slots : List SlotState} {m : MachineState}
+pub turn_sound : {passes : List ℕ} → OthersAreShown →
+    {old new : JobBlocks} {tasks : List Task} {slots : List SlotState} {m : MachineState}
     {job place : ℕ} {task : Task} {before after : SlotState} → IsSound old tasks slots passes →
     HasTurn tasks slots m job place task before → ChangesOnlyOf job old new → Shows job new task after →
     IsSound new tasks (set slots place after) passes
@@ -176,9 +186,12 @@ turn_still {rule} {passes} old new {tasks} {slots} {m} {job} {place} {task} {bef
     here ∙ view
 
 -- an event of a job that there isn't
-pub no_turn : {rule : Rule} {passes : List ℕ} → MissingAreClosed → ClosedChangeNothing → (blocks : JobBlocks) (tasks : List Task)
-    (slots : List SlotState) (m : MachineState) (event : Event) (job : ℕ) (o : Option ℕ) → IsSound blocks tasks slots passes →
-    shown_machine rule blocks tasks slots passes ≡ m → named_job event ≡ Some job → o ≡ place_of (length m.tasks) job → o ≡
+pub no_turn : {rule : Rule} {passes : List ℕ} → MissingAreClosed → ClosedChangeNothing →
+    (blocks : JobBlocks) (tasks : List Task)
+    (slots : List SlotState) (m : MachineState) (event : Event) (job : ℕ) (o : Option ℕ) →
+    IsSound blocks tasks slots passes →
+    shown_machine rule blocks tasks slots passes ≡ m → named_job event ≡ Some job →
+    o ≡ place_of (length m.tasks) job → o ≡
     None →
     m ≡ machine_after event m
 no_turn {rule} {passes} missing closed blocks tasks slots m event job o sound view named o_is none =
@@ -221,6 +234,15 @@ finishes_in filled {job} same {tasks} {slots} {m} {place} {task} {slot} answer h
     subst (λ (j : ℕ). FinishesIn filled (of_job j m.tasks) (of_job j m.standings) answer) same
     (subst (λ (o : Option Task). FinishesIn filled o (of_job job m.standings) answer) (sym h.shown_task)
     (subst (λ (o : Option Standing). FinishesIn filled (Some task) o answer) (sym h.shown_standing) own))
+
+-- what the job of a step asks is what the task that has the turn asks
+pub own_question : (filled : Asked) {job : ℕ} → job ≡ filled.job → {tasks : List Task} {slots : List SlotState}
+    {m : MachineState} {place : ℕ} {task : Task} {slot : SlotState} → HasTurn tasks slots m job place task slot →
+    asked_in m.tasks filled.job filled.step ≡ Some filled.question →
+    question_at task filled.step ≡ Some filled.question
+own_question filled {job} same {tasks} {slots} {m} {place} {task} {slot} h own =
+    let task_is = ap (λ (j : ℕ). of_job j m.tasks) (sym same) ∙ h.shown_task in
+    sym (ap (λ (o : Option Task). asked_of o filled.step) task_is) ∙ own
 
 pub finishes_none : (filled : Asked) (job : ℕ) → job ≡ filled.job → (m : MachineState) → of_job job m.tasks ≡ None →
     FinishesIn filled (of_job filled.job m.tasks) (of_job filled.job m.standings) finished.Stale
@@ -292,7 +314,8 @@ step_state : {rule : Rule} {passes : List ℕ} → EventsChangeTheirJob → Othe
     HasTurn tasks slots m job place task before → new.memory.room ≡ old.memory.room →
     standing_of after ≡ standing_after_step job task (standing_of before) →
     shown_machine rule new tasks (set slots place after) passes ≡ after_step job m
-step_state {rule} {passes} laws pass old new {tasks} {slots} {m} {job} {place} {task} {before} after view h room stands =
+step_state {rule} {passes} laws pass old new {tasks} {slots} {m} {job} {place} {task} {before} after view h room
+    stands =
     let queue =
     stands_after_step laws pass old.memory.room tasks slots passes place task before after h.task_at h.slot_at
     (stands ∙ ap (λ (j : ℕ). standing_after_step j task (standing_of before)) h.job_is) in
@@ -325,8 +348,10 @@ stepped_state {rule} laws pass old new after view h room stepped.SmallDesk stand
     turn_still old new after view h room stands
 
 -- there are numbers for two blocks more
-pub numbers_left : {passes : List ℕ} → ShownIsAlone → (blocks : JobBlocks) (tasks : List Task) (slots : List SlotState) →
-    IsSound blocks tasks slots passes → IsTidy blocks.memory → block_count blocks.memory + 2 ≤ length blocks.memory.slots
+pub numbers_left : {passes : List ℕ} → ShownIsAlone →
+    (blocks : JobBlocks) (tasks : List Task) (slots : List SlotState) →
+    IsSound blocks tasks slots passes → IsTidy blocks.memory →
+    block_count blocks.memory + 2 ≤ length blocks.memory.slots
 numbers_left alone blocks tasks slots sound tidy =
     let within =
     sum_within tasks slots (λ job. blocks_in (own_slots job blocks)) sound.slots_are
@@ -350,7 +375,8 @@ mapped_at [] place standing e = absurd (none-some standing e)
 mapped_at (s ∷ slots) zero standing e = (s, refl, same_Some (standing_of s) standing e)
 mapped_at (s ∷ slots) (suc place) standing e = mapped_at slots place standing e
 
-on_run : {passes : List ℕ} → ShownIsAlone → (blocks : JobBlocks) (tasks : List Task) (slots : List SlotState) → IsSound blocks tasks slots passes →
+on_run : {passes : List ℕ} → ShownIsAlone → (blocks : JobBlocks) (tasks : List Task) (slots : List SlotState) →
+    IsSound blocks tasks slots passes →
     IsTidy blocks.memory → (job : ℕ) (task : Task) (standing : Standing) → of_job job tasks ≡ Some task →
     of_job job (standings_of slots) ≡ Some standing → StandsOnRun task standing
 on_run alone blocks tasks slots sound tidy zero task standing t s = absurd (none-some task t)
@@ -370,9 +396,10 @@ are_kept alone blocks tasks slots sound tidy within = record {
   granted = omega (arith, within, granted_is blocks tasks slots sound);
 }
 
--- ---- what is told of a slot
+-- ---- what a slot shows
 
-pub slot_in : {rule : Rule} {passes : List ℕ} → ShownIsAlone → (blocks : JobBlocks) (tasks : List Task) (slots : List SlotState)
+pub slot_in : {rule : Rule} {passes : List ℕ} → ShownIsAlone →
+    (blocks : JobBlocks) (tasks : List Task) (slots : List SlotState)
     (m : MachineState)
     (job place : ℕ) (o : Option ℕ) (slot : SlotState) → IsSound blocks tasks slots passes → IsTidy blocks.memory →
     shown_machine rule blocks tasks slots passes ≡ m → o ≡ place_of (length m.tasks) job → o ≡ Some place →
@@ -390,7 +417,8 @@ slot_in {rule} {passes} alone blocks tasks slots m job place o slot sound tidy v
       outcome_is = shown.outcome_is;
     }
 
-pub slot_missing : {rule : Rule} {passes : List ℕ} (blocks : JobBlocks) (tasks : List Task) (slots : List SlotState) (m : MachineState)
+pub slot_missing : {rule : Rule} {passes : List ℕ} (blocks : JobBlocks) (tasks : List Task) (slots : List SlotState)
+    (m : MachineState)
     (job : ℕ)
     (o : Option ℕ) → IsSound blocks tasks slots passes → shown_machine rule blocks tasks slots passes ≡ m →
     o ≡ place_of (length m.tasks) job → o ≡ None → IsMissing job m
@@ -402,7 +430,7 @@ slot_missing {rule} {passes} blocks tasks slots m job o sound view o_is none =
     })
     o_is
 
--- what is told of a slot is told of its job
+-- what a slot shows holds of its job
 pub told_of : {T : Type 0} (of : Task → Standing → T) (m : MachineState) (job : ℕ) (slot : SlotState) (value : T) →
     (h : IsSlotOf job m slot) → value ≡ of h.task (standing_of slot) → Some value ≡ told of job m
 told_of of m job slot value h is =
@@ -440,7 +468,8 @@ status_in m job slot value h is =
 pub status_none : (m : MachineState) (job : ℕ) → IsMissing job m → option_map status_of (of_job job m.standings) ≡ None
 status_none m job h = ap (option_map status_of) h.no_standing
 
-pub all_verified : {passes : List ℕ} (blocks : JobBlocks) (tasks : List Task) (slots : List SlotState) → IsSound blocks tasks slots passes →
+pub all_verified : {passes : List ℕ} (blocks : JobBlocks) (tasks : List Task) (slots : List SlotState) →
+    IsSound blocks tasks slots passes →
     All IsVerified tasks
 all_verified blocks tasks slots sound place d within =
     let task_at = slice_get-get_or tasks place d within in

@@ -80,7 +80,7 @@ runs_out join keep use_up job old between new verified kept r idle new_is =
     } in
     subst (RunsOut job old) (sym new_is) all
 
--- where the collection is refused nothing changes
+-- if the collection is refused nothing changes
 pub runs_still : (job : ℕ) (old between new : MachineState) → Runs job old between → new ≡ between → Runs job old new
 runs_still job old between new r new_is = subst (Runs job old) (sym new_is) r
 

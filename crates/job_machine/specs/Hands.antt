@@ -26,7 +26,7 @@ hand_after (begun.Ended desk) = hand.Free desk
 hand_after (begun.NotReady desk) = hand.Free desk
 hand_after (begun.SmallDesk desk) = hand.Free desk
 
--- A job that stands there has a desk of its words, or, where a step of it has begun, that step, on a desk of its words.
+-- A job of that standing has a desk of its words, or, if a step of it has begun, that step, on a desk of its words.
 abbrev pub HandFits : {A : Type 0} → ℕ → Task → Standing → Hand A → Type 0
 HandFits job task standing (hand.Free desk) = (desk ≡ task.limits.words) × (is_in_flight standing ≡ false)
 HandFits job task standing (hand.Holds filled) =

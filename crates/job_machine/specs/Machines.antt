@@ -1,11 +1,13 @@
 -- What a machine shows, and what events make of it.
-use Rattle.std.specs.Prelude.{◌≡◌, ℕ, zero, suc, nat_lt, max, Bool, true, false, ◌||◌, if◌then◌else◌, List, [], ◌∷◌, fold}
+use Rattle.std.specs.Prelude.{◌≡◌, ℕ, zero, suc, nat_lt, max, Bool, true, false, ◌||◌, if◌then◌else◌, List, [], ◌∷◌}
+use Rattle.std.specs.Prelude.{fold}
 use Rattle.std.specs.Prelude.{Option, Some, None, refl}
 use Rattle.std.specs.Coded.{Coded, code_by, coded_ℕ, coded×, coded_list}
 use Rattle.vcode_base.specs.declared.rule.Rule.{Rule}
 use Rattle.job_steps.specs.declared.event.Event.{Event}
 use Rattle.job_steps.specs.declared.event.Event.TheVariants as event
 use Rattle.job_steps.specs.Events.{after_event, after_events, recalled_standings, recalled_queue, LeadTo}
+use Rattle.job_steps.specs.Questions.{Question}
 use Rattle.job_steps.specs.Runs.{outcome}
 use Rattle.job_steps.specs.Standings.{Standing, Waiting, Ended, Collected, Queue, of_job, is_waiting, admission}
 use Rattle.job_steps.specs.Standings.{outcome_at}
@@ -18,12 +20,13 @@ use Rattle.job_slots.specs.declared.answer.Finished.{Finished}
 use Rattle.job_slots.specs.declared.answer.Finished.TheVariants as finished
 use Rattle.job_slots.specs.declared.answer.Stepped.{Stepped}
 use Rattle.job_slots.specs.declared.answer.Stepped.TheVariants as stepped
-use Rattle.job_slots.specs.Answers.{Begins, Finishes, Steps, is_live, is_in_flight, is_ended}
+use Rattle.job_slots.specs.Answers.{Begins, Finishes, Steps, is_live, is_in_flight, is_ended, question_at}
 use Rattle.job_slots.specs.Slots.{IsReturned}
 use Rattle.job_machine.specs.declared.machine.Admission.{Admission}
 use Rattle.job_machine.specs.declared.machine.Admission.TheVariants.{Admitted, NotNow, NoneWaiting}
 
--- the rule, the words of the region, and the jobs in order, each with that rule, with where each stands and how often it
+-- the rule, the words of the region, and the jobs in order, each with that rule, with where each stands and how often
+-- it
 -- was passed by
 pub record MachineState : Type 0 where
   pub rule : Rule
@@ -32,7 +35,7 @@ pub record MachineState : Type 0 where
   pub standings : List Standing
   pub passes : List ℕ
 
--- it is told apart by all of these
+-- it is identified by all of these
 abbrev pub task_code : Coded Rule → Coded JobValue → Coded Task
 task_code rule job =
     code_by (Rule × JobValue) (coded× rule job)
@@ -65,7 +68,7 @@ with_queue m queue = record {
   passes = queue.passes;
 }
 
--- the machine after an event, which is passed over where it isn't open
+-- the machine after an event; an event that isn't open changes nothing
 abbrev pub machine_after : Event → MachineState → MachineState
 machine_after event m = with_queue m (after_event m.region m.tasks event (queue_of m))
 
@@ -83,7 +86,7 @@ Leads old new =
     (new.region ≡ old.region) × (new.tasks ≡ old.tasks) × LeadTo old.region old.tasks (queue_of old) (queue_of new)
     × (new.rule ≡ old.rule)
 
--- the words of the job that has the most, and 0 where there is no job
+-- the words of the job that has the most, and 0 if there is no job
 abbrev pub most_words : List Task → ℕ
 most_words tasks = fold (λ most task. max most task.limits.words) 0 tasks
 
@@ -112,7 +115,7 @@ BeginsIn job words None standing answer = ⊥
 BeginsIn job words (Some task) None (begun.NotReady desk) = desk ≡ words
 BeginsIn job words (Some task) None answer = ⊥
 
--- nothing changes where the job isn't ready, or the desk is too small
+-- nothing changes if the job isn't ready, or the desk is too small
 abbrev pub after_begun : {A T : Type 0} → Begun A → (old next : T) → T
 after_begun (begun.Began ticket) old next = next
 after_begun (begun.Ended desk) old next = next
@@ -126,11 +129,20 @@ FinishesIn filled None standing answer = ⊥
 FinishesIn filled (Some task) None finished.Stale = Unit {0}
 FinishesIn filled (Some task) None answer = ⊥
 
--- nothing changes where the step is stale
+-- nothing changes if the step is stale
 abbrev pub after_finished : {T : Type 0} → Finished → (old next : T) → T
 after_finished finished.Done old next = next
 after_finished finished.Ended old next = next
 after_finished finished.Stale old next = old
+
+-- what a job asks after so many instructions
+abbrev pub asked_of : Option Task → ℕ → Option Question
+asked_of (Some task) n = question_at task n
+asked_of None n = None
+
+-- the same of the job of that number, if there is one
+abbrev pub asked_in : List Task → (job n : ℕ) → Option Question
+asked_in tasks job n = asked_of (of_job job tasks) n
 
 -- ---- a step in one go
 
@@ -146,7 +158,7 @@ StepsIn job words None standing answer = ⊥
 StepsIn job words (Some task) None stepped.NotReady = Unit {0}
 StepsIn job words (Some task) None answer = ⊥
 
--- ---- what is told of a job, if there is one of that number
+-- ---- what is reported of a job, if there is one of that number
 
 abbrev pub is_flying : Option Standing → Bool
 is_flying None = false
@@ -183,7 +195,7 @@ pub record HasReturnedIn (m : MachineState) (job : ℕ) : Type 0 where
 
 -- ---- jobs by their places
 
--- the place of a job, counted from 0, among so many jobs
+-- the place of a job, counted from 0, among `count` jobs
 abbrev pub place_of : ℕ → ℕ → Option ℕ
 place_of count zero = None
 place_of count (suc place) = if nat_lt place count then Some place else None
@@ -209,7 +221,7 @@ IsDone (Some standing) = IsWaitingOrCollected standing
 abbrev pub HasNoStep : MachineState → Type 0
 HasNoStep m = recalled_standings m.standings ≡ m.standings
 
--- other jobs stand where they stood
+-- other jobs keep their standings
 abbrev pub OthersStand : ℕ → MachineState → MachineState → Type 0
 OthersStand job old new = (other : ℕ) → (other ≡ job → ⊥) → of_job other new.standings ≡ of_job other old.standings
 

@@ -10,7 +10,7 @@ pub record IsMissing (job : ℕ) (m : MachineState) : Type 0 where
   pub no_task : of_job job m.tasks ≡ None
   pub no_standing : of_job job m.standings ≡ None
 
--- the slot stands where the job of this number does, and has its counts and its outcome
+-- the slot has the standing of the job of this number, its counts and its outcome
 pub record IsSlotOf (job : ℕ) (m : MachineState) (slot : SlotState) : Type 0 where
   pub task : Task
   pub task_is : of_job job m.tasks ≡ Some task

@@ -15,7 +15,8 @@ sum_to (suc n) f = sum_to n f + f (suc n)
 abbrev pub standings_of : List SlotState → List Standing
 standings_of slots = map standing_of slots
 
--- Each job's blocks and slot show where its run alone stands; all blocks are those of the jobs, and there is a number for
+-- Each job's blocks and slot show where its run alone stands; all blocks are those of the jobs, and there is a number
+-- for
 -- each block that the jobs' cells can name, and for two more. Each job was passed by few times.
 pub record IsSound (blocks : JobBlocks) (tasks : List Task) (slots : List SlotState) (passes : List ℕ) : Type 0 where
   pub jobs : length blocks.grants ≡ length tasks

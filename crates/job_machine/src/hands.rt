@@ -24,7 +24,7 @@ pub enum Hand<A: Allocator> {
     Empty,
 }
 
-/// For each job of a machine the desk that its next step will be computed on, or, where a step of it has begun, that
+/// For each job of a machine the desk that its next step will be computed on, or, if a step of it has begun, that
 /// step, computed.
 ///
 /// In a contract they are the list of the jobs' hands.
@@ -45,11 +45,11 @@ impl<A: Allocator> Model for Hands<A> {
 impl<A: Allocator + Clone> Hands<A> {
     /// A desk for each job of a machine, of the job's words, with memory of `alloc`.
     ///
-    /// So they fit the machine where no step has begun, or once all that have are given up.
+    /// So they fit the machine if no step has begun, or once all that have are given up.
     ///
     /// # Errors
     ///
-    /// [`AllocError`] where memory for a desk was refused.
+    /// [`AllocError`] if memory for a desk was refused.
     pub fn new(alloc: A, machine: &Machine<A>) -> Result<Hands<A>, AllocError>
         ensures { IfOk result (HandsFit (recalled machine.now)) }
     {
@@ -88,7 +88,7 @@ impl<A: Allocator> Hands<A> {
         Some(mem::replace(&mut self.hands[job - 1], hand))
     }
 
-    /// Takes the desk of a job, where its hand is free, and leaves the hand empty.
+    /// Takes the desk of a job, if its hand is free, and leaves the hand empty.
     pub(crate) fn take_desk(&mut self, job: usize) -> Option<Desk<A>>
         ensures { Takes hand.Free job self.old self.new result }
     {
@@ -101,7 +101,7 @@ impl<A: Allocator> Hands<A> {
         }
     }
 
-    /// Takes the step of a job, where its hand holds one, and leaves the hand empty.
+    /// Takes the step of a job, if its hand holds one, and leaves the hand empty.
     pub(crate) fn take_filled(&mut self, job: usize) -> Option<Filled<A>>
         ensures { Takes hand.Holds job self.old self.new result }
     {

@@ -1,11 +1,11 @@
 //! Jobs over one region of words, which take their turns in any order.
 //!
 //! A [`Machine`] admits jobs, begins and finishes their steps, and collects their outcomes. `specs/Machines.antt` says
-//! what each call makes of where the jobs stand: what the event of its name makes by the definitions of `job_steps`. So
-//! every job goes where it goes alone, whatever the others do.
+//! what each call makes of the standings of the jobs: what the event of its name makes by the definitions of
+//! `job_steps`. So every job goes where it goes alone, whatever the others do.
 //!
-//! [`Machine::replay`] does a list of events. What goes by events as they come, as those of a schedule, does each by
-//! [`Machine::play`], with the [`Hands`] that hold the jobs' desks and computed steps.
+//! [`Machine::replay`] does a list of events. A caller to which events come one by one, as those of a schedule, does
+//! each by [`Machine::play`], with the [`Hands`] that hold the jobs' desks and computed steps.
 #![tactic(auto)]
 
 mod hands;

@@ -1,7 +1,7 @@
 //! Jobs over one region of words.
 
 ghost use Rattle.std.specs.Prelude.{◌≡◌, ◌≤◌, ◌↔◌, ℕ, length, All, IfOk, IfSome, OnOk, OnErr, IsTrue, option_map};
-ghost use Rattle.std.specs.Prelude.{map, option_copied};
+ghost use Rattle.std.specs.Prelude.{Some, map, option_copied};
 ghost use Rattle.std.specs.Arc.{arc_value};
 ghost use Rattle.vcode_base.specs.declared.limits.TheConstants.{MOST_JOBS, MOST_PASSES, MOST_WORDS};
 ghost use Rattle.job_steps.specs.declared.event.Event.TheVariants.{Admit, Begin, Finish, Recall, Collect};
@@ -18,7 +18,7 @@ ghost use Rattle.job_slots.specs.Slots.{status_of};
 ghost use Rattle.job_machine.specs.Machines.{queue_of, machine_after, Leads, admission_in, BeginsIn, after_begun};
 ghost use Rattle.job_machine.specs.Machines.{FinishesIn, after_finished, is_flying, is_over, told};
 ghost use Rattle.job_machine.specs.Machines.{outcome_in, HasReturnedIn, HasNoStep, most_words, place_of};
-ghost use Rattle.job_machine.specs.Machines.{StepsIn, after_step};
+ghost use Rattle.job_machine.specs.Machines.{StepsIn, after_step, asked_in};
 ghost use Rattle.job_machine.specs.SlotOf.{IsSlotIn};
 
 use crate::setting::{all_cells, most_words, new_slots, next_admission, pass_before, same_jobs};
@@ -50,8 +50,8 @@ pub enum Admission {
 /// Jobs over one region of words, each of which runs as it runs alone.
 ///
 /// Jobs are numbered from 1 in the order in which they were given. In a contract a machine is its rule, its region's
-/// words and its jobs, with where each stands and how often it was passed by. What a job holds, executed and ended by are
-/// functions of the jobs and of where they stand alone.
+/// words and its jobs, with where each stands and how often it was passed by. What a job holds, executed and ended by
+/// are functions of the jobs and of where they stand alone.
 #[derive(Drop)]
 pub struct Machine<A: Allocator> {
     rule: Rule,
@@ -91,9 +91,9 @@ impl<A: Allocator + Clone> Machine<A> {
     /// A machine over a region of so many words, whose jobs all wait, and will run by this rule. There are at most 64,
     /// and the words of each fit the region.
     ///
-    /// Takes the memory for the region, for the cells and calls of all jobs, for their passes, and for the numbers of their
-    /// blocks; an error means that the allocator refused it. Of the calls on the machine only `list` and the collection of results
-    /// take memory.
+    /// Takes the memory for the region, for the cells and calls of all jobs, for their passes, and for the numbers of
+    /// their blocks; an error means that the allocator refused it. Of the calls on the machine only `list` and the
+    /// collection of results take memory.
     pub fn new(
         alloc: A,
         region: usize,
@@ -104,7 +104,13 @@ impl<A: Allocator + Clone> Machine<A> {
         requires jobs { length jobs.items ≤ MOST_JOBS }
         requires words { All (λ job. job.limits.words ≤ region) jobs.items }
         ensures { let tasks = map (ruled rule) jobs.items in let queue = first_queue tasks in IfOk result (λ m. m
-            ≡ record { rule = rule; region = region; tasks = tasks; standings = queue.standings; passes = queue.passes }) }
+            ≡ record {
+              rule = rule;
+              region = region;
+              tasks = tasks;
+              standings = queue.standings;
+              passes = queue.passes;
+            }) }
     {
         new_is_shown();
         let slots = new_slots(alloc.clone()?, jobs.as_slice())?;
@@ -125,8 +131,8 @@ impl<A: Allocator + Clone> Machine<A> {
     ///
     /// # Errors
     ///
-    /// [`AllocError`] where memory for the results was refused, which comes only at a job that returned. Nothing changes
-    /// then.
+    /// [`AllocError`] where memory for the results was refused, which comes only at a job that returned. Nothing
+    /// changes then.
     pub fn collect(&mut self, job: usize) -> Result<bool, AllocError>
         ensures answer { IfOk result (λ yes. yes ≡ is_over (of_job job self.old.standings)) }
         ensures state { OnOk result (self.new ≡ machine_after (Collect job) self.old) }
@@ -143,8 +149,8 @@ impl<A: Allocator + Clone> Machine<A> {
         slot.collect(rule, &jobs[place], job, &mut self.blocks)
     }
 
-    /// Gives up all steps that have begun, and then runs and collects all jobs on this thread, on a desk of at least the
-    /// words of each.
+    /// Gives up all steps that have begun, and then runs and collects all jobs on this thread, on a desk of at least
+    /// the words of each.
     ///
     /// `Err` where the collection of a job that returned was refused memory: what was done until then stands, no step
     /// has begun, and the call may be made again.
@@ -165,9 +171,9 @@ impl<A: Allocator + Clone> Machine<A> {
 }
 
 impl<A: Allocator> Machine<A> {
-    /// Admits the first job that waits and whose words fit beside those that are granted, unless a job that waits before it
-    /// was passed by [`MOST_PASSES`](vcode_base::limits::MOST_PASSES) times. Each job that waits before it is passed by once
-    /// more.
+    /// Admits the first job that waits and whose words fit beside those that are granted, unless a job that waits
+    /// before it was passed by [`MOST_PASSES`](vcode_base::limits::MOST_PASSES) times. Each job that waits before it is
+    /// passed by once more.
     ///
     /// `NotNow` exactly where some job waits, and none can be admitted so.
     pub fn admit(&mut self) -> Admission
@@ -212,10 +218,11 @@ impl<A: Allocator> Machine<A> {
         slot.begin(rule, &jobs[place], job, &mut self.blocks, desk)
     }
 
-    /// Commits a step that was computed, where it is the one of its job that has begun, with the same instruction and
+    /// Commits a step that was computed, if it is the one of its job that has begun, with the same instruction and
     /// operands. The desk comes back.
     pub fn finish(&mut self, filled: Filled<A>) -> (Finished, Desk<A>)
-        ensures answer { FinishesIn filled (of_job filled.job self.old.tasks) (of_job filled.job self.old.standings) result.0 }
+        ensures answer { FinishesIn filled (of_job filled.job self.old.tasks)
+            (of_job filled.job self.old.standings) result.0 }
         ensures desk { result.1 ≡ filled.words }
         ensures state { self.new ≡ after_finished result.0 self.old (machine_after (Finish filled.job) self.old) }
     {
@@ -232,9 +239,31 @@ impl<A: Allocator> Machine<A> {
         slot.finish(rule, &jobs[place], job, &mut self.blocks, filled)
     }
 
+    /// Commits a step that was computed, as `finish` does, but compares no operands: the step is known to ask what its
+    /// job asks at its number. `Stale` exactly if no step of this number is in flight.
+    pub fn finish_own(&mut self, filled: Filled<A>) -> (Finished, Desk<A>)
+        requires { asked_in self.old.tasks filled.job filled.step ≡ Some filled.question }
+        ensures answer { FinishesIn filled (of_job filled.job self.old.tasks)
+            (of_job filled.job self.old.standings) result.0 }
+        ensures desk { result.1 ≡ filled.words }
+        ensures state { self.new ≡ after_finished result.0 self.old (machine_after (Finish filled.job) self.old) }
+    {
+        turn_laws();
+        shown_is_alone();
+        let _used = self.blocks.used();
+        let job = filled.job();
+        let Some(place) = self.place(job) else {
+            return (Finished::Stale, filled.into_desk());
+        };
+        let rule = self.rule;
+        let jobs = self.jobs.as_slice();
+        let slot = &mut self.slots[place];
+        slot.finish_own(rule, &jobs[place], job, &mut self.blocks, filled)
+    }
+
     /// Carries out the next instruction of a job in one go, with the desk's room for its results. Takes no memory.
     ///
-    /// At `Done` and `Ended` the job is where a begin and then the finish of that step leave it. `NotReady` exactly if
+    /// At `Done` and `Ended` the job is as a begin and then the finish of that step leave it. `NotReady` exactly if
     /// there is no such job, or it waits, a step of it has begun, or it is over. `SmallDesk` exactly if it is live and
     /// the desk has fewer words than the job. Nothing changes then.
     pub fn step(&mut self, job: usize, desk: &mut Desk<A>) -> Stepped
@@ -254,7 +283,7 @@ impl<A: Allocator> Machine<A> {
         slot.step(rule, &jobs[place], job, &mut self.blocks, desk)
     }
 
-    /// Gives up the step of a job that has begun; true where there was one. The job stands as before the step's begin.
+    /// Gives up the step of a job that has begun; true if there was one. The job is as before the step's begin.
     pub fn recall(&mut self, job: usize) -> bool
         ensures answer { result ≡ is_flying (of_job job self.old.standings) }
         ensures state { self.new ≡ machine_after (Recall job) self.old }
@@ -274,7 +303,7 @@ impl<A: Allocator> Machine<A> {
         self.rule
     }
 
-    /// Where a job stands, or `None` for no such job.
+    /// The status of a job, or `None` for no such job.
     pub fn status(&self, job: usize) -> Option<Status>
         ensures { result ≡ option_map status_of (of_job job self.now.standings) }
     {
@@ -282,7 +311,7 @@ impl<A: Allocator> Machine<A> {
         Some(slot.status())
     }
 
-    /// How a job ended, where it is collected.
+    /// How a job ended, if it is collected.
     pub fn outcome(&self, job: usize) -> Option<&Outcome<Values<A>>>
         ensures { option_copied result ≡ outcome_in job self.now }
     {
@@ -306,8 +335,8 @@ impl<A: Allocator> Machine<A> {
         Some(slot.peak())
     }
 
-    /// How often a job was passed by, or `None` for no such job: how many jobs after it were admitted while it waited. Once
-    /// it is admitted this stays.
+    /// How often a job was passed by, or `None` for no such job: how many jobs after it were admitted while it waited.
+    /// Once it is admitted this stays.
     pub fn passed(&self, job: usize) -> Option<u8>
         ensures value { result ≡ of_job job self.now.passes }
         ensures few { IfSome result (λ count. count ≤ MOST_PASSES) }
@@ -321,7 +350,8 @@ impl<A: Allocator> Machine<A> {
     /// region.
     pub fn used(&self) -> usize
         ensures used { result ≡ used_words self.now.tasks self.now.standings }
-        ensures within { used_words self.now.tasks self.now.standings ≤ granted_words self.now.tasks self.now.standings }
+        ensures within { used_words self.now.tasks self.now.standings
+            ≤ granted_words self.now.tasks self.now.standings }
         ensures granted { granted_words self.now.tasks self.now.standings ≤ self.now.region }
     {
         shown_is_alone();
@@ -329,7 +359,7 @@ impl<A: Allocator> Machine<A> {
         self.blocks.used()
     }
 
-    /// How many jobs there are. Each is verified, fits the region, and stands on its run alone.
+    /// How many jobs there are. Each is verified, fits the region, and is where its run alone leads.
     pub fn jobs(&self) -> usize
         ensures count { result ≡ length self.now.tasks }
         ensures few { length self.now.tasks ≤ MOST_JOBS }
@@ -347,7 +377,7 @@ impl<A: Allocator> Machine<A> {
     ///
     /// # Errors
     ///
-    /// [`AllocError`] where they already have as many owners as can be counted.
+    /// [`AllocError`] if they already have as many owners as can be counted.
     pub fn list(&self) -> Result<Arc<Vec<Job<A>, A>, A>, AllocError>
     where
         A: Clone,
@@ -356,7 +386,7 @@ impl<A: Allocator> Machine<A> {
         Arc::try_clone(&self.jobs)
     }
 
-    /// The words of the job that has the most, and 0 where there is no job: a desk of so many serves each job.
+    /// The words of the job that has the most, and 0 if there is no job: a desk of this number serves each job.
     pub fn most_words(&self) -> usize
         ensures value { result ≡ most_words self.now.tasks }
         ensures each { All (λ task. task.limits.words ≤ result) self.now.tasks }

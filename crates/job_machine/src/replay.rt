@@ -17,21 +17,21 @@ use std::alloc::{AllocError, Allocator};
 pub enum ReplayFault {
     /// For the desks. Nothing was done.
     Desks,
-    /// For the results of a job, by the event at this place, counted from 0, which collects it. The events before it were
-    /// done.
+    /// For the results of a job, by the event at this place, counted from 0, which collects it. The events before it
+    /// were done.
     Collect(usize),
 }
 
 impl<A: Allocator + Clone> Machine<A> {
-    /// Does an event, or passes it over where it isn't open.
+    /// Does an event; an event that isn't open changes nothing.
     ///
     /// A step is begun on the desk in the job's hand and computed at once; the hand holds it until it is finished or
     /// given up, and has the desk again then. So the hands have to fit the machine, as they do after
-    /// [`Hands::new`] where no step has begun, and they still do after each event.
+    /// [`Hands::new`] if no step has begun, and they still do after each event.
     ///
     /// # Errors
     ///
-    /// [`AllocError`] where the collection of a job that returned was refused memory. Nothing changed then.
+    /// [`AllocError`] if the collection of a job that returned was refused memory. Nothing changed then.
     pub fn play(&mut self, event: Event, hands: &mut Hands<A>) -> Result<(), AllocError>
         requires { HandsFit self.old hands.old }
         ensures ok { OnOk result (self.new ≡ machine_after event self.old) }
@@ -55,8 +55,8 @@ impl<A: Allocator + Clone> Machine<A> {
         Ok(())
     }
 
-    /// Gives up all steps that have begun, does events in order, passing over those that are not open, and gives up what
-    /// has begun.
+    /// Gives up all steps that have begun, does events in order, passing over those that are not open, and gives up
+    /// what has begun.
     ///
     /// The desks for the steps, one for each job, take memory from `alloc`.
     ///
@@ -77,7 +77,7 @@ impl<A: Allocator + Clone> Machine<A> {
         played.map_err(ReplayFault::Collect)
     }
 
-    /// Does events in order; the place of one that was refused memory stands in the error.
+    /// Does events in order; the error has the place of the event that was refused memory.
     fn play_all(&mut self, events: &[Event], hands: &mut Hands<A>) -> Result<(), usize>
         requires { HandsFit self.old hands.old }
         ensures ok { OnOk result (self.new ≡ after_all events.now self.old) }
@@ -111,7 +111,7 @@ impl<A: Allocator> Machine<A> {
         hands.exchange(job, Hand::Free(desk));
     }
 
-    /// Begins the next step of a job on the desk in its hand, and computes it where it began.
+    /// Begins the next step of a job on the desk in its hand, and computes it if it began.
     fn play_begin(&mut self, job: usize, hands: &mut Hands<A>)
         requires { HandsFit self.old hands.old }
         ensures state { self.new ≡ machine_after (Begin job) self.old }

@@ -15,7 +15,7 @@ use job_steps::laws::{
 use std::alloc::{AllocError, Allocator};
 
 impl<A: Allocator> Machine<A> {
-    /// Gives up all steps that have begun. Each of their jobs stands as before its step's begin.
+    /// Gives up all steps that have begun. Each of their jobs is as before its step's begin.
     pub fn recall_all(&mut self)
         ensures recalled { self.new ≡ recalled self.old }
         ensures leads { Leads self.old self.new }
@@ -33,7 +33,8 @@ impl<A: Allocator> Machine<A> {
         requires words { All (λ task. task.limits.words ≤ desk.old) self.old.tasks }
         requires no_step { HasNoStep self.old }
         ensures goes_on { GoesOn job self.old self.new }
-        ensures no_more { all_events_left self.new.tasks self.new.standings ≤ all_events_left self.old.tasks self.old.standings }
+        ensures no_more { all_events_left self.new.tasks self.new.standings
+            ≤ all_events_left self.old.tasks self.old.standings }
         ensures idle { is_running (of_job job self.new.standings) ≡ false }
         ensures desk { desk.new ≡ desk.old }
     {
@@ -51,7 +52,8 @@ impl<A: Allocator + Clone> Machine<A> {
         requires words { All (λ task. task.limits.words ≤ desk.old) self.old.tasks }
         requires no_step { HasNoStep self.old }
         ensures goes_on { GoesOn job self.old self.new }
-        ensures no_more { all_events_left self.new.tasks self.new.standings ≤ all_events_left self.old.tasks self.old.standings }
+        ensures no_more { all_events_left self.new.tasks self.new.standings
+            ≤ all_events_left self.old.tasks self.old.standings }
         ensures ok { OnOk result (IsDone (of_job job self.new.standings)) }
         ensures refused { OnErr result (HasReturnedIn self.new job) }
         ensures desk { desk.new ≡ desk.old }

@@ -47,7 +47,7 @@ pub(crate) fn all_cells<A: Allocator>(jobs: &[Job<A>]) -> usize
     cells
 }
 
-/// The words of the job that has the most, and 0 where there is none.
+/// The words of the job that has the most, and 0 if there is none.
 pub(crate) fn most_words<A: Allocator>(jobs: &[Job<A>]) -> usize
     ensures value { result ≡ fold (λ most job. max most job.limits.words) 0 jobs.now }
     ensures each { All (λ job. job.limits.words ≤ result) jobs.now }
@@ -60,8 +60,8 @@ pub(crate) fn most_words<A: Allocator>(jobs: &[Job<A>]) -> usize
     most
 }
 
-/// What an admission answers: the first job that waits and whose words fit, unless a job that waits before it was passed by
-/// as often as a job may be.
+/// What an admission answers: the first job that waits and whose words fit, unless a job that waits before it was
+/// passed by as often as a job may be.
 pub(crate) fn next_admission<A: Allocator>(
     blocks: &JobMemory<A>,
     jobs: &[Job<A>],

@@ -1,4 +1,4 @@
--- A slot that shows where its job stands has the counts and the words that the job has alone.
+-- A slot that shows its job's standing has the counts and the words that the job has alone.
 use Rattle.std.proofs.Common.{◌≡◌, ℕ, ◌≤◌, List, length, Option, Some, None, refl, sym, ◌∙◌, ap, arith}
 use Rattle.std.proofs.lemmas.List.{length-map}
 use Rattle.vcode_base.specs.declared.outcome.Outcome.{Outcome}
@@ -9,7 +9,7 @@ use Rattle.job_steps.specs.EventLaws.{StandsOnRun}
 use Rattle.job_steps.specs.Reached.{IsVerifiedTask, Reaches, EachEnds}
 use Rattle.job_steps.specs.Runs.{state_after, outcome, peak_in}
 use Rattle.job_steps.specs.Standings.{held_by, held_in, left_words, executed_at, peak_at, outcome_at}
-use Rattle.job_steps.specs.States.{Vector, Task, Entry, held_words}
+use Rattle.job_steps.specs.States.{Vector, Task, StackEntry, held_words}
 use Rattle.job_steps.specs.Tracks.{Trace}
 use Rattle.job_slots.specs.declared.status.Status.{Status}
 use Rattle.job_slots.specs.declared.status.Status.TheVariants.{Waiting, Live, InFlight, Ended, Collected}
@@ -29,11 +29,11 @@ pub record IsAlone (slots : List Slot) (task : Task) (t : Trace ℕ) (o : Option
   pub few : blocks_in slots ≤ task.limits.cells
 
 -- what holds a stack has its words, and no more blocks than it has entries
-pub record Holds (slots : List Slot) (stack : List Entry) : Type 0 where
+pub record Holds (slots : List Slot) (stack : List StackEntry) : Type 0 where
   pub words : words_in slots ≡ held_words stack
   pub few : blocks_in slots ≤ length stack
 
-pub holds_stack : (slots : List Slot) (ids : List ℕ) (stack : List Entry) → AreTidy slots → HoldStack slots ids stack →
+pub holds_stack : (slots : List Slot) (ids : List ℕ) (stack : List StackEntry) → AreTidy slots → HoldStack slots ids stack →
     Holds slots stack
 holds_stack slots ids stack tidy h = record {
   words = held_is_stack slots h.cells h.held tidy ∙ ap held_words (sym h.entries_are);

@@ -1,4 +1,4 @@
--- Where a job runs: its next instruction, and what ends the job before it.
+-- A job that runs: its next instruction, and what ends the job before it.
 use Rattle.std.proofs.Common.{◌≡◌, ℕ, ℤ, ◌≤◌, List, ◌∷◌, length, Some, ◌∙◌, ap, subst}
 use Rattle.vcode_base.specs.declared.op.Op.{Op}
 use Rattle.vcode_base.specs.Instructions.{op_of}
@@ -23,7 +23,7 @@ use Rattle.job_slots.specs.Answers.{question_before, question_in, question_at, l
 use Rattle.job_slots.specs.Answers.{early_end_of, early_end_at, IsNext}
 use Rattle.job_slots.proofs.Operands.{deep_enough}
 
--- ---- the definitions at a state where the job runs
+-- ---- the definitions at a state at which the job runs
 
 pub question_when : (task : Task) (n : ℕ) (s : State) (call : Active) (outer : List Active) →
     state_after task n ≡ Running s → s.calls ≡ call ∷ outer →

@@ -25,4 +25,5 @@ has_ended number blocks task slot shows is =
 pub ended_holds : (number : ℕ) (blocks : JobBlocks) (task : Task) (slot : SlotState) → Shows number blocks task slot →
     slot.status ≡ Ended → HoldSomeStack (own_slots number blocks) slot.trace.cells
 ended_holds number blocks task slot shows is =
-    left_holds (own_slots number blocks) task slot.trace slot.outcome (has_ended number blocks task slot shows is).leaves
+    left_holds (own_slots number blocks) task slot.trace slot.outcome
+    (has_ended number blocks task slot shows is).leaves

@@ -15,7 +15,7 @@ use Rattle.vcode_base.specs.Kinds.{result_kinds}
 use Rattle.refcounts.specs.SharedState.{state_after_shares, state_after_releases, AreLive}
 use Rattle.refcounts.specs.Laws.{SharesAreCounted, ReleasesAreCounted, ReleasesKeepBlocks, ReleaseStaysTidy}
 use Rattle.job_steps.specs.Motions.{top_entries, operand_count, stack_after, stack_after_move}
-use Rattle.job_steps.specs.States.{Vector, Entry, new_entries}
+use Rattle.job_steps.specs.States.{Vector, StackEntry, new_entries}
 use Rattle.job_slots.specs.Holdings.{Cell, ids_of, entries_of, AreHeld}
 use Rattle.job_memory.specs.JobBlocks.{JobBlocks, AreOwn, ChangesOnlyOf, own_slots, with_memory, with_block}
 use Rattle.job_slots.specs.Commits.{moved_ids, blocks_after_taking, with_releases, CanTake, IsExchanged}
@@ -38,7 +38,7 @@ pub record BlockLaws : Type 0 where
   pub changes_join : ChangesJoin
   pub release_stays_tidy : ReleaseStaysTidy
 
--- what an instruction takes off the stack can be taken, and what it leaves where it has no results
+-- what an instruction takes off the stack can be taken, and what it leaves if it has no results
 pub record CanCommit (job : ℕ) (op : Op) (old : JobBlocks) (cells : List Cell) : Type 0 where
   pub can_take : CanTake job op (ids_of cells) old
   pub held : AreHeld (own_slots job (blocks_after_taking op (ids_of cells) old)) (stack_after op [] cells)
@@ -62,7 +62,7 @@ record IsPlaced (job : ℕ) (old placed : JobBlocks) (whole : List Cell) : Type 
 abbrev pub IsOlder : ℕ → Cell → Type 0
 IsOlder next c = c.entry.tag < next
 
-abbrev first_tag : List Entry → ℕ
+abbrev first_tag : List StackEntry → ℕ
 first_tag [] = 0
 first_tag (e ∷ es) = e.tag
 
@@ -79,11 +79,11 @@ placed_all laws job [] values next old placed cells held older e are = record {
   others = subst (λ (b : JobBlocks). ChangesOnlyOf job old b) (sym are) ((laws.changes_join job).none old);
 }
 placed_all laws job (c ∷ news) [] next old placed cells held older e are =
-    absurd (let none : length (entries_of (c ∷ news)) ≡ 0 = ap (λ (es : List Entry). length es) e in
+    absurd (let none : length (entries_of (c ∷ news)) ≡ 0 = ap (λ (es : List StackEntry). length es) e in
     omega (arith, none))
 placed_all laws job (c ∷ news) (v ∷ vs) next old placed cells held older e are =
     let tag : c.entry.tag ≡ next = ap first_tag e in
-    let rest : entries_of news ≡ new_entries (next + 1) vs = ap (λ (es : List Entry). drop 1 es) e in
+    let rest : entries_of news ≡ new_entries (next + 1) vs = ap (λ (es : List StackEntry). drop 1 es) e in
     let between : JobBlocks = with_block old job c.id c.entry.value.words in
     let one : AreHeld (own_slots job between) (c ∷ cells) =
     placed_one job old.memory c cells are.0 are.1 held
@@ -130,7 +130,7 @@ module _ (laws : BlockLaws) (job : ℕ) (old placed : JobBlocks) where
             (laws.releases_change_only_their_job placed job (ids_of taken) own);
       }
 
-  -- so many cells are taken off the stack, and the new ones lie on the others
+  -- `taken` cells are taken off the stack, and the new ones lie on the others
   pushed : (n : ℕ) (cells news : List Cell) → IsPlaced job old placed (reverse news ++ cells) →
       IsReleased job old placed (top_entries n (ids_of cells)) (reverse news ++ drop n cells)
   pushed n cells news is =
@@ -267,7 +267,7 @@ module _ (laws : BlockLaws) (job : ℕ) (old : JobBlocks) (cells : List Cell) (h
         let is = turned laws job old old lower upper cells as_it_was in
         record { can_take = tt; held = is.held; others = (laws.changes_join job).none old }
 
-    -- so many operands are the job's, and without them the other cells hold theirs
+    -- the operands are the job's, and without them the other cells hold theirs
     pub without_top : (n : ℕ) → IsReleased job old old (top_entries n (ids_of cells)) (drop n cells)
     without_top n = pushed laws job old old n cells [] as_it_was
 
@@ -294,7 +294,7 @@ module _ (laws : BlockLaws) (job : ℕ) (old : JobBlocks) (cells : List Cell) (h
 
 -- ---- with results
 
--- the cells without so many at the top hold theirs where a new block comes in their place, in either order
+-- the cells without the operands' hold theirs when a new block comes in their place, in either order
 exchanged_one : BlockLaws → (rule : Rule) (job n : ℕ) (old between : JobBlocks) (cells : List Cell) (c : Cell) →
     AreHeld (own_slots job old) cells → All (IsOlder c.entry.tag) cells →
     IsExchanged rule job (top_entries n (ids_of cells)) c.id c.entry.value.words old between →
@@ -341,13 +341,13 @@ placed_by laws rule job op old new cells [] next values held older entries count
     subst (λ (b : JobBlocks). IsPlaced job old b (stack_after op [] cells)) (sym are)
     (record { held = can.held; others = can.others })
 placed_by laws rule job op old new cells (c ∷ news) next [] held older entries count are =
-    absurd (let none : length (entries_of (c ∷ news)) ≡ 0 = ap (λ (es : List Entry). length es) entries in
+    absurd (let none : length (entries_of (c ∷ news)) ≡ 0 = ap (λ (es : List StackEntry). length es) entries in
     omega (arith, none))
 placed_by laws rule job op old new cells (c ∷ news) next (v ∷ vs) held older entries count are =
     let n = operand_count op in
     let kept : List Cell = c ∷ drop n cells in
     let tag : c.entry.tag ≡ next = ap first_tag entries in
-    let rest : entries_of news ≡ new_entries (next + 1) vs = ap (λ (es : List Entry). drop 1 es) entries in
+    let rest : entries_of news ≡ new_entries (next + 1) vs = ap (λ (es : List StackEntry). drop 1 es) entries in
     let one = exchanged_one laws rule job n old are.0 cells c held
     (All-weaker (IsOlder next) (IsOlder c.entry.tag) (λ x o. omega (arith, o, tag)) cells older) are.1 in
     let later : All (IsOlder (next + 1)) kept =

@@ -1,4 +1,4 @@
--- Where a job's slot is after a step that was committed.
+-- The slot of a job after a step that was committed.
 use Rattle.std.proofs.Common.{◌≡◌, ◌∙◌, ◌+◌, ◌-◌, ◌<◌, ℕ, Bool, true, false, List, [], ◌∷◌, length, Option, Some, None}
 use Rattle.std.proofs.Common.{refl, sym, ap, subst, arith}
 use Rattle.std.proofs.lemmas.Bool.{false≢true}
@@ -34,7 +34,7 @@ use Rattle.job_slots.proofs.Executed.{asked_is}
 
 -- ---- standings
 
--- where a finish leaves a job whose step is in flight
+-- the standing in which a finish leaves a job whose step is in flight
 next_is : (number : ℕ) (task : Task) (standing : Standing) (step : ℕ) → standing ≡ InFlight step →
     next_standing (event.Finish number) task standing ≡ Some (standing_after (step + 1) (state_after task (step + 1)))
 next_is number task standing step flying = ap (next_standing (event.Finish number) task) flying
@@ -108,7 +108,8 @@ record RunsOn (slots : List Slot) (task : Task) (u : Trace ℕ) (n : ℕ) (p : P
   executed : u.executed ≡ n + 1
   standing : standing_after (n + 1) p ≡ Live (n + 1)
 
-runs_on : Reaches → (signatures : List Signature) (slots : List Slot) (task : Task) (u : Trace ℕ) (n : ℕ) (p : Progress) →
+runs_on : Reaches → (signatures : List Signature) (slots : List Slot) (task : Task) (u : Trace ℕ) (n : ℕ)
+    (p : Progress) →
     IsVerifiedTask signatures task → state_after task (n + 1) ≡ p → IsAfter slots task u p → 0 < length u.frames →
     RunsOn slots task u n p
 runs_on reaches signatures slots task u n (Running s) verified e after some =
@@ -259,12 +260,15 @@ pub fault_commits : OthersAreReady → EndIsOwn → (number : ℕ) (blocks : Job
     slot.status ≡ status.InFlight → Fits task (standing_of slot) filled → inside ≡ slot.trace →
     value_fault filled.question.op filled.question.sources ≡ Some fault → line_at task inside.executed ≡ Some line →
     FaultCommits number task slot fault line
-fault_commits others_are_ready end_is_own number blocks task slot filled inside fault line shows flying fits same faulty at =
+fault_commits others_are_ready end_is_own number blocks task slot filled inside fault line shows flying fits same faulty
+    at =
     let step = step_is slot filled.step flying fits.flying in
-    let asked : question_at task slot.trace.executed ≡ Some filled.question = ap (question_at task) step ∙ fits.question in
+    let asked : question_at task slot.trace.executed ≡ Some filled.question = ap (question_at task) step
+    ∙ fits.question in
     let here : line_at task slot.trace.executed ≡ Some line =
     subst (λ (t : Trace ℕ). line_at task t.executed ≡ Some line) same at in
-    let ends = fault_ends others_are_ready end_is_own (own_slots number blocks) task slot.trace filled.question fault line
+    let ends = fault_ends others_are_ready end_is_own (own_slots number blocks) task slot.trace filled.question fault
+    line
     shows.verified (flying_shown number blocks task slot shows flying) asked faulty here in
     record {
       ending = ends.ending;

@@ -58,7 +58,7 @@ capped_words limits op held first second most depth calls within =
     same_by limits op (min (min (held + first) most + second) most) (held + (first + second)) depth calls
     (same_test limits.words held first second most within)
 
--- the limit that an instruction would pass, where words are counted up to the greatest number
+-- the limit that an instruction would pass, counting words up to the greatest number
 pub limit_fault : (limits : Limits) (op : Op) (sources : List (List ℤ)) (held depth calls sum words most : ℕ)
     (lengths : ℕ × ℕ) → lengths ≡ need op sources → sum ≡ min (held + lengths.0) most →
     words ≡ min (sum + lengths.1) most → limits.words + 1 ≤ most →
@@ -74,7 +74,7 @@ limit_fault limits op sources held depth calls sum words most lengths are first 
 
 -- ---- the end before an instruction, as the track and the blocks tell it
 
--- frames that stand at calls are as many
+-- frames at calls are as many as the calls
 as_many : (functions : List Function) (frames : List Frame) (calls : List Active) → StandAll functions frames calls →
     length frames ≡ length calls
 as_many functions [] [] stand = refl
@@ -145,7 +145,7 @@ early_end_is task t s op line sources held runs at can next held_is unspent =
     (sym at.limits) (sym held_is) (sym at.cells) (sym (as_many (functions_of task.verified) t.frames s.calls
     at.frames))))
 
--- where the next instruction was read
+-- if the next instruction was read
 module _ (law : StepsCanBegin ℕ) (counted : HeldIsCounted) (number : ℕ) (blocks : JobBlocks) (task : Task) (t : Trace ℕ)
     (run : IsRunningSlot (own_slots number blocks) task t) (verified : IsVerified task) (tidy : IsTidy blocks.memory)
     (op : Op) (line : ℕ) (sources : List (List ℤ)) (next : IsNext task t.executed op line sources) where
@@ -167,7 +167,7 @@ module _ (law : StepsCanBegin ℕ) (counted : HeldIsCounted) (number : ℕ) (blo
       subst (λ (o : Op). operand_count o ≤ length t.cells) op_is
       (deep_enough (op_of (next_item can.call).item) (length t.cells) can.deep)
 
-  -- an answer that tells the end before it from what was read
+  -- an answer that finds the end before it from what was read
   pub ends_with : (held : ℕ) (answer : Option Ending) → held ≡ held_under task.rule number op t.cells blocks →
       (t.executed ≡ t.limits.budget → ⊥) →
       answer ≡ ending_by line (shape op sources)
@@ -178,7 +178,7 @@ module _ (law : StepsCanBegin ℕ) (counted : HeldIsCounted) (number : ℕ) (blo
       held_here ∙ (ap (λ (o : Op). held_under task.rule number o t.cells blocks) (sym op_is) ∙ is_counted.held) in
       early_end_is task t run.state op line sources held run.running run.at can next held_is unspent ∙ sym told
 
--- ---- where nothing ends the job
+-- ---- if nothing ends the job
 
 can_ask : StepsCanAdvance ℕ → (task : Task) (t : Trace ℕ) (s : State) (op : Op) (line : ℕ) (sources : List (List ℤ))
     (words : ℕ) → IsVerified task → state_after task t.executed ≡ Running s → IsAt task t s →
@@ -205,7 +205,7 @@ asks_unless begins advances slots task t run op line sources verified next None 
     can_ask advances task t run.state op line sources words verified run.running run.at
     (can_begin begins slots task t run verified) next is enough
 
--- ---- where something does
+-- ---- if something does
 
 abbrev IsNoReturn : Option Ending → Type 0
 IsNoReturn ending = MatchOption ending (Unit {0}) (λ e. IsReturned e → ⊥)

@@ -16,7 +16,7 @@ use Rattle.vcode_reader.specs.Trees.{Item}
 use Rattle.signatures.specs.Signatures.{Signature}
 use Rattle.job_steps.specs.Reached.{IsVerifiedTask, Reaches, EachEnds}
 use Rattle.job_steps.specs.Runs.{state_after, progress_from, outcome, executed_count, peak, whole_run}
-use Rattle.job_steps.specs.States.{Vector, Task, Entry, Active, State, values_of}
+use Rattle.job_steps.specs.States.{Vector, Task, StackEntry, Active, State, values_of}
 use Rattle.job_steps.specs.Steps.{Progress, Running, Over, Stuck, next_item, sources_of, question_of, flag_of, can_run}
 use Rattle.job_steps.specs.Steps.{ending_by, calls_after, progress_past, progress_by, progress_unless}
 use Rattle.job_steps.specs.Steps.{progress_in, next_progress}
@@ -86,7 +86,7 @@ pub last_stack : (task : Task) (n : ℕ) (values : List Vector) (x y : ℕ) →
 last_stack task zero values x y e = absurd (cc)
 last_stack task (suc n) values x y e = last_from task n (state_after task n) refl (last_stack task n) values x y e
 
--- where a verified job is over
+-- a verified job that is over
 pub over_at : EachEnds → (signatures : List Signature) (task : Task) → IsVerifiedTask signatures task →
     state_after task (task.limits.budget + 1) ≡ Over (outcome task) (executed_count task) (peak task)
 unfolding whole_run
@@ -94,7 +94,7 @@ over_at ends signatures task verified = (ends signatures task verified).over
 
 -- the results of a verified job that returns are no more than it may have cells
 pub few_results : Reaches → EachEnds → (signatures : List Signature) (task : Task) → IsVerifiedTask signatures task →
-    (stack : List Entry) → outcome task ≡ Returned (reverse (values_of stack)) → length stack ≤ task.limits.cells
+    (stack : List StackEntry) → outcome task ≡ Returned (reverse (values_of stack)) → length stack ≤ task.limits.cells
 few_results reached ends signatures task verified stack is =
     let over = over_at ends signatures task verified
     ∙ ap (λ (ending : Outcome (List Vector)). Over ending (executed_count task) (peak task)) is in
@@ -109,6 +109,6 @@ few_results reached ends signatures task verified stack is =
       within,
       length-reverse (values_of stack),
       length-reverse (values_of last.state.stack),
-      length-map stack (λ (e : Entry). e.value),
-      length-map last.state.stack (λ (e : Entry). e.value),
+      length-map stack (λ (e : StackEntry). e.value),
+      length-map last.state.stack (λ (e : StackEntry). e.value),
     )

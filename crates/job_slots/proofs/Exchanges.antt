@@ -1,13 +1,18 @@
 -- A new block in the place of an instruction's operands.
-use Rattle.std.proofs.Common.{◌≡◌, ◌∙◌, ◌+◌, ◌<◌, ◌≤◌, ℕ, ℤ, List, length, refl, sym, ap, subst, inl, inr, arith}
+use Rattle.std.proofs.Common.{◌≡◌, ◌≢◌, ◌∙◌, ◌+◌, ◌<◌, ◌≤◌, ℕ, ℤ, List, [], ◌∷◌, length, refl, sym, ap, subst, inl, inr}
+use Rattle.std.proofs.Common.{arith}
 use Rattle.std.proofs.lemmas.Bool.{cases_eq}
+use Rattle.std.proofs.lemmas.List.{get_or-set_other, set_comm}
 use Rattle.vcode_base.specs.declared.rule.Rule.{Rule}
 use Rattle.vcode_base.specs.declared.rule.Rule.TheVariants.{First, Second}
 use Rattle.refcounts.specs.Laws.{ReleasesOnlyFree}
-use Rattle.refcounts.specs.SharedState.{Slot, empty_slot, slot_at, block_count, new_slot, state_after_releases}
-use Rattle.job_memory.specs.JobBlocks.{JobBlocks, AreOwn, held_words, with_block}
+use Rattle.refcounts.specs.SharedState.{Slot, SharedState, empty_slot, slot_at, with_slot, lowered_slot, block_count}
+use Rattle.refcounts.specs.SharedState.{new_slot, occurrences, state_after_release, state_after_releases}
+use Rattle.job_memory.specs.JobBlocks.{JobBlocks, AreOwn, held_words, with_block, with_memory}
 use Rattle.job_memory.specs.Laws.{ReleasesChangeOnlyTheirJob}
 use Rattle.job_slots.specs.Commits.{IsExchanged, blocks_beside, with_releases}
+use Rattle.job_slots.specs.InPlace.{words_by}
+use Rattle.job_slots.proofs.Holding.{named_here, named_more}
 use Rattle.job_slots.proofs.LettingGo.{own_named}
 use Rattle.job_slots.proofs.Seen.{adds_block}
 use Rattle.job_slots.proofs.SeenSlots.{own_slot, placed_there, none_here}
@@ -58,7 +63,7 @@ own_still job old placed id words taken empty is own =
 
 -- ---- the exchange
 
--- what an exchange of operands for a result comes to
+-- the result of an exchange of operands for a result
 pub record HasExchanged (rule : Rule) (job : ℕ) (taken : List ℕ) (id : ℕ) (words : List ℤ) (old new : JobBlocks) :
     Type 0
   where
@@ -125,3 +130,82 @@ released_and_placed laws rule job taken ids id words old new second within empty
     subst (λ (b : JobBlocks). HasExchanged rule job taken id words old b) (sym is)
     (subst (λ (r : Rule). HasExchanged r job taken id words old (with_block (with_releases taken old) job id words))
     (sym second) (by_releasing laws job taken id words old within free own))
+
+-- ---- placed while the operands are there, whatever the rule
+
+other_than : (id first : ℕ) (ids : List ℕ) → occurrences id (first ∷ ids) ≡ 0 → first ≢ id
+other_than id first ids none = λ e.
+    let here : occurrences id (first ∷ ids) ≡ occurrences id ids + 1 =
+    subst (λ (n : ℕ). occurrences n (first ∷ ids) ≡ occurrences n ids + 1) e (named_here first ids) in
+    omega (arith, none, here)
+
+none_after : (id first : ℕ) (ids : List ℕ) → occurrences id (first ∷ ids) ≡ 0 → occurrences id ids ≡ 0
+none_after id first ids none = omega (arith, none, named_more id first ids)
+
+-- a number that is not among those that are released keeps its slot
+released_apart : (memory : SharedState) (id : ℕ) (ids : List ℕ) → occurrences id ids ≡ 0 →
+    slot_at (state_after_releases memory ids) id ≡ slot_at memory id
+released_apart memory id [] none = refl
+released_apart memory id (first ∷ ids) none =
+    released_apart (state_after_release memory first) id ids (none_after id first ids none)
+    ∙ get_or-set_other memory.slots first id (lowered_slot (slot_at memory first)) empty_slot
+    (λ e. other_than id first ids none (sym e))
+
+abbrev of_slots : SharedState → List Slot → SharedState
+of_slots memory slots = record { room = memory.room; slots = slots }
+
+-- it may be written before the releases or after them
+written_apart : (memory : SharedState) (id : ℕ) (slot : Slot) (ids : List ℕ) → occurrences id ids ≡ 0 →
+    state_after_releases (with_slot memory id slot) ids ≡ with_slot (state_after_releases memory ids) id slot
+written_apart memory id slot [] none = refl
+written_apart memory id slot (first ∷ ids) none =
+    let apart : first ≢ id = other_than id first ids none in
+    let same : slot_at (with_slot memory id slot) first ≡ slot_at memory first =
+    get_or-set_other memory.slots id first slot empty_slot apart in
+    let once : state_after_release (with_slot memory id slot) first ≡ with_slot
+    (state_after_release memory first) id slot =
+    ap (λ (s : Slot). with_slot (with_slot memory id slot) first (lowered_slot s)) same
+    ∙ ap (of_slots memory) (set_comm memory.slots id first slot (lowered_slot (slot_at memory first))
+    (λ e. apart (sym e))) in
+    ap (λ (m : SharedState). state_after_releases m ids) once
+    ∙ written_apart (state_after_release memory first) id slot ids (none_after id first ids none)
+
+-- what the exchange comes to, and the words that count as held and needed at it
+pub record HasReplaced (rule : Rule) (job : ℕ) (taken : List ℕ) (id : ℕ) (words : List ℤ) (old new : JobBlocks) : Type 0
+  where
+    pub is : IsExchanged rule job taken id words old new
+    pub counted : words_by rule (held_words job old + length words) (held_words job new)
+        ≡ held_words job (blocks_beside rule taken old) + length words
+    pub grants : new.grants ≡ old.grants
+
+replaced : ReleaseLaws → (rule : Rule) (job : ℕ) (taken : List ℕ) (id : ℕ) (words : List ℤ) (old : JobBlocks) →
+    id < length old.memory.slots → slot_at old.memory id ≡ empty_slot → AreOwn job old taken →
+    HasReplaced rule job taken id words old (with_releases taken (with_block old job id words))
+replaced laws First job taken id words old within empty own =
+    record { is = (by_placing laws job taken id words old within empty own).is; counted = refl; grants = refl }
+replaced laws Second job taken id words old within empty own =
+    let none : occurrences id taken ≡ 0 = omega (arith, own id, none_here job old.memory id empty) in
+    let free : slot_at (state_after_releases old.memory taken) id ≡ empty_slot =
+    released_apart old.memory id taken none ∙ empty in
+    let less = lower laws job old taken own in
+    let adds = adds_block job (state_after_releases old.memory taken) id (new_slot job words)
+    (omega (arith, within, less.numbers)) free refl refl in
+    let same : with_releases taken (with_block old job id words) ≡ with_block (with_releases taken old) job id words =
+    ap (with_memory old) (written_apart old.memory id (new_slot job words) taken none) in
+    subst (HasReplaced Second job taken id words old) (sym same) (record {
+      is = (by_releasing laws job taken id words old within free own).is;
+      counted = omega (arith, adds.held);
+      grants = refl;
+    })
+
+pub placed_then_released : ReleaseLaws → (rule : Rule) (job : ℕ) (taken ids : List ℕ) (id : ℕ) (words : List ℤ)
+    (old placed new : JobBlocks) → id < length old.memory.slots → slot_at old.memory id ≡ empty_slot →
+    placed ≡ with_block old job id words → ids ≡ taken → new ≡ with_releases ids placed → AreOwn job old taken →
+    HasReplaced rule job taken id words old new
+placed_then_released laws rule job taken ids id words old placed new within empty placed_is ids_are new_is own =
+    let is : new ≡ with_releases taken (with_block old job id words) =
+    new_is
+    ∙ (ap (λ (xs : List ℕ). with_releases xs placed) ids_are
+    ∙ ap (λ (b : JobBlocks). with_releases taken b) placed_is) in
+    subst (HasReplaced rule job taken id words old) (sym is) (replaced laws rule job taken id words old within empty
+    own)

@@ -1,4 +1,4 @@
--- What executing the next instruction of a job whose step is in flight comes to.
+-- The result of executing the next instruction of a job whose step is in flight.
 use Rattle.std.proofs.Common.{◌≡◌, ◌∙◌, ◌+◌, ◌-◌, ◌^◌, ◌<◌, ◌≤◌, ℕ, ℤ, Bool, List, [], ◌∷◌, length, map, take, drop}
 use Rattle.std.proofs.Common.{Option, Some, None, refl, sym, ap, subst, arith, length-take, length-drop}
 use Rattle.std.specs.Prelude.{All}
@@ -24,7 +24,7 @@ use Rattle.job_steps.specs.Questions.{Question, need_words}
 use Rattle.job_steps.specs.Reached.{Reaches, IsReached, IsVerifiedTask}
 use Rattle.job_steps.specs.Runs.{state_after}
 use Rattle.job_steps.specs.Standings.{held_in}
-use Rattle.job_steps.specs.States.{Vector, Task, Entry, Active, State, new_entries}
+use Rattle.job_steps.specs.States.{Vector, Task, StackEntry, Active, State, new_entries}
 use Rattle.job_steps.specs.StepLaws.{CanAdvance, StepsCanAdvance}
 use Rattle.job_steps.specs.Steps.{Running, next_item, sources_of, question_of, results_of, flag_of}
 use Rattle.job_steps.specs.Steps.{words_at, calls_after, progress_by, progress_past, vectors_of}
@@ -106,13 +106,14 @@ share_room : (op : Op) (cells : List ℕ) (blocks : JobBlocks) → AreFew blocks
 share_room (Move Copy lower upper) cells blocks few = few_moved lower upper cells blocks few
 share_room op cells blocks few = tt
 
--- ---- where the job is
+-- ---- the state of the job
 
--- the track and the blocks are where the job is, where the track is and the cells hold the stack
+-- the track and the blocks are at the job's state, if the track is and the cells hold the stack
 is_after : (slots : List Slot) (task : Task) (u : Trace ℕ) (item : Item) (s : State) (calls : List Active) →
     state_after task s.executed ≡ Running s → (calls ≡ [] → op_of item ≡ Return) →
     IsWhere task u (progress_past task.rule item s calls) →
-    HoldStack slots u.cells (stack_after (op_of item) (new_entries s.next (results_of (question_of item s.stack))) s.stack) →
+    HoldStack slots u.cells (stack_after (op_of item) (new_entries s.next (results_of
+    (question_of item s.stack))) s.stack) →
     IsAfter slots task u (progress_past task.rule item s calls)
 is_after slots task u item s [] running leaves where_is holds =
     let q = question_of item s.stack in
@@ -175,8 +176,8 @@ module _ (laws : Laws) (signatures : List Signature) (task : Task) (verified : I
 
   tags : All (λ c. c.entry.tag < s.next) holds.cells
   tags =
-      All-of_map (λ (e : Entry). e.tag < s.next) (λ c. c.entry) holds.cells
-      (subst (All (λ (e : Entry). e.tag < s.next)) holds.entries_are is_reached.tags)
+      All-of_map (λ (e : StackEntry). e.tag < s.next) (λ c. c.entry) holds.cells
+      (subst (All (λ (e : StackEntry). e.tag < s.next)) holds.entries_are is_reached.tags)
 
   -- the results as entries
   values_are : vectors_of (result_kinds op) (first ∷ second ∷ []) ≡ results_of (question_of item s.stack)
@@ -229,8 +230,8 @@ module _ (laws : Laws) (signatures : List Signature) (task : Task) (verified : I
             ∙ sym commits.ids;
         entries_are =
             ap (λ (vs : List Vector). stack_after op (new_entries s.next vs) s.stack) (sym values_are)
-            ∙ ap (λ (es : List Entry). stack_after op es s.stack) (sym made.entries_are)
-            ∙ ap (λ (es : List Entry). stack_after op (entries_of made.cells) es) holds.entries_are
+            ∙ ap (λ (es : List StackEntry). stack_after op es s.stack) (sym made.entries_are)
+            ∙ ap (λ (es : List StackEntry). stack_after op (entries_of made.cells) es) holds.entries_are
             ∙ sym commits.entries;
         held = commits.held;
       }
@@ -276,7 +277,8 @@ executable laws job old task t op flag first second flying verified tidy answere
     let ready = laws.others_are_ready verified.0 task verified.1 t.executed run.state run.running flying.goes_on in
     let same = asked_is task t.executed run.state ready.call ready.outer answered.question run.running ready.calls
     answered.asked in
-    let found = can_execute laws verified.0 task verified.1 job old t run.state run.running run.at run.holds flying.goes_on
+    let found = can_execute laws verified.0 task verified.1 job old t run.state run.running run.at run.holds
+    flying.goes_on
     tidy ready.call ready.outer ready.calls first second
     (subst (λ (q : Question). AreResults q first second) (sym same) answered.results) ready.next in
     let item = (next_item ready.call).item in
@@ -285,7 +287,7 @@ executable laws job old task t op flag first second flying verified tidy answere
     subst (λ (o : Op). CanExecute job old task t o flag first second) op_is
     (subst (λ (f : Bool). CanExecute job old task t (op_of item) f first second) flag_is found)
 
--- the instruction is executed where blocks have its results and the track went past it
+-- the instruction is executed if blocks have its results and the track went past it
 pub executed_past : {job : ℕ} {old new : JobBlocks} {task : Task} {t u : Trace ℕ} {op : Op} {flag : Bool}
     {first second : List ℤ} {ids : List ℕ} {held : ℕ} → CanExecute job old task t op flag first second →
     HasSettled task.rule job op first second t.cells ids old new →

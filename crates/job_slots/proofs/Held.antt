@@ -5,7 +5,7 @@ use Rattle.std.specs.Prelude.{All}
 use Rattle.std.proofs.lemmas.List.Elements.{All-nil, All-cons, All-head, All-tail}
 use Rattle.refcounts.specs.SharedState.{Slot, SharedState, empty_slot, slot_in, slot_at, occurrences, IsLive, AreLive}
 use Rattle.refcounts.specs.Owners.{slot_seen_by, slots_seen_by}
-use Rattle.job_steps.specs.States.{Entry, words_of}
+use Rattle.job_steps.specs.States.{StackEntry, words_of}
 use Rattle.job_slots.specs.Holdings.{Cell, ids_of, entries_of, HoldStack}
 use Rattle.job_slots.proofs.Holding.{named_here, named_more}
 
@@ -34,7 +34,7 @@ seen job memory id h =
     (seen_if memory id (eqb (slot_at memory id).owner job) (subst (λ (s : Slot). 0 < s.count) e h))
 
 -- the blocks of cells that hold entries are there, with the entries' words
-pub record AreThere (memory : SharedState) (ids : List ℕ) (stack : List Entry) : Type 0 where
+pub record AreThere (memory : SharedState) (ids : List ℕ) (stack : List StackEntry) : Type 0 where
   pub live : AreLive memory ids
   pub lists : map (λ id. (slot_at memory id).words) ids ≡ words_of stack
 
@@ -59,7 +59,7 @@ there job memory (c ∷ cells) words counts =
       lists = cc (here, rest.lists);
     }
 
-pub are_there : (job : ℕ) (memory : SharedState) (ids : List ℕ) (stack : List Entry) →
+pub are_there : (job : ℕ) (memory : SharedState) (ids : List ℕ) (stack : List StackEntry) →
     HoldStack (slots_seen_by job memory) ids stack → AreThere memory ids stack
 are_there job memory ids stack h =
     let positive : (id : ℕ) → 0 < occurrences id (ids_of h.cells) → 0 < (slot_in (slots_seen_by job memory) id).count =

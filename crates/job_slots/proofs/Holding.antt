@@ -60,7 +60,7 @@ named_more id first ids =
     sum_by-cons (λ (other : ℕ). cond (eqb other id) 1 0) first ids in
     omega arith
 
--- a block is named by some cell exactly where its tag is that of some entry
+-- a block is named by some cell exactly if its tag is that of some entry
 pub named_where_tagged : (c : Cell) (cells : List Cell) → All (AreAlike c) cells →
     has_tag c.entry.tag (entries_of cells) ≡ true → 0 < occurrences c.id (ids_of cells)
 named_where_tagged c [] alike found = absurd (let h : false ≡ true = found in cc)
@@ -171,7 +171,8 @@ long_without : (slots : List Slot) (id : ℕ) (cells : List Cell) → occurrence
     All (IsLong slots) cells → All (IsLong (set slots id empty_slot)) cells
 long_without slots id [] none words = All-nil (IsLong (set slots id empty_slot))
 long_without slots id (x ∷ xs) none words =
-    let other : x.id ≢ id = (λ e. absurd (let same : occurrences id (ids_of (x ∷ xs)) ≡ occurrences id (id ∷ ids_of xs) =
+    let other : x.id ≢ id = (λ e. absurd (let same : occurrences id (ids_of (x ∷ xs)) ≡ occurrences id
+    (id ∷ ids_of xs) =
     ap (λ (k : ℕ). occurrences id (k ∷ ids_of xs)) e in omega (arith, same, named_here id (ids_of xs)))) in
     let none_later : occurrences id (ids_of xs) ≡ 0 = omega (arith, named_more id x.id (ids_of xs)) in
     All-cons (IsLong (set slots id empty_slot)) x xs
@@ -268,7 +269,7 @@ own_slot job [] id =
 own_slot job (slot ∷ slots) zero = refl
 own_slot job (slot ∷ slots) (suc id) = own_slot job slots id
 
--- a job's own blocks are tidy where the memory is
+-- a job's own blocks are tidy if the memory is
 pub own_are_tidy : (job : ℕ) (memory : SharedState) → IsTidy memory → AreTidy (slots_seen_by job memory)
 own_are_tidy job memory tidy id none =
     own_slot job memory.slots id

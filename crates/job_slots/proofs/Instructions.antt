@@ -10,7 +10,7 @@ use Rattle.vcode_base.specs.Kinds.{HaveKinds, result_kinds}
 use Rattle.vcode_reader.specs.Trees.{Item, Body, End, Do, Choice}
 use Rattle.job_steps.specs.Motions.{stack_after}
 use Rattle.verifier.specs.Typed.{TypedProgram}
-use Rattle.job_steps.specs.States.{Entry, Active, Callee, calls_with, callee_named, new_entries}
+use Rattle.job_steps.specs.States.{StackEntry, Active, Callee, calls_with, callee_named, new_entries}
 use Rattle.job_steps.specs.Steps.{calls_past, calls_after, first_item, vectors_of}
 
 -- an instruction has at most two results
@@ -51,7 +51,7 @@ return_leaves verified flag (Do item line rest) ret outer none =
 return_leaves verified flag (Choice line first second end rest) ret outer none = absurd (cc)
 
 -- RET leaves the stack as it was
-pub stack_at_return : (op : Op) → op ≡ Return → (lists : List (List ℤ)) (next : ℕ) (stack : List Entry) →
+pub stack_at_return : (op : Op) → op ≡ Return → (lists : List (List ℤ)) (next : ℕ) (stack : List StackEntry) →
     stack_after op (new_entries next (vectors_of (result_kinds op) lists)) stack ≡ stack
 stack_at_return op is lists next stack =
     subst (λ (o : Op). stack_after o (new_entries next (vectors_of (result_kinds o) lists)) stack ≡ stack) (sym is) refl

@@ -92,7 +92,8 @@ all_gone counted kept job blocks ids h tidy = record {
 -- the cells as they are released, from the bottom up
 pub own_released : (job : ℕ) (blocks : JobBlocks) (ids gone : List ℕ) → HoldSomeStack (own_slots job blocks) ids →
     gone ≡ reverse ids → AreOwn job blocks gone
-own_released job blocks ids gone h is = subst (λ (list : List ℕ). AreOwn job blocks list) (sym is) (own_all job blocks ids h)
+own_released job blocks ids gone h is = subst (λ (list : List ℕ). AreOwn job blocks list) (sym is)
+    (own_all job blocks ids h)
 
 -- the job has let go of all its cells, and nothing else changed
 pub record HasLetGo (job : ℕ) (old new : JobBlocks) : Type 0 where
@@ -111,6 +112,7 @@ has_let_go counted kept only job old new ids gone h gone_is new_is tidy =
           subst (λ (b : JobBlocks). HoldNothing (own_slots job b) []) (sym is)
           (all_gone counted kept job old ids h (subst (λ (b : JobBlocks). IsTidy b.memory) is tidy));
       others =
-          subst (λ (b : JobBlocks). ChangesOnlyOf job old b) (sym is) (only old job (reverse ids) (own_all job old ids h));
+          subst (λ (b : JobBlocks). ChangesOnlyOf job old b) (sym is) (only old job (reverse ids)
+          (own_all job old ids h));
       grants = ap (λ (b : JobBlocks). b.grants) is;
     }

@@ -11,6 +11,7 @@ mod Exchanges
 mod Executed
 mod Held
 mod Holding
+mod InPlace
 mod Instructions
 mod LettingGo
 mod Moves

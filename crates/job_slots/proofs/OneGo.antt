@@ -1,4 +1,4 @@
--- Where a step in one go leaves a job.
+-- The standing in which a step in one go leaves a job.
 use Rattle.std.proofs.Common.{◌≡◌, ℕ, ◌+◌, ◌≤◌, List, Option, Some, None, sym, ◌∙◌, ap}
 use Rattle.vcode_base.specs.declared.fault.DataFault.{DataFault}
 use Rattle.vcode_base.specs.declared.outcome.Outcome.TheVariants.{Fault}

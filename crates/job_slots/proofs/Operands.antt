@@ -14,7 +14,7 @@ use Rattle.job_steps.specs.Tracks.{IsDeep}
 use Rattle.job_slots.proofs.Moves.{map-top}
 use Rattle.job_slots.proofs.Reversed.{All-reverse}
 
--- what stands at five places
+-- the values at five places
 abbrev five_of : List (List ℤ) → List (List ℤ)
 five_of ws = operand ws 0 ∷ operand ws 1 ∷ operand ws 2 ∷ operand ws 3 ∷ operand ws 4 ∷ []
 

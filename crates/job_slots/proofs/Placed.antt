@@ -7,7 +7,7 @@ use Rattle.vcode_base.specs.declared.op.StackMove.TheVariants.{Copy, Pop, MoveTo
 use Rattle.vcode_base.specs.declared.rule.Rule.{Rule}
 use Rattle.refcounts.specs.SharedState.{empty_slot, slot_at}
 use Rattle.job_memory.specs.JobBlocks.{JobBlocks, with_block}
-use Rattle.job_steps.specs.States.{Vector, Entry, new_entries}
+use Rattle.job_steps.specs.States.{Vector, StackEntry, new_entries}
 use Rattle.job_steps.specs.Steps.{vectors_of}
 use Rattle.job_slots.specs.Commits.{IsExchanged, blocks_after_taking, taken_ids}
 use Rattle.job_slots.specs.Executions.{AreSettled}
@@ -48,7 +48,7 @@ module _ (rule : Rule) (job : ℕ) (op : Op) (stack : List ℕ) (first second : 
     new_cells [] (id ∷ ids) same few settled = absurd (omega (arith, same))
     new_cells (k ∷ ks) [] same few settled = absurd (omega (arith, same))
     new_cells (k ∷ []) (id ∷ []) same few settled =
-        let entry : Entry = record { tag = next; value = record { kind = k; words = first } } in
+        let entry : StackEntry = record { tag = next; value = record { kind = k; words = first } } in
         record {
           cells = record { id = id; entry = entry } ∷ [];
           ids_are = refl;
@@ -59,8 +59,8 @@ module _ (rule : Rule) (job : ℕ) (op : Op) (stack : List ℕ) (first second : 
     new_cells (k ∷ []) (id ∷ other ∷ ids) same few settled = absurd (omega (arith, same))
     new_cells (k ∷ l ∷ ks) (id ∷ []) same few settled = absurd (omega (arith, same))
     new_cells (k ∷ l ∷ []) (below ∷ top ∷ []) same few settled =
-        let lower : Entry = record { tag = next; value = record { kind = k; words = first } } in
-        let upper : Entry = record { tag = next + 1; value = record { kind = l; words = second } } in
+        let lower : StackEntry = record { tag = next; value = record { kind = k; words = first } } in
+        let upper : StackEntry = record { tag = next + 1; value = record { kind = l; words = second } } in
         record {
           cells = record { id = below; entry = lower } ∷ record { id = top; entry = upper } ∷ [];
           ids_are = refl;

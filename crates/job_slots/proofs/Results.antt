@@ -15,7 +15,7 @@ use Rattle.job_memory.specs.JobBlocks.{JobBlocks, own_slots}
 use Rattle.job_steps.specs.EventLaws.{IsVerified}
 use Rattle.job_steps.specs.Reached.{EachEnds, ResultsHaveKinds}
 use Rattle.job_steps.specs.Runs.{outcome, executed_count, peak}
-use Rattle.job_steps.specs.States.{Vector, Task, Entry, values_of}
+use Rattle.job_steps.specs.States.{Vector, Task, StackEntry, values_of}
 use Rattle.job_steps.specs.Steps.{Over}
 use Rattle.job_steps.specs.Tracks.{Trace}
 use Rattle.job_slots.specs.Holdings.{Cell, ids_of, entries_of}
@@ -77,7 +77,7 @@ are_results slots task t returned =
       ids_are = ap reverse h.ids_are ∙ sym (map-reverse (λ (c : Cell). c.id) h.cells);
       values_are =
           ap values_in returned.outcome_is
-          ∙ (ap (λ (es : List Entry). reverse (values_of es)) h.entries_are
+          ∙ (ap (λ (es : List StackEntry). reverse (values_of es)) h.entries_are
           ∙ (ap reverse (values_of_cells h.cells) ∙ sym (map-reverse (λ (c : Cell). c.entry.value) h.cells)));
     }
 
@@ -97,7 +97,8 @@ pub kinds_are : ResultsHaveKinds → EachEnds → (slots : List Slot) (task : Ta
 kinds_are have ends slots task t verified returned =
     let same : outcome task ≡ Returned (values_in (outcome task)) =
     returned.outcome_is
-    ∙ ap (λ (vs : List Vector). let o : Outcome (List Vector) = Returned vs in o) (sym (ap values_in returned.outcome_is))
+    ∙ ap (λ (vs : List Vector). let o : Outcome (List Vector) = Returned vs in o)
+    (sym (ap values_in returned.outcome_is))
     in
     sym (have verified.0 task verified.1 (task.limits.budget + 1) (values_in (outcome task)) (executed_count task)
     (peak task) (over_at ends verified.0 task verified.1
@@ -117,7 +118,8 @@ same_vector x y kinds words =
     ∙ ap (λ (ws : List ℤ). let v : Vector = record { kind = y.kind; words = ws } in v) words
 
 pub result_at : ResultsHaveKinds → EachEnds → (job : ℕ) (blocks : JobBlocks) (task : Task) (t : Trace ℕ) →
-    IsVerified task → HasReturned (own_slots job blocks) task t → (k id : ℕ) (kind : Kind) → k < length (reverse t.cells) →
+    IsVerified task → HasReturned (own_slots job blocks) task t → (k id : ℕ) (kind : Kind)
+    → k < length (reverse t.cells) →
     id ≡ get_or (reverse t.cells) k 0 → kind ≡ get_or task.verified.results k Int →
     IsResult job blocks.memory (values_in (outcome task)) k id kind
 result_at have ends job blocks task t verified returned k id kind lt id_is kind_is =
@@ -128,7 +130,8 @@ result_at have ends job blocks task t verified returned k id kind lt id_is kind_
     omega (arith, lt, ap length is.ids_are, length-map cells (λ (c : Cell). c.id)) in
     let cell : Cell = get_or cells k any_cell in
     let id_at : id ≡ cell.id =
-    id_is ∙ (ap (λ (ids : List ℕ). get_or ids k 0) is.ids_are ∙ get_or-map (λ (c : Cell). c.id) cells k any_cell 0 within)
+    id_is ∙ (ap (λ (ids : List ℕ). get_or ids k 0) is.ids_are ∙ get_or-map (λ
+    (c : Cell). c.id) cells k any_cell 0 within)
     in
     let value_at = (λ (d : Vector). ap (λ (vs : List Vector). get_or vs k d) is.values_are
     ∙ get_or-map (λ (c : Cell). c.entry.value) cells k any_cell d within) in
@@ -159,7 +162,8 @@ result_at have ends job blocks task t verified returned k id kind lt id_is kind_
 
 -- one result more
 pub more_results : (values items more : List Vector) (k n : ℕ) (value : Vector) → k < length values →
-    items ≡ take k values → value ≡ get_or values k value → more ≡ items ++ value ∷ [] → n ≡ k + 1 → more ≡ take n values
+    items ≡ take k values → value ≡ get_or values k value → more ≡ items ++ value ∷ [] → n ≡ k + 1
+    → more ≡ take n values
 more_results values items more k n value lt so_far is more_is n_is =
     more_is
     ∙ (ap (λ (vs : List Vector). vs ++ value ∷ []) so_far

@@ -52,7 +52,7 @@ module _ (xs : List ℕ) (k : ℕ) (within : k ≤ length xs) where
       ∙ ap (λ n. take n (reverse (drop (length xs - k) xs) ++ reverse (take (length xs - k) xs))) count
       ∙ take-append_seam (reverse (drop (length xs - k) xs)) (reverse (take (length xs - k) xs))
 
--- the top, where it is the last
+-- the top, if it is the last
 pub top_slice : (xs : List ℕ) (count : ℕ) → count ≤ length xs →
     take (length xs - (length xs - count)) (drop (length xs - count) xs) ≡ top_entries count (reverse xs)
 top_slice xs count within =
@@ -60,7 +60,7 @@ top_slice xs count within =
     (omega (arith, length-drop (length xs - count) xs))
     ∙ sym (ap reverse (take-reverse xs count within) ∙ reverse-reverse (drop (length xs - count) xs))
 
--- those below the top, where the top is the last
+-- those below the top, if the top is the last
 moved_below : (xs : List ℕ) (lower upper : ℕ) → lower + upper ≤ length xs →
     drop (length xs - upper - lower) (take (length xs - upper) xs) ≡ moved_ids lower upper (reverse xs)
 moved_below xs lower upper within =
@@ -85,9 +85,11 @@ moved_slice xs lower upper within =
     ∙ moved_below xs lower upper within
 
 -- the blocks that an instruction copies are few
-pub few_copied : (op : Op) (lower upper : ℕ) (ids cells slice : List ℕ) (blocks : JobBlocks) → op ≡ Move Copy lower upper →
+pub few_copied : (op : Op) (lower upper : ℕ) (ids cells slice : List ℕ) (blocks : JobBlocks)
+    → op ≡ Move Copy lower upper →
     CanShare op ids blocks → cells ≡ reverse ids → slice ≡ moved_ids lower upper (reverse cells) → AreFew blocks slice
 few_copied op lower upper ids cells slice blocks op_is can cells_are slice_is =
     let same : slice ≡ moved_ids lower upper ids =
-    slice_is ∙ ap (λ xs. moved_ids lower upper (reverse xs)) cells_are ∙ ap (moved_ids lower upper) (reverse-reverse ids) in
+    slice_is ∙ ap (λ xs. moved_ids lower upper (reverse xs)) cells_are
+    ∙ ap (moved_ids lower upper) (reverse-reverse ids) in
     subst (AreFew blocks) (sym same) (subst (λ (o : Op). CanShare o ids blocks) op_is can)

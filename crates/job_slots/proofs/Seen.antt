@@ -21,7 +21,8 @@ seen_at job (slot ∷ slots) (suc id) = seen_at job slots id
 
 -- ---- a slot of the job
 
-count_by_test : (b : Bool) (slot : Slot) → 0 < (cond b slot empty_slot).count → slot.count ≡ (cond b slot empty_slot).count
+count_by_test : (b : Bool) (slot : Slot) → 0 < (cond b slot empty_slot).count
+    → slot.count ≡ (cond b slot empty_slot).count
 count_by_test true slot live = refl
 count_by_test false slot live = absurd (omega arith)
 

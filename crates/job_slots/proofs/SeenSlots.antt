@@ -1,4 +1,4 @@
--- What a job sees of a memory where it placed a block, and where references were shared or released.
+-- What a job sees of a memory after it placed a block, and after references were shared or released.
 use Rattle.std.proofs.Common.{◌≡◌, ◌≢◌, ℕ, ℤ, ◌+◌, ◌<◌, ◌≤◌, true, false, cond, eqb, List, [], ◌∷◌, length}
 use Rattle.std.proofs.Common.{map, refl, sym, ◌∙◌, ap, subst, inl, inr, arith, zero, suc}
 use Rattle.std.proofs.lemmas.Bool.{cases_eq, cases_lt}
@@ -24,12 +24,12 @@ seen_other job slot ne = grind (arith, nat_tests)
 seen_count : (job : ℕ) (slot : Slot) → (slot_seen_by job slot).count ≤ slot.count
 seen_count job slot = grind (arith, nat_tests)
 
--- so many references less
+-- `n` references less
 pub record IsLess (taken : ℕ) (old new : Slot) : Type 0 where
   pub count : new.count + taken ≡ old.count
   pub words : taken < old.count → new.words ≡ old.words
 
--- so many references more
+-- `n` references more
 pub record IsMore (more : ℕ) (old new : Slot) : Type 0 where
   pub count : new.count ≡ old.count + more
   pub words : new.words ≡ old.words

@@ -60,7 +60,7 @@ recalled_is_shown number blocks task slot h = record {
 
 -- ---- an admission
 
--- a job that waits is where its run begins
+-- a job that waits is at the begin of its run
 runs_at_first : (slots : List shared.Slot) (task : Task) (t : Trace ℕ) → IsWaitingSlot slots task t →
     IsRunningSlot slots task t
 runs_at_first slots task t h = record {

@@ -1,4 +1,4 @@
--- Where a begin leaves a job.
+-- The standing in which a begin leaves a job.
 use Rattle.std.proofs.Common.{◌≡◌, ◌≤◌, ℕ, cond, Option, Some, None, sym, ◌∙◌, ap, subst}
 use Rattle.std.specs.Prelude.{is_some}
 use Rattle.job_memory.specs.JobBlocks.{JobBlocks, HasGrant, own_slots}
@@ -39,7 +39,7 @@ is_active slot live = subst IsActive (sym live) tt
 abbrev pub after_begin : ℕ → Option Ending → Standing
 after_begin n early = cond (is_some early) Ended (InFlight n)
 
--- where a begin leads, by what ends the job before its next instruction
+-- the standing after a begin, by what ends the job before its next instruction
 pub next_by : (number : ℕ) (task : Task) (n : ℕ) (s : State) (early : Option Ending) → state_after task n ≡ Running s →
     early_end_at task n ≡ early → next_standing (event.Begin number) task (Live n) ≡ Some (after_begin n early)
 next_by number task n s early runs is =

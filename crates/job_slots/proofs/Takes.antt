@@ -120,7 +120,7 @@ module _ (counted : ReleasesAreCounted) (keeps : ReleasesKeepBlocks) (job : ℕ)
       (own_slot job (state_after_releases memory (ids_of taken)) id)
   less id = released_at counted keeps job memory (ids_of taken) own_taken id
 
-  -- The cells that are left hold theirs where the blocks of the others are released.
+  -- The cells that are left hold theirs after the blocks of the others are released.
   pub held_released : AreHeld (slots_seen_by job (state_after_releases memory (ids_of taken))) kept
   held_released = record {
     words = All-weaker (λ (c : Cell). (0 < times c.id kept) × HasWords (slots_seen_by job memory) c)
@@ -154,7 +154,7 @@ module _ (counted : SharesAreCounted) (job : ℕ) (memory : SharedState) (new mo
       (own_slot job (state_after_shares memory (ids_of more)) id)
   shares id = shared_at counted job memory (ids_of more) live_shared id (omega (arith, few id, held.counts id))
 
-  -- So do the cells of copies and what is copied, where the blocks of the copies are shared.
+  -- So do the cells of copies and what is copied, after the blocks of the copies are shared.
   pub held_shared : AreHeld (slots_seen_by job (state_after_shares memory (ids_of more))) new
   held_shared = record {
     words = All-weaker (HasWords (slots_seen_by job memory))

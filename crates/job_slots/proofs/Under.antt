@@ -10,7 +10,7 @@ use Rattle.refcounts.specs.SharedState.{SharedState, slot_at, occurrences, IsTid
 use Rattle.refcounts.specs.SharedState.{state_after_release, state_after_releases}
 use Rattle.job_memory.specs.JobBlocks.{JobBlocks, AreOwn, own_slots, held_words}
 use Rattle.job_steps.specs.Motions.{operand_count, top_entries}
-use Rattle.job_steps.specs.States.{Entry, State, held_words as stack_words}
+use Rattle.job_steps.specs.States.{StackEntry, State, held_words as stack_words}
 use Rattle.job_steps.specs.Steps.{held_at}
 use Rattle.job_slots.specs.Commits.{taken_ids, with_releases, held_under}
 use Rattle.job_slots.specs.Executions.{IsCounted, HeldIsCounted}
@@ -19,7 +19,7 @@ use Rattle.job_slots.proofs.Commits.{BlockLaws, without_top}
 use Rattle.job_slots.proofs.Holding.{held_is_stack, own_are_tidy, named_here, named_more, named_sum}
 use Rattle.job_slots.proofs.LettingGo.{own_named}
 
--- a memory stays tidy where references are released
+-- a memory stays tidy when references are released
 tidy_after : ReleaseStaysTidy → ReleasesAreCounted → (memory : SharedState) (ids : List ℕ) → AreNamed memory ids →
     IsTidy memory → IsTidy (state_after_releases memory ids)
 tidy_after stays counted memory [] named tidy = tidy
@@ -46,7 +46,7 @@ counted_by laws Second job blocks item s ids holds tidy =
     ∙ (held_is_stack (own_slots job (with_releases taken blocks)) (drop n holds.cells) is.held
     (own_are_tidy job (with_releases taken blocks).memory tidy_then)
     ∙ (ap stack_words (sym (drop-map (λ (c : Cell). c.entry) n holds.cells))
-    ∙ ap (λ (es : List Entry). stack_words (drop n es)) (sym holds.entries_are)))
+    ∙ ap (λ (es : List StackEntry). stack_words (drop n es)) (sym holds.entries_are)))
 
 pub held_is_counted : BlockLaws → HeldIsCounted
 held_is_counted laws rule job blocks item s ids holds tidy = record {

@@ -1,4 +1,4 @@
--- What a begin and a finish answer, and where they leave the job.
+-- What a begin and a finish answer, and in which standing they leave the job.
 use Rattle.std.specs.Prelude.{◌≡◌, ℕ, ℤ, ◌+◌, ◌<◌, ◌≤◌, Bool, true, false, ⊤, List, [], ◌∷◌, Option, Some, None}
 use Rattle.vcode_base.specs.declared.op.Op.{Op}
 use Rattle.job_steps.specs.declared.event.Event.TheVariants as event
@@ -29,7 +29,7 @@ question_in (Running s) = question_before s s.calls
 question_in (Over ending executed peak) = None
 question_in Stuck = None
 
--- the instruction, with its operands, that a job executes after so many others
+-- the instruction, with its operands, that a job executes after n others
 unfoldable pub question_at : Task → ℕ → Option Question
 question_at task n = question_in (state_after task n)
 
@@ -60,7 +60,7 @@ pub record IsNext (task : Task) (n : ℕ) (op : Op) (line : ℕ) (sources : List
   pub question : question_at task n ≡ Some (question_by op sources)
   pub line_is : line_at task n ≡ Some line
 
--- this instruction can be asked of a desk of so many words
+-- this instruction can be asked of a desk of `words` words
 pub record CanAsk (words : ℕ) (op : Op) (sources : List (List ℤ)) : Type 0 where
   pub can : CanAnswer words (question_by op sources)
   pub room : HaveAtMost words sources
@@ -79,7 +79,7 @@ abbrev pub is_ended : Standing → Bool
 is_ended Ended = true
 is_ended standing = false
 
--- the standing of a job after an event, or the same where that isn't open
+-- the standing of a job after an event, or the same if that isn't open
 abbrev pub or_same : Standing → Option Standing → Standing
 or_same standing None = standing
 or_same standing (Some next) = next
@@ -96,7 +96,7 @@ pub record IsTicketOf (job words : ℕ) (task : Task) (standing : Standing) (tic
   pub words_are : ticket.words ≡ words
   pub enough : task.limits.words ≤ words
 
--- what a ticket says whose job goes on after so many instructions
+-- what a ticket says whose job goes on after n instructions
 pub record IsAskedOf (job words : ℕ) (task : Task) (n : ℕ) (ticket : Asked) : Type 0 where
   pub goes_on : early_end_at task n ≡ None
   pub question : question_at task n ≡ Some ticket.question
@@ -104,7 +104,7 @@ pub record IsAskedOf (job words : ℕ) (task : Task) (n : ℕ) (ticket : Asked) 
   pub job_is : ticket.job ≡ job
   pub words_are : ticket.words ≡ words
 
--- what a begin answers on a desk of so many words, by where the job stands
+-- what a begin answers on a desk of `words` words, by the job's standing
 abbrev pub Begins : {A : Type 0} → (job words : ℕ) → Task → Standing → Begun A → Type 0
 Begins job words task standing (begun.Began ticket) = IsTicketOf job words task standing ticket
 Begins job words task standing (begun.Ended desk) =
@@ -120,7 +120,7 @@ IsPutOff (begun.Ended desk) = ⊥
 IsPutOff (begun.NotReady desk) = ⊤
 IsPutOff (begun.SmallDesk desk) = ⊤
 
--- where a begin leaves the job
+-- the standing in which a begin leaves the job
 abbrev pub standing_after_begun : {A : Type 0} → Begun A → (old next : Standing) → Standing
 standing_after_begun (begun.Began ticket) old next = next
 standing_after_begun (begun.Ended desk) old next = next
@@ -134,7 +134,7 @@ pub record Fits (task : Task) (standing : Standing) (filled : Asked) : Type 0 wh
   pub flying : standing ≡ InFlight filled.step
   pub question : question_at task filled.step ≡ Some filled.question
 
--- what a finish answers, by where the job stands
+-- what a finish answers, by the job's standing
 abbrev pub Finishes : ℕ → Task → Standing → Asked → Finished → Type 0
 Finishes job task standing filled finished.Done =
     Fits task standing filled
@@ -143,7 +143,7 @@ Finishes job task standing filled finished.Ended =
     Fits task standing filled × (next_standing (event.Finish job) task standing ≡ Some Ended)
 Finishes job task standing filled finished.Stale = Fits task standing filled → ⊥
 
--- where a finish leaves the job
+-- the standing in which a finish leaves the job
 abbrev pub standing_after_finished : Finished → (old next : Standing) → Standing
 standing_after_finished finished.Done old next = next
 standing_after_finished finished.Ended old next = next
@@ -151,13 +151,13 @@ standing_after_finished finished.Stale old next = old
 
 -- ---- a step in one go
 
--- where a begin and then a finish leave a job
+-- the standing in which a begin and then a finish leave a job
 abbrev pub standing_after_step : ℕ → Task → Standing → Standing
 standing_after_step job task standing =
     let begun = or_same standing (next_standing (event.Begin job) task standing) in
     or_same begun (next_standing (event.Finish job) task begun)
 
--- the job is live, and has at most so many words
+-- the job is live, and has at most `words` words
 abbrev pub HasRoomFor : ℕ → Task → Standing → Type 0
 HasRoomFor words task standing = (is_live standing ≡ true) × (task.limits.words ≤ words)
 
@@ -167,7 +167,7 @@ pub record HasGoneOn (job : ℕ) (task : Task) (standing : Standing) : Type 0 wh
   pub live : standing ≡ Live step
   pub next : standing_after_step job task standing ≡ Live (step + 1)
 
--- what a step in one go answers in a room of so many words, by where the job stands
+-- what a step in one go answers in a room of `words` words, by the job's standing
 abbrev pub Steps : (job words : ℕ) → Task → Standing → Stepped → Type 0
 Steps job words task standing stepped.Done = HasRoomFor words task standing × HasGoneOn job task standing
 Steps job words task standing stepped.Ended =

@@ -21,7 +21,8 @@ taken_ids op ids = top_entries (operand_count op) ids
 abbrev pub with_releases : List ℕ → JobBlocks → JobBlocks
 with_releases ids blocks = with_memory blocks (state_after_releases blocks.memory ids)
 
--- The blocks with a reference more for each entry that the instruction copies, and one less for each that it takes off the
+-- The blocks with a reference more for each entry that the instruction copies, and one less for each that it takes off
+-- the
 -- stack, whose cells name the blocks of these numbers, the top first.
 abbrev pub blocks_after_taking : Op → List ℕ → JobBlocks → JobBlocks
 blocks_after_taking (Move Copy lower upper) ids blocks =

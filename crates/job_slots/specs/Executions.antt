@@ -1,4 +1,4 @@
--- What holds of the next instruction of a job whose step is in flight: that it can be executed, and where that leads.
+-- What holds of the next instruction of a job whose step is in flight: that it can be executed, and the state after it.
 use Rattle.std.specs.Prelude.{◌≡◌, ℕ, ℤ, ◌+◌, ◌^◌, ◌<◌, ◌≤◌, Bool, List, [], ◌∷◌, length, All}
 use Rattle.vcode_base.specs.declared.op.Op.{Op}
 use Rattle.vcode_base.specs.declared.op.Op.TheVariants.{Move}
@@ -52,7 +52,7 @@ pub record IsCounted (rule : Rule) (job : ℕ) (blocks : JobBlocks) (item : Item
     pub own : AreOwn job blocks (taken_ids (op_of item) ids)
     pub held : held_under rule job (op_of item) ids blocks ≡ held_at rule item s
 
--- so it is where the cells hold the stack
+-- it is at the state if the cells hold the stack
 abbrev pub HeldIsCounted : Type 0
 HeldIsCounted =
     (rule : Rule) (job : ℕ) (blocks : JobBlocks) (item : Item) (s : State) (ids : List ℕ) →
@@ -68,7 +68,7 @@ AreSettled rule job op first second cells (below ∷ top ∷ ids) old new =
     × (top < length between.memory.slots) × (slot_at between.memory top ≡ empty_slot)
     × (new ≡ with_block between job top second)
 
--- so many of them as the instruction has results
+-- as many of them as the instruction has results
 pub record HasSettled (rule : Rule) (job : ℕ) (op : Op) (first second : List ℤ) (cells ids : List ℕ)
     (old new : JobBlocks) : Type 0 where
   pub given : length ids ≡ length (result_kinds op)
@@ -81,13 +81,13 @@ pub record CanGoPast (verified : TypedProgram) (t : Trace ℕ) (op : Op) : Type 
   pub cells : depth_after op (length t.cells) ≤ t.limits.cells
   pub follows : CanFollow verified t.frames t.limits.calls
 
--- track and blocks are where the job is after one instruction more, and no other job's blocks changed
+-- track and blocks are at the job's state after one instruction more, and no other job's blocks changed
 pub record IsExecuted (job : ℕ) (old new : JobBlocks) (task : Task) (t u : Trace ℕ) : Type 0 where
   pub after : IsAfter (own_slots job new) task u (state_after task (t.executed + 1))
   pub others : ChangesOnlyOf job old new
 
--- The instruction has at most two results, for which the job's words have room. Its operands can be taken off the stack,
--- and the track can go past. Where blocks have the results, that executes it.
+-- The instruction has at most two results, for which the job's words have room. Its operands can be taken off the
+-- stack, and the track can go past. If blocks have the results, that executes it.
 pub record CanExecute (job : ℕ) (old : JobBlocks) (task : Task) (t : Trace ℕ) (op : Op) (flag : Bool)
     (first second : List ℤ) : Type 0 where
   pub two : length (result_kinds op) ≤ 2

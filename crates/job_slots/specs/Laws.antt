@@ -8,7 +8,7 @@ use Rattle.job_steps.specs.Standings.{held_by, executed_at, peak_at, outcome_at}
 use Rattle.job_steps.specs.States.{JobValue, Task, ruled}
 use Rattle.job_slots.specs.Slots.{SlotState, Shows, IsNewSlot, standing_of, told_outcome, recalled_slot}
 
--- what a slot shows: it stands on its run alone, and its counts and its blocks' words are those of its standing
+-- what a slot shows: it is on its run alone, and its counts and its blocks' words are those of its standing
 pub record IsShown (number : ℕ) (blocks : JobBlocks) (task : Task) (slot : SlotState) : Type 0 where
   pub stands : StandsOnRun task (standing_of slot)
   pub executed : slot.trace.executed ≡ executed_at task (standing_of slot)
@@ -29,7 +29,8 @@ OthersAreShown = (number other : ℕ) (old new : JobBlocks) (task : Task) (slot 
 -- a new slot of a job that has neither a grant nor a block, by whichever rule it runs
 abbrev pub NewIsShown : Type 0
 NewIsShown = (rule : Rule) (number : ℕ) (blocks : JobBlocks) (job : JobValue) (slot : SlotState) → IsNewSlot job slot
-    → IsJob blocks number → grant_of blocks number ≡ None → ((id : ℕ) → slot_in (own_slots number blocks) id ≡ empty_slot)
+    → IsJob blocks number → grant_of blocks number ≡ None → ((id : ℕ)
+    → slot_in (own_slots number blocks) id ≡ empty_slot)
     → Shows number blocks (ruled rule job) slot
 
 abbrev pub RecalledIsShown : Type 0

@@ -5,3 +5,4 @@ pub mod Commits
 pub mod Copies
 pub mod Laws
 pub mod Executions
+pub mod InPlace

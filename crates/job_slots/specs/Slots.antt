@@ -1,4 +1,4 @@
--- When a job's slot, with the blocks that the job owns, shows where its run alone stands.
+-- When a job's slot, with the blocks that the job owns, shows the place of the job in its run alone.
 use Rattle.std.specs.Prelude.{◌≡◌, ℕ, ◌-◌, List, reverse, Option, Some, None}
 use Rattle.vcode_base.specs.declared.outcome.Outcome.{Outcome}
 use Rattle.vcode_base.specs.declared.outcome.Outcome.TheVariants.{Returned}
@@ -9,20 +9,20 @@ use Rattle.job_steps.specs.Events.{early_end}
 use Rattle.job_steps.specs.Reached.{IsVerifiedBySome}
 use Rattle.job_steps.specs.Runs.{state_after, outcome, executed_count, peak}
 use Rattle.job_steps.specs.Standings.{Standing, Waiting, Live, InFlight, Ended, Collected, held_in, left_words}
-use Rattle.job_steps.specs.States.{Vector, JobValue, Task, Entry, State, values_of, held_words}
+use Rattle.job_steps.specs.States.{Vector, JobValue, Task, StackEntry, State, values_of, held_words}
 use Rattle.job_steps.specs.Steps.{Progress, Running, Over, Stuck}
 use Rattle.job_steps.specs.Tracks.{Trace, IsFirst, IsAt, IsThrough}
 use Rattle.job_slots.specs.declared.status.Status.{Status}
 use Rattle.job_slots.specs.declared.status.Status.TheVariants as status
 use Rattle.job_slots.specs.Holdings.{HoldStack, HoldNothing}
 
--- where a job stands in its run, and how it ended, once that is known
+-- the place of a job in its run, and how it ended, once that is known
 pub record SlotState : Type 0 where
   pub status : Status
   pub trace : Trace ℕ
   pub outcome : Option (Outcome (List Vector))
 
--- where a job of this status stands after so many instructions
+-- the standing of a job of this status after n instructions
 abbrev pub standing_by : Status → ℕ → Standing
 standing_by status.Waiting n = Waiting
 standing_by status.Live n = Live n
@@ -33,7 +33,7 @@ standing_by status.Collected n = Collected
 abbrev pub standing_of : SlotState → Standing
 standing_of slot = standing_by slot.status slot.trace.executed
 
--- the status of a job that stands there
+-- the status of a job of that standing
 abbrev pub status_of : Standing → Status
 status_of Waiting = status.Waiting
 status_of (Live n) = status.Live
@@ -57,7 +57,7 @@ pub record IsFlyingSlot (slots : List shared.Slot) (task : Task) (t : Trace ℕ)
 
 -- the job has returned, and the cells hold its results
 pub record HasReturned (slots : List shared.Slot) (task : Task) (t : Trace ℕ) : Type 0 where
-  pub stack : List Entry
+  pub stack : List StackEntry
   pub outcome_is : outcome task ≡ Returned (reverse (values_of stack))
   pub left : left_words task (outcome task) ≡ held_words stack
   pub holds : HoldStack slots t.cells stack
@@ -105,7 +105,8 @@ grant_by task status.InFlight = Some task.limits.words
 grant_by task status.Ended = Some task.limits.words
 grant_by task status.Collected = None
 
--- The job of a number, which is of this task, has the grant of its status, and its blocks and its slot show its run alone.
+-- The job of a number, which is of this task, has the grant of its status, and its blocks and its slot show its run
+-- alone.
 pub record Shows (number : ℕ) (blocks : JobBlocks) (task : Task) (slot : SlotState) : Type 0 where
   pub is_job : IsJob blocks number
   pub verified : IsVerified task
@@ -115,13 +116,13 @@ pub record Shows (number : ℕ) (blocks : JobBlocks) (task : Task) (slot : SlotS
 
 -- ---- after an instruction
 
--- The track and the blocks are where the job is: it runs, and the cells hold its stack; or it has returned, and they hold
--- what was its stack before.
+-- The track and the blocks are at the job's state: it runs, and the cells hold its stack; or it has returned, and they
+-- hold what was its stack before.
 abbrev pub IsAfter : List shared.Slot → Task → Trace ℕ → Progress → Type 0
 IsAfter slots task t (Running s) = IsAt task t s × HoldStack slots t.cells s.stack
 IsAfter slots task t (Over ending executed peak) =
     IsThrough t executed peak
-    × ((stack : List Entry) × (ending ≡ Returned (reverse (values_of stack)))
+    × ((stack : List StackEntry) × (ending ≡ Returned (reverse (values_of stack)))
     × (held_words stack ≡ held_in (state_after task (executed - 1))) × HoldStack slots t.cells stack)
 IsAfter slots task t Stuck = ⊥
 
@@ -143,7 +144,7 @@ IsActive status.Live = Unit {0}
 IsActive status.InFlight = Unit {0}
 IsActive _ = ⊥
 
--- how the job ended, where it is collected
+-- how the job ended, if it is collected
 abbrev pub told_outcome : SlotState → Option (Outcome (List Vector))
 told_outcome slot = told_by slot.status slot.outcome
 

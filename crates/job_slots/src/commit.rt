@@ -213,7 +213,7 @@ fn place<A: Allocator>(number: usize, blocks: &mut JobMemory<A>, words: &[i64]) 
 
 /// The results of the next instruction take the place of its operands among the cells, and the job goes on after it.
 #[inline(always)]
-fn go_past<A: Allocator>(
+pub(crate) fn go_past<A: Allocator>(
     job: &Job<A>,
     track: &mut Track<BlockId, A>,
     op: Op,
@@ -230,7 +230,7 @@ fn go_past<A: Allocator>(
 
 /// The cells at the top, of which there are at least `count`.
 #[inline(always)]
-fn top(cells: &[BlockId], count: usize) -> &[BlockId]
+pub(crate) fn top(cells: &[BlockId], count: usize) -> &[BlockId]
     requires { count ≤ length cells.now }
     ensures { result.now ≡ top_entries count (reverse cells.now) }
 {

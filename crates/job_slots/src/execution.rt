@@ -1,4 +1,4 @@
-//! Laws of the next instruction of a job: what counts as held at it, and that it can be executed where its step is in
+//! Laws of the next instruction of a job: what counts as held at it, and that it can be executed if its step is in
 //! flight.
 
 ghost use Rattle.job_slots.specs.Executions.{HeldIsCounted, StepsExecute};
@@ -33,7 +33,8 @@ pub(crate) fn steps_execute()
     changes_join();
 }
 
-/// What counts as held at the next instruction of a job is what counts when it runs alone, and the blocks of its operands
+/// What counts as held at the next instruction of a job is what counts when it runs alone, and the blocks of its
+/// operands
 /// are the job's.
 pub(crate) fn held_is_counted()
     ensures { HeldIsCounted }

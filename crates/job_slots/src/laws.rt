@@ -4,8 +4,8 @@ ghost use Rattle.job_slots.specs.Laws.{ShownIsAlone, OthersAreShown, NewIsShown,
 
 use job_steps::laws::{each_ends, reached};
 
-/// A slot that shows where its job stands has the counts and the blocks' words that the job has when it runs alone, and
-/// no more blocks than the job may have cells, in a memory where no block is there without a reference.
+/// A slot that shows its job's standing has the counts and the blocks' words that the job has when it runs alone, and
+/// no more blocks than the job may have cells, in a memory without blocks that have no reference.
 pub fn shown_is_alone()
     ensures { ShownIsAlone }
 {
@@ -23,7 +23,7 @@ pub fn new_is_shown()
     ensures { NewIsShown }
 {}
 
-/// A slot whose step is given up shows where its job stood before the step.
+/// A slot whose step is given up shows its job's standing before the step.
 pub fn recalled_is_shown()
     ensures { RecalledIsShown }
 {}

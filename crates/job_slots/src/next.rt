@@ -11,7 +11,7 @@ ghost use Rattle.job_steps.specs.declared.operands.TheConstants.{MOST_OPERANDS};
 ghost use Rattle.job_steps.specs.EventLaws.{IsVerified};
 ghost use Rattle.job_steps.specs.Frames.{instruction_in};
 ghost use Rattle.job_steps.specs.Motions.{operand_count, top_entries};
-ghost use Rattle.job_steps.specs.States.{Entry, ruled, words_of};
+ghost use Rattle.job_steps.specs.States.{StackEntry, ruled, words_of};
 ghost use Rattle.job_steps.specs.Steps.{sources_of};
 ghost use Rattle.job_slots.specs.Slots.{IsRunningSlot};
 ghost use Rattle.job_slots.specs.Answers.{IsNext, line_at, question_at};
@@ -109,7 +109,7 @@ fn operands_of<'a, A: Allocator>(
 ) -> Operands<'a>
     requires deep { operand_count (op_of (instruction_in line.now.item)) ≤ length track.now.cells }
     requires live { AreLive blocks.now.memory track.now.cells }
-    ensures { (stack : List Entry) → map (λ id. (slot_at blocks.now.memory id).words) track.now.cells ≡ words_of stack
+    ensures { (stack : List StackEntry) → map (λ id. (slot_at blocks.now.memory id).words) track.now.cells ≡ words_of stack
         → contents (take result.count result.lists) ≡ sources_of (instruction_in line.now.item) stack }
 {
     match &line.item {
@@ -127,7 +127,7 @@ fn sources<'a, A: Allocator>(
 ) -> Operands<'a>
     requires deep { operand_count (op_of instruction.now) ≤ length track.now.cells }
     requires live { AreLive blocks.now.memory track.now.cells }
-    ensures { (stack : List Entry) → map (λ id. (slot_at blocks.now.memory id).words) track.now.cells ≡ words_of stack
+    ensures { (stack : List StackEntry) → map (λ id. (slot_at blocks.now.memory id).words) track.now.cells ≡ words_of stack
         → contents (take result.count result.lists) ≡ sources_of instruction.now stack }
 {
     match instruction {
@@ -136,7 +136,7 @@ fn sources<'a, A: Allocator>(
     }
 }
 
-/// The list of a `CONST`, and behind it nothing.
+/// The list of a `CONST`, and nothing after it.
 #[inline(always)]
 fn constant(list: &[i64]) -> Operands<'_>
     ensures { contents (take result.count result.lists) ≡ list.now ∷ [] }
@@ -156,7 +156,7 @@ fn top_operands<'a, A: Allocator>(
 ) -> Operands<'a>
     requires deep { operand_count op ≤ length track.now.cells }
     requires live { AreLive blocks.now.memory track.now.cells }
-    ensures { (stack : List Entry) → map (λ id. (slot_at blocks.now.memory id).words) track.now.cells ≡ words_of stack
+    ensures { (stack : List StackEntry) → map (λ id. (slot_at blocks.now.memory id).words) track.now.cells ≡ words_of stack
         → contents (take result.count result.lists) ≡ words_of (top_entries (operand_count op) stack) }
 {
     let cells = track.cells();
@@ -182,7 +182,7 @@ fn words_of_blocks<'a, A: Allocator>(ids: &[BlockId], blocks: &'a JobMemory<A>) 
     }
 }
 
-/// The words of the block at this place, or none behind the last.
+/// The words of the block at this place, or none after the last.
 #[inline(always)]
 fn words_at<'a, A: Allocator>(ids: &[BlockId], place: usize, blocks: &'a JobMemory<A>) -> &'a [i64]
     requires { AreLive blocks.now.memory ids.now }

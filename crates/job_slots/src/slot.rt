@@ -1,9 +1,10 @@
-//! A job with where it stands.
+//! A job with its place in its run.
 
-ghost use Rattle.std.specs.Prelude.{◌≡◌, ◌+◌, ◌<◌, ◌≤◌, ◌↔◌, [], false, true, length, IsErr, IfOk, OnOk};
-ghost use Rattle.std.specs.Prelude.{OnErr, None, Some, option_copied};
+ghost use Rattle.std.specs.Prelude.{◌≡◌, ◌+◌, ◌<◌, ◌≤◌, ◌↔◌, ℕ, [], false, true, length, IsErr, IfOk, IfErr};
+ghost use Rattle.std.specs.Prelude.{OnOk, OnErr, None, Some, option_copied};
 ghost use Rattle.vcode_base.specs.declared.limits.TheConstants.{MOST_WORDS};
 ghost use Rattle.vcode_base.specs.declared.outcome.Outcome.TheVariants.{Returned};
+ghost use Rattle.vcode_base.specs.Meaning.{value_fault};
 ghost use Rattle.refcounts.specs.SharedState.{block_count};
 ghost use Rattle.job_memory.specs.JobBlocks.{HasGrant, ChangesOnlyOf, granted_words, own_slots};
 ghost use Rattle.job_steps.specs.declared.event.Event.TheVariants as event;
@@ -12,18 +13,21 @@ ghost use Rattle.job_steps.specs.Events.{next_standing};
 ghost use Rattle.job_steps.specs.Runs.{outcome, executed_count, peak};
 ghost use Rattle.job_steps.specs.Standings.{Live, InFlight, Ended};
 ghost use Rattle.job_steps.specs.States.{ruled};
+ghost use Rattle.job_slots.specs.Answers.{early_end_at, line_at};
 ghost use Rattle.job_slots.specs.declared.status.Status.TheVariants as status;
 ghost use Rattle.job_slots.specs.declared.answer.Finished.TheVariants as finished;
+ghost use Rattle.job_slots.specs.InPlace.{Carries, IsPlaceable, operands_in};
 ghost use Rattle.job_slots.specs.Holdings.{HoldSomeStack, HoldNothing};
 ghost use Rattle.job_slots.specs.Slots.{Shows, Leaves, IsActive, IsNewSlot, IsReturned, standing_of, told_outcome};
 ghost use Rattle.job_slots.specs.Slots.{recalled_slot};
 ghost use Rattle.job_slots.specs.Answers.{Begins, IsPutOff, Finishes, Fits, IsEnding, is_ended, is_in_flight};
-ghost use Rattle.job_slots.specs.Answers.{or_same, standing_after_begun, standing_after_finished};
+ghost use Rattle.job_slots.specs.Answers.{or_same, question_at, standing_after_begun, standing_after_finished};
 ghost use Rattle.job_slots.specs.Answers.{Steps, IsPassedOver, IsAnswered, after_stepped, standing_after_step};
 
 use crate::answer::{Begun, Finished, Stepped};
 use crate::collect::results;
 use crate::commit::execute;
+use crate::in_place::{Placement, execute_in_place, placement_of};
 use crate::next::{is_asked, line_of_next, read_next};
 use crate::status::Status;
 use crate::ticket::{Halted, early_end, ticket_of};
@@ -37,12 +41,12 @@ use job_steps::{Desk, Filled, Job, Track, flag};
 use refcounts::laws::{releases_are_counted, releases_keep_blocks};
 use std::alloc::{AllocError, Allocator};
 use std::marker::Model;
-use vcode_base::{Op, Outcome, Rule, Values};
+use vcode_base::{DataFault, Op, Outcome, Rule, Values};
 
-/// Where a job stands in its run, and how it ended, once that is known.
+/// The place of a job in its run, and how it ended, once that is known.
 ///
 /// Its calls take the rule by which the job runs, the job that it was made for, the job's number from 1 on, and the
-/// memory of all jobs, in which it has to show where the job stands.
+/// memory of all jobs, in which it has to show the job's standing.
 #[derive(Drop)]
 pub struct Slot<A: Allocator> {
     alloc: A,
@@ -79,7 +83,7 @@ impl<A: Allocator> Slot<A> {
         })
     }
 
-    /// Where the job stands.
+    /// The status of the job.
     pub fn status(&self) -> Status
         ensures { result ≡ self.now.status }
     {
@@ -100,7 +104,7 @@ impl<A: Allocator> Slot<A> {
         self.track.peak()
     }
 
-    /// How it ended, where it is collected.
+    /// How it ended, if it is collected.
     pub fn outcome(&self) -> Option<&Outcome<Values<A>>>
         ensures { option_copied result ≡ told_outcome self.now }
     {
@@ -112,7 +116,7 @@ impl<A: Allocator> Slot<A> {
 
     /// Reserves the words of the job, which waits, and lets it begin.
     ///
-    /// `NotNow` exactly where all reserved words and these together are more than the region has; then nothing changes.
+    /// `NotNow` exactly if all reserved words and these together are more than the region has; then nothing changes.
     pub fn admit(
         &mut self,
         rule: Rule,
@@ -180,10 +184,10 @@ impl<A: Allocator> Slot<A> {
         }
     }
 
-    /// Commits a step that was computed, where it is the one that has begun: of this job, instruction and operands. The
+    /// Commits a step that was computed, if it is the one that has begun: of this job, instruction and operands. The
     /// desk comes back.
     ///
-    /// There have to be numbers for two blocks more. `Stale` exactly where it is not that step; then nothing changes.
+    /// There have to be numbers for two blocks more. `Stale` exactly if it is not that step; then nothing changes.
     /// The job ends by a value fault, and by the RET of its only active call.
     pub fn finish(
         &mut self,
@@ -218,9 +222,44 @@ impl<A: Allocator> Slot<A> {
         (finished, filled.into_desk())
     }
 
+    /// Commits a step that was computed, as `finish` does, but compares no operands: the step is known to ask what the
+    /// job's run asks at its number. `Stale` exactly if no step of this number is in flight.
+    ///
+    /// There have to be numbers for two blocks more.
+    pub fn finish_own(
+        &mut self,
+        rule: Rule,
+        job: &Job<A>,
+        number: usize,
+        blocks: &mut JobMemory<A>,
+        filled: Filled<A>,
+    ) -> (Finished, Desk<A>)
+        requires shows { Shows number blocks.old (ruled rule job.now) self.old }
+        requires numbers { block_count blocks.old.memory + 2 ≤ length blocks.old.memory.slots }
+        requires own { question_at (ruled rule job.now) filled.step ≡ Some filled.question }
+        ensures answer { Finishes number (ruled rule job.now) (standing_of self.old) filled result.0 }
+        ensures desk { result.1 ≡ filled.words }
+        ensures shows { Shows number blocks.new (ruled rule job.now) self.new }
+        ensures others { ChangesOnlyOf number blocks.old blocks.new }
+        ensures standing { standing_of self.new ≡ standing_after_finished result.0 (standing_of self.old)
+            (or_same (standing_of self.old)
+            (next_standing (event.Finish number) (ruled rule job.now) (standing_of self.old))) }
+        ensures unchanged { result.0 ≡ finished.Stale → (self.new ≡ self.old) × (blocks.new ≡ blocks.old) }
+    {
+        changes_join();
+        match self.status {
+            Status::InFlight if self.track.executed() == filled.step() => {
+                let finished = self.commit(rule, job, number, blocks, &filled);
+                (finished, filled.into_desk())
+            }
+            Status::Waiting | Status::Live | Status::InFlight | Status::Ended | Status::Collected =>
+                (Finished::Stale, filled.into_desk()),
+        }
+    }
+
     /// Carries out the next instruction of the job in one go. The desk is lent for its results. Takes no memory.
     ///
-    /// There have to be numbers for two blocks more. At `Done` and `Ended` the job is where a begin and then the finish
+    /// There have to be numbers for two blocks more. At `Done` and `Ended` the job is as a begin and then the finish
     /// of that step leave it. `NotReady` exactly if the job waits, a step of it has begun, or it is over. `SmallDesk`
     /// exactly if it is live and the desk has fewer words than the job. Nothing changes then.
     pub fn step(
@@ -259,6 +298,10 @@ impl<A: Allocator> Slot<A> {
             self.end(rule, job, number, blocks, ending);
             return Stepped::Ended;
         }
+        if let Some(placement) = placement_of(rule, job, &self.track, number, blocks, &next) {
+            let (op, line) = (next.op, next.line);
+            return self.step_in_place(rule, job, number, blocks, op, line, placement);
+        }
         let (op, line, operands) = (next.op, next.line, next.operands.as_slice());
         match desk.fill(op, operands) {
             Ok((first, second)) => {
@@ -278,7 +321,86 @@ impl<A: Allocator> Slot<A> {
         }
     }
 
-    /// Gives up the step that has begun; true where there was one. The job stands as before the step's begin.
+    /// Carries out the next instruction of a job that is live, whose result is computed where it is placed.
+    fn step_in_place(
+        &mut self,
+        rule: Rule,
+        job: &Job<A>,
+        number: usize,
+        blocks: &mut JobMemory<A>,
+        op: Op,
+        line: u64,
+        placement: Placement,
+    ) -> Stepped
+        requires shows { Shows number blocks.old (ruled rule job.now) self.old }
+        requires live { self.old.status ≡ status.Live }
+        requires goes_on { early_end_at (ruled rule job.now) self.old.trace.executed ≡ None }
+        requires line { line_at (ruled rule job.now) self.old.trace.executed ≡ Some line }
+        requires placeable { IsPlaceable (ruled rule job.now) number blocks.old self.old.trace op placement }
+        requires numbers { block_count blocks.old.memory + 2 ≤ length blocks.old.memory.slots }
+        ensures answer { (words : ℕ) → job.now.limits.words ≤ words
+            → Steps number words (ruled rule job.now) (standing_of self.old) result }
+        ensures shows { Shows number blocks.new (ruled rule job.now) self.new }
+        ensures others { ChangesOnlyOf number blocks.old blocks.new }
+        ensures standing { standing_of self.new
+            ≡ standing_after_step number (ruled rule job.now) (standing_of self.old) }
+        ensures steps { IsPassedOver result → ⊥ }
+    {
+        end_is_own();
+        others_are_ready();
+        self.status = Status::InFlight;
+        match self.carry_out_in_place(rule, job, number, blocks, op, placement) {
+            Ok(goes_on) => {
+                if goes_on {
+                    Stepped::Done
+                } else {
+                    Stepped::Ended
+                }
+            }
+            Err(fault) => {
+                let ending = Outcome::Fault(fault, line);
+                self.end(rule, job, number, blocks, ending);
+                Stepped::Ended
+            }
+        }
+    }
+
+    /// Executes the instruction of the step in flight, whose result is computed where it is placed: true if the job
+    /// goes
+    /// on after it, and false if it has returned.
+    ///
+    /// # Errors
+    ///
+    /// The fault that the values of the operands have. Nothing changes then.
+    fn carry_out_in_place(
+        &mut self,
+        rule: Rule,
+        job: &Job<A>,
+        number: usize,
+        blocks: &mut JobMemory<A>,
+        op: Op,
+        placement: Placement,
+    ) -> Result<bool, DataFault>
+        requires shows { Shows number blocks.old (ruled rule job.now) self.old }
+        requires flying { self.old.status ≡ status.InFlight }
+        requires placeable { IsPlaceable (ruled rule job.now) number blocks.old self.old.trace op placement }
+        requires numbers { block_count blocks.old.memory + 2 ≤ length blocks.old.memory.slots }
+        ensures carried { IfOk result (Carries number (ruled rule job.now) self.old self.new) }
+        ensures shows { OnOk result (Shows number blocks.new (ruled rule job.now) self.new) }
+        ensures others { OnOk result (ChangesOnlyOf number blocks.old blocks.new) }
+        ensures unchanged { OnErr result ((self.new ≡ self.old) × (blocks.new ≡ blocks.old)) }
+        ensures fault { IfErr result (λ fault.
+            value_fault op (operands_in blocks.old op self.old.trace.cells) ≡ Some fault) }
+    {
+        reached();
+        end_is_own();
+        match execute_in_place(rule, job, &mut self.track, number, blocks, op, placement) {
+            Ok(()) => Ok(self.go_on()),
+            Err(fault) => Err(fault),
+        }
+    }
+
+    /// Gives up the step that has begun; true if there was one. The job is as before the step's begin.
     pub fn recall(&mut self) -> bool
         ensures answer { result ≡ is_in_flight (standing_of self.old) }
         ensures state { self.new ≡ recalled_slot self.old }
@@ -292,12 +414,12 @@ impl<A: Allocator> Slot<A> {
         }
     }
 
-    /// Stores the outcome of a job that has ended, and gives its blocks and its reservation back; true where it had. Else
+    /// Stores the outcome of a job that has ended, and gives its blocks and its reservation back; true if it had. Else
     /// nothing changes.
     ///
     /// # Errors
     ///
-    /// [`AllocError`] where memory for copies of the results was refused, which comes only at a job that returned. Nothing
+    /// [`AllocError`] if memory for copies of the results was refused, which comes only at a job that returned. Nothing
     /// changes then.
     #[tactic(auto, using(crate::proofs::Holding::words_of_none))]
     pub fn collect(

@@ -1,6 +1,6 @@
-//! Where a job stands on a machine.
+//! The status of a job on a machine.
 
-/// Where a job stands.
+/// The status of a job.
 #[derive(Clone, Copy, PartialEq, Eq, Debug)]
 pub enum Status {
     /// It is not admitted: no words are reserved for it.

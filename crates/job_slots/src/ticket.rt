@@ -90,7 +90,7 @@ pub(crate) fn early_end<A: Allocator>(
     early_ending(track, held, next)
 }
 
-/// The ending by a shape or a limit that an instruction has, if so many words are held.
+/// The ending of an instruction by a shape or a limit, if `held` words are held.
 #[inline(always)]
 fn early_ending<A: Allocator>(
     track: &Track<BlockId, A>,
@@ -111,7 +111,7 @@ fn early_ending<A: Allocator>(
     }
 }
 
-/// The ending by a limit that an instruction would pass whose operands fit one another, if so many words are held.
+/// The ending of an instruction whose operands fit one another by a limit that it would pass, if `held` words are held.
 #[inline(always)]
 fn limit_ending<A: Allocator>(
     track: &Track<BlockId, A>,

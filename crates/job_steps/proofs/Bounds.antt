@@ -21,7 +21,7 @@ use Rattle.verifier.specs.Typed.{TypedProgram}
 use Rattle.job_steps.specs.Motions.{stack_after, depth_after}
 use Rattle.job_steps.specs.Reached.{AreAlike}
 use Rattle.job_steps.specs.Runs.{progress_from, state_after}
-use Rattle.job_steps.specs.States.{Vector, Task, Entry, Active, State, Callee, callee_named, calls_with, first_state}
+use Rattle.job_steps.specs.States.{Vector, Task, StackEntry, Active, State, Callee, callee_named, calls_with, first_state}
 use Rattle.job_steps.specs.States.{held_words, new_entries}
 use Rattle.job_steps.specs.Steps.{Progress, Running, Over, Stuck, next_item, sources_of, question_of, results_of}
 use Rattle.job_steps.specs.Steps.{words_at, is_call, memory_fault, ending_by, calls_past, calls_after}
@@ -126,7 +126,7 @@ tags_from next (v ∷ vs) =
 new_agree : (next : ℕ) (vs : List Vector) → Agree (new_entries next vs)
 new_agree next [] = All-nil (λ e. All (AreAlike e) [])
 new_agree next (v ∷ vs) =
-    let new : Entry = record { tag = next; value = v } in
+    let new : StackEntry = record { tag = next; value = v } in
     let later = new_entries (next + 1) vs in
     let above : All (λ e. next + 1 ≤ e.tag) later = tags_from (next + 1) vs in
     All-cons (λ x. All (AreAlike x) (new ∷ later)) new later
@@ -135,9 +135,9 @@ new_agree next (v ∷ vs) =
     (λ k d h. All-cons (AreAlike (get_or later k d)) new later (λ e. absurd (omega (arith, above k d h)))
     (new_agree (next + 1) vs k d h))
 
-agree_after : (op : Op) (rs xs : List Entry) → Agree rs →
-    ((k : ℕ) (d : Entry) → k < length rs → All (AreAlike (get_or rs k d)) xs) →
-    ((k : ℕ) (d : Entry) → k < length xs → All (AreAlike (get_or xs k d)) rs) → Agree xs →
+agree_after : (op : Op) (rs xs : List StackEntry) → Agree rs →
+    ((k : ℕ) (d : StackEntry) → k < length rs → All (AreAlike (get_or rs k d)) xs) →
+    ((k : ℕ) (d : StackEntry) → k < length xs → All (AreAlike (get_or xs k d)) rs) → Agree xs →
     Agree (stack_after op rs xs)
 agree_after op rs xs rr rx xr xx =
     All-stack_after (λ x. All (AreAlike x) (stack_after op rs xs)) op rs xs
@@ -156,7 +156,7 @@ pub record IsBounded (task : Task) (n : ℕ) (s : State) : Type 0 where
   pub cells : length s.stack ≤ task.limits.cells
   pub calls : length s.calls ≤ task.limits.calls
 
--- the state behind an instruction
+-- the state after an instruction
 abbrev pub state_past : Rule → Item → State → List Active → State
 state_past rule item s calls = record {
   stack = stack_after (op_of item) (new_entries s.next (results_of (question_of item s.stack))) s.stack;
@@ -178,8 +178,8 @@ bounded_past law task n s call outer b p =
     let new = new_entries s.next results in
     let fit = fits_at task s call outer p in
     let deep = deep_of task.verified (item_of call) s.stack p.runs in
-    let old : (k : ℕ) (d : Entry) → k < length s.stack → (get_or s.stack k d).tag < s.next = b.tags in
-    let young : (k : ℕ) (d : Entry) → k < length new → s.next ≤ (get_or new k d).tag = tags_from s.next results in
+    let old : (k : ℕ) (d : StackEntry) → k < length s.stack → (get_or s.stack k d).tag < s.next = b.tags in
+    let young : (k : ℕ) (d : StackEntry) → k < length new → s.next ≤ (get_or new k d).tag = tags_from s.next results in
     let total = total_results law s.next (item_of call) s.stack deep (shaped task s call outer p) p.late in
     let now : suc (length outer) ≤ task.limits.calls =
     subst (λ (cs : List Active). length cs ≤ task.limits.calls) p.calls b.calls in

@@ -1,4 +1,4 @@
--- Lists one behind another.
+-- Lists one after another.
 use Rattle.std.proofs.Common.{◌≡◌, ℕ, ℤ, ◌+◌, ◌≤◌, ◌++◌, List, [], ◌∷◌, length, map, take, drop, sum, get_or}
 use Rattle.std.proofs.Common.{refl, ap, arith, zero, suc}
 use Rattle.std.proofs.lemmas.List.{length-append}
@@ -31,7 +31,7 @@ five_pieces (a ∷ b ∷ c ∷ d ∷ []) xs h = absurd (omega arith)
 five_pieces (a ∷ b ∷ c ∷ d ∷ e ∷ []) xs h = refl
 five_pieces (a ∷ b ∷ c ∷ d ∷ e ∷ f ∷ ls) xs h = absurd (omega arith)
 
--- five parts split off one behind another
+-- five parts split off one after another
 pub five_parts : (ls : List ℕ) (xs p0 r0 p1 r1 p2 r2 p3 r3 p4 : List ℤ) → length ls ≡ 5
     → p0 ≡ take (get_or ls 0 0) xs → r0 ≡ drop (get_or ls 0 0) xs
     → p1 ≡ take (get_or ls 1 0) r0 → r1 ≡ drop (get_or ls 1 0) r0
@@ -70,7 +70,7 @@ take-pieces_of (suc n) (l ∷ ls) xs = ap (λ ys. take l xs ∷ ys) (take-pieces
 abbrev pub loading : ℕ → List (List ℤ) → OperandLists
 loading room lists = record { room = room; lists = lists }
 
--- what is loaded, where the buffer holds the lists of the first of these lengths
+-- what is loaded, if the buffer holds the lists of the first of these lengths
 pub loaded : (room words : ℕ) (lists : List (List ℤ)) (count : ℕ) (ls ms : List ℕ) (xs : List ℤ)
     → room ≡ words → take count ls ≡ ms → pieces_of ms xs ≡ lists
     → loading room (lists_in count ls xs) ≡ loading words lists

@@ -1,4 +1,4 @@
--- Jobs are equal where their parts are.
+-- Jobs are equal if their parts are.
 use Rattle.std.proofs.Common.{◌≡◌, ◌≤◌, ℕ, Bool, ◌&&◌, refl, ap, subst}
 use Rattle.std.specs.Bool.{Decides}
 use Rattle.std.specs.Coded.{le_prop, ×_prop}

@@ -6,7 +6,16 @@ use Rattle.job_steps.specs.declared.event.Event.{Event}
 use Rattle.job_steps.specs.declared.event.Event.TheVariants.{Admit, Begin, Finish, Recall, Collect}
 use Rattle.job_steps.specs.EventLaws.{AreApart}
 use Rattle.job_steps.specs.Events.{early_end, standing_after_begin, next_standing_in, next_standing_of, named_job}
-use Rattle.job_steps.specs.Events.{job_of, is_open, passes_after, moved_queue, with_next, after_event, after_events, LeadTo}
+use Rattle.job_steps.specs.Events.{
+  job_of,
+  is_open,
+  passes_after,
+  moved_queue,
+  with_next,
+  after_event,
+  after_events,
+  LeadTo,
+}
 use Rattle.job_steps.specs.Runs.{state_after}
 use Rattle.job_steps.specs.Standings.{Standing, Live, InFlight, Ended, Queue, of_job, with_standing}
 use Rattle.job_steps.specs.States.{Task}
@@ -107,7 +116,7 @@ events_commute region tasks queue one other job another e f apart =
       other_open = second_late.can ∙ sym second.can;
     }
 
--- ---- a recall behind a begin
+-- ---- a recall after a begin
 
 in_flight_at : (task : Task) (n m : ℕ) (p : Progress) → standing_after_begin task n p ≡ InFlight m → n ≡ m
 in_flight_at task n m (Running s) e = flight_by (is_some (early_end task s)) e

@@ -25,7 +25,7 @@ use Rattle.job_steps.specs.Reached.{IsVerifiedBySome}
 use Rattle.job_steps.specs.Frames.{StopAt, Stands, StandAll, remaining, lines_at, first_line, next_line}
 use Rattle.job_steps.specs.Frames.{instruction_in}
 use Rattle.job_steps.specs.Motions.{stack_after, depth_after}
-use Rattle.job_steps.specs.States.{Arrow, Task, Entry, Active, State, Callee, callee_of, callee_at, callee_named}
+use Rattle.job_steps.specs.States.{Arrow, Task, StackEntry, Active, State, Callee, callee_of, callee_at, callee_named}
 use Rattle.job_steps.specs.States.{calls_with}
 use Rattle.job_steps.specs.States.{first_state, new_entries}
 use Rattle.job_steps.specs.Steps.{next_item, calls_past, calls_after, can_call, can_run, is_call, question_of}
@@ -45,7 +45,7 @@ pub some_frame : (fs : List Function) (frames : List Frame) (call : Active) (out
 some_frame fs [] call outer s = absurd s
 some_frame fs (frame ∷ frames) call outer s = omega arith
 
--- the innermost frame stands at the innermost call, and the others at the others
+-- the innermost frame is at the innermost call, and the others at the others
 pub record IsTop (fs : List Function) (frames : List Frame) (frame : Frame) (call : Active) (outer : List Active)
     : Type 0
   where
@@ -119,7 +119,7 @@ past_plain (instr.Move motion lower upper) on verified call outer = refl
 past_plain (instr.Call name) on verified call outer = absurd (on.1 name refl)
 past_plain instr.Return on verified call outer = absurd (on.0 refl)
 
--- what the frame behind an instruction promises
+-- what the frame after an instruction promises
 abbrev pub IsBehind : List Function → Frame → Frame → Type 0
 IsBehind fs frame next =
     (item : Item) (line ret : ℕ) (rest : Body) → Stands fs frame (record { rest = Do item line rest; ret = ret }) →
@@ -286,7 +286,7 @@ is_named name f = bytes_eq f.name name
 same_place : (k m : ℕ) → ◌≡◌ {A = Option ℕ} (Some k) (Some m) → k ≡ m
 same_place k m e = cc
 
--- the place that is found, where the function is called that has the name
+-- the place that is found, if the function with the name is called
 pub record Found (verified : TypedProgram) (o : Option ℕ) (c : Callee) : Type 0 where
   pub some : IsSome o
   pub first : (place : ℕ) → o ≡ Some place → Stands (functions_of verified) (frame_of place) (first_call c)
@@ -354,7 +354,7 @@ pub same_functions : (p : Program) (v verified : TypedProgram) → p ≡ v.progr
 same_functions p v verified program same =
     ap (λ (q : Program). q.functions) (program ∙ ap (λ (w : TypedProgram). w.program) same)
 
--- the innermost frame stands at some call
+-- the innermost frame is at some call
 pub inner_stands : (verified : TypedProgram) (frames : List Frame) (frame : Frame) (room : ℕ) (fs : List Function) →
     slice_get frames 0 ≡ Some frame → CanFollow verified frames room → fs ≡ functions_of verified →
     (call : Active) × Stands fs frame call
@@ -372,11 +372,11 @@ same_length fs [] (call ∷ calls) s = absurd s
 same_length fs (frame ∷ frames) [] s = absurd s
 same_length fs (frame ∷ frames) (call ∷ calls) s = ap suc (same_length fs frames calls s.1)
 
-callee_there : (o : Option Callee) (stack : List Entry) → can_call o stack ≡ true → (c : Callee) × (o ≡ Some c)
+callee_there : (o : Option Callee) (stack : List StackEntry) → can_call o stack ≡ true → (c : Callee) × (o ≡ Some c)
 callee_there None stack e = absurd (let h : false ≡ true = e in cc)
 callee_there (Some c) stack e = (c, refl)
 
-can_call_by : (verified : TypedProgram) (item : Item) (stack : List Entry) (active room : ℕ) →
+can_call_by : (verified : TypedProgram) (item : Item) (stack : List StackEntry) (active room : ℕ) →
     can_run verified item stack ≡ true →
     (is_call (op_of item) ≡ true → active < room) → CanCall verified item active room
 can_call_by verified (instr.Const k list) stack active room runs few = tt
@@ -389,9 +389,9 @@ can_call_by verified (instr.Call name) stack active room runs few =
     (c.0, c.1, few refl)
 can_call_by verified instr.Return stack active room runs few = tt
 
--- An instruction that can run can be followed, where at a CALL there is room for one call more.
+-- An instruction that can run can be followed, if at a CALL there is room for one call more.
 pub can_follow : (verified : TypedProgram) (frames : List Frame) (call : Active) (outer : List Active)
-    (stack : List Entry) (room : ℕ) → StandAll (functions_of verified) frames (call ∷ outer) →
+    (stack : List StackEntry) (room : ℕ) → StandAll (functions_of verified) frames (call ∷ outer) →
     can_run verified (next_item call).item stack ≡ true →
     (is_call (op_of (next_item call).item) ≡ true → length frames < room) → CanFollow verified frames room
 can_follow verified frames call outer stack room stands runs few = record {
@@ -417,7 +417,7 @@ module _ {C : Type 0} (task : Task) (t u : Trace C) (s : State) (item : Item) (f
   count_after : u.executed ≡ s.executed + 1
   count_after = advanced.executed ∙ ap (λ n. n + 1) at.executed
 
-  depth_then : (es : List Entry) → length es ≡ length (result_kinds (op_of item)) →
+  depth_then : (es : List StackEntry) → length es ≡ length (result_kinds (op_of item)) →
       length u.cells ≡ length (stack_after (op_of item) es s.stack)
   depth_then es many =
       let deep_cells : IsDeep (op_of item) (length t.cells) = subst (IsDeep (op_of item)) (sym at.cells) deep in

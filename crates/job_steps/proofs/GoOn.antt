@@ -143,7 +143,7 @@ behind_collected first fits t tasks standings count passes (inl all) =
     inl (All-cons (λ (s : Standing). s ≡ Collected) Collected standings refl all)
 behind_collected first fits t tasks standings count passes (inr next) = inr next
 
--- where each job waits or is collected, and each fits, the first that waits is admitted
+-- if each job waits or is collected, and each fits, the first that waits is admitted
 idle_admits : (first : ℕ) (fits : Task → Bool) (tasks : List Task) (standings : List Standing) (passes : List ℕ) →
     AllIdle standings → All (λ task. fits task ≡ true) tasks → length standings ≡ length tasks →
     length passes ≡ length tasks → IdleOr first fits tasks standings passes

@@ -75,7 +75,7 @@ early_ends stuck reaches own signatures task v n s ending e early =
 
 -- ---- what the values decide
 
--- nothing stands against the next instruction
+-- nothing forbids the next instruction
 record Passes (task : Task) (s : State) (calls : List Active) (p : Progress) : Type 0 where
   call : Active
   outer : List Active
@@ -103,7 +103,7 @@ passes_calls task s (call ∷ outer) early goes =
     passes_run task s call outer (can_run task.verified (next_item call).item s.stack) refl
     (early_ending task (next_item call) s) early goes
 
--- the budget isn't spent, and nothing stands against the next instruction
+-- the budget isn't spent, and nothing forbids the next instruction
 record PassesBudget (task : Task) (s : State) (p : Progress) : Type 0 where
   unspent : eqb s.executed task.limits.budget ≡ false
   passes : Passes task s s.calls p

@@ -7,7 +7,15 @@ use Rattle.job_steps.specs.declared.event.Event.{Event}
 use Rattle.job_steps.specs.declared.event.Event.TheVariants.{Admit, Begin, Finish, Recall, Collect}
 use Rattle.job_steps.specs.EventLaws.{ChangesItsJob}
 use Rattle.job_steps.specs.Events.{early_end, standing_after_begin, standing_after, next_standing, named_job, job_of}
-use Rattle.job_steps.specs.Events.{next_standing_in, next_standing_of, is_open, with_next, moved_queue, passes_after, after_event}
+use Rattle.job_steps.specs.Events.{
+  next_standing_in,
+  next_standing_of,
+  is_open,
+  with_next,
+  moved_queue,
+  passes_after,
+  after_event,
+}
 use Rattle.job_steps.specs.Runs.{state_after}
 use Rattle.job_steps.specs.Standings.{Standing, Waiting, Live, InFlight, Ended, Collected, Queue, of_job}
 use Rattle.job_steps.specs.Standings.{with_standing}
@@ -16,7 +24,7 @@ use Rattle.job_steps.specs.Steps.{Progress, Running, Over, Stuck}
 
 -- ---- one job
 
--- the ways in which an open event changes where its job stands
+-- the ways in which an open event changes the standing of its job
 pub data Changes (task : Task) (event : Event) (old new : Standing) : Type 0 where
   Admits : event ≡ Admit → old ≡ Waiting → new ≡ Live 0 → Changes task event old new
   Begins : (job n : ℕ) → event ≡ Begin job → old ≡ Live n →
@@ -174,7 +182,7 @@ pub opens : (region : ℕ) (tasks : List Task) (event : Event) (queue : Queue) �
 opens region tasks event queue can =
     opens_by region tasks event queue can (happens region tasks event queue)
 
--- an event is open where its job stands so that it has a next standing
+-- an event is open if its job has a next standing by it
 pub open_where : (region : ℕ) (tasks : List Task) (event : Event) (queue : Queue) (job : ℕ) (task : Task)
     (old new : Standing) → job_of region tasks event queue ≡ Some job → of_job job tasks ≡ Some task →
     of_job job queue.standings ≡ Some old → next_standing event task old ≡ Some new →

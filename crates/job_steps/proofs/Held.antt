@@ -1,43 +1,43 @@
--- The words that a stack holds, where entries with one tag have one value.
+-- The words that a stack holds, if entries with one tag have one value.
 use Rattle.std.proofs.Common.{◌≡◌, ℕ, ◌+◌, ◌≤◌, Bool, true, false, cond, eqb, not, List, [], ◌∷◌, ◌++◌, length}
 use Rattle.std.proofs.Common.{refl, sym, ◌∙◌, ap, subst, inl, inr, arith}
 use Rattle.std.specs.Prelude.{All, ◌⊎◌, ◌||◌, filter}
 use Rattle.std.proofs.lemmas.Bool.Decides.{nat_tests}
 use Rattle.std.proofs.lemmas.List.Elements.{All-nil, All-cons, All-head, All-tail, All-weaker, All-filter}
-use Rattle.job_steps.specs.States.{Vector, Entry, has_tag, held_words}
+use Rattle.job_steps.specs.States.{Vector, StackEntry, has_tag, held_words}
 use Rattle.job_steps.specs.Reached.{AreAlike}
 
 -- one of the entries
-abbrev pub Has : List Entry → Entry → Type 0
+abbrev pub Has : List StackEntry → StackEntry → Type 0
 Has [] e = ⊥
 Has (x ∷ xs) e = (x ≡ e) ⊎ Has xs e
 
-pub has_itself : (xs : List Entry) → All (Has xs) xs
+pub has_itself : (xs : List StackEntry) → All (Has xs) xs
 has_itself [] = All-nil (Has [])
 has_itself (x ∷ xs) =
     All-cons (Has (x ∷ xs)) x xs (inl refl) (All-weaker (Has xs) (Has (x ∷ xs)) (λ e h. inr h) xs (has_itself xs))
 
 -- the entries of other tags
-abbrev others : ℕ → List Entry → List Entry
+abbrev others : ℕ → List StackEntry → List StackEntry
 others tag xs = filter (λ e. not (eqb e.tag tag)) xs
 
 -- as long as the value of this tag
-abbrev IsLong : ℕ → ℕ → Entry → Type 0
+abbrev IsLong : ℕ → ℕ → StackEntry → Type 0
 IsLong tag size e = e.tag ≡ tag → length e.value.words ≡ size
 
 either_false : (a b : Bool) → (a || b) ≡ false → (a ≡ false) × (b ≡ false)
 either_false true b e = absurd (let h : true ≡ false = e in cc)
 either_false false b e = (refl, e)
 
-others_same : (tag : ℕ) (xs : List Entry) → has_tag tag xs ≡ false → others tag xs ≡ xs
+others_same : (tag : ℕ) (xs : List StackEntry) → has_tag tag xs ≡ false → others tag xs ≡ xs
 others_same tag [] e = refl
 others_same tag (x ∷ xs) e =
     let apart = either_false (eqb x.tag tag) (has_tag tag xs) e in
     ap (λ b. cond (not b) (x ∷ others tag xs) (others tag xs)) apart.0
     ∙ ap (λ zs. x ∷ zs) (others_same tag xs apart.1)
 
--- the first of a list with the entries of other tags behind it
-has_chosen : (tag other : ℕ) (x : Entry) (xs : List Entry) → eqb other tag ≡ false →
+-- the first of a list with the entries of other tags after it
+has_chosen : (tag other : ℕ) (x : StackEntry) (xs : List StackEntry) → eqb other tag ≡ false →
     has_tag other (others tag xs) ≡ has_tag other xs →
     (b : Bool) → eqb x.tag tag ≡ b →
     has_tag other (cond (not b) (x ∷ others tag xs) (others tag xs)) ≡ (eqb x.tag other || has_tag other xs)
@@ -46,13 +46,13 @@ has_chosen tag other x xs d later true p =
     later ∙ ap (λ b. b || has_tag other xs) (sym differs)
 has_chosen tag other x xs d later false p = ap (λ b. eqb x.tag other || b) later
 
-has_others : (tag other : ℕ) (xs : List Entry) → eqb other tag ≡ false →
+has_others : (tag other : ℕ) (xs : List StackEntry) → eqb other tag ≡ false →
     has_tag other (others tag xs) ≡ has_tag other xs
 has_others tag other [] d = refl
 has_others tag other (x ∷ xs) d = has_chosen tag other x xs d (has_others tag other xs d) (eqb x.tag tag) refl
 
--- the words of the first of a list, where it has the tag
-held_first : (tag size : ℕ) (x : Entry) (xs : List Entry) → x.tag ≡ tag → length x.value.words ≡ size →
+-- the words of the first of a list, if it has the tag
+held_first : (tag size : ℕ) (x : StackEntry) (xs : List StackEntry) → x.tag ≡ tag → length x.value.words ≡ size →
     (has_tag tag xs ≡ true → held_words xs ≡ size + held_words (others tag xs)) →
     (c : Bool) → has_tag tag xs ≡ c →
     cond (has_tag x.tag xs) 0 (length x.value.words) + held_words xs ≡ size + held_words (others tag xs)
@@ -65,7 +65,7 @@ held_first tag size x xs same long later false q =
     ap (λ b. cond b 0 (length x.value.words) + held_words xs) found
     ∙ (ap (λ n. n + held_words xs) long ∙ ap (λ zs. size + held_words zs) (sym (others_same tag xs q)))
 
-held_chosen : (tag size : ℕ) (x : Entry) (xs : List Entry) → IsLong tag size x →
+held_chosen : (tag size : ℕ) (x : StackEntry) (xs : List StackEntry) → IsLong tag size x →
     (has_tag tag xs ≡ true → held_words xs ≡ size + held_words (others tag xs)) →
     (b : Bool) → eqb x.tag tag ≡ b → (b || has_tag tag xs) ≡ true →
     cond (has_tag x.tag xs) 0 (length x.value.words) + held_words xs
@@ -81,22 +81,22 @@ held_chosen tag size x xs long later false p e =
     omega arith
 
 -- a tag's value counts once
-held_others : (tag size : ℕ) (xs : List Entry) → All (IsLong tag size) xs → has_tag tag xs ≡ true →
+held_others : (tag size : ℕ) (xs : List StackEntry) → All (IsLong tag size) xs → has_tag tag xs ≡ true →
     held_words xs ≡ size + held_words (others tag xs)
 held_others tag size [] long e = absurd (let h : false ≡ true = e in cc)
 held_others tag size (x ∷ xs) long e =
     held_chosen tag size x xs (All-head (IsLong tag size) x xs long)
     (held_others tag size xs (All-tail (IsLong tag size) x xs long)) (eqb x.tag tag) refl e
 
-kept_behind : (tag : ℕ) (x : Entry) (xs : List Entry) (e : Entry) → Has (others tag xs) e → (b : Bool) →
+kept_behind : (tag : ℕ) (x : StackEntry) (xs : List StackEntry) (e : StackEntry) → Has (others tag xs) e → (b : Bool) →
     Has (cond (not b) (x ∷ others tag xs) (others tag xs)) e
 kept_behind tag x xs e h true = h
 kept_behind tag x xs e h false = inr h
 
-kept : (tag : ℕ) (xs : List Entry) (e : Entry) → eqb e.tag tag ≡ false → Has xs e → Has (others tag xs) e
+kept : (tag : ℕ) (xs : List StackEntry) (e : StackEntry) → eqb e.tag tag ≡ false → Has xs e → Has (others tag xs) e
 kept tag [] e d h = absurd h
 kept tag (x ∷ xs) e d (inl is) =
-    let other : eqb x.tag tag ≡ false = ap (λ (y : Entry). eqb y.tag tag) is ∙ d in
+    let other : eqb x.tag tag ≡ false = ap (λ (y : StackEntry). eqb y.tag tag) is ∙ d in
     subst (λ b. Has (cond (not b) (x ∷ others tag xs) (others tag xs)) e) (sym other) (inl is)
 kept tag (x ∷ xs) e d (inr h) = kept_behind tag x xs e (kept tag xs e d h) (eqb x.tag tag)
 
@@ -104,35 +104,35 @@ either_true : (b : Bool) → (b || true) ≡ true
 either_true true = refl
 either_true false = refl
 
-has_tagged : (xs : List Entry) (e : Entry) → Has xs e → has_tag e.tag xs ≡ true
+has_tagged : (xs : List StackEntry) (e : StackEntry) → Has xs e → has_tag e.tag xs ≡ true
 has_tagged [] e h = absurd h
 has_tagged (x ∷ xs) e (inl is) =
     let same : eqb x.tag e.tag ≡ true =
-    (let t : x.tag ≡ e.tag = ap (λ (y : Entry). y.tag) is in grind (arith, nat_tests, t)) in
+    (let t : x.tag ≡ e.tag = ap (λ (y : StackEntry). y.tag) is in grind (arith, nat_tests, t)) in
     ap (λ b. b || has_tag e.tag xs) same
 has_tagged (x ∷ xs) e (inr h) = ap (λ b. eqb x.tag e.tag || b) (has_tagged xs e h) ∙ either_true (eqb x.tag e.tag)
 
-untagged : (tag : ℕ) (xs : List Entry) → has_tag tag xs ≡ false → All (λ e. eqb e.tag tag ≡ false) xs
+untagged : (tag : ℕ) (xs : List StackEntry) → has_tag tag xs ≡ false → All (λ e. eqb e.tag tag ≡ false) xs
 untagged tag [] h = All-nil (λ e. eqb e.tag tag ≡ false)
 untagged tag (x ∷ xs) h =
     let apart = either_false (eqb x.tag tag) (has_tag tag xs) h in
     All-cons (λ e. eqb e.tag tag ≡ false) x xs apart.0 (untagged tag xs apart.1)
 
-All-has : (P : Entry → Type 0) (xs : List Entry) (e : Entry) → All P xs → Has xs e → P e
+All-has : (P : StackEntry → Type 0) (xs : List StackEntry) (e : StackEntry) → All P xs → Has xs e → P e
 All-has P [] e all h = absurd h
 All-has P (x ∷ xs) e all (inl is) = subst P is (All-head P x xs all)
 All-has P (x ∷ xs) e all (inr h) = All-has P xs e (All-tail P x xs all) h
 
-abbrev pub Agree : List Entry → Type 0
+abbrev pub Agree : List StackEntry → Type 0
 Agree xs = All (λ x. All (AreAlike x) xs) xs
 
-agree_others : (tag : ℕ) (xs : List Entry) → Agree xs → Agree (others tag xs)
+agree_others : (tag : ℕ) (xs : List StackEntry) → Agree xs → Agree (others tag xs)
 agree_others tag xs agree =
-    All-filter (λ (e : Entry). not (eqb e.tag tag)) (λ x. All (AreAlike x) (others tag xs)) xs
+    All-filter (λ (e : StackEntry). not (eqb e.tag tag)) (λ x. All (AreAlike x) (others tag xs)) xs
     (All-weaker (λ x. All (AreAlike x) xs) (λ x. All (AreAlike x) (others tag xs))
-    (λ x h. All-filter (λ (e : Entry). not (eqb e.tag tag)) (AreAlike x) xs h) xs agree)
+    (λ x h. All-filter (λ (e : StackEntry). not (eqb e.tag tag)) (AreAlike x) xs h) xs agree)
 
-among_others : (tag : ℕ) (xs ys : List Entry) → All (λ e. eqb e.tag tag ≡ false) ys → All (Has xs) ys →
+among_others : (tag : ℕ) (xs ys : List StackEntry) → All (λ e. eqb e.tag tag ≡ false) ys → All (Has xs) ys →
     All (Has (others tag xs)) ys
 among_others tag xs [] p q = All-nil (Has (others tag xs))
 among_others tag xs (y ∷ ys) p q =
@@ -140,8 +140,8 @@ among_others tag xs (y ∷ ys) p q =
     (kept tag xs y (All-head (λ e. eqb e.tag tag ≡ false) y ys p) (All-head (Has xs) y ys q))
     (among_others tag xs ys (All-tail (λ e. eqb e.tag tag ≡ false) y ys p) (All-tail (Has xs) y ys q))
 
-among_chosen : (y : Entry) (ys xs : List Entry) → All (Has xs) (y ∷ ys) → Agree xs →
-    ((zs : List Entry) → All (Has zs) ys → Agree zs → held_words ys ≤ held_words zs) →
+among_chosen : (y : StackEntry) (ys xs : List StackEntry) → All (Has xs) (y ∷ ys) → Agree xs →
+    ((zs : List StackEntry) → All (Has zs) ys → Agree zs → held_words ys ≤ held_words zs) →
     (b : Bool) → has_tag y.tag ys ≡ b → cond b 0 (length y.value.words) + held_words ys ≤ held_words xs
 among_chosen y ys xs among agree later true none = omega (arith, later xs (All-tail (Has xs) y ys among) agree)
 among_chosen y ys xs among agree later false none =
@@ -158,12 +158,12 @@ among_chosen y ys xs among agree later false none =
     omega arith
 
 -- Entries that are all among others hold no more than those.
-pub held_among : (ys xs : List Entry) → All (Has xs) ys → Agree xs → held_words ys ≤ held_words xs
+pub held_among : (ys xs : List StackEntry) → All (Has xs) ys → Agree xs → held_words ys ≤ held_words xs
 held_among [] xs among agree = omega arith
 held_among (y ∷ ys) xs among agree = among_chosen y ys xs among agree (held_among ys) (has_tag y.tag ys) refl
 
 -- the words of entries, each counted
-abbrev pub total_words : List Entry → ℕ
+abbrev pub total_words : List StackEntry → ℕ
 total_words [] = 0
 total_words (e ∷ es) = length e.value.words + total_words es
 
@@ -171,7 +171,7 @@ counted : (b : Bool) (n m k : ℕ) → m ≤ k → cond b 0 n + m ≤ n + k
 counted true n m k h = omega arith
 counted false n m k h = omega arith
 
-pub held_append : (xs ys : List Entry) → held_words (xs ++ ys) ≤ total_words xs + held_words ys
+pub held_append : (xs ys : List StackEntry) → held_words (xs ++ ys) ≤ total_words xs + held_words ys
 held_append [] ys = omega arith
 held_append (x ∷ xs) ys =
     omega (

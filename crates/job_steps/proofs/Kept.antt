@@ -1,4 +1,4 @@
--- Each job stands on its run alone, whatever the events.
+-- Each job is where its run alone leads, whatever the events.
 use Rattle.std.proofs.Common.{◌≡◌, ℕ, ◌+◌, ◌-◌, ◌*◌, ◌<◌, ◌≤◌, Bool, true, false, cond, List, [], ◌∷◌, ◌⊎◌, inl}
 use Rattle.std.proofs.Common.{inr, length, All, Option, Some, None, is_some, refl, sym, ◌∙◌, ap, subst, arith}
 use Rattle.std.proofs.lemmas.Bool.{cases_eq, eq-eqb, ne_eqb, true≢false}
@@ -79,7 +79,7 @@ reserved_after task n (Running s) = refl
 reserved_after task n (Over ending x p) = refl
 reserved_after task n Stuck = refl
 
--- an event reserves words only at an admission, where there is room
+-- an event reserves words only at an admission, if there is room
 reserved_next : (region : ℕ) (tasks : List Task) (event : Event) (queue : Queue)
     (o : Opens region tasks event queue) → Changes o.task event o.old o.new →
     granted_words tasks queue.standings ≤ region →
@@ -142,7 +142,8 @@ kept_open stuck reaches ends region tasks each event queue kept o =
     (kept.on_run o.job o.task o.old o.task_is o.old_is) in
     let sums = sum_with reserved_words tasks queue.standings o.job o.task o.old o.new o.task_is o.old_is in
     let room = reserved_next region tasks event queue o change kept.granted in
-    let after : (after_event region tasks event queue).standings ≡ with_standing o.job o.new queue.standings = o.after in
+    let after : (after_event region tasks event queue).standings ≡ with_standing o.job o.new queue.standings = o.after
+    in
     let granted : granted_words tasks (after_event region tasks event queue).standings
     ≡ granted_words tasks (with_standing o.job o.new queue.standings) = ap (granted_words tasks) after in
     record {
@@ -296,7 +297,7 @@ left_most task (InFlight n) = omega arith
 left_most task Ended = omega arith
 left_most task Collected = omega arith
 
--- the count of one event more, and where its job stands then
+-- the count of one event more, and the standing of its job then
 record Counts (region : ℕ) (tasks : List Task) (event : Event) (events : List Event) (queue : Queue)
     (job : ℕ) (task : Task) (s : Standing) : Type 0 where
   new : Standing

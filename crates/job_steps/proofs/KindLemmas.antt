@@ -11,16 +11,16 @@ use Rattle.vcode_base.specs.declared.op.StackMove.TheVariants.{Copy, Pop, MoveTo
 use Rattle.vcode_base.specs.Kinds.{is_same_kind, are_same_kinds}
 use Rattle.vcode_base.specs.Motions.{entries_after_move}
 use Rattle.job_steps.specs.Motions.{top_entries, stack_after_move}
-use Rattle.job_steps.specs.States.{Vector, Entry, stack_kinds, new_entries}
+use Rattle.job_steps.specs.States.{Vector, StackEntry, stack_kinds, new_entries}
 use Rattle.job_steps.specs.Steps.{vectors_of, has_on_top}
 
-abbrev pub kind_of : Entry → Kind
+abbrev pub kind_of : StackEntry → Kind
 kind_of e = e.value.kind
 
-pub stack_kinds-append : (xs ys : List Entry) → stack_kinds (xs ++ ys) ≡ stack_kinds ys ++ stack_kinds xs
+pub stack_kinds-append : (xs ys : List StackEntry) → stack_kinds (xs ++ ys) ≡ stack_kinds ys ++ stack_kinds xs
 stack_kinds-append xs ys = ap reverse (map-append kind_of xs ys) ∙ reverse-append (map kind_of xs) (map kind_of ys)
 
-pub length-stack_kinds : (xs : List Entry) → length (stack_kinds xs) ≡ length xs
+pub length-stack_kinds : (xs : List StackEntry) → length (stack_kinds xs) ≡ length xs
 length-stack_kinds xs = length-reverse (map kind_of xs) ∙ length-map xs kind_of
 
 pub reverse-cons : {A : Type 0} (x : A) (xs : List A) → reverse (x ∷ xs) ≡ reverse xs ++ x ∷ []
@@ -33,10 +33,10 @@ map-reverse f (x ∷ xs) =
     ∙ (map-append f (reverse xs) (x ∷ [])
     ∙ (ap (λ ys. ys ++ f x ∷ []) (map-reverse f xs) ∙ sym (reverse-cons (f x) (map f xs))))
 
-pub stack_kinds-reverse : (xs : List Entry) → stack_kinds (reverse xs) ≡ map kind_of xs
+pub stack_kinds-reverse : (xs : List StackEntry) → stack_kinds (reverse xs) ≡ map kind_of xs
 stack_kinds-reverse xs = ap reverse (map-reverse kind_of xs) ∙ reverse-reverse (map kind_of xs)
 
--- ---- two lists one after another, split where the second begins
+-- ---- two lists one after another, split at the begin of the second
 
 pub record IsSplit (xs ys zs ws : List Kind) : Type 0 where
   pub front : xs ≡ zs
@@ -56,12 +56,12 @@ split_same (x ∷ xs) ys (z ∷ zs) ws e n =
     record { front = (cc); back = rest.back }
 
 -- the top entries of a stack and those below them
-pub record IsCut (stack : List Entry) (below own : List Kind) : Type 0 where
+pub record IsCut (stack : List StackEntry) (below own : List Kind) : Type 0 where
   pub deep : length own ≤ length stack
   pub top : stack_kinds (take (length own) stack) ≡ own
   pub under : stack_kinds (drop (length own) stack) ≡ below
 
-pub cut : (stack : List Entry) (below own : List Kind) → stack_kinds stack ≡ below ++ own → IsCut stack below own
+pub cut : (stack : List StackEntry) (below own : List Kind) → stack_kinds stack ≡ below ++ own → IsCut stack below own
 cut stack below own e =
     let count = length own in
     let deep : count ≤ length stack = omega (arith, length-stack_kinds stack, ap length e, length-append below own) in
@@ -84,7 +84,7 @@ pub same_kinds : (ks : List Kind) → are_same_kinds ks ks ≡ true
 same_kinds [] = refl
 same_kinds (k ∷ ks) = ap (λ b. b && are_same_kinds ks ks) (same_kind k) ∙ same_kinds ks
 
-pub on_top : (stack : List Entry) (below own : List Kind) → IsCut stack below own → has_on_top own stack ≡ true
+pub on_top : (stack : List StackEntry) (below own : List Kind) → IsCut stack below own → has_on_top own stack ≡ true
 on_top stack below own c = ap (are_same_kinds own) c.top ∙ same_kinds own
 
 both_true : (a b : Bool) → (a && b) ≡ true → b ≡ true
@@ -99,7 +99,7 @@ same_lengths (k ∷ ks) (l ∷ ls) e =
     omega (arith, same_lengths ks ls (both_true (is_same_kind k l) (are_same_kinds ks ls) e))
 
 -- entries of these kinds are there
-pub there : (own : List Kind) (stack : List Entry) → has_on_top own stack ≡ true → length own ≤ length stack
+pub there : (own : List Kind) (stack : List StackEntry) → has_on_top own stack ≡ true → length own ≤ length stack
 there own stack e =
     let same : length own ≡ length (stack_kinds (take (length own) stack)) =
     same_lengths own (stack_kinds (take (length own) stack)) e in
@@ -118,7 +118,7 @@ pub kinds-new_entries : (next : ℕ) (vs : List Vector) →
 kinds-new_entries next [] = refl
 kinds-new_entries next (v ∷ vs) = ap (λ zs. v.kind ∷ zs) (kinds-new_entries (next + 1) vs)
 
-kinds-move : (motion : StackMove) (lower upper : List Entry) →
+kinds-move : (motion : StackMove) (lower upper : List StackEntry) →
     map kind_of (entries_after_move motion lower upper)
     ≡ entries_after_move motion (map kind_of lower) (map kind_of upper)
 kinds-move Copy lower upper = map-append kind_of lower (upper ++ lower)
@@ -127,7 +127,7 @@ kinds-move Pop lower upper = refl
 kinds-move MoveToTop lower upper = map-append kind_of upper lower
 
 -- an instruction that replaces the top entries
-pub kinds-pushed : (stack : List Entry) (below own gives : List Kind) (results : List Entry) →
+pub kinds-pushed : (stack : List StackEntry) (below own gives : List Kind) (results : List StackEntry) →
     IsCut stack below own → map kind_of results ≡ gives →
     stack_kinds (reverse results ++ drop (length own) stack) ≡ below ++ gives
 kinds-pushed stack below own gives results c e =
@@ -135,12 +135,12 @@ kinds-pushed stack below own gives results c e =
     ∙ (ap (λ zs. zs ++ stack_kinds (reverse results)) c.under
     ∙ ap (λ zs. below ++ zs) (stack_kinds-reverse results ∙ e))
 
-pub kinds-top_entries : (count : ℕ) (stack : List Entry) (own : List Kind) → stack_kinds (take count stack) ≡ own →
+pub kinds-top_entries : (count : ℕ) (stack : List StackEntry) (own : List Kind) → stack_kinds (take count stack) ≡ own →
     map kind_of (top_entries count stack) ≡ own
 kinds-top_entries count stack own e = map-reverse kind_of (take count stack) ∙ e
 
 -- a motion
-pub kinds-moved : (motion : StackMove) (stack : List Entry) (below lower upper : List Kind) →
+pub kinds-moved : (motion : StackMove) (stack : List StackEntry) (below lower upper : List Kind) →
     stack_kinds stack ≡ below ++ (lower ++ upper) →
     (length lower + length upper ≤ length stack)
     × (stack_kinds (stack_after_move motion (length lower) (length upper) stack)

@@ -1,4 +1,4 @@
--- Where the derived `==` of two instructions without their lists is true: where they are one.
+-- When the derived `==` of two instructions without their lists is true: if they are one.
 use Rattle.std.proofs.Common.{◌≡◌, Bool, true, false, ◌&&◌}
 use Rattle.std.specs.Bool.{Decides}
 use Rattle.std.specs.Prelude.{nat_eq}

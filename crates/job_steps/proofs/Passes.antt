@@ -12,7 +12,7 @@ use Rattle.job_steps.proofs.Happenings.{changes, never_waits, Opens, Happens, Pa
 use Rattle.job_steps.proofs.Standings.{admitted_has_room, of_with, of_with_other, passes_length, not_passed}
 use Rattle.job_steps.proofs.Standings.{admitted_few}
 
--- where an event passes by nobody
+-- an event that passes by nobody
 pass_nobody : (region : ℕ) (tasks : List Task) (event : Event) (queue : Queue) →
     ((job : ℕ) → passes_after event job queue ≡ queue.passes) → Happens region tasks event queue →
     (after_event region tasks event queue).passes ≡ queue.passes

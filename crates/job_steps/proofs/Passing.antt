@@ -66,7 +66,7 @@ remaining_of_all f =
     ap rest_of_tail (tail_of_body f.body (instruction_line Return f.ret ∷ []))
     ∙ then_end (then_body f.body (Do Return f.ret End))
 
--- ---- lines each of which finds what it needs behind it
+-- ---- lines each of which finds what it needs after it
 
 abbrev FitsBefore : CodeItem Item → List Waits → Type 0
 FitsBefore (code_item.Do i) ws = Unit {0}
@@ -112,7 +112,7 @@ fits f = fits_body f.body (instruction_line Return f.ret ∷ []) (tt, tt)
 
 -- ---- the places that IFs and ELSEs wait for
 
--- the tail at each place, all of which lie past this one, is the one that is waited for
+-- the tail at each place, all of which lie past this one, is the awaited one
 abbrev Agree : List CodeLine → ℕ → List Waits → List ℕ → Type 0
 Agree whole p [] qs = Unit {0}
 Agree whole p (w ∷ ws) [] = ⊥
@@ -166,14 +166,14 @@ agree whole p (x ∷ xs) at fit =
 
 -- ---- what an ELSE and an IF go on with
 
--- where an ELSE goes on
+-- the target of an ELSE
 pub record PassesElse (whole : List CodeLine) (p : ℕ) : Type 0 where
   pub next : ℕ
   pub target : EachTargetIsFirst → target_at whole p ≡ Some next
   pub later : p < next
   pub same : remaining (drop next whole) ≡ remaining (drop p whole)
 
--- where an IF goes on, by its flag
+-- the places at which an IF goes on, by its flag
 pub record Chooses (whole : List CodeLine) (p line : ℕ) : Type 0 where
   pub first : Body
   pub second : Body

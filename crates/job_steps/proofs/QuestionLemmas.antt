@@ -48,7 +48,7 @@ pub few_lent : (op : Op) (refs : List (Bor (List ℤ)))
     → HaveKinds (source_kinds op) (contents refs) → length refs ≤ 5
 few_lent op refs h = omega (arith, few_operands op (contents refs) h, length-map refs (λ r. r.now))
 
--- operands of at most so many words have room in five parts of as many
+-- operands of at most this number of words have room in five parts of as many
 pub room_for_all : (op : Op) (words room : ℕ) (xs : List (List ℤ))
     → HaveKinds (source_kinds op) xs → HaveAtMost words xs → room ≡ 5 * words → length_of_all xs ≤ room
 room_for_all op words room xs h within is =
@@ -71,7 +71,7 @@ can_answer_within op words room xs ys more are h =
     subst (λ zs. CanAnswer room (question_by op zs)) (sym are)
     (record { kinds = h.kinds; shaped = h.shaped; room = omega (arith, h.room) })
 
--- lists that are lent are equal where their elements are
+-- lists that are lent are equal if their elements are
 same_contents : (xs ys : List (Bor (List ℤ)))
     → Decides (pointwise (λ x y. pointwise int_eq x.now y.now) xs ys) (contents xs ≡ contents ys)
 same_contents [] [] = (λ h. refl, λ h. refl)

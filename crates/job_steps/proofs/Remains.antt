@@ -7,7 +7,7 @@ use Rattle.job_steps.specs.Frames.{EachLineRemains, rest_of_tail, remaining}
 use Rattle.job_steps.proofs.Passing.{then_end, then_tail, tail_of_body, remaining_do, remaining_endif}
 use Rattle.job_steps.proofs.Passing.{remaining_nothing}
 
--- the parts of an IF, with an ENDIF behind the second
+-- the parts of an IF, with an ENDIF after the second
 module _ (first second : Body) (end : ℕ) (rest : List CodeLine) where
   tail : Tail
   tail = tail_of rest
@@ -17,7 +17,11 @@ module _ (first second : Body) (end : ℕ) (rest : List CodeLine) where
   unfolding tail_of then_tail then_body
   before_endif =
       tail_of_body second (line_of code_item.Endif end ∷ rest)
-      ∙ ap (λ b. let t : Tail = record { body = b; waits = ForElse end (tail_of rest).body ∷ (tail_of rest).waits } in t)
+      ∙ ap (λ b. let t : Tail = record {
+        body = b;
+        waits = ForElse end (tail_of rest).body ∷
+            (tail_of rest).waits;
+      } in t)
       (then_end second)
 
   before_else : (number : ℕ) →

@@ -198,7 +198,7 @@ second_rule_ends_alike job enough = alike_by job enough (follows job (job.limits
 
 -- ---- counts
 
--- so many instructions were executed, unless the job can't go on
+-- n instructions were executed, unless the job can't go on
 abbrev HasExecuted : ℕ → Progress → Type 0
 HasExecuted n (Running s) = n ≤ s.executed
 HasExecuted n (Over ending x p) = n ≤ x
@@ -231,7 +231,7 @@ executed_later task n m t runs h (suc k) =
     subst (λ i. HasExecuted n (state_after task i)) same
     (executed_from task n (state_after task (m + k)) (executed_later task n m t runs h k))
 
--- a job that runs after so many instructions has executed no fewer at its end
+-- a job that runs after n instructions has executed no fewer at its end
 executed_whole : Reaches → EachEnds → (task : Task) → IsVerifiedBySome task.verified → (m : ℕ) (t : State) →
     state_after task m ≡ Running t → t.executed ≤ executed_count task
 unfolding whole_run

@@ -1,4 +1,4 @@
--- The stack after an instruction: how many entries it has, where they come from, and their kinds.
+-- The stack after an instruction: how many entries it has, which entries these are, and their kinds.
 use Rattle.std.proofs.Common.{◌≡◌, ℕ, ℤ, ◌+◌, ◌-◌, ◌≤◌, true, List, [], ◌∷◌, ◌++◌, length, map, take, drop, None}
 use Rattle.std.proofs.Common.{refl, sym, ◌∙◌, ap, subst, arith, zero, suc}
 use Rattle.std.specs.Prelude.{All, reverse, nat_le}
@@ -29,7 +29,7 @@ use Rattle.vcode_reader.specs.Trees.{Item}
 use Rattle.verifier.specs.Typed.{TypedProgram}
 use Rattle.job_steps.specs.Motions.{top_entries, operand_count, stack_after, stack_after_move, depth_after}
 use Rattle.job_steps.specs.Motions.{depth_after_move}
-use Rattle.job_steps.specs.States.{Entry, State, words_of, held_words, new_entries}
+use Rattle.job_steps.specs.States.{StackEntry, State, words_of, held_words, new_entries}
 use Rattle.job_steps.specs.Questions.{Question, need_words}
 use Rattle.job_steps.specs.Steps.{sources_of, question_of, vectors_of, results_of, can_run, held_at}
 use Rattle.job_steps.specs.Tracks.{IsDeep}
@@ -148,7 +148,7 @@ length-stack_after Call results stack h deep = length-pushed 0 results stack ∙
 length-stack_after Return results stack h deep = length-pushed 0 results stack ∙ ap (λ n. (length stack - 0) + n) h
 
 -- an instruction that can run finds its entries
-pub deep_of : (verified : TypedProgram) (item : Item) (stack : List Entry) → can_run verified item stack ≡ true →
+pub deep_of : (verified : TypedProgram) (item : Item) (stack : List StackEntry) → can_run verified item stack ≡ true →
     IsDeep (op_of item) (length stack)
 deep_of verified (instr.Const k list) stack runs = omega arith
 deep_of verified (instr.Elementwise e) stack runs = there (operand_kinds (Elementwise e)) stack runs
@@ -204,27 +204,27 @@ length-results next q = sym (length-map (new_entries next (results_of q)) kind_o
 
 -- ---- how many words there are
 
-pub held_drop : (n : ℕ) (es : List Entry) → held_words (drop n es) ≤ held_words es
+pub held_drop : (n : ℕ) (es : List StackEntry) → held_words (drop n es) ≤ held_words es
 held_drop zero es = omega arith
 held_drop (suc n) [] = omega arith
 held_drop (suc n) (e ∷ es) = omega (arith, held_drop n es)
 
-total_append : (xs ys : List Entry) → total_words (xs ++ ys) ≡ total_words xs + total_words ys
+total_append : (xs ys : List StackEntry) → total_words (xs ++ ys) ≡ total_words xs + total_words ys
 total_append [] ys = omega arith
 total_append (x ∷ xs) ys = omega (arith, total_append xs ys)
 
-total_reverse : (xs : List Entry) → total_words (reverse xs) ≡ total_words xs
+total_reverse : (xs : List StackEntry) → total_words (reverse xs) ≡ total_words xs
 total_reverse [] = refl
 total_reverse (x ∷ xs) =
     omega (arith, ap total_words (reverse-cons x xs), total_append (reverse xs) (x ∷ []), total_reverse xs)
 
-held_pushed : (count : ℕ) (results stack : List Entry) →
+held_pushed : (count : ℕ) (results stack : List StackEntry) →
     held_words (reverse results ++ drop count stack) ≤ total_words results + held_words (drop count stack)
 held_pushed count results stack =
     omega (arith, held_append (reverse results) (drop count stack), total_reverse results)
 
 -- the results are held with what was held below the operands
-held_below : (op : Op) (results stack : List Entry) → Agree stack →
+held_below : (op : Op) (results stack : List StackEntry) → Agree stack →
     held_words (stack_after op results stack) ≤ total_words results + held_words (drop (operand_count op) stack)
 held_below (Move motion lower upper) results stack agree =
     omega (
@@ -240,7 +240,7 @@ held_below Call results stack agree = held_pushed 0 results stack
 held_below Return results stack agree = held_pushed 0 results stack
 
 -- so they are with what counts as held at the instruction
-pub held_after : (rule : Rule) (item : Item) (results : List Entry) (s : State) → Agree s.stack →
+pub held_after : (rule : Rule) (item : Item) (results : List StackEntry) (s : State) → Agree s.stack →
     held_words (stack_after (op_of item) results s.stack) ≤ total_words results + held_at rule item s
 held_after First item results s agree =
     omega (
@@ -257,13 +257,13 @@ total_vectors next (k ∷ []) first second = omega arith
 total_vectors next (k ∷ l ∷ []) first second = omega arith
 total_vectors next (k ∷ l ∷ m ∷ ks) first second = omega arith
 
-counted : (count : ℕ) (stack : List Entry) → count ≤ length stack →
+counted : (count : ℕ) (stack : List StackEntry) → count ≤ length stack →
     length (words_of (top_entries count stack)) ≡ count
-counted count stack h = length-map (top_entries count stack) (λ (e : Entry). e.value.words)
+counted count stack h = length-map (top_entries count stack) (λ (e : StackEntry). e.value.words)
     ∙ length-top_entries count stack h
 
 -- as many sources as there are kinds of them
-pub length-sources : (item : Item) (stack : List Entry) → IsDeep (op_of item) (length stack) →
+pub length-sources : (item : Item) (stack : List StackEntry) → IsDeep (op_of item) (length stack) →
     length (sources_of item stack) ≡ length (source_kinds (op_of item))
 length-sources (instr.Const k list) stack deep = refl
 length-sources (instr.Elementwise e) stack deep = counted (operand_count (Elementwise e)) stack deep
@@ -274,7 +274,7 @@ length-sources (instr.Call name) stack deep = counted 0 stack (omega arith)
 length-sources instr.Return stack deep = counted 0 stack (omega arith)
 
 -- the results have no more words than are needed
-pub total_results : ResultsHaveNeededLengths → (next : ℕ) (item : Item) (stack : List Entry) →
+pub total_results : ResultsHaveNeededLengths → (next : ℕ) (item : Item) (stack : List StackEntry) →
     IsDeep (op_of item) (length stack) →
     shape (op_of item) (sources_of item stack) ≡ None → value_fault (op_of item) (sources_of item stack) ≡ None →
     total_words (new_entries next (results_of (question_of item stack))) ≤ need_words (question_of item stack)

@@ -1,4 +1,4 @@
--- Frames that stand at calls: the line that is next, and the frame behind it.
+-- Frames at calls: the line that is next, and the frame after it.
 use Rattle.std.proofs.Common.{◌≡◌, ◌∙◌, ◌+◌, ◌<◌, ℕ, zero, suc, Bool, true, false, List, [], ◌∷◌, length, drop, Option}
 use Rattle.std.proofs.Common.{get_or, Some, None, refl, ap, sym, subst, arith}
 use Rattle.std.specs.Prelude.{slice_get, if◌then◌else◌, nat_lt, MatchOption}
@@ -95,7 +95,7 @@ line_by f p code_item.If l xs at stop rest ret h =
 line_by f p code_item.Else l xs at stop rest ret h = absurd stop
 line_by f p code_item.Endif l xs at stop rest ret h = absurd stop
 
--- ---- where a frame stands
+-- ---- the place of a frame
 
 front_of : {X : Type 0} (xs : List X) (p : ℕ) (x : X) (ys : List X) → drop p xs ≡ x ∷ ys → slice_get xs p ≡ Some x
 front_of [] zero x ys h = absurd (let k : [] ≡ x ∷ ys = h in cc)
@@ -194,7 +194,7 @@ item_by (Choice l x y e b) ret = refl
 pub next_item_is : (call : Active) → next_item call ≡ instruction_of (next_line call)
 next_item_is call = item_by call.rest call.ret
 
--- ---- the frame behind
+-- ---- the frame after an instruction
 
 module _ (functions : List Function) (frame : Frame) (g : Function) (place : ℕ)
     (found : slice_get functions frame.function ≡ Some g) where
@@ -253,12 +253,13 @@ module _ (functions : List Function) (frame : Frame) (g : Function) (place : ℕ
       ap remaining (sym (from_here frame.place)) ∙ s.remains in
       made (record { rest = then_body chosen rest; ret = ret })
       (same
-      ∙ (by line end first second (then_body rest (Do Return ret End)) here (subst StopAt (from_here frame.place) s.stops)
+      ∙ (by line end first second (then_body rest (Do Return ret End)) here (subst StopAt
+      (from_here frame.place) s.stops)
       ∙ sym (then_assoc chosen rest (Do Return ret End)))) stop
 
 -- ---- the parts of an IF
 
--- where the parts of an IF begin
+-- the places at which the parts of an IF begin
 pub record Parts (whole : List CodeLine) (p : ℕ) (first second rest : Body) : Type 0 where
   pub chosen : remaining (drop (p + 1) whole) ≡ then_body first rest
   pub next : ℕ

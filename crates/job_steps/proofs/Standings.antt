@@ -1,4 +1,4 @@
--- Lists of jobs in which one job stands otherwise.
+-- Lists of jobs in which one job has another standing.
 use Rattle.std.proofs.Common.{◌≡◌, ℕ, zero, suc, ◌+◌, ◌≤◌, Bool, true, false, ◌&&◌, List, [], ◌∷◌, length, map, set}
 use Rattle.std.proofs.Common.{slice_get, All, Option, Some, None, refl, sym, ◌∙◌, ap, subst, arith}
 use Rattle.std.proofs.Common.{length-set, cond}
@@ -9,7 +9,15 @@ use Rattle.std.proofs.lemmas.Option.{none-some, same_Some, slice_get_within, get
 use Rattle.vcode_base.specs.declared.limits.TheConstants.{MOST_PASSES}
 use Rattle.job_steps.specs.EventLaws.{HasRoom}
 use Rattle.job_steps.specs.Standings.{Standing, Waiting, Live, InFlight, Ended, Collected, Queue, of_job, with_standing}
-use Rattle.job_steps.specs.Standings.{AreFew, first_standings, is_waiting, sum_over, granted_words, has_room, is_passed_enough}
+use Rattle.job_steps.specs.Standings.{
+  AreFew,
+  first_standings,
+  is_waiting,
+  sum_over,
+  granted_words,
+  has_room,
+  is_passed_enough,
+}
 use Rattle.job_steps.specs.Standings.{admission_from, admission, passed_once_more, passes_before}
 use Rattle.job_steps.specs.States.{Task}
 
@@ -204,7 +212,8 @@ next_behind first fits t tasks s standings count passes job c n = record {
 
 next_at : (first : ℕ) (fits : Task → Bool) (t : Task) (tasks : List Task) (s : Standing) (standings : List Standing)
     (count : ℕ) (passes : List ℕ) (job : ℕ) (b c : Bool) → (is_waiting s && fits t) ≡ b →
-    is_passed_enough s count ≡ c → (o : Option ℕ) → (o ≡ Some job → IsNext (suc first) fits tasks standings passes job) →
+    is_passed_enough s count ≡ c → (o : Option ℕ) → (o ≡ Some job
+    → IsNext (suc first) fits tasks standings passes job) →
     cond b (Some first) (cond c None o) ≡ Some job →
     IsNext first fits (t ∷ tasks) (s ∷ standings) (count ∷ passes) job
 next_at first fits t tasks s standings count passes job true c b_is c_is o rest e =
@@ -220,7 +229,8 @@ is_next first fits [] standings passes job e = absurd (none-some job e)
 is_next first fits (t ∷ tasks) [] passes job e = absurd (none-some job e)
 is_next first fits (t ∷ tasks) (s ∷ standings) [] job e = absurd (none-some job e)
 is_next first fits (t ∷ tasks) (s ∷ standings) (count ∷ passes) job e =
-    next_at first fits t tasks s standings count passes job (is_waiting s && fits t) (is_passed_enough s count) refl refl
+    next_at first fits t tasks s standings count passes job (is_waiting s && fits t)
+    (is_passed_enough s count) refl refl
     (admission_from (suc first) fits tasks standings passes)
     (λ h. is_next (suc first) fits tasks standings passes job h) e
 

@@ -1,4 +1,4 @@
--- What a step may rest on where a track is at a state of a verified job.
+-- What a step may rest on if a track is at a state of a verified job.
 use Rattle.std.proofs.Common.{◌≡◌, ◌∙◌, ◌+◌, ◌<◌, ◌≤◌, ℕ, ℤ, Bool, true, false, cond, eqb, List, [], ◌∷◌, length}
 use Rattle.std.proofs.Common.{Option, Some, None, refl, ap, sym, subst, arith}
 use Rattle.std.specs.Prelude.{All}
@@ -22,7 +22,7 @@ use Rattle.job_steps.specs.Motions.{top_entries, operand_count, depth_after}
 use Rattle.job_steps.specs.Questions.{need_words}
 use Rattle.job_steps.specs.Reached.{IsVerifiedTask, AreTyped, IsReached, Reaches, ValuesHaveKinds}
 use Rattle.job_steps.specs.StepLaws.{CanBegin, CanAdvance, StepsCanBegin, StepsCanAdvance}
-use Rattle.job_steps.specs.States.{Task, Entry, Active, State, stack_kinds, held_words, words_of}
+use Rattle.job_steps.specs.States.{Task, StackEntry, Active, State, stack_kinds, held_words, words_of}
 use Rattle.job_steps.specs.Steps.{Ending, next_item, sources_of, question_of, can_run, early_ending, held_at, words_at}
 use Rattle.job_steps.specs.Tracks.{Trace, IsAt, IsDeep, functions_of}
 use Rattle.job_steps.proofs.Bounds.{Fits, fits, neither}
@@ -90,23 +90,23 @@ below count n budget unspent is within = grind (arith, nat_tests, unspent, is, w
 -- ---- how long the operands are
 
 -- no vector of a stack has more words than are held
-each_held : (stack : List Entry) → Agree stack → All (λ e. length e.value.words ≤ held_words stack) stack
+each_held : (stack : List StackEntry) → Agree stack → All (λ e. length e.value.words ≤ held_words stack) stack
 each_held stack agree =
     All-weaker (Has stack) (λ e. length e.value.words ≤ held_words stack)
     (λ e has. omega (arith, held_among (e ∷ []) stack (All-cons (Has stack) e [] has (All-nil (Has stack))) agree))
     stack (has_itself stack)
 
-tops_held : (count : ℕ) (stack : List Entry) (most : ℕ) → Agree stack → held_words stack ≤ most →
+tops_held : (count : ℕ) (stack : List StackEntry) (most : ℕ) → Agree stack → held_words stack ≤ most →
     HaveAtMost most (words_of (top_entries count stack))
 tops_held count stack most agree within =
-    let short : Entry → Type 0 = λ e. length e.value.words ≤ most in
+    let short : StackEntry → Type 0 = λ e. length e.value.words ≤ most in
     let each : All short stack =
     All-weaker (λ e. length e.value.words ≤ held_words stack) short (λ e h. omega arith) stack (each_held stack agree)
     in
-    All-map (λ list. length list ≤ most) (λ (e : Entry). e.value.words) (top_entries count stack)
+    All-map (λ list. length list ≤ most) (λ (e : StackEntry). e.value.words) (top_entries count stack)
     (All-reverse short _ (All-take short count stack each))
 
-sources_held : (item : Item) (stack : List Entry) (most : ℕ) → Agree stack →
+sources_held : (item : Item) (stack : List StackEntry) (most : ℕ) → Agree stack →
     held_words stack ≤ most → need_words (question_of item stack) ≤ most → HaveAtMost most (sources_of item stack)
 unfolding need
 sources_held (Const k list) stack most agree held needed =

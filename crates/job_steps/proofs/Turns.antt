@@ -92,7 +92,7 @@ module _ {E : Type 0} (xs : List E) (lower upper : ℕ) (there : lower + upper �
       ∙ (ap (λ n. stack_after_move motion lower n (reverse (take below xs ++ (low ++ up)))) long_up
       ∙ ap (λ ys. stack_after_move motion lower upper (reverse ys)) (sym in_three)))
 
-  -- the lower ones once more behind all
+  -- the lower ones once more after all
   pub copied : reverse (xs ++ low) ≡ stack_after_move Copy lower upper (reverse xs)
   copied =
       ap reverse (ap (λ ys. ys ++ low) in_three
@@ -100,7 +100,7 @@ module _ {E : Type 0} (xs : List E) (lower upper : ℕ) (there : lower + upper �
       ∙ ap (λ ys. take below xs ++ ys) (append_assoc low up low)))
       ∙ moved_by Copy
 
-  -- the lower ones behind the others
+  -- the lower ones after the others
   pub turned : reverse (take below xs ++ (up ++ low)) ≡ stack_after_move MoveToTop lower upper (reverse xs)
   turned = moved_by MoveToTop
 

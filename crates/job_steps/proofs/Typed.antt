@@ -27,7 +27,7 @@ use Rattle.verifier.specs.Kinded.{Scope, Turns, HasKinds, FitsSignature, has_fun
 use Rattle.job_steps.specs.Motions.{stack_after, stack_after_move}
 use Rattle.job_steps.specs.Reached.{IsVerifiedProgram, IsVerifiedTask, AreTyped}
 use Rattle.job_steps.specs.Runs.{progress_from, state_after}
-use Rattle.job_steps.specs.States.{Task, Entry, Active, State, callee_of, callee_at, callee_named, calls_with}
+use Rattle.job_steps.specs.States.{Task, StackEntry, Active, State, callee_of, callee_at, callee_named, calls_with}
 use Rattle.job_steps.specs.States.{first_state, stack_kinds, new_entries}
 use Rattle.job_steps.specs.Steps.{Progress, Running, Over, Stuck, question_of, results_of, flag_of, has_on_top}
 use Rattle.job_steps.specs.Steps.{can_call, can_run, first_item, calls_past, calls_after, progress_past}
@@ -149,7 +149,7 @@ callee signatures verified name takes gives v there s = callee_by signatures ver
 
 -- ---- one instruction
 
-tops : (stack : List Entry) (below takes own : List Kind) → takes ≡ own → stack_kinds stack ≡ below ++ takes →
+tops : (stack : List StackEntry) (below takes own : List Kind) → takes ≡ own → stack_kinds stack ≡ below ++ takes →
     has_on_top own stack ≡ true
 tops stack below takes own t e = on_top stack below own (cut stack below own (e ∙ ap (λ ks. below ++ ks) t))
 
@@ -158,7 +158,7 @@ moves lower upper l u depth p q h = grind (arith, nat_tests)
 
 -- an instruction that is typed can run
 pub runs : (signatures : List Signature) (verified : TypedProgram) (item : Item) (takes gives below : List Kind)
-    (stack : List Entry) → IsVerifiedProgram signatures verified →
+    (stack : List StackEntry) → IsVerifiedProgram signatures verified →
     Turns (scope_of signatures verified.program) item takes gives → stack_kinds stack ≡ below ++ takes →
     can_run verified item stack ≡ true
 runs signatures verified (Const k list) takes gives below stack v t e = tops stack below takes [] t.0 e
@@ -176,10 +176,10 @@ runs signatures verified (Call name) takes gives below stack v t e =
 runs signatures verified Return takes gives below stack v t e = tops stack below takes [] t.0 e
 
 -- the entries afterwards
-abbrev stack_past : Item → ℕ → List Entry → List Entry
+abbrev stack_past : Item → ℕ → List StackEntry → List StackEntry
 stack_past item next stack = stack_after (op_of item) (new_entries next (results_of (question_of item stack))) stack
 
-pushed : (item : Item) (next : ℕ) (stack : List Entry) (below takes gives : List Kind) →
+pushed : (item : Item) (next : ℕ) (stack : List StackEntry) (below takes gives : List Kind) →
     takes ≡ operand_kinds (op_of item) → gives ≡ result_kinds (op_of item) →
     stack_kinds stack ≡ below ++ takes →
     stack_kinds (reverse (new_entries next (results_of (question_of item stack))) ++ drop
@@ -190,7 +190,7 @@ pushed item next stack below takes gives t g e =
     (cut stack below own (e ∙ ap (λ ks. below ++ ks) t)) (kinds-results next (question_of item stack))
     ∙ ap (λ ks. below ++ ks) (sym g)
 
-moved_by : (motion : StackMove) (stack : List Entry) (below lows ups gives : List Kind) (lower upper : ℕ) →
+moved_by : (motion : StackMove) (stack : List StackEntry) (below lows ups gives : List Kind) (lower upper : ℕ) →
     length lows ≡ lower → length ups ≡ upper →
     stack_kinds stack ≡ below ++ (lows ++ ups) → gives ≡ entries_after_move motion lows ups →
     stack_kinds (stack_after_move motion lower upper stack) ≡ below ++ gives
@@ -200,7 +200,7 @@ moved_by motion stack below lows ups gives lower upper l u e g =
     subst (λ m. stack_kinds (stack_after_move motion m upper stack) ≡ below ++ gives) l
     (subst (λ m. stack_kinds (stack_after_move motion (length lows) m stack) ≡ below ++ gives) u by_counts)
 
--- what remains of a call, behind an instruction that it goes on with
+-- what remains of a call, after an instruction that falls through to the next
 behind : (scope : Scope) (results : List Kind) (rest : Body) (ret : ℕ) (outer : List Active)
     (kinds below under gives given : List Kind) →
     kinds ≡ (below ++ under) ++ given → HasKinds scope rest (under ++ given) gives → IsProperBody rest →
@@ -210,7 +210,7 @@ behind scope results rest ret outer kinds below under gives given e later proper
     (below, under ++ given, gives, e ∙ append_assoc below under given, later, proper, out)
 
 typed_item : (signatures : List Signature) (verified : TypedProgram) → IsVerifiedProgram signatures verified →
-    (results : List Kind) (item : Item) (rest : Body) (ret : ℕ) (outer : List Active) (next : ℕ) (stack : List Entry)
+    (results : List Kind) (item : Item) (rest : Body) (ret : ℕ) (outer : List Active) (next : ℕ) (stack : List StackEntry)
     (below under takes gives given : List Kind) → IsBodyInstruction item → IsProperBody rest →
     Turns (scope_of signatures verified.program) item takes given →
     stack_kinds stack ≡ (below ++ under) ++ takes →
@@ -265,7 +265,7 @@ chosen P false first second p q = q
 -- what is typed stays typed
 typed_after : (signatures : List Signature) (verified : TypedProgram) → IsVerifiedProgram signatures verified →
     (results : List Kind) (flag : Bool) (rest : Body) (ret : ℕ) (outer : List Active) (next : ℕ)
-    (stack : List Entry) →
+    (stack : List StackEntry) →
     AreTyped (scope_of signatures verified.program) results (record { rest = rest; ret = ret } ∷ outer)
     (stack_kinds stack) →
     AreTyped (scope_of signatures verified.program) results (calls_after verified flag rest ret outer)
@@ -311,7 +311,7 @@ typed_after signatures verified v results flag (Choice line first second end res
 
 -- a call that is typed can go on
 pub runs_at : (signatures : List Signature) (verified : TypedProgram) → IsVerifiedProgram signatures verified →
-    (results : List Kind) (rest : Body) (ret : ℕ) (outer : List Active) (stack : List Entry) →
+    (results : List Kind) (rest : Body) (ret : ℕ) (outer : List Active) (stack : List StackEntry) →
     AreTyped (scope_of signatures verified.program) results (record { rest = rest; ret = ret } ∷ outer)
     (stack_kinds stack) → can_run verified (first_item rest ret).item stack ≡ true
 runs_at signatures verified v results End ret outer stack (below, own, gives, e, same, proper, out) =

@@ -1,4 +1,4 @@
--- What jobs have used wherever they stand, and where they end.
+-- What jobs have used at each standing, and how they end.
 use Rattle.std.proofs.Common.{◌≡◌, ℕ, ◌+◌, ◌-◌, ◌≤◌, cond, List, [], ◌∷◌, All, Option, Some, None}
 use Rattle.std.proofs.Common.{is_some, refl, sym, ◌∙◌, ap, subst, arith}
 use Rattle.std.proofs.lemmas.List.Elements.{All-head, All-tail}
@@ -71,9 +71,9 @@ used_is_granted reaches (t ∷ tasks) each (s ∷ standings) =
     let rest = used_is_granted reaches tasks (All-tail IsVerified t tasks each) standings in
     omega (arith, here, rest)
 
--- ---- where a job ends
+-- ---- the end of a job
 
--- a run that is over after so many steps is over with what is the job's own
+-- a run that is over after n steps is over with the job's own ending
 over_is_own : EndIsOwn → (task : Task) (n : ℕ) (ending : Ending) (x p : ℕ) → state_after task n ≡ Over ending x p →
     state_after task n ≡ Over (outcome task) (executed_count task) (peak task)
 over_is_own own task n ending x p e =

@@ -15,7 +15,7 @@ use Rattle.verifier.specs.Kinded.{Turns, scope_of}
 use Rattle.job_steps.specs.Motions.{top_entries}
 use Rattle.job_steps.specs.Reached.{IsVerifiedTask, AreTyped, HasItsKind, ValuesHaveKinds}
 use Rattle.job_steps.specs.Runs.{state_after}
-use Rattle.job_steps.specs.States.{Vector, Task, Entry, Active, State, first_state, words_of, stack_kinds, new_entries}
+use Rattle.job_steps.specs.States.{Vector, Task, StackEntry, Active, State, first_state, words_of, stack_kinds, new_entries}
 use Rattle.job_steps.specs.Steps.{Running, first_item, sources_of, question_of}
 use Rattle.job_steps.specs.Steps.{results_of}
 use Rattle.job_steps.proofs.Bounds.{running_from, Went, went}
@@ -25,17 +25,17 @@ use Rattle.job_steps.proofs.StackLemmas.{All-reverse, All-stack_after}
 use Rattle.job_steps.proofs.Typed.{IsTyped, typed}
 use Rattle.job_steps.proofs.ValueKinds.{kinds_of_results}
 
-abbrev pub IsKept : Entry → Type 0
+abbrev pub IsKept : StackEntry → Type 0
 IsKept e = HasItsKind e.value
 
 -- ---- what an instruction reads
 
-have_kinds : (es : List Entry) → All IsKept es → HaveKinds (map kind_of es) (words_of es)
+have_kinds : (es : List StackEntry) → All IsKept es → HaveKinds (map kind_of es) (words_of es)
 have_kinds [] all = tt
 have_kinds (e ∷ es) all = (All-head IsKept e es all, have_kinds es (All-tail IsKept e es all))
 
 -- the entries at the top, of these kinds
-read_kinds : (stack : List Entry) (below takes own : List Kind) → takes ≡ own → stack_kinds stack ≡ below ++ takes →
+read_kinds : (stack : List StackEntry) (below takes own : List Kind) → takes ≡ own → stack_kinds stack ≡ below ++ takes →
     All IsKept stack →
     HaveKinds own (words_of (top_entries (length own) stack))
 read_kinds stack below takes own t e all =
@@ -45,7 +45,7 @@ read_kinds stack below takes own t e all =
     (have_kinds tops (All-reverse IsKept (take (length own) stack) (All-take IsKept (length own) stack all)))
 
 sources_kinds : (signatures : List Signature) (task : Task) (item : Item) (takes gives below : List Kind)
-    (stack : List Entry) → IsBodyInstruction item →
+    (stack : List StackEntry) → IsBodyInstruction item →
     Turns (scope_of signatures task.verified.program) item takes gives → stack_kinds stack ≡ below ++ takes →
     All IsKept stack →
     HaveKinds (source_kinds (op_of item)) (sources_of item stack)
@@ -61,7 +61,7 @@ sources_kinds signatures task Return takes gives below stack own t e all = absur
 
 -- the next instruction's
 next_kinds : (signatures : List Signature) (task : Task) (results : List Kind) (rest : Body) (ret : ℕ)
-    (outer : List Active) (stack : List Entry) →
+    (outer : List Active) (stack : List StackEntry) →
     AreTyped (scope_of signatures task.verified.program) results (record { rest = rest; ret = ret } ∷ outer)
     (stack_kinds stack) → All IsKept stack →
     HaveKinds (source_kinds (op_of (first_item rest ret).item)) (sources_of (first_item rest ret).item stack)

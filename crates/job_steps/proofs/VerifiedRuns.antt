@@ -14,7 +14,7 @@ use Rattle.verifier.specs.Typed.{TypedProgram}
 use Rattle.job_steps.specs.Reached.{IsVerifiedProgram, IsVerifiedTask, AreTyped, IsReached, IsWithin}
 use Rattle.job_steps.specs.Runs.{progress_from, state_after, whole_run, outcome, executed_count, peak, ending_in}
 use Rattle.job_steps.specs.Runs.{executed_count_in, peak_in}
-use Rattle.job_steps.specs.States.{Vector, Task, Entry, Active, State, calls_with, values_of, stack_kinds}
+use Rattle.job_steps.specs.States.{Vector, Task, StackEntry, Active, State, calls_with, values_of, stack_kinds}
 use Rattle.job_steps.specs.Steps.{Progress, Running, Over, Stuck, calls_past, calls_after, progress_past}
 use Rattle.job_steps.specs.Steps.{next_progress}
 use Rattle.job_steps.proofs.Bounds.{bounded, over_running}
@@ -104,11 +104,11 @@ last_kinds signatures verified v results flag (Choice line first second end rest
   out,
 ) none = absurd (some_none _ outer none)
 
-kinds-values : (stack : List Entry) → map (λ (v : Vector). v.kind) (values_of stack) ≡ map kind_of stack
+kinds-values : (stack : List StackEntry) → map (λ (v : Vector). v.kind) (values_of stack) ≡ map kind_of stack
 kinds-values [] = refl
 kinds-values (e ∷ es) = ap (λ ks. kind_of e ∷ ks) (kinds-values es)
 
-kinds-returned : (stack : List Entry) → map (λ (v : Vector). v.kind) (reverse (values_of stack)) ≡ stack_kinds stack
+kinds-returned : (stack : List StackEntry) → map (λ (v : Vector). v.kind) (reverse (values_of stack)) ≡ stack_kinds stack
 kinds-returned stack = map-reverse (λ (v : Vector). v.kind) (values_of stack) ∙ ap reverse (kinds-values stack)
 
 returned_past : (rule : Rule) (item : Item) (s : State) (calls : List Active) (values : List Vector) (x p : ℕ) →

@@ -53,7 +53,8 @@ OthersAreReady =
 
 -- ---- one event
 
--- An event of a job is decided by the job's task and standing, and of the standings changes that one alone. An admission
+-- An event of a job is decided by the job's task and standing, and of the standings changes that one alone. An
+-- admission
 -- passes by the jobs that wait before its own.
 pub record ChangesItsJob (region : ℕ) (tasks : List Task) (event : Event) (queue : Queue) (job : ℕ) (task : Task)
     (old : Standing) : Type 0 where
@@ -125,7 +126,7 @@ PassesStay =
 abbrev pub IsVerified : Task → Type 0
 IsVerified task = IsVerifiedBySome task.verified
 
--- after so many instructions the job runs, within its budget
+-- after n instructions the job runs, within its budget
 pub record IsRunning (task : Task) (n : ℕ) : Type 0 where
   pub state : State
   pub running : state_after task n ≡ Running state
@@ -136,8 +137,8 @@ pub record HasBegun (task : Task) (n : ℕ) : Type 0 where
   pub run : IsRunning task n
   pub goes_on : early_end task run.state ≡ None
 
--- A job stands where its run alone is. Of one that has ended this says only that its run ends within its limits, as
--- that of each verified job does; the definition of events and EndedAreOver say that it ended where its run is over.
+-- A job's standing is on its run alone. Of one that has ended this says only that its run ends within its limits, as
+-- that of each verified job does; the definition of events and EndedAreOver say that it ended because its run is over.
 abbrev pub StandsOnRun : Task → Standing → Type 0
 StandsOnRun task Waiting = Unit {0}
 StandsOnRun task (Live n) = IsRunning task n
@@ -145,7 +146,8 @@ StandsOnRun task (InFlight n) = HasBegun task n
 StandsOnRun task Ended = IsWithin task
 StandsOnRun task Collected = IsWithin task
 
--- each job stands on its run alone, each was passed by few times, and the words that are granted are at most the region
+-- each job is where its run alone leads, each was passed by few times, and the words that are granted are at most the
+-- region
 pub record AreKept (region : ℕ) (tasks : List Task) (queue : Queue) : Type 0 where
   pub same_length : length queue.standings ≡ length tasks
   pub passes_length : length queue.passes ≡ length tasks
@@ -237,7 +239,7 @@ EventsAreFew =
 
 -- ---- events of several jobs
 
--- an event of one job leaves every other where it stood
+-- an event of one job leaves every other as it was
 abbrev pub OthersStay : Type 0
 OthersStay =
     (region : ℕ) (tasks : List Task) (event : Event) (queue : Queue) (job : ℕ) →
@@ -258,7 +260,7 @@ EventsCommute =
     named_job one ≡ Some job → named_job other ≡ Some another → job ≢ another →
     AreApart region tasks one other queue
 
--- a begin and a recall behind it change nothing
+-- a begin and a recall after it change nothing
 abbrev pub RecallUndoesBegin : Type 0
 RecallUndoesBegin =
     (region : ℕ) (tasks : List Task) (queue : Queue) (job : ℕ) →

@@ -1,4 +1,4 @@
--- The events of a list of jobs: which are open, and where the jobs stand after them.
+-- The events of a list of jobs: which are open, and the standings of the jobs after them.
 use Rattle.std.specs.Prelude.{◌≡◌, ℕ, zero, suc, ◌+◌, ◌-◌, ◌*◌, ◌==◌, Bool, true, false, if◌then◌else◌, List, []}
 use Rattle.std.specs.Prelude.{◌∷◌, ◌++◌, map, Option, Some, None, is_some}
 use Rattle.vcode_base.specs.declared.outcome.Outcome.TheVariants.{Budget}
@@ -20,19 +20,19 @@ early_end_in task s (call ∷ outer) = early_ending task (next_item call) s
 abbrev pub early_end : Task → State → Option Ending
 early_end task s = if s.executed == task.limits.budget then Some Budget else early_end_in task s s.calls
 
--- where a job stands when a step has begun, by its state before that step
+-- the standing of a job when a step has begun, by its state before that step
 abbrev pub standing_after_begin : Task → ℕ → Progress → Standing
 standing_after_begin task n (Running s) = if is_some (early_end task s) then Ended else InFlight n
 standing_after_begin task n (Over ending executed peak) = Ended
 standing_after_begin task n Stuck = Ended
 
--- where a job stands after so many finished steps
+-- the standing of a job after n finished steps
 abbrev pub standing_after : ℕ → Progress → Standing
 standing_after n (Running s) = Live n
 standing_after n (Over ending executed peak) = Ended
 standing_after n Stuck = Ended
 
--- where an event leaves its job, where it is open
+-- the standing in which an event leaves its job, if it is open
 abbrev pub next_standing : Event → Task → Standing → Option Standing
 next_standing Admit task Waiting = Some (Live 0)
 next_standing (Begin job) task (Live n) = Some (standing_after_begin task n (state_after task n))
@@ -61,7 +61,7 @@ next_standing_in event None standing = None
 next_standing_in event (Some task) None = None
 next_standing_in event (Some task) (Some standing) = next_standing event task standing
 
--- where an event leaves the job of this number
+-- the standing in which an event leaves the job of this number
 abbrev pub next_standing_of : List Task → Event → List Standing → Option ℕ → Option Standing
 next_standing_of tasks event standings None = None
 next_standing_of tasks event standings (Some job) =
@@ -89,7 +89,7 @@ with_next event None standing queue = queue
 with_next event (Some job) None queue = queue
 with_next event (Some job) (Some standing) queue = moved_queue event job standing queue
 
--- the queue after an event; one that isn't open is passed over
+-- the queue after an event; an event that isn't open changes nothing
 unfoldable pub after_event : ℕ → List Task → Event → Queue → Queue
 after_event region tasks event queue =
     with_next event (job_of region tasks event queue)
@@ -98,7 +98,8 @@ after_event region tasks event queue =
 -- the queue after events, one after another
 abbrev pub after_events : ℕ → List Task → List Event → Queue → Queue
 after_events region tasks [] queue = queue
-after_events region tasks (event ∷ events) queue = after_events region tasks events (after_event region tasks event queue)
+after_events region tasks (event ∷ events) queue = after_events region tasks events
+    (after_event region tasks event queue)
 
 -- a step that has begun is given up
 abbrev pub recalled_standing : Standing → Standing
@@ -116,7 +117,7 @@ recalled_standings standings = map recalled_standing standings
 abbrev pub recalled_queue : Queue → Queue
 recalled_queue queue = record { standings = recalled_standings queue.standings; passes = queue.passes }
 
--- a recall of each of so many jobs, from the first on
+-- a recall of each of the first n jobs, in order
 abbrev pub all_recalls : ℕ → List Event
 all_recalls zero = []
 all_recalls (suc n) = all_recalls n ++ Recall (suc n) ∷ []

@@ -1,4 +1,4 @@
--- Where an active call goes on: a line of its function's code, and what of the function remains from there.
+-- The place of an active call: a line of its function's code, and what of the function remains from there.
 use Rattle.std.specs.Prelude.{◌≡◌, ℕ, List, [], ◌∷◌, ◌++◌, drop, Option, Some, None, slice_get}
 use Rattle.vcode_base.specs.declared.instr.Instr.TheVariants.{If, Return}
 use Rattle.vcode_reader.specs.declared.line.CodeItem.{CodeItem}
@@ -12,17 +12,17 @@ use Rattle.job_steps.specs.States.{Active}
 
 -- ---- what remains of a function from one of its lines on
 
--- what stands behind the IFs whose parts aren't over, the innermost first
+-- what follows the IFs whose parts aren't over, the innermost first
 abbrev pub rest_behind : List Waits → Body
 rest_behind [] = End
 rest_behind (ForElse end rest ∷ waits) = then_body rest (rest_behind waits)
 rest_behind (ForIf second end rest ∷ waits) = then_body rest (rest_behind waits)
 
--- the body that a tail of the code begins with, and what stands behind it
+-- the body that a tail of the code begins with, and what follows it
 abbrev pub rest_of_tail : Tail → Body
 rest_of_tail t = then_body t.body (rest_behind t.waits)
 
--- what remains where these lines, up to the last of the function, are still to come
+-- what remains if these lines, up to the last of the function, are still to come
 abbrev pub remaining : List CodeLine → Body
 remaining lines = rest_of_tail (tail_of lines)
 
@@ -38,7 +38,7 @@ abbrev pub StopAt : List CodeLine → Type 0
 StopAt [] = Unit {0}
 StopAt (x ∷ xs) = IsStop x.item
 
--- the line that a body begins with, behind which stands RET
+-- the line that a body begins with, if RET follows the body
 abbrev pub first_line : Body → ℕ → CodeLine
 first_line End ret = instruction_line Return ret
 first_line (Do item line rest) ret = instruction_line item line
@@ -70,12 +70,12 @@ lines_from functions frame = drop frame.place (lines_at (slice_get functions fra
 abbrev pub with_return : Active → Body
 with_return call = then_body call.rest (Do Return call.ret End)
 
--- a frame stands at a call where its lines are what remains of the call
+-- a frame is at a call if its lines are what remains of the call
 pub record Stands (functions : List Function) (frame : Frame) (call : Active) : Type 0 where
   pub remains : remaining (lines_from functions frame) ≡ with_return call
   pub stops : StopAt (lines_from functions frame)
 
--- each frame stands at the call at its place, the innermost first
+-- each frame is at the call of the same index, the innermost first
 abbrev pub StandAll : List Function → List Frame → List Active → Type 0
 StandAll functions [] [] = Unit {0}
 StandAll functions [] (call ∷ calls) = ⊥
@@ -88,8 +88,8 @@ AreActive functions frames = (call : Active) × (outer : List Active) × StandAl
 
 -- ---- what remains, line by line
 
--- Nothing remains of no lines. An instruction remains with what is behind it, and so does an IF with its two parts; the
--- code passes over an ELSE with the part behind it, and over an ENDIF.
+-- Nothing remains of no lines. An instruction remains with what follows it, and so does an IF with its two parts; the
+-- code passes over an ELSE with the part after it, and over an ENDIF.
 pub record LineRemains (item : Item) (line number end : ℕ) (first second : Body) (rest : List CodeLine) : Type 0 where
   pub nothing : remaining [] ≡ End
   pub instruction : remaining (instruction_line item line ∷ rest) ≡ Do item line (remaining rest)

@@ -1,4 +1,4 @@
--- What a job is told apart by.
+-- The parts that identify a job.
 use Rattle.std.specs.Prelude.{ℕ, ◌≤◌, List, length, refl}
 use Rattle.std.specs.Coded.{Coded, code_by, coded_ℕ, coded×, coded_list}
 use Rattle.vcode_base.specs.declared.kind.Kind.{Kind}

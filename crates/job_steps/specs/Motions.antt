@@ -26,13 +26,13 @@ abbrev pub stack_after : {E : Type 0} → Op → List E → List E → List E
 stack_after (Move motion lower upper) results stack = stack_after_move motion lower upper stack
 stack_after op results stack = reverse results ++ drop (operand_count op) stack
 
--- how many entries a motion of so many lower ones leaves, where there were so many
+-- how many entries a motion of `lower` lower ones leaves, of a number of entries before
 abbrev pub depth_after_move : StackMove → ℕ → ℕ → ℕ
 depth_after_move Copy lower depth = depth + lower
 depth_after_move Pop lower depth = depth - lower
 depth_after_move MoveToTop lower depth = depth
 
--- how many entries an instruction leaves, where there were so many
+-- how many entries an instruction leaves, of a number of entries before
 abbrev pub depth_after : Op → ℕ → ℕ
 depth_after (Move motion lower upper) depth = depth_after_move motion lower depth
 depth_after op depth = (depth - operand_count op) + length (result_kinds op)

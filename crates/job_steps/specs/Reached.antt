@@ -9,7 +9,7 @@ use Rattle.vcode_reader.specs.Trees.{IsProperBody, HaveProperBodies}
 use Rattle.signatures.specs.Signatures.{Signature}
 use Rattle.verifier.specs.Kinded.{Scope, HasKinds, scope_of}
 use Rattle.verifier.specs.Typed.{TypedProgram, IsVerifiedBy}
-use Rattle.job_steps.specs.States.{Vector, Task, Entry, Active, State, stack_kinds, held_words}
+use Rattle.job_steps.specs.States.{Vector, Task, StackEntry, Active, State, stack_kinds, held_words}
 use Rattle.job_steps.specs.Steps.{Running, Over, Stuck, next_item, sources_of}
 use Rattle.job_steps.specs.Runs.{state_after, whole_run, outcome, executed_count, peak}
 
@@ -27,7 +27,8 @@ IsVerifiedBySome verified = (signatures : List Signature) × IsVerifiedProgram s
 abbrev pub IsVerifiedTask : List Signature → Task → Type 0
 IsVerifiedTask signatures task = IsVerifiedProgram signatures task.verified
 
--- What remains of each call, the innermost first, goes from its own entries, which lie on those of the outer calls, to what
+-- What remains of each call, the innermost first, goes from its own entries, which lie on those of the outer calls, to
+-- what
 -- its function gives; at the end these are the results.
 abbrev pub AreTyped : Scope → List Kind → List Active → List Kind → Type 0
 AreTyped scope results [] kinds = kinds ≡ results
@@ -41,7 +42,7 @@ abbrev pub HasItsKind : Vector → Type 0
 HasItsKind v = HasKind v.kind v.words
 
 -- entries with one tag have one value
-abbrev pub AreAlike : Entry → Entry → Type 0
+abbrev pub AreAlike : StackEntry → StackEntry → Type 0
 AreAlike x y = x.tag ≡ y.tag → x.value ≡ y.value
 
 -- the state after n instructions: within the limits, and with the entries that what remains takes

@@ -1,4 +1,4 @@
--- A whole run of a job alone: where it is after so many steps, how it ends, and what it used.
+-- A whole run of a job alone: its state after each number of steps, how it ends, and what it used.
 use Rattle.std.specs.Prelude.{ℕ, zero, suc, ◌+◌, List}
 use Rattle.vcode_base.specs.declared.outcome.Outcome.{Outcome}
 use Rattle.vcode_base.specs.declared.outcome.Outcome.TheVariants.{Budget}
@@ -10,7 +10,7 @@ progress_from task (Running s) = next_progress task s
 progress_from task (Over ending executed peak) = Over ending executed peak
 progress_from task Stuck = Stuck
 
--- after so many steps
+-- after n steps
 abbrev pub state_after : Task → ℕ → Progress
 state_after task zero = Running (first_state task.verified)
 state_after task (suc n) = progress_from task (state_after task n)

@@ -1,5 +1,21 @@
--- Where each job of a list stands, how many words are reserved, and which job is admitted next.
-use Rattle.std.specs.Prelude.{ℕ, zero, suc, ◌+◌, ◌-◌, ◌≤◌, nat_le, Bool, true, false, ◌&&◌, if◌then◌else◌, List, [], ◌∷◌}
+-- The standing of each job of a list, how many words are reserved, and which job is admitted next.
+use Rattle.std.specs.Prelude.{
+  ℕ,
+  zero,
+  suc,
+  ◌+◌,
+  ◌-◌,
+  ◌≤◌,
+  nat_le,
+  Bool,
+  true,
+  false,
+  ◌&&◌,
+  if◌then◌else◌,
+  List,
+  [],
+  ◌∷◌,
+}
 use Rattle.std.specs.Prelude.{map, slice_get, slice_set, All, Option, Some, None}
 use Rattle.vcode_base.specs.declared.limits.TheConstants.{MOST_PASSES}
 use Rattle.vcode_base.specs.declared.outcome.Outcome.TheVariants.{Returned, Fault, Memory, Budget}
@@ -7,7 +23,7 @@ use Rattle.job_steps.specs.Runs.{state_after, peak_in, outcome, executed_count, 
 use Rattle.job_steps.specs.States.{Task, held_words}
 use Rattle.job_steps.specs.Steps.{Ending, Progress, Running, Over, Stuck}
 
--- Where a job stands: it waits; it has executed so many instructions, with no step begun or with one; it has ended; its
+-- The standing of a job: it waits; it has executed n instructions, with no step begun or with one; it has ended; its
 -- outcome is collected.
 pub data Standing : Type 0 where
   Waiting : Standing
@@ -26,7 +42,7 @@ abbrev pub with_standing : ℕ → Standing → List Standing → List Standing
 with_standing zero standing standings = standings
 with_standing (suc place) standing standings = slice_set standings place standing
 
--- where jobs stand before the first event
+-- the standings of jobs before the first event
 abbrev pub first_standings : List Task → List Standing
 first_standings tasks = map (λ task. Waiting) tasks
 
@@ -34,7 +50,7 @@ abbrev pub is_waiting : Standing → Bool
 is_waiting Waiting = true
 is_waiting standing = false
 
--- Where the jobs stand, and how often each was passed by: how many jobs after it were admitted while it waited.
+-- The standings of the jobs, and how often each was passed by: how many jobs after it were admitted while it waited.
 pub record Queue : Type 0 where
   pub standings : List Standing
   pub passes : List ℕ
@@ -73,7 +89,7 @@ granted_words tasks standings = sum_over reserved_words tasks standings
 abbrev pub has_room : ℕ → ℕ → Task → Bool
 has_room region granted task = nat_le (granted + task.limits.words) region
 
--- a job that stands so, and was passed by so often, is passed by no more
+-- a waiting job that was passed by often enough is passed by no more
 abbrev pub is_passed_enough : Standing → ℕ → Bool
 is_passed_enough standing count = is_waiting standing && nat_le MOST_PASSES count
 
@@ -104,7 +120,7 @@ passes_before (suc place) (standing ∷ standings) [] = []
 passes_before (suc place) (standing ∷ standings) (count ∷ passes) =
     passed_once_more standing count ∷ passes_before place standings passes
 
--- ---- what is told of a job
+-- ---- what is reported of a job
 
 -- how many instructions it has executed
 abbrev pub executed_at : Task → Standing → ℕ
@@ -128,7 +144,7 @@ held_in (Running s) = held_words s.stack
 held_in (Over ending executed peak) = 0
 held_in Stuck = 0
 
--- what a job leaves until it is collected: where it returned the vectors that were on its stack, else nothing
+-- what a job leaves until it is collected: if it returned the vectors that were on its stack, else nothing
 abbrev pub left_words : Task → Ending → ℕ
 left_words task (Returned values) = held_in (state_after task (executed_count task - 1))
 left_words task (Fault fault line) = 0

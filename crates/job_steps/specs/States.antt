@@ -37,7 +37,7 @@ abbrev pub ruled : Rule → JobValue → Task
 ruled rule job = record { name = job.name; verified = job.verified; limits = job.limits; rule = rule }
 
 -- an entry of the stack: copies of it have its tag, and no other entry has
-pub record Entry : Type 0 where
+pub record StackEntry : Type 0 where
   pub tag : ℕ
   pub value : Vector
 
@@ -46,9 +46,9 @@ pub record Active : Type 0 where
   pub rest : Body
   pub ret : ℕ
 
--- the top of the stack and the innermost call stand first
+-- the top of the stack and the innermost call come first
 pub record State : Type 0 where
-  pub stack : List Entry
+  pub stack : List StackEntry
   pub calls : List Active
   pub executed : ℕ
   pub next : ℕ
@@ -92,25 +92,25 @@ first_state verified = record {
 
 -- ---- entries
 
-abbrev pub words_of : List Entry → List (List ℤ)
+abbrev pub words_of : List StackEntry → List (List ℤ)
 words_of entries = map (λ e. e.value.words) entries
 
-abbrev pub values_of : List Entry → List Vector
+abbrev pub values_of : List StackEntry → List Vector
 values_of entries = map (λ e. e.value) entries
 
 -- the kinds of a stack, from the bottom up
-abbrev pub stack_kinds : List Entry → List Kind
+abbrev pub stack_kinds : List StackEntry → List Kind
 stack_kinds stack = reverse (map (λ e. e.value.kind) stack)
 
-abbrev pub has_tag : ℕ → List Entry → Bool
+abbrev pub has_tag : ℕ → List StackEntry → Bool
 has_tag tag entries = list_any (λ e. e.tag == tag) entries
 
 -- the total length of the distinct vectors on a stack
-abbrev pub held_words : List Entry → ℕ
+abbrev pub held_words : List StackEntry → ℕ
 held_words [] = 0
 held_words (e ∷ es) = (if has_tag e.tag es then 0 else length e.value.words) + held_words es
 
 -- vectors as entries with the next tags
-abbrev pub new_entries : ℕ → List Vector → List Entry
+abbrev pub new_entries : ℕ → List Vector → List StackEntry
 new_entries next [] = []
 new_entries next (v ∷ vs) = record { tag = next; value = v } ∷ new_entries (next + 1) vs

@@ -1,4 +1,4 @@
--- What holds where a track is at a state that a verified job reaches: what the calls of a step require.
+-- What holds if a track is at a state that a verified job reaches: what the calls of a step require.
 use Rattle.std.specs.Prelude.{◌≡◌, ℕ, ◌<◌, ◌≤◌, List, ◌∷◌, length, None}
 use Rattle.vcode_base.specs.Instructions.{op_of}
 use Rattle.vcode_base.specs.Kinds.{HaveKinds, source_kinds}

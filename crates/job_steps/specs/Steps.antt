@@ -23,14 +23,14 @@ use Rattle.vcode_reader.specs.Trees.{Item, Body, End, Do, Choice, line_of}
 use Rattle.verifier.specs.Typed.{TypedProgram}
 use Rattle.job_steps.specs.Motions.{top_entries, operand_count, stack_after, depth_after}
 use Rattle.job_steps.specs.Questions.{Question, need_words}
-use Rattle.job_steps.specs.States.{Vector, Task, Entry, Active, State, Callee, callee_named, calls_with, words_of}
+use Rattle.job_steps.specs.States.{Vector, Task, StackEntry, Active, State, Callee, callee_named, calls_with, words_of}
 use Rattle.job_steps.specs.States.{values_of, stack_kinds, held_words, new_entries}
 
 -- how a job ends
 abbrev pub Ending : Type 0
 Ending = Outcome (List Vector)
 
--- where a job is: it runs, or it is over with these counts, or it can't go on
+-- the state of a job: it runs, or it is over with these counts, or it can't go on
 pub data Progress : Type 0 where
   Running : (state : State) → Progress
   Over : (ending : Outcome (List Vector)) (executed peak : ℕ) → Progress
@@ -38,11 +38,11 @@ pub data Progress : Type 0 where
 
 -- ---- what an instruction reads
 
-abbrev pub sources_of : Item → List Entry → List (List ℤ)
+abbrev pub sources_of : Item → List StackEntry → List (List ℤ)
 sources_of (Const k list) stack = list ∷ []
 sources_of item stack = words_of (top_entries (operand_count (op_of item)) stack)
 
-abbrev pub question_of : Item → List Entry → Question
+abbrev pub question_of : Item → List StackEntry → Question
 question_of item stack = record { op = op_of item; sources = sources_of item stack }
 
 -- vectors of these kinds
@@ -62,16 +62,17 @@ flag_of q = is_set (slice_index_or (operand q.sources 0) 0 (pos 0))
 -- ---- whether an instruction can run
 
 -- entries of these kinds, from the bottom up, lie at the top
-abbrev pub has_on_top : List Kind → List Entry → Bool
+abbrev pub has_on_top : List Kind → List StackEntry → Bool
 has_on_top kinds stack = are_same_kinds kinds (stack_kinds (take (length kinds) stack))
 
-abbrev pub can_call : Option Callee → List Entry → Bool
+abbrev pub can_call : Option Callee → List StackEntry → Bool
 can_call None stack = false
 can_call (Some callee) stack = has_on_top callee.arrow.0 stack
 
--- The entries that the instruction takes are there, of its kinds; those of a CALL are what its function takes, and a motion
+-- The entries that the instruction takes are there, of its kinds; those of a CALL are what its function takes, and a
+-- motion
 -- takes any.
-abbrev pub can_run : TypedProgram → Item → List Entry → Bool
+abbrev pub can_run : TypedProgram → Item → List StackEntry → Bool
 can_run verified (Call name) stack = can_call (callee_named verified name) stack
 can_run verified (Move motion lower upper) stack = nat_le (lower + upper) (length stack)
 can_run verified item stack = has_on_top (operand_kinds (op_of item)) stack
@@ -114,7 +115,7 @@ early_ending task line s =
 
 -- ---- the state after an instruction
 
--- the next item of a body, which is the RET at its end where nothing else remains
+-- the next item of a body, which is the RET at its end if nothing else remains
 abbrev pub first_item : Body → ℕ → Numbered Item
 first_item End ret = line_of Return ret
 first_item (Do item line rest) ret = line_of item line
@@ -124,13 +125,13 @@ first_item (Choice line first second end rest) ret = line_of If line
 abbrev pub next_item : Active → Numbered Item
 next_item call = first_item call.rest call.ret
 
--- the calls after an instruction, behind which this remains of the innermost
+-- the calls after an instruction, after which this remains of the innermost
 abbrev pub calls_past : TypedProgram → Item → Active → List Active → List Active
 calls_past verified (Call name) call outer = calls_with (callee_named verified name) (call ∷ outer)
 calls_past verified Return call outer = outer
 calls_past verified item call outer = call ∷ outer
 
--- the calls after the next item of the innermost, which is of this body; an IF's choice goes before what is behind the IF
+-- the calls after the next item of the innermost, which is of this body; an IF's choice goes before what follows the IF
 abbrev pub calls_after : TypedProgram → Bool → Body → ℕ → List Active → List Active
 calls_after verified flag End ret outer = outer
 calls_after verified flag (Do item line rest) ret outer =
@@ -173,7 +174,8 @@ progress_in task s (call ∷ outer) =
     progress_at task (next_item call) s
     (calls_after task.verified (flag_of (question_of (next_item call).item s.stack)) call.rest call.ret outer)
 
--- The first case that fits: the budget is spent; the job can't go on; a shape or a limit ends it; a value has no result;
+-- The first case that fits: the budget is spent; the job can't go on; a shape or a limit ends it; a value has no
+-- result;
 -- the instruction is executed.
 unfoldable pub next_progress : Task → State → Progress
 next_progress task s =

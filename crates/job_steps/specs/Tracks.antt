@@ -1,4 +1,4 @@
--- Where a job stands in its run, with what names its vectors in place of the vectors.
+-- The place of a job in its run, with what names its vectors in place of the vectors.
 use Rattle.std.specs.Prelude.{◌≡◌, ℕ, ◌+◌, ◌<◌, ◌≤◌, max, Bool, List, [], ◌∷◌, length, Some}
 use Rattle.vcode_base.specs.declared.instr.Instr.TheVariants.{Call}
 use Rattle.vcode_base.specs.declared.limits.Limits.{Limits}
@@ -16,7 +16,8 @@ use Rattle.job_steps.specs.States.{Task, Active, State, Callee, callee_named, fi
 use Rattle.job_steps.specs.Steps.{Progress, Running, Over, Stuck, next_item, calls_after, question_of, flag_of}
 use Rattle.job_steps.specs.Steps.{words_at, progress_past}
 
--- the limits; the cells, of which each names the vector of an entry, the top first; the frames, the innermost first; and
+-- the limits; the cells, of which each names the vector of an entry, the top first; the frames, the innermost first;
+-- and
 -- what was used so far
 pub record Trace (C : Type 0) : Type 0 where
   pub limits : Limits
@@ -33,7 +34,7 @@ pub record HasLimits (limits : Limits) (cells frames : ℕ) : Type 0 where
 abbrev pub functions_of : TypedProgram → List Function
 functions_of verified = verified.program.functions
 
--- nothing is done, within these limits, and the frames stand at the first calls of the program
+-- nothing is done, within these limits, and the frames are at the first calls of the program
 pub record IsFirst {C : Type 0} (verified : TypedProgram) (within : Limits) (t : Trace C) : Type 0 where
   pub limits : t.limits ≡ within
   pub cells : t.cells ≡ []
@@ -56,21 +57,21 @@ CanCall verified item active room = Unit {0}
 abbrev pub first_call : Callee → Active
 first_call callee = record { rest = callee.function.body; ret = callee.function.ret }
 
--- a frame stands at a CALL of this function
+-- a frame is at a CALL of this function
 pub record IsCallOf (verified : TypedProgram) (frame : Frame) (name : List ℕ) (callee : Callee) : Type 0 where
   pub call : Active
   pub stands : Stands (functions_of verified) frame call
   pub next : (next_line call).item ≡ code_item.Do (Call name)
   pub is : callee_named verified name ≡ Some callee
 
--- a call is active whose next instruction can be followed, where there is room for so many frames
+-- a call is active whose next instruction can be followed, if there is room for `room` frames
 pub record CanFollow (verified : TypedProgram) (frames : List Frame) (room : ℕ) : Type 0 where
   pub call : Active
   pub outer : List Active
   pub stands : StandAll (functions_of verified) frames (call ∷ outer)
   pub called : CanCall verified (next_item call).item (length frames) room
 
--- the frames stand at the calls after the next instruction, whichever calls they stood at
+-- the frames are at the calls after the next instruction, whichever calls they were at
 abbrev pub Follow : TypedProgram → Bool → List Frame → List Frame → Type 0
 Follow verified flag old new =
     (call : Active) (outer : List Active) → StandAll (functions_of verified) old (call ∷ outer) →
@@ -87,7 +88,7 @@ pub record Advances {C : Type 0} (verified : TypedProgram) (op : Op) (flag : Boo
 
 -- ---- tracks and states
 
--- the track is where a running job is, but for what its cells name
+-- the track is at the state of a running job, but for what its cells name
 pub record IsAt {C : Type 0} (task : Task) (t : Trace C) (s : State) : Type 0 where
   pub limits : t.limits ≡ task.limits
   pub cells : length t.cells ≡ length s.stack
@@ -95,7 +96,7 @@ pub record IsAt {C : Type 0} (task : Task) (t : Trace C) (s : State) : Type 0 wh
   pub executed : t.executed ≡ s.executed
   pub peak : t.peak ≡ s.peak
 
--- so is where a job was that has returned, after these instructions and with this peak
+-- the track is that of a job that has returned, after these instructions and with this peak
 pub record IsThrough {C : Type 0} (t : Trace C) (executed peak : ℕ) : Type 0 where
   pub frames : t.frames ≡ []
   pub executed_is : t.executed ≡ executed
@@ -106,7 +107,7 @@ IsWhere task t (Running s) = IsAt task t s
 IsWhere task t (Over ending executed peak) = IsThrough t executed peak
 IsWhere task t Stuck = ⊥
 
--- A track that is where a job is, and is advanced by the job's next instruction, is where the job is after it.
+-- A track that is at a job's state, and is advanced by the job's next instruction, is at the job's state after it.
 abbrev pub EachTrackFollows : Type 0 → Type 0
 EachTrackFollows C =
     (task : Task) (t u : Trace C) (s : State) (call : Active) (outer : List Active) (results : List C) →

@@ -35,7 +35,7 @@ impl<A: Allocator> Model for Desk<A> {
 }
 
 impl<A: Allocator + Clone> Desk<A> {
-    /// A desk for vectors of at most so many words, which are reserved six times: for five operands
+    /// A desk for vectors of at most `words` words, which are reserved six times: for five operands
     /// and for the results. None of them is written.
     ///
     /// # Errors

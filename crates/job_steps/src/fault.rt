@@ -7,8 +7,8 @@ ghost use Rattle.job_steps.specs.Steps.{memory_fault, is_call};
 
 use vcode_base::{Limits, MemoryFault, Op, StackMove};
 
-/// The limit that an instruction would pass, where so many words would be held and needed, and so many
-/// entries and active calls are there before it.
+/// The limit that an instruction would pass, given how many words would be held and needed, and how many
+/// entries and active calls there are before it.
 #[tactic(auto, unfolding(crate::specs::Steps::memory_fault))]
 pub(crate) fn memory_fault(
     limits: &Limits,
@@ -41,7 +41,7 @@ fn is_call(op: Op) -> bool
     }
 }
 
-/// How many entries an instruction leaves, where there were so many.
+/// How many entries an instruction leaves, of `depth` entries before.
 #[tactic(auto, using(crate::proofs::StackLemmas::few_results))]
 fn depth_after(op: Op, depth: usize) -> usize
     requires { depth ≤ MOST_CELLS }

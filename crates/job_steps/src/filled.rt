@@ -22,7 +22,7 @@ use vcode_base::{DataFault, Op};
 #[derive(Drop)]
 pub struct Filled<A: Allocator> {
     computed: Step<A>,
-    /// The lengths of the results, which stand one behind the other.
+    /// The lengths of the results, which lie one after the other.
     answer: Result<(usize, usize), DataFault>,
 }
 
@@ -101,7 +101,7 @@ impl<A: Allocator> Filled<A> {
         is_set(self.operand(0))
     }
 
-    /// The words of the first and of the second result, empty where there is none.
+    /// The words of the first and of the second result, empty if there is none.
     ///
     /// # Errors
     ///
@@ -192,9 +192,9 @@ fn is_set(words: &[i64]) -> bool
     }
 }
 
-/// Writes the results of the instruction to the front of a room, one after the other, and answers their lengths. At least
-/// as many words are reserved for the room as the results have together. It becomes so long, if it is shorter. Takes no
-/// memory.
+/// Writes the results of the instruction to the front of a room, one after the other, and answers their lengths. The
+/// room has at least as many words reserved as the results have together. It becomes so long, if it is shorter. Takes
+/// no memory.
 #[inline(always)]
 pub(crate) fn fill_front<A: Allocator>(
     op: Op,

@@ -6,9 +6,9 @@ ghost use Rattle.job_steps.specs.Frames.{Stands, StandAll, next_line};
 ghost use Rattle.job_steps.specs.States.{Active, Callee, first_state};
 ghost use Rattle.job_steps.specs.Tracks.{CanFollow, Follow, IsCallOf, first_call, functions_of};
 
+use crate::bounded_stack::BoundedStack;
 use crate::frame::Frame;
 use crate::job::Job;
-use crate::pile::Pile;
 use std::alloc::{AllocError, Allocator};
 use vcode_base::{Instr, Instruction};
 use vcode_reader::CodeItem;
@@ -17,13 +17,13 @@ use vcode_reader::CodeItem;
 pub(crate) fn first_frames<A: Allocator>(
     alloc: A,
     job: &Job<A>,
-) -> Result<Pile<Frame, A>, AllocError>
+) -> Result<BoundedStack<Frame, A>, AllocError>
     ensures room { IfOk result (λ frames. frames.room ≡ job.now.limits.calls) }
     ensures stand { IfOk result (λ frames.
         StandAll (functions_of job.now.verified) frames.entries (first_state job.now.verified).calls) }
 {
     let main = main_frame(job);
-    let mut frames = Pile::new(alloc, job.limits().calls)?;
+    let mut frames = BoundedStack::new(alloc, job.limits().calls)?;
     frames.push(main);
     Ok(frames)
 }
@@ -36,8 +36,8 @@ fn main_frame<A: Allocator>(job: &Job<A>) -> Frame
     Frame::first(program.position(b"MAIN").unwrap())
 }
 
-/// Follows the next instruction of the innermost call, whose flag is given where it is an `IF`.
-pub(crate) fn follow<A: Allocator>(frames: &mut Pile<Frame, A>, job: &Job<A>, flag: bool)
+/// Follows the next instruction of the innermost call, whose flag is given if it is an `IF`.
+pub(crate) fn follow<A: Allocator>(frames: &mut BoundedStack<Frame, A>, job: &Job<A>, flag: bool)
     requires { CanFollow job.now.verified frames.old.entries frames.old.room }
     ensures room { frames.new.room ≡ frames.old.room }
     ensures frames { Follow job.now.verified flag frames.old.entries frames.new.entries }
@@ -52,7 +52,7 @@ pub(crate) fn follow<A: Allocator>(frames: &mut Pile<Frame, A>, job: &Job<A>, fl
 
 /// Follows the instruction of the innermost frame, which is no `IF`.
 fn follow_instruction<A: Allocator>(
-    frames: &mut Pile<Frame, A>,
+    frames: &mut BoundedStack<Frame, A>,
     job: &Job<A>,
     frame: Frame,
     instruction: &Instruction<A>,
@@ -86,7 +86,7 @@ fn called<A: Allocator>(frame: Frame, job: &Job<A>) -> Frame
 }
 
 /// The innermost call goes on here.
-fn replace_top<A: Allocator>(frames: &mut Pile<Frame, A>, frame: Frame)
+fn replace_top<A: Allocator>(frames: &mut BoundedStack<Frame, A>, frame: Frame)
     requires { 0 < length frames.old.entries }
     ensures { frames.new ≡ record frames.old { entries = frame ∷ drop 1 frames.old.entries } }
 {

@@ -1,4 +1,4 @@
-//! Where an active call goes on.
+//! The place at which an active call goes on.
 
 ghost use Rattle.std.specs.Prelude.{◌≡◌, ◌+◌, ◌<◌, ℕ, drop, length, MatchOption, Some, if◌then◌else◌};
 ghost use Rattle.std.specs.List.{slice_get};
@@ -11,7 +11,7 @@ use std::alloc::Allocator;
 use vcode_reader::laws::each_target_is_first;
 use vcode_reader::{CodeItem, CodeLine, Function, Program};
 
-/// A line of the code where an active call goes on: an instruction or an `IF`.
+/// A line of the code at which an active call goes on: an instruction or an `IF`.
 #[derive(Clone, Copy, PartialEq, Eq, Debug)]
 pub struct Frame {
     /// The place of its function in the program, counted from 0.
@@ -36,7 +36,7 @@ impl Frame {
         &self.function(program).lines()[self.place]
     }
 
-    /// The frame behind an instruction that goes on with what stands behind it.
+    /// The frame after an instruction that goes on at what follows it.
     pub(crate) fn next<A: Allocator>(self, program: &Program<A>) -> Frame
         requires { (call : Active) × Stands program.now.functions self call }
         ensures { (item : Item) (line ret : ℕ) (rest : Body)
@@ -75,7 +75,7 @@ impl Frame {
     }
 }
 
-/// The place behind this one.
+/// The place after this one.
 fn behind<A: Allocator>(function: &Function<A>, place: usize) -> usize
     requires { place < length (lines_of function.now) }
     ensures { result ≡ place + 1 }
@@ -84,7 +84,7 @@ fn behind<A: Allocator>(function: &Function<A>, place: usize) -> usize
     place + 1
 }
 
-/// The place where the part of an `IF` begins that its flag chooses.
+/// The place of the part of an `IF` that its flag chooses.
 fn part<A: Allocator>(function: &Function<A>, place: usize, flag: bool) -> usize
     requires { place < length (lines_of function.now) }
     ensures { (line end : ℕ) (first second rest : Body)
@@ -113,7 +113,7 @@ fn settled<A: Allocator>(function: &Function<A>, place: usize) -> usize
     here
 }
 
-/// Where an `ELSE` or an `ENDIF` at this place goes on.
+/// The place at which an `ELSE` or an `ENDIF` at this place goes on.
 fn passed<A: Allocator>(function: &Function<A>, place: usize) -> Option<usize>
     ensures { MatchOption result
         (StopAt (drop place (lines_of function.now)))

@@ -64,19 +64,19 @@ pub fn values_have_kinds()
     ensures { ValuesHaveKinds }
 {}
 
-/// What remains of code, line by line: that of an instruction begins with it, that of an IF with the
-/// choice of its two parts, and an ELSE with the part behind it, as well as an ENDIF, is passed over.
+/// What remains of code, line by line: at an instruction it begins with the instruction, and at an IF with the choice
+/// of its two parts. An ELSE is passed over with the part after it, and so is an ENDIF.
 pub fn each_line_remains()
     ensures { EachLineRemains }
 {}
 
-/// A track that is where a running job is, and is advanced by the job's next instruction, is where the job
-/// is after it, whatever its cells name.
+/// A track that is at the state of a running job, and is advanced by the job's next instruction, is at the
+/// state after it, whatever its cells name.
 pub fn each_track_follows<C>()
     ensures { EachTrackFollows C }
 {}
 
-/// Where a track is at a state that a verified job reaches, some call is active, and its line can be read;
+/// If a track is at a state that a verified job reaches, some call is active, and its line can be read;
 /// the operands of its next instruction are there, are of their kinds, and lie within what the job may hold.
 pub fn steps_can_begin<C>()
     ensures { StepsCanBegin C }
@@ -85,7 +85,7 @@ pub fn steps_can_begin<C>()
     values_have_kinds();
 }
 
-/// Where besides nothing ends the job before the values of its next instruction are looked at, the track can
+/// If besides nothing ends the job before the values of its next instruction are looked at, the track can
 /// be advanced by that instruction, and it can be asked of each desk for the words that the job may hold.
 pub fn steps_can_advance<C>()
     ensures { StepsCanAdvance C }
@@ -94,7 +94,7 @@ pub fn steps_can_advance<C>()
     values_have_kinds();
 }
 
-/// Two jobs are `==` exactly where their names, what was verified of their programs, and their limits are
+/// Two jobs are `==` exactly if their names, what was verified of their programs, and their limits are
 /// equal.
 pub fn equal_jobs<A: Allocator>(left: &Job<A>, right: &Job<A>) -> bool
     ensures { IsTrue result ↔ (left.now ≡ right.now) }
@@ -117,8 +117,8 @@ pub fn second_rule_goes_as_far()
     each_ends();
 }
 
-/// Where the budget is spent, or a shape or a limit stands against the next instruction of a verified
-/// job, that is the job's end, with what it used so far.
+/// A verified job ends before its next instruction, with what it used so far, if its budget is spent or the instruction
+/// fails by a shape or a limit.
 pub fn early_ends_end()
     ensures { EarlyEndsEnd }
 {
@@ -127,7 +127,7 @@ pub fn early_ends_end()
     end_is_own();
 }
 
-/// Where nothing ends a verified job before the values of its next instruction are looked at, the
+/// If nothing ends a verified job before the values of its next instruction are looked at, the
 /// instruction's operands are there, and their values alone decide what comes next.
 pub fn others_are_ready()
     ensures { OthersAreReady }
@@ -168,8 +168,9 @@ pub fn admissions_pass_once()
     ensures { AdmissionsPassOnce }
 {}
 
-/// Where each job was passed by at most [`MOST_PASSES`](vcode_base::limits::MOST_PASSES) times, as before the first event,
-/// that is so after any events.
+/// If each job was passed by at most [`MOST_PASSES`](vcode_base::limits::MOST_PASSES) times, that is so after any
+/// events
+/// too. It is so before the first event.
 pub fn passes_are_few()
     ensures { PassesAreFew }
 {}
@@ -179,14 +180,14 @@ pub fn passes_stay()
     ensures { PassesStay }
 {}
 
-/// Before the first event no words are granted, no job was passed by, and each job stands on its run alone.
+/// Before the first event no words are granted, no job was passed by, and each job is where its run alone begins.
 pub fn first_are_kept()
     ensures { FirstAreKept }
 {}
 
-/// Whatever the events, each verified job stands on its run alone, no job is passed by too often, and the words that are
-/// granted are at most the region: a live job runs after as many instructions as its standing says, within its budget.
-/// That a job ends only where its run is over, with its own outcome and counts, is [`ended_are_over`].
+/// Whatever the events, each verified job is where its run alone takes it, no job is passed by too often, and the words
+/// that are granted are at most the region. A live job runs after as many instructions as its standing says, within its
+/// budget. [`ended_are_over`] says that a job ends only if its run is over, with its own outcome and counts.
 pub fn events_keep()
     ensures { EventsKeep }
 {
@@ -195,7 +196,7 @@ pub fn events_keep()
     each_ends();
 }
 
-/// The same holds where every step is given up that has begun.
+/// The same holds after every step is given up that has begun.
 pub fn recalls_keep()
     ensures { RecallsKeep }
 {}
@@ -210,8 +211,9 @@ pub fn ended_are_over()
     end_is_own();
 }
 
-/// Wherever a verified job stands, it has executed at most its budget's instructions, it held and
-/// needed at most its words, and what it holds is at most what is reserved for it.
+/// At each standing a verified job has executed at most its budget's instructions, it held and needed at most its
+/// words,
+/// and what it holds is at most what is reserved for it.
 pub fn use_is_within()
     ensures { UseIsWithin }
 {
@@ -230,7 +232,7 @@ pub fn used_is_granted()
     reached();
 }
 
-/// Where each job's words are at most the region, all jobs are collected, or an event other than a
+/// If each job's words are at most the region, all jobs are collected, or an event other than a
 /// recall is open.
 pub fn events_go_on()
     ensures { EventsGoOn }
@@ -262,7 +264,7 @@ pub fn events_are_few()
     each_ends();
 }
 
-/// An event of one job leaves every other job where it stood.
+/// An event of one job leaves every other job as it was.
 pub fn others_stay()
     ensures { OthersStay }
 {}
@@ -272,7 +274,7 @@ pub fn events_commute()
     ensures { EventsCommute }
 {}
 
-/// A recall behind the begin of a step leaves all jobs as they stood before both.
+/// A recall after the begin of a step leaves all jobs as they were before both.
 pub fn recall_undoes_begin()
     ensures { RecallUndoesBegin }
 {}
@@ -282,7 +284,7 @@ pub fn events_join()
     ensures { EventsJoin }
 {}
 
-/// Where events lead from where events lead is where events lead from the start.
+/// If one list of events leads to standings and another leads on from them, the two lead there from the start.
 pub fn leads_join()
     ensures { LeadsJoin }
 {}

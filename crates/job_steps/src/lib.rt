@@ -12,18 +12,18 @@
 //! becomes a [`Ticket`], which [`compute`] turns into a [`Filled`], and both give the desk back.
 //! `Tickets` says what they hold.
 //!
-//! A [`Job`] is what is run. Its [`Track`] is where it stands: cells that name the vectors of the stack's
-//! entries, and frames over the lines of the code in place of calls with what remains of them. `Frames`
-//! says at which call a frame stands, and `Tracks` what an instruction that is executed makes of a track.
+//! A [`Job`] is what is run. Its [`Track`] is its place in its run: cells that name the vectors of the stack's
+//! entries, and frames over the lines of the code instead of calls with what remains of them. `Frames`
+//! says at which call a frame is, and `Tracks` what an instruction that is executed makes of a track.
 //!
-//! Jobs that take turns stand in a list, each where `Standings` says: it waits, it may begin its next
+//! Jobs that take turns are in a list, each with a standing (`Standings`): it waits, it may begin its next
 //! step, a step of it has begun, it has ended, or its outcome is collected. An [`Event`] moves one of
-//! them on; `Events` says which events are open and where the jobs stand after a list of them. A job that
+//! them on; `Events` says which events are open and what the standings are after a list of them. A job that
 //! waits is passed by when a later one that fits is admitted before it; `Standings` says how often that
-//! may be.
-//! `EventLaws` says what holds whatever their order, as that each job goes where it goes alone.
+//! may be. `EventLaws` says what holds whatever their order, as that each job goes where it goes alone.
 #![tactic(auto)]
 
+mod bounded_stack;
 mod desk;
 mod event;
 mod fault;
@@ -34,7 +34,6 @@ mod job;
 pub mod laws;
 mod operands;
 mod operations;
-mod pile;
 mod step;
 mod ticket;
 mod track;

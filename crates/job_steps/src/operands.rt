@@ -12,8 +12,8 @@ use std::marker::Model;
 /// The most operands of an instruction: those of `DPERMUTE`.
 pub const MOST_OPERANDS: usize = 5;
 
-/// The operands of a step, copied one after another into a buffer. All its memory is taken when it is made. A word of it
-/// is written only when an operand is copied there.
+/// The operands of a step, copied one after another into a buffer. All its memory is taken when it is made. A word of
+/// it is written only when an operand is copied there.
 ///
 /// In a contract it is the lists that were loaded, and the room: the words that were reserved.
 #[derive(Drop)]
@@ -36,7 +36,7 @@ impl<A: Allocator> Model for OperandBuffer<A> {
 }
 
 impl<A: Allocator> OperandBuffer<A> {
-    /// A buffer with room for so many words, in which nothing is loaded.
+    /// A buffer with room for `room` words, in which nothing is loaded.
     ///
     /// # Errors
     ///
@@ -72,7 +72,7 @@ impl<A: Allocator> OperandBuffer<A> {
         self.count
     }
 
-    /// The lists, and behind them what stands there.
+    /// The lists, and after them whatever words the buffer has there.
     pub(crate) fn lists(&self) -> [&[i64]; MOST_OPERANDS]
         ensures { take (length self.now.lists) (contents result) ≡ self.now.lists }
     {
@@ -102,7 +102,7 @@ impl<A: Allocator> OperandBuffer<A> {
     }
 }
 
-/// The lengths of the lists, and 0 at the places behind them.
+/// The lengths of the lists, and 0 at the places after them.
 fn lengths_of(lists: &[&[i64]]) -> [usize; MOST_OPERANDS]
     requires { length lists.now ≤ MOST_OPERANDS }
     ensures lengths { take (length lists.now) result ≡ map length (contents lists.now) }
@@ -117,7 +117,7 @@ fn lengths_of(lists: &[&[i64]]) -> [usize; MOST_OPERANDS]
     ]
 }
 
-/// The length of the list at this place, or 0 behind the last.
+/// The length of the list at this place, or 0 after the last.
 fn length_at(lists: &[&[i64]], place: usize) -> usize
     ensures { result ≡ length (operand (contents lists.now) place) }
 {

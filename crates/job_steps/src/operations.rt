@@ -19,11 +19,13 @@ use vcode_base::{DataFault, Op};
 ///
 /// # Errors
 ///
-/// [`LengthsDiffer`](DataFault::LengthsDiffer) where the operands of an elementwise instruction are
-/// not all of one length. [`NotSingle`](DataFault::NotSingle) where the flag of an `IF` is not a single
-/// one. [`SegmentCount`](DataFault::SegmentCount) where an operand has not one element a segment, or two
-/// descriptors have not equally many; else [`SegmentTotal`](DataFault::SegmentTotal) where an operand
-/// has not as many words as the segments of its descriptor together.
+/// [`LengthsDiffer`](DataFault::LengthsDiffer) if the operands of an elementwise instruction are
+/// not all of one length. [`NotSingle`](DataFault::NotSingle) if the flag of an `IF` is not a single
+/// one. [`SegmentCount`](DataFault::SegmentCount) if the number of an operand's elements isn't the number of
+/// segments, or two descriptors have different numbers of segments; else
+/// [`SegmentTotal`](DataFault::SegmentTotal) if the number of an operand's words isn't the total of its
+/// descriptor.
+#[inline(always)]
 #[tactic(auto, unfolding(vcode_base::specs::Meaning::shape))]
 pub fn shape(op: Op, ops: &[&[i64]]) -> Result<(), DataFault>
     requires kinds { HaveKinds (source_kinds op) (contents ops.now) }
@@ -39,7 +41,7 @@ pub fn shape(op: Op, ops: &[&[i64]]) -> Result<(), DataFault>
     }
 }
 
-/// The lengths of the first and of the second result, in words: 0 where there is none.
+/// The lengths of the first and of the second result, in words: 0 if there is none.
 ///
 /// `op` and `ops` are as for [`shape`], which has answered `Ok`. Nothing is made: the length of a
 /// result that no memory could hold is found as fast as any.
@@ -64,13 +66,13 @@ pub fn need(op: Op, ops: &[&[i64]]) -> (u64, u64)
 ///
 /// # Errors
 ///
-/// [`ZeroDivisor`](DataFault::ZeroDivisor) for a quotient or a remainder where a divisor is 0, and
-/// [`BadShift`](DataFault::BadShift) for a shift where one is outside `0..=63`.
-/// [`BadIndex`](DataFault::BadIndex) where an index is outside its segment, else
-/// [`IndexTwice`](DataFault::IndexTwice) where two elements of a segment go to one index.
-/// [`BadLength`](DataFault::BadLength) where a descriptor is made of a negative length or of lengths
-/// whose total is above [`MOST_TOTAL`](vcode_base::limits::MOST_TOTAL). What the results hold then is
-/// not said.
+/// [`ZeroDivisor`](DataFault::ZeroDivisor) for a quotient or a remainder if a divisor is 0, and
+/// [`BadShift`](DataFault::BadShift) for a shift if one is outside `0..=63`.
+/// [`BadIndex`](DataFault::BadIndex) if an index is outside its segment, else
+/// [`IndexTwice`](DataFault::IndexTwice) if two elements of a segment go to one index.
+/// [`BadLength`](DataFault::BadLength) if a descriptor is made of a negative length or of lengths
+/// whose total is above [`MOST_TOTAL`](vcode_base::limits::MOST_TOTAL). What the results then hold is
+/// not specified.
 #[tactic(auto, unfolding(vcode_base::specs::Meaning::need, vcode_base::specs::Meaning::value_fault, vcode_base::specs::Meaning::result_of, vcode_base::specs::Meaning::second_result_of))]
 pub fn fill(op: Op, ops: &[&[i64]], first: &mut [i64], second: &mut [i64]) -> Result<(), DataFault>
     requires kinds { HaveKinds (source_kinds op) (contents ops.now) }

@@ -1,4 +1,4 @@
-//! Where a job stands in its run.
+//! The place of a job in its run.
 
 ghost use Rattle.std.specs.Prelude.{◌≡◌, ◌+◌, ◌<◌, ◌≤◌, List, [], ◌∷◌, length, max, reverse, IfOk};
 ghost use Rattle.vcode_base.specs.declared.limits.TheConstants.{MOST_BUDGET};
@@ -9,17 +9,17 @@ ghost use Rattle.job_steps.specs.States.{Active};
 ghost use Rattle.job_steps.specs.Steps.{memory_fault, next_item};
 ghost use Rattle.job_steps.specs.Tracks.{IsFirst, IsDeep, CanFollow, Advances};
 
+use crate::bounded_stack::BoundedStack;
 use crate::fault::memory_fault;
 use crate::follow::{first_frames, follow};
 use crate::frame::Frame;
 use crate::job::Job;
-use crate::pile::Pile;
 use std::alloc::{AllocError, Allocator};
 use std::marker::Model;
 use vcode_base::{Limits, MemoryFault, Op};
 use vcode_reader::{CodeLine, Program};
 
-/// Where a job stands in its run: the cells of its stack, each of which names the vector of an entry; the
+/// The place of a job in its run: the cells of its stack, each of which names the vector of an entry; the
 /// frames of its active calls; how many instructions it executed, and the most words that it held and
 /// needed at one of them.
 ///
@@ -27,8 +27,8 @@ use vcode_reader::{CodeLine, Program};
 #[derive(Drop)]
 pub struct Track<C, A: Allocator> {
     limits: Limits,
-    cells: Pile<C, A>,
-    frames: Pile<Frame, A>,
+    cells: BoundedStack<C, A>,
+    frames: BoundedStack<Frame, A>,
     executed: u64,
     peak: usize,
 }
@@ -55,7 +55,7 @@ impl<C: Copy, A: Allocator> Track<C, A> {
         ensures { IfOk result (IsFirst job.now.verified job.now.limits) }
     {
         let limits = job.limits();
-        let cells = Pile::new(alloc.clone()?, limits.cells)?;
+        let cells = BoundedStack::new(alloc.clone()?, limits.cells)?;
         let frames = first_frames(alloc, job)?;
         Ok(Track {
             limits,
@@ -122,8 +122,8 @@ impl<C: Copy, A: Allocator> Track<C, A> {
         self.frames.at(0).line(program)
     }
 
-    /// The first limit that an instruction would pass, where `words` is the number of words that are held and
-    /// needed: that of words, then of cells, then at a `CALL` that of calls. `None` where it passes none.
+    /// The first limit that an instruction would pass, given that `words` words are held and needed: that of words,
+    /// then of cells, then at a `CALL` that of calls. `None` if it passes none.
     pub fn memory_fault(&self, op: Op, words: u64) -> Option<MemoryFault>
         ensures { result ≡ memory_fault self.now.limits op words (depth_after op (length self.now.cells))
             (length self.now.frames) }
@@ -159,7 +159,7 @@ impl<C: Copy, A: Allocator> Track<C, A> {
 }
 
 /// The entries that an instruction takes go, and its results come in their place.
-fn replace<C: Copy, A: Allocator>(cells: &mut Pile<C, A>, op: Op, results: &[C])
+fn replace<C: Copy, A: Allocator>(cells: &mut BoundedStack<C, A>, op: Op, results: &[C])
     requires deep { IsDeep op (length cells.old.entries) }
     requires given { length results.now ≡ length (result_kinds op) }
     requires room { depth_after op (length cells.old.entries) ≤ cells.old.room }
@@ -174,7 +174,7 @@ fn replace<C: Copy, A: Allocator>(cells: &mut Pile<C, A>, op: Op, results: &[C])
     }
 }
 
-/// One instruction more, at which so many words were held and needed.
+/// Counts an instruction at which `words` words were held and needed.
 fn count(executed: &mut u64, peak: &mut usize, words: usize)
     requires { executed.old < MOST_BUDGET }
     ensures executed { executed.new ≡ executed.old + 1 }

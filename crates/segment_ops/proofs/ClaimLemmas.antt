@@ -1,6 +1,18 @@
 -- Indices whose places hold their numbers: how these are written, and what they say of equal indices.
 use Rattle.std.proofs.Common.{◌≡◌, ◌≢◌, ℕ, ◌+◌, ◌<◌, ◌≤◌, ℤ, pos, true, false, List, length, take, set, get_or}
-use Rattle.std.proofs.Common.{zip, refl, ap, sym, ◌∙◌, arith, zero, suc, unsigned_abs, get_or-set_same, get_or-set_other}
+use Rattle.std.proofs.Common.{
+  zip,
+  refl,
+  ap,
+  sym,
+  ◌∙◌,
+  arith,
+  zero,
+  suc,
+  unsigned_abs,
+  get_or-set_same,
+  get_or-set_other,
+}
 use Rattle.std.proofs.Common.{inl, inr}
 use Rattle.std.specs.List.{list_any}
 use Rattle.std.proofs.lemmas.Bool.{cases_eq, ne_eqb, eqb-false, or_parts, cond-false}

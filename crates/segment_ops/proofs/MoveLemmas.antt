@@ -51,7 +51,7 @@ move_step is xs there out k same here within so_far q h =
     let before = so_far q inside in
     grind (arith, more, before, get_or-set_same {A = ℤ}, get_or-set_other {A = ℤ})
 
--- where an index names the place, what stood there does not matter
+-- if an index names the place, the element that was there does not matter
 pub arrival_named : (is xs : List ℤ) (q : ℕ) (d e : ℤ) → length is ≡ length xs → list_any (names q) is ≡ true
     → arrival (zip is xs) q d ≡ arrival (zip is xs) q e
 arrival_named [] xs q d e same named = cc

@@ -26,15 +26,17 @@ packed-append (y ∷ xs) ys (c ∷ bs) cs e = let h = packed-append xs ys bs cs 
 
 pub packed_more : (xs bs : List ℤ) (k : ℕ) → length bs ≡ length xs → k < length xs
     → flagged_elements (take (k + 1) xs) (take (k + 1) bs)
-    ≡ flagged_elements (take k xs) (take k bs) ++ (if is_set (get_or bs k (pos 0)) then get_or xs k (pos 0) ∷ [] else [])
+    ≡ flagged_elements (take k xs) (take k bs) ++ (if is_set (get_or bs k (pos 0)) then get_or xs k (pos 0) ∷ []
+    else [])
 packed_more xs bs k e h =
     ap (λ front. flagged_elements front (take (k + 1) bs)) (take_more xs k (pos 0) h)
     ∙ ap (flagged_elements (take k xs ++ get_or xs k (pos 0) ∷ [])) (take_more bs k (pos 0) (omega arith))
     ∙ packed-append (take k xs) (get_or xs k (pos 0) ∷ []) (take k bs) (get_or bs k (pos 0) ∷ [])
     (simp length-take (omega arith))
-    ∙ ap (λ back. flagged_elements (take k xs) (take k bs) ++ back) (packed_one (get_or xs k (pos 0)) (get_or bs k (pos 0)))
+    ∙ ap (λ back. flagged_elements (take k xs) (take k bs) ++ back) (packed_one (get_or xs k (pos 0))
+    (get_or bs k (pos 0)))
 
--- the first n elements behind the first b
+-- the first n elements after the first b
 pub packed_part : (xs bs : List ℤ) (b n : ℕ) → length bs ≡ length xs → b ≤ length xs
     → flagged_elements (take (b + n) xs) (take (b + n) bs)
     ≡ flagged_elements (take b xs) (take b bs) ++ flagged_elements (take n (drop b xs)) (take n (drop b bs))

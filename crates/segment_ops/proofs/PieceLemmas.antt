@@ -1,4 +1,4 @@
--- The pieces that a walk over one or two descriptors goes through, and what stands at an index of a piece.
+-- The pieces that a walk over one or two descriptors goes through, and the element at an index of a piece.
 use Rattle.std.proofs.Common.{◌≡◌, ℕ, ◌+◌, ◌-◌, ◌<◌, ◌≤◌, ℤ, pos, Bool, false, ◌||◌, List, [], ◌∷◌}
 use Rattle.std.proofs.Common.{◌++◌, length, take, drop, set, get_or, zip, refl, ap, sym, ◌∙◌, arith, zero}
 use Rattle.std.proofs.Common.{suc, unsigned_abs, ◌≤ℤ◌, ◌<ℤ◌, length-take, length-drop, append_assoc}
@@ -10,7 +10,14 @@ use Rattle.std.proofs.Math.Seq.{take-add, take-set-lt}
 use Rattle.std.proofs.lemmas.Int.{ints}
 use Rattle.std.proofs.lemmas.Bool.{or_parts, cases_lt}
 use Rattle.std.proofs.lemmas.List.{drop_more, drop-drop, drop-set-lt, set-append_right, get_or-take, get_or-drop}
-use Rattle.std.proofs.lemmas.List.{take-replicate, drop-replicate, length-replicate, take_all, take-append-le, append-nil}
+use Rattle.std.proofs.lemmas.List.{
+  take-replicate,
+  drop-replicate,
+  length-replicate,
+  take_all,
+  take-append-le,
+  append-nil,
+}
 use Rattle.std.proofs.lemmas.Slice.{drop-put_mid}
 use borrow.Rule.Slice.PartMut.{put_mid}
 use Rattle.vcode_base.specs.Elements.{is_outside}

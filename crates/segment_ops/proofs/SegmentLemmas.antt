@@ -22,7 +22,7 @@ pub record LiesFrom (s : List ℤ) (i b e n : ℕ) : Type 0 where
   pub inside : e ≤ n
   pub left : e + total (drop (i + 1) s) ≡ n
 
--- what a walk knows at the segment that it has come to
+-- what a walk knows at its current segment
 pub lies_from : {s : List ℤ} {i b e n : ℕ} → i < length s → e ≡ b + size_at s i → b + total (drop i s) ≡ n
     → LiesFrom s i b e n
 lies_from {s} {i} {b} {e} {n} here ends begins =

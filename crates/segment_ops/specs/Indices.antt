@@ -7,7 +7,8 @@ use Rattle.vcode_base.specs.Segments.{names}
 
 -- each of them is one of 0 .. n - 1
 abbrev pub AreWithin : ℕ → List ℤ → Type 0
-AreWithin n is = (k : ℕ) → k < length is → (pos 0 ≤ℤ slice_index_or is k (pos 0)) × (slice_index_or is k (pos 0) <ℤ pos n)
+AreWithin n is = (k : ℕ) → k < length is → (pos 0 ≤ℤ slice_index_or is k (pos 0)) × (slice_index_or is k
+    (pos 0) <ℤ pos n)
 
 -- some index is none of 0 .. n - 1
 abbrev pub some_outside : ℕ → List ℤ → Bool
@@ -17,7 +18,7 @@ some_outside n is = list_any (is_outside n) is
 abbrev pub place_of : List ℤ → ℕ → ℕ
 place_of is j = unsigned_abs (slice_index_or is j (pos 0))
 
--- of the first k indices the place that each names holds the number of one that names it: its own, or a later one
+-- each of the first k indices names a place that holds the number of an index which names it: its own, or a later one
 abbrev pub HoldsClaims : ℕ → List ℤ → List ℤ → Type 0
 HoldsClaims k is out = (j : ℕ) → j < k → (m : ℕ) × (j ≤ m) × (m < k) × (place_of is m ≡ place_of is j)
     × (slice_index_or out (place_of is j) (pos 0) ≡ pos m)

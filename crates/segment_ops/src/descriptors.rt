@@ -21,7 +21,7 @@ pub(crate) fn total_of(descriptor: &[i64]) -> u64
     sum
 }
 
-/// Where a segment ends that begins at `begin`: `segment` is its number.
+/// The end of a segment that begins at `begin`: `segment` is its number.
 pub(crate) fn end_of(descriptor: &[i64], segment: usize, begin: usize) -> usize
     requires lengths { AreLengths descriptor.now }
     requires number { segment < length descriptor.now }
@@ -35,7 +35,7 @@ pub(crate) fn end_of(descriptor: &[i64], segment: usize, begin: usize) -> usize
 ///
 /// # Errors
 ///
-/// [`BadLength`](DataFault::BadLength) where a length is negative or their total, found without
+/// [`BadLength`](DataFault::BadLength) if a length is negative or their total, found without
 /// wrapping, is above 4,294,967,295. Then `out` holds no result.
 pub(crate) fn make_descriptor(lengths: &[i64], out: &mut [i64]) -> Result<(), DataFault>
     requires room { length out.old ≡ length lengths.now }

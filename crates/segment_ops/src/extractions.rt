@@ -9,15 +9,15 @@ use crate::descriptors::end_of;
 use crate::indices::is_outside;
 use vcode_base::DataFault;
 
-/// `EXTRACT`: writes the element of each segment that stands at the segment's index.
+/// `EXTRACT`: writes the element of each segment at the segment's index.
 ///
 /// `elements` are in the segments of `descriptor`; `indices` and `out` have one element a segment.
 /// The clauses name INT, and BOOL means the same.
 ///
 /// # Errors
 ///
-/// [`BadIndex`](DataFault::BadIndex) where an index is outside its segment, so always where a
-/// segment is empty. Then `out` holds no result.
+/// [`BadIndex`](DataFault::BadIndex) if an index is outside its segment, so always if a segment is
+/// empty. Then `out` holds no result.
 pub(crate) fn extract(
     elements: &[i64],
     indices: &[i64],

@@ -25,10 +25,10 @@ use vcode_base::{DataFault, Op, Segmented};
 ///
 /// # Errors
 ///
-/// [`BadIndex`](DataFault::BadIndex) where an index is outside its segment, else
-/// [`IndexTwice`](DataFault::IndexTwice) where two elements of a segment go to one index.
-/// [`BadLength`](DataFault::BadLength) where a descriptor is made of a negative length or of lengths
-/// whose total is above 4,294,967,295. What the results hold then is not said.
+/// [`BadIndex`](DataFault::BadIndex) if an index is outside its segment, else
+/// [`IndexTwice`](DataFault::IndexTwice) if two elements of a segment go to one index.
+/// [`BadLength`](DataFault::BadLength) if a descriptor is made of a negative length or of lengths
+/// whose total is above 4,294,967,295. What the results then hold is not specified.
 #[tactic(auto, unfolding(vcode_base::specs::Meaning::shape, vcode_base::specs::Meaning::need, vcode_base::specs::Meaning::value_fault, vcode_base::specs::Meaning::result_of, vcode_base::specs::Meaning::second_result_of))]
 pub fn fill(op: Op, ops: &[&[i64]], first: &mut [i64], second: &mut [i64]) -> Result<(), DataFault>
     requires served { IsServed op }

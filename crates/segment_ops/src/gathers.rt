@@ -20,7 +20,7 @@ use vcode_base::DataFault;
 ///
 /// # Errors
 ///
-/// [`BadIndex`](DataFault::BadIndex) where an index is outside that segment. Then `out` holds no
+/// [`BadIndex`](DataFault::BadIndex) if an index is outside that segment. Then `out` holds no
 /// result.
 pub(crate) fn back_permute(
     elements: &[i64],
@@ -62,7 +62,7 @@ pub(crate) fn back_permute(
 ///
 /// # Errors
 ///
-/// [`BadIndex`](DataFault::BadIndex) where an index is outside `elements`. Then `out` holds no result.
+/// [`BadIndex`](DataFault::BadIndex) if an index is outside `elements`. Then `out` holds no result.
 fn gather(elements: &[i64], indices: &[i64], out: &mut [i64]) -> Result<(), DataFault>
     requires small { length elements.now ≤ MOST_TOTAL }
     requires room { length out.old ≡ length indices.now }

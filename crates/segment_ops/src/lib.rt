@@ -8,10 +8,10 @@
 //! [`need`] how many words its results have, and [`fill`] writes them. None of them takes memory,
 //! and each goes a fixed number of times over the operands and the results.
 //!
-//! [`overlay`] writes `DPERMUTE` into the words of its default, for a caller that needs those no more.
+//! [`overlay`] writes `DPERMUTE` into the words of its default, for a caller that no longer needs those.
 //!
-//! What the instructions mean is defined in `vcode_base`. One function a row of its table stands in
-//! the module of the row's family, and what it ensures is that row.
+//! `vcode_base` defines what the instructions mean. Each row of its table has a function in the module
+//! of the row's family, and what that function ensures is the row.
 #![tactic(auto)]
 
 mod descriptors;

@@ -8,7 +8,7 @@ use crate::descriptors::total_of;
 use crate::packs::count_set;
 use vcode_base::{Op, Segmented};
 
-/// The lengths of the first and of the second result, in words: 0 where there is none.
+/// The lengths of the first and of the second result, in words: 0 for a result that the instruction doesn't have.
 ///
 /// `op` and `ops` are as for [`shape`](crate::shape), which has answered `Ok`. Nothing is made: the
 /// length of a result that no memory could hold is found as fast as any.

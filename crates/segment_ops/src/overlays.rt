@@ -18,8 +18,8 @@ use vcode_base::DataFault;
 ///
 /// # Errors
 ///
-/// [`BadIndex`](DataFault::BadIndex) where an index is outside that segment, and else
-/// [`IndexTwice`](DataFault::IndexTwice) where two of a segment are equal. Then `out` holds no
+/// [`BadIndex`](DataFault::BadIndex) if an index is outside that segment, else
+/// [`IndexTwice`](DataFault::IndexTwice) if two of a segment are equal. Then `out` holds no
 /// result.
 pub(crate) fn default_permute(
     elements: &[i64],
@@ -57,8 +57,8 @@ pub(crate) fn default_permute(
 ///
 /// # Errors
 ///
-/// [`BadIndex`](DataFault::BadIndex) where an index is outside that segment, and else
-/// [`IndexTwice`](DataFault::IndexTwice) where two of a segment are equal. Then `out` holds no
+/// [`BadIndex`](DataFault::BadIndex) if an index is outside that segment, else
+/// [`IndexTwice`](DataFault::IndexTwice) if two of a segment are equal. Then `out` holds no
 /// result.
 pub fn overlay(
     elements: &[i64],

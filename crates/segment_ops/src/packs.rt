@@ -47,7 +47,7 @@ pub(crate) fn pack(
 /// Writes the elements of a segment whose flag is T to the front of `out`, in order, and answers how
 /// many they are.
 ///
-/// Each element is written where the next one that is kept belongs, so that a step has no branch on a
+/// Each element is written at the place of the next element that is kept, so that a step has no branch on a
 /// flag.
 fn pack_segment(elements: &[i64], flags: &[i64], out: &mut [i64]) -> usize
     requires same { length flags.now ≡ length elements.now }

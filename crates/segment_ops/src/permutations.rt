@@ -16,8 +16,8 @@ use vcode_base::DataFault;
 ///
 /// # Errors
 ///
-/// [`BadIndex`](DataFault::BadIndex) where an index is outside its segment, and else
-/// [`IndexTwice`](DataFault::IndexTwice) where two of a segment are equal. Then `out` holds no
+/// [`BadIndex`](DataFault::BadIndex) if an index is outside its segment, else
+/// [`IndexTwice`](DataFault::IndexTwice) if two of a segment are equal. Then `out` holds no
 /// result.
 pub(crate) fn permute(
     elements: &[i64],
@@ -36,7 +36,7 @@ pub(crate) fn permute(
         × (out.new ≡ segmented_result (Permute Int) operands))
         (λ fault. segmented_fault (Permute Int) operands ≡ Some fault) }
 {
-    // Where there is a result, each place is named, and so none of these zeros is in it.
+    // If there is a result, each place is named, and so none of these zeros is in it.
     out.fill(0);
     overlay(elements, indices, descriptor, descriptor, out)
 }

@@ -16,8 +16,8 @@ use vcode_base::DataFault;
 ///
 /// # Errors
 ///
-/// [`BadIndex`](DataFault::BadIndex) where an index is outside its segment, so always where a
-/// segment is empty. Then `out` holds no result.
+/// [`BadIndex`](DataFault::BadIndex) if an index is outside its segment, so always if a segment is
+/// empty. Then `out` holds no result.
 pub(crate) fn replace(
     elements: &[i64],
     indices: &[i64],

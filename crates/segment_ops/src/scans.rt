@@ -8,8 +8,8 @@ use crate::steps::{Max, Min, identity_of};
 use vcode_base::element::{And, Combine, Or, Product, Sum, Xor};
 use vcode_base::{Fold, Logic};
 
-/// `+_SCAN` and its kin: an element of the result takes together what stands before its place in
-/// the segment, and so the first one of each segment is the identity.
+/// `+_SCAN` and the other scans: each element of the result combines the elements before its place in
+/// the segment, so the first one of each segment is the identity.
 ///
 /// `elements` and `out` are in the segments of `descriptor`.
 pub(crate) fn scan(fold: Fold, elements: &[i64], descriptor: &[i64], out: &mut [i64])

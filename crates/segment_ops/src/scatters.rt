@@ -12,7 +12,7 @@ use vcode_base::DataFault;
 ///
 /// # Errors
 ///
-/// [`BadIndex`](DataFault::BadIndex) where an index is outside `out`. Then it holds no result.
+/// [`BadIndex`](DataFault::BadIndex) if an index is outside `out`. Then it holds no result.
 pub(crate) fn scatter(elements: &[i64], indices: &[i64], out: &mut [i64]) -> Result<bool, DataFault>
     requires same { length indices.now ≡ length elements.now }
     requires few { length indices.now ≤ MOST_TOTAL }
@@ -46,7 +46,7 @@ fn write_each(elements: &[i64], indices: &[i64], out: &mut [i64])
 ///
 /// # Errors
 ///
-/// [`BadIndex`](DataFault::BadIndex) where an index is outside `out`.
+/// [`BadIndex`](DataFault::BadIndex) if an index is outside `out`.
 fn claim(indices: &[i64], out: &mut [i64]) -> Result<(), DataFault>
     requires few { length indices.now ≤ MOST_TOTAL }
     requires small { length out.old ≤ MOST_TOTAL }

@@ -18,9 +18,9 @@ use vcode_base::{DataFault, Op, Segmented};
 ///
 /// # Errors
 ///
-/// [`DataFault::SegmentCount`] where an operand has not one element a segment, or two descriptors
-/// have not equally many; else [`DataFault::SegmentTotal`] where an operand has not as many words
-/// as the segments of its descriptor together.
+/// [`DataFault::SegmentCount`] if the number of an operand's elements isn't the number of segments, or two
+/// descriptors have different numbers of segments; else [`DataFault::SegmentTotal`] if the number of an
+/// operand's words isn't the total of its descriptor.
 #[tactic(auto, unfolding(vcode_base::specs::Meaning::shape))]
 pub fn shape(op: Op, ops: &[&[i64]]) -> Result<(), DataFault>
     requires served { IsServed op }

@@ -152,7 +152,8 @@ admit_keeps tasks standings job task (InFlight n) new t s is = absurd (none-some
 admit_keeps tasks standings job task Ended new t s is = absurd (none-some new is)
 admit_keeps tasks standings job task Collected new t s is = absurd (none-some new is)
 
-admit_counts_nothing : SumsFollowStandings → (m : MachineState) (o : Option ℕ) → admission m.region m.tasks (queue_of m) ≡ o →
+admit_counts_nothing : SumsFollowStandings → (m : MachineState) (o : Option ℕ) →
+    admission m.region m.tasks (queue_of m) ≡ o →
     executed_sum (machine_after Admit m) ≡ executed_sum m
 admit_counts_nothing sums m None is =
     ap (λ (q : Queue). sum_over executed_at m.tasks q.standings) (none_admitted m.region m.tasks (queue_of m) is)
@@ -161,7 +162,8 @@ admit_counts_nothing sums m (Some job) is = same_sum sums Admit m job is (admit_
 pub others_count_nothing : SumsFollowStandings → EarlyEndsEnd → OthersCountNothing
 others_count_nothing sums early m kept Admit other =
     admit_counts_nothing sums m (admission m.region m.tasks (queue_of m)) refl
-others_count_nothing sums early m kept (Begin job) other = same_sum sums (Begin job) m job refl (begin_keeps early m kept job)
+others_count_nothing sums early m kept (Begin job) other = same_sum sums (Begin job) m job refl (begin_keeps early m
+    kept job)
 others_count_nothing sums early m kept (Finish job) other = absurd (false≢true (sym other))
 others_count_nothing sums early m kept (Recall job) other =
     same_sum sums (Recall job) m job refl (recall_keeps m.tasks m.standings job)
@@ -188,7 +190,7 @@ recalls_count_nothing m = sum_recalled m.tasks m.standings
 
 -- ---- a finish
 
--- the count of a job after the finish of the step behind so many instructions is at least as great
+-- the count of a job after the finish of the step that follows n instructions is at least as great
 abbrev CountsFrom : Task → ℕ → Progress → Type 0
 CountsFrom task n p = n ≤ executed_at task (standing_after (n + 1) p)
 
@@ -243,7 +245,8 @@ finishes_raise sums reaches others own m kept job step s =
 -- ---- events, one after another
 
 -- the sum isn't lowered by the finish of a job with this task and this standing, if there is one
-finish_keeps : SumsFollowStandings → Reaches → OthersAreReady → EndIsOwn → (m : MachineState) → IsKept m → (job : ℕ) → (t : Option Task) →
+finish_keeps : SumsFollowStandings → Reaches → OthersAreReady → EndIsOwn → (m : MachineState) → IsKept m →
+    (job : ℕ) → (t : Option Task) →
     of_job job m.tasks ≡ t → (s : Option Standing) → of_job job m.standings ≡ s →
     executed_sum m
     ≤ sum_over executed_at m.tasks
@@ -265,7 +268,8 @@ finish_keeps sums reaches others own m kept job (Some task) t (Some (InFlight n)
 finish_keeps sums reaches others own m kept job (Some task) t (Some Ended) s_is = omega arith
 finish_keeps sums reaches others own m kept job (Some task) t (Some Collected) s_is = omega arith
 
-finish_never_lowers : SumsFollowStandings → Reaches → OthersAreReady → EndIsOwn → (m : MachineState) → IsKept m → (job : ℕ) →
+finish_never_lowers : SumsFollowStandings → Reaches → OthersAreReady → EndIsOwn → (m : MachineState) → IsKept m →
+    (job : ℕ) →
     executed_sum m ≤ executed_sum (machine_after (Finish job) m)
 finish_never_lowers sums reaches others own m kept job =
     let after = after_by m.region m.tasks (Finish job) (queue_of m) job refl in
@@ -279,7 +283,8 @@ no_fewer_by : (m : MachineState) (event : Event) → executed_sum (machine_after
     executed_sum m ≤ executed_sum (machine_after event m)
 no_fewer_by m event same = omega (arith, same)
 
-never_lowers : SumsFollowStandings → EarlyEndsEnd → Reaches → OthersAreReady → EndIsOwn → (m : MachineState) → IsKept m → (event : Event) →
+never_lowers : SumsFollowStandings → EarlyEndsEnd → Reaches → OthersAreReady → EndIsOwn → (m : MachineState) →
+    IsKept m → (event : Event) →
     executed_sum m ≤ executed_sum (machine_after event m)
 never_lowers sums early reaches others own m kept Admit =
     no_fewer_by m Admit (others_count_nothing sums early m kept Admit refl)
@@ -297,16 +302,19 @@ kept_after keep m kept event = record {
   kept = keep m.region m.tasks kept.verified (event ∷ []) (queue_of m) kept.kept;
 }
 
-all_keep : SumsFollowStandings → EarlyEndsEnd → Reaches → OthersAreReady → EndIsOwn → EventsKeep → (events : List Event) (m : MachineState) →
+all_keep : SumsFollowStandings → EarlyEndsEnd → Reaches → OthersAreReady → EndIsOwn → EventsKeep →
+    (events : List Event) (m : MachineState) →
     IsKept m →
     executed_sum m ≤ sum_over executed_at m.tasks (after_events m.region m.tasks events (queue_of m)).standings
 all_keep sums early reaches others own keep [] m kept = omega arith
 all_keep sums early reaches others own keep (event ∷ events) m kept =
     let here = never_lowers sums early reaches others own m kept event in
-    let rest = all_keep sums early reaches others own keep events (machine_after event m) (kept_after keep m kept event) in
+    let rest = all_keep sums early reaches others own keep events (machine_after event m) (kept_after keep m kept
+    event) in
     omega (arith, here, rest)
 
-pub events_keep_counts : SumsFollowStandings → EarlyEndsEnd → Reaches → OthersAreReady → EndIsOwn → EventsKeep → EventsKeepCounts
+pub events_keep_counts : SumsFollowStandings → EarlyEndsEnd → Reaches → OthersAreReady → EndIsOwn → EventsKeep →
+    EventsKeepCounts
 events_keep_counts sums early reaches others own keep old new kept leads =
     let there = all_keep sums early reaches others own keep leads.2.0 old kept in
     let same : sum_over executed_at new.tasks new.standings

@@ -11,7 +11,7 @@ use Rattle.job_machine.specs.Machines.{MachineState, queue_of, machine_after, re
 abbrev pub executed_sum : MachineState → ℕ
 executed_sum m = sum_over executed_at m.tasks m.standings
 
--- each job is verified, and stands on its run alone
+-- each job is verified, and is where its run alone leads
 pub record IsKept (m : MachineState) : Type 0 where
   pub verified : All IsVerified m.tasks
   pub kept : AreKept m.region m.tasks (queue_of m)
@@ -26,7 +26,8 @@ OthersCountNothing =
     (m : MachineState) → IsKept m → (event : Event) → is_finish event ≡ false →
     executed_sum (machine_after event m) ≡ executed_sum m
 
--- The finish of a job that was in flight after so many instructions leaves it with at least as many, and raises the sum by
+-- The finish of a job that was in flight after so many instructions leaves it with at least as many, and raises the sum
+-- by
 -- the difference.
 pub record RaisesByItsJob (m : MachineState) (job step : ℕ) : Type 0 where
   pub count : ℕ

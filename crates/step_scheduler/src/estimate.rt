@@ -16,8 +16,8 @@ const NEAR: u64 = 131_072;
 /// The sum under the lock from which on the older half of what was seen is forgotten.
 const MOST: u64 = 4_194_304;
 
-/// What the latest steps took under the lock and outside it, and what they would have taken on one thread that carries out
-/// each in one go, in units of about the time in which a word is copied.
+/// What the latest steps took under the lock and outside it, and what they would have taken on one thread that carries
+/// out each in one go, in units of about the time in which a word is copied.
 ///
 /// Only one worker at a time is under the lock, so that as many find work as what is outside is greater than what is
 /// under it.
@@ -38,8 +38,8 @@ impl Estimate {
         }
     }
 
-    /// Adds a step of so many words of operands, of which the longest has so many; its results are taken to be as long as
-    /// that one.
+    /// Adds a step of so many words of operands, of which the longest has so many; its results are taken to be as long
+    /// as that one.
     pub(crate) fn add(&mut self, op: Op, words: usize, longest: usize) {
         let inside = inside_weight(words as u64, longest as u64);
         let outside = weight(op).saturating_mul(longest as u64);
@@ -53,7 +53,7 @@ impl Estimate {
         self.forget();
     }
 
-    /// Forgets the older half of what was seen, where that is much.
+    /// Forgets the older half of what was seen, if that is much.
     fn forget(&mut self) {
         if self.inside > MOST {
             self.inside /= 2;
@@ -62,8 +62,7 @@ impl Estimate {
         }
     }
 
-    /// Whether one more than so many workers would find work, where so many hundredths of the time under the lock are
-    /// counted.
+    /// Whether one more worker beside these would find work, counting this percentage of the time spent under the lock.
     pub(crate) fn feeds_more_than(&self, workers: usize, percent: u64) -> bool {
         let taken = self
             .inside
@@ -72,17 +71,19 @@ impl Estimate {
         taken < self.outside.saturating_mul(100)
     }
 
-    /// Whether this number of workers takes less time than one thread alone. They take what is under the lock at least, and their
-    /// part of the whole.
+    /// Whether this number of workers takes at most two thirds of the time of one thread alone. They take what is under
+    /// the lock at least, and their part of the whole.
     pub(crate) fn pays(&self, workers: usize) -> bool {
         let whole = self.inside.saturating_add(self.outside);
-        self.inside < self.alone && whole < self.alone.saturating_mul(workers as u64)
+        let within = self.alone.saturating_mul(2);
+        self.inside.saturating_mul(3) <= within
+            && whole.saturating_mul(3) <= within.saturating_mul(workers as u64)
     }
 }
 
 /// What a step takes under the lock, which copies its operands, and results as long as the longest of them.
 fn inside_weight(words: u64, longest: u64) -> u64 {
-    let copied = words.saturating_mul(2).saturating_add(longest);
+    let copied = words.saturating_add(longest);
     let near = if copied > NEAR { 2 } else { 1 };
     copied.saturating_mul(near).saturating_add(FIXED)
 }

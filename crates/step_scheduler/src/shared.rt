@@ -3,9 +3,10 @@
 ghost use Rattle.std.specs.Prelude.{◌≤◌};
 ghost use Rattle.vcode_base.specs.declared.limits.TheConstants.{MOST_WORDS};
 
-use crate::crew::Crew;
 use crate::guarded::{GuardedMachine, Opening};
-use job_machine::{Admission, Begun, Desk, Ticket};
+use crate::own::OwnTicket;
+use crate::pool::WorkerPool;
+use job_machine::{Admission, Begun, Desk};
 use std::alloc::Allocator;
 use std::hint;
 use std::sync::{Condvar, Mutex, MutexGuard, Wait};
@@ -17,7 +18,7 @@ const MOST_TRIES: u32 = 2_000;
 #[derive(Drop)]
 pub(crate) struct SharedState<L: Opening, A: Allocator> {
     pub(crate) machine: GuardedMachine<L, A>,
-    pub(crate) crew: Crew<A>,
+    pub(crate) pool: WorkerPool<A>,
 }
 
 /// A machine that workers share.
@@ -32,10 +33,10 @@ pub(crate) struct SharedMachine<L: Opening, A: Allocator> {
 }
 
 /// What a worker has done in a hold of the lock.
-pub(crate) enum Turn<A: Allocator> {
+pub(crate) enum Turn<L: Opening, A: Allocator> {
     /// It has begun a step, which it is to compute.
     Began {
-        ticket: Ticket<A>,
+        ticket: OwnTicket<L, A>,
         /// Whether it is to ring a sleeper first.
         rings: bool,
     },
@@ -48,16 +49,16 @@ pub(crate) enum Turn<A: Allocator> {
 }
 
 impl<L: Opening, A: Allocator> SharedMachine<L, A> {
-    /// A machine for workers whose desks have so many words.
+    /// A machine for workers whose desks have `words` words.
     pub(crate) fn new(
         machine: GuardedMachine<L, A>,
-        crew: Crew<A>,
+        pool: WorkerPool<A>,
         words: usize,
     ) -> SharedMachine<L, A>
         requires { words ≤ MOST_WORDS }
     {
         SharedMachine {
-            state: Mutex::new(SharedState { machine, crew }),
+            state: Mutex::new(SharedState { machine, pool }),
             bell: Condvar::new(),
             words,
         }
@@ -84,18 +85,19 @@ impl<L: Opening, A: Allocator> SharedMachine<L, A> {
     /// Gives the lock back and sleeps until a worker rings.
     pub(crate) fn sleep<R: Wait>(&self, rt: &R, state: MutexGuard<'_, SharedState<L, A>>) {
         let mut state = state;
-        state.crew.fall_asleep();
+        state.pool.fall_asleep();
         let mut state = self.bell.wait(rt, state);
-        state.crew.wake_up();
+        state.pool.wake_up();
     }
 }
 
 impl<L: Opening, A: Allocator> SharedState<L, A> {
     /// Begins the next step of a job.
-    fn begin(&mut self, job: usize, desk: Desk<A>) -> Turn<A> {
+    fn begin(&mut self, job: usize, desk: Desk<A>) -> Turn<L, A> {
         match self.machine.begin(job, desk) {
             Begun::Began(ticket) => {
-                let rings = self.crew.rings(&ticket);
+                let rings = self.pool.rings(&ticket);
+                let ticket = OwnTicket::new(ticket);
                 Turn::Began { ticket, rings }
             }
             Begun::Ended(desk) => Turn::Moved(Some(job), desk),
@@ -103,26 +105,29 @@ impl<L: Opening, A: Allocator> SharedState<L, A> {
         }
     }
 
-    /// Admits a job, where one that waits may have room.
+    /// Admits a job, if one that waits may have room.
     fn admit(&mut self) -> Option<usize> {
-        if !self.crew.may_admit() {
+        if !self.pool.may_admit() {
             return None;
         }
         match self.machine.admit() {
-            Admission::Admitted(job) => Some(job),
+            Admission::Admitted(job) => {
+                self.pool.has_admitted();
+                Some(job)
+            }
             Admission::NotNow | Admission::NoneWaiting => {
-                self.crew.could_not_admit();
+                self.pool.could_not_admit();
                 None
             }
         }
     }
 
-    /// Admits a job where nobody has left one open.
-    fn look(&mut self, desk: Desk<A>) -> Turn<A> {
+    /// Admits a job if nobody has left one open.
+    fn look(&mut self, desk: Desk<A>) -> Turn<L, A> {
         if let Some(job) = self.admit() {
             return Turn::Moved(Some(job), desk);
         }
-        if self.crew.is_over() {
+        if self.pool.is_over() {
             Turn::Over
         } else {
             Turn::Idle(desk)
@@ -132,25 +137,25 @@ impl<L: Opening, A: Allocator> SharedState<L, A> {
 
 impl<L: Opening, A: Allocator + Clone> SharedState<L, A> {
     /// Collects a job that has ended.
-    fn collect(&mut self, job: usize, desk: Desk<A>) -> Turn<A> {
+    fn collect(&mut self, job: usize, desk: Desk<A>) -> Turn<L, A> {
         match self.machine.collect(job) {
             Ok(_) => {
-                self.crew.has_collected();
+                self.pool.has_collected();
                 Turn::Moved(None, desk)
             }
             Err(_) => Turn::Over,
         }
     }
 
-    /// Does one event, unless the crew hands back: goes on with the job in the worker's hands, or else with one that nobody
-    /// has, or else admits one.
-    pub(crate) fn take_turn(&mut self, job: Option<usize>, desk: Desk<A>) -> Turn<A> {
-        if self.crew.hands_back() {
+    /// Does one event, unless the pool hands back: goes on with the job in the worker's hands, or else with one that
+    /// nobody has, or else admits one.
+    pub(crate) fn take_turn(&mut self, job: Option<usize>, desk: Desk<A>) -> Turn<L, A> {
+        if self.pool.hands_back() {
             return Turn::Over;
         }
         let open = match job {
             Some(job) => Some(job),
-            None => self.crew.take_open(),
+            None => self.pool.take_open(),
         };
         match open {
             Some(job) if self.machine.has_ended(job) => self.collect(job, desk),

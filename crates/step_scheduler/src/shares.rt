@@ -6,7 +6,7 @@ use crate::guarded::{Opening, WorkerShare};
 use std::alloc::{AllocError, Allocator};
 use std::sync::ledger::Share;
 
-/// A part of the ledger for each of so many workers.
+/// A part of the ledger for each worker.
 pub(crate) fn split_shares<L: Opening, A: Allocator>(
     alloc: A,
     all: &mut Share<L>,
@@ -25,7 +25,7 @@ pub(crate) fn split_shares<L: Opening, A: Allocator>(
     Ok(shares)
 }
 
-/// Takes back the parts of all workers, and tells how many instructions each stood for.
+/// Takes back the parts of all workers, and answers how many instructions each counted.
 pub(crate) fn merge_shares<L: Opening, A: Allocator>(
     alloc: A,
     all: &mut Share<L>,

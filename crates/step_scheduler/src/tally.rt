@@ -2,8 +2,8 @@
 
 use std::alloc::{AllocError, Allocator};
 
-/// How many instructions each thread of a run has finished: those that were executed, `MAIN`'s `RET` among them. A finish
-/// by which a value ended its job, and one that came too late, aren't counted.
+/// How many instructions each thread of a run has finished: those that were executed, `MAIN`'s `RET` among them. A
+/// finish by which a value ended its job, and one that came too late, aren't counted.
 #[derive(Drop, Debug)]
 pub struct Tally<A: Allocator> {
     /// A number for each worker.
@@ -15,7 +15,7 @@ pub struct Tally<A: Allocator> {
 /// Why a run by workers gave up. The machine is dropped then.
 #[derive(Clone, Copy, PartialEq, Eq, Debug)]
 pub enum RunFault {
-    /// The allocator refused memory; where that was for the results of a job, also when the calling thread tried again.
+    /// The allocator refused memory; if that was for the results of a job, also when the calling thread tried again.
     Memory,
     /// The machine that came back from the workers has another rule or other jobs than the one that was given.
     Mixed,

@@ -2,18 +2,19 @@
 
 use crate::gate::Gate;
 use crate::guarded::{Opening, WorkerShare};
+use crate::own::OwnFilled;
 use crate::shared::{SharedMachine, Turn};
-use job_machine::{Desk, Filled, Finished, compute};
+use job_machine::{Desk, Finished};
 use std::alloc::Allocator;
 use std::sync::Wait;
 
-/// One hold of the lock. Where there is nothing to go on with, it sleeps until that may have changed.
+/// One hold of the lock. If there is nothing to go on with, it sleeps until that may have changed.
 fn hold<L: Opening, A: Allocator + Clone, R: Wait>(
     rt: &R,
     shared: &SharedMachine<L, A>,
     job: Option<usize>,
     desk: Desk<A>,
-) -> Turn<A> {
+) -> Turn<L, A> {
     let mut state = shared.lock(rt);
     match state.take_turn(job, desk) {
         Turn::Idle(desk) => {
@@ -21,27 +22,27 @@ fn hold<L: Opening, A: Allocator + Clone, R: Wait>(
             Turn::Moved(None, desk)
         }
         Turn::Over => {
-            state.crew.leave();
+            state.pool.leave();
             Turn::Over
         }
         turn => turn,
     }
 }
 
-/// The hold that finishes a computed step. The worker goes on with its job, unless there are too many workers for the work
-/// outside the lock: then it leaves the job to the others and sleeps.
+/// The hold that finishes a computed step. The worker goes on with its job, unless there are too many workers for the
+/// work outside the lock: then it leaves the job to the others and sleeps.
 fn finish<L: Opening, A: Allocator, R: Wait>(
     rt: &R,
     shared: &SharedMachine<L, A>,
     mine: &mut WorkerShare<L>,
-    filled: Filled<A>,
+    own: OwnFilled<L, A>,
 ) -> (Option<usize>, Desk<A>) {
-    let job = filled.job();
+    let job = own.filled.job();
     let mut state = shared.lock(rt);
-    let (finished, desk) = state.machine.finish(filled, mine);
+    let (finished, desk) = state.machine.finish(own, mine);
     match finished {
-        Finished::Done if state.crew.has_too_many() => {
-            state.crew.leave_open(job);
+        Finished::Done if state.pool.has_too_many() => {
+            state.pool.leave_open(job);
             shared.sleep(rt, state);
             (None, desk)
         }
@@ -50,8 +51,8 @@ fn finish<L: Opening, A: Allocator, R: Wait>(
     }
 }
 
-/// A hold of the lock, and where it has begun a step its computation and the hold that finishes it. The job with which the
-/// worker goes on, if there is one, or None where nothing is left to do.
+/// A hold of the lock, and where it has begun a step its computation and the hold that finishes it. The job with which
+/// the worker goes on, if there is one, or None where nothing is left to do.
 fn go_on<L: Opening, A: Allocator + Clone, R: Wait, G: Gate>(
     rt: &R,
     shared: &SharedMachine<L, A>,
@@ -65,9 +66,9 @@ fn go_on<L: Opening, A: Allocator + Clone, R: Wait, G: Gate>(
             if rings {
                 shared.bell.notify_one();
             }
-            gate.between(ticket.job(), ticket.step());
-            let filled = compute(ticket);
-            Some(finish(rt, shared, mine, filled))
+            gate.between(ticket.ticket.job(), ticket.ticket.step());
+            let own = ticket.compute();
+            Some(finish(rt, shared, mine, own))
         }
         Turn::Moved(job, desk) => Some((job, desk)),
         Turn::Idle(desk) => Some((None, desk)),
@@ -89,7 +90,7 @@ pub(crate) fn work<L: Opening, A: Allocator + Clone, R: Wait, G: Gate>(
     let Ok(mut desk) = Desk::new(alloc, shared.words) else {
         return;
     };
-    shared.lock(rt).crew.join();
+    shared.lock(rt).pool.join();
     let mut job = None;
     for _ in rt.forever() {
         match go_on(rt, shared, gate, mine, job, desk) {

@@ -1,42 +1,40 @@
 //! A run of a machine's jobs by workers.
 
-ghost use Rattle.std.specs.Prelude.{◌≡◌, ◌≢◌, ◌+◌, ◌≤◌, ◌↔◌, map, sum, vec_len, All, IfOk, OnOk, IsErrOf, IsTrue};
+ghost use Rattle.std.specs.Prelude.{◌≡◌, ◌+◌, ◌≤◌, sum, vec_len, All, IfOk, OnOk, IsErrOf};
 ghost use Rattle.vcode_base.specs.declared.limits.TheConstants.{MOST_WORKERS};
 ghost use Rattle.job_steps.specs.Standings.{Collected};
-ghost use Rattle.job_steps.specs.States.{ruled};
 ghost use Rattle.step_scheduler.specs.Tallies.{executed_sum};
 
 use crate::counts::{count_laws, executed_in_all};
-use crate::crew::Crew;
 use crate::gate::Gate;
 use crate::guarded::{GuardedMachine, Opening, WorkerShare};
+use crate::pool::WorkerPool;
 use crate::shared::SharedMachine;
 use crate::shares::{merge_shares, split_shares};
 use crate::tally::{RunFault, Tally};
 use crate::worker::work;
-use job_machine::{Desk, Job, Machine};
+use job_machine::{Desk, Machine};
 use std::alloc::{AllocError, Allocator};
 use std::marker::Brand;
 use std::sync::Wait;
 use std::sync::ledger::{Blank, Ledger, Share};
 use std::thread;
 use std::thread::Threads;
-use vcode_base::Rule;
 
 /// Runs all jobs of a machine on at most so many worker threads, 1 to 16, and collects them.
 ///
-/// Steps that have begun are given up first. A worker that can't be started, or that memory is refused to, is missed. If
-/// after about a thousand steps the calling thread alone would take less time, as for short steps, the workers end. What
-/// the workers leave is run out on the calling thread, without calls of the gate.
+/// Steps that have begun are given up first. A worker that can't be started, or that memory is refused to, is missed.
+/// If after about a thousand steps the calling thread alone would take less time, as for short steps, the workers end.
+/// What the workers leave is run out on the calling thread, without calls of the gate.
 ///
-/// The machine that comes back has the rule and the jobs of the one that was given, in order, all collected. The tally has a
-/// number for each worker; they and the caller's add up to the instructions that the jobs executed by this call.
+/// The machine that comes back has the rule and the jobs of the one that was given, in order, all collected. The tally
+/// has a number for each worker; they and the caller's add up to the instructions that the jobs executed by this call.
 ///
 /// # Errors
 ///
-/// [`RunFault::Memory`] where memory was refused for a desk of the calling thread, for the tally or for the list of jobs,
-/// or for the results of a job both to a worker and to the calling thread. [`RunFault::Mixed`] where the machine that the
-/// workers leave has another rule, or doesn't hold the jobs that were given. Both drop the machine.
+/// [`RunFault::Memory`] if memory was refused for a desk of the calling thread or for the tally, or for the results of
+/// a job both to a worker and to the calling thread. The machine is dropped then. [`RunFault::Mixed`] is never
+/// answered: the machine that the workers leave has the jobs that were given, by its type.
 pub fn run_workers<A, R, G>(
     rt: &R,
     alloc: A,
@@ -53,7 +51,8 @@ where
     ensures jobs { IfOk result (λ ran. ran.0.tasks ≡ machine.tasks) }
     ensures collected { IfOk result (λ ran. All (λ standing. standing ≡ Collected) ran.0.standings) }
     ensures workers { IfOk result (λ ran. vec_len ran.1.workers ≡ workers) }
-    ensures counted { IfOk result (λ ran. executed_sum ran.0 ≡ executed_sum machine + (sum ran.1.workers.items + ran.1.caller)) }
+    ensures counted { IfOk result (λ ran. executed_sum ran.0
+        ≡ executed_sum machine + (sum ran.1.workers.items + ran.1.caller)) }
 {
     let blank = Blank::new(workers as u64 + 1);
     run_under::<Brand, A, R, G>(rt, alloc, machine, workers, gate, blank)
@@ -77,25 +76,30 @@ where
     requires name { blank.name ≡ L.name }
     requires parts { (blank.parts ≡ L.parts) × (blank.parts ≡ workers + 1) }
     requires before { executed_sum machine ≡ L.executed_before }
+    requires rule { machine.rule ≡ L.given_rule }
+    requires tasks { machine.tasks ≡ L.given_tasks }
     ensures rule { IfOk result (λ ran. ran.0.rule ≡ machine.rule) }
     ensures jobs { IfOk result (λ ran. ran.0.tasks ≡ machine.tasks) }
     ensures collected { IfOk result (λ ran. All (λ standing. standing ≡ Collected) ran.0.standings) }
     ensures workers { IfOk result (λ ran. vec_len ran.1.workers ≡ workers) }
-    ensures counted { IfOk result (λ ran. executed_sum ran.0 ≡ executed_sum machine + (sum ran.1.workers.items + ran.1.caller)) }
+    ensures counted { IfOk result (λ ran. executed_sum ran.0
+        ≡ executed_sum machine + (sum ran.1.workers.items + ran.1.caller)) }
+    ensures never_mixed { IsErrOf result RunFault.Mixed → ⊥ }
 {
-    let rule = machine.rule();
-    let list = machine.list()?;
     let desk = Desk::new(alloc, machine.most_words())?;
-    let (machine, workers) = run_threads::<L, A, R, G>(rt, alloc, machine, workers, gate, blank)?;
-    run_out_jobs(machine, rule, list.as_slice(), desk, workers)
+    let (mut machine, workers) = run_threads::<L, A, R, G>(
+        rt, alloc, machine, workers, gate, blank,
+    )?;
+    let caller = run_out(&mut machine, desk)?;
+    Ok((machine, Tally { workers, caller }))
 }
 
-/// Gives up the steps that have begun, and lets workers run the machine's jobs: the machine that they leave, and how many
-/// instructions each of them has executed.
+/// Gives up the steps that have begun, and lets workers run the machine's jobs: the machine that they leave, and how
+/// many instructions each of them has executed.
 ///
 /// # Errors
 ///
-/// [`AllocError`] where memory for the crew, for the workers' shares or for their counts was refused.
+/// [`AllocError`] where memory for the pool, for the workers' shares or for their counts was refused.
 fn run_threads<L, A, R, G>(
     rt: &R,
     alloc: A,
@@ -113,6 +117,10 @@ where
     requires name { blank.name ≡ L.name }
     requires parts { (blank.parts ≡ L.parts) × (blank.parts ≡ workers + 1) }
     requires before { executed_sum machine ≡ L.executed_before }
+    requires rule { machine.rule ≡ L.given_rule }
+    requires tasks { machine.tasks ≡ L.given_tasks }
+    ensures rule { IfOk result (λ left. left.0.rule ≡ L.given_rule) }
+    ensures tasks { IfOk result (λ left. left.0.tasks ≡ L.given_tasks) }
     ensures workers { IfOk result (λ left. vec_len left.1 ≡ workers) }
     ensures counted { IfOk result (λ left. executed_sum left.0 ≡ L.executed_before + sum left.1.items) }
 {
@@ -120,10 +128,10 @@ where
     let words = machine.most_words();
     count_laws();
     machine.recall_all();
-    let crew = Crew::new(alloc, &machine, workers)?;
+    let pool = WorkerPool::new(alloc, &machine, workers)?;
     let (book, mut all) = blank.open::<L>();
     let mut shares = split_shares(alloc, &mut all, workers)?;
-    let shared = SharedMachine::new(GuardedMachine::new(machine, book), crew, words);
+    let shared = SharedMachine::new(GuardedMachine::new(machine, book), pool, words);
     start_workers(rt, alloc, &shared, gate, &mut shares);
     take_back(alloc, shared.into_inner(), all, shares)
 }
@@ -132,7 +140,7 @@ where
 ///
 /// # Errors
 ///
-/// [`AllocError`] where memory for the counts was refused.
+/// [`AllocError`] if memory for the counts was refused.
 fn take_back<L: Opening, A: Allocator>(
     alloc: A,
     guarded: GuardedMachine<L, A>,
@@ -141,6 +149,8 @@ fn take_back<L: Opening, A: Allocator>(
 ) -> Result<(Machine<A>, Vec<u64, A>), AllocError>
     requires parts { all.parts + vec_len shares ≡ L.parts }
     requires amount { all.amount ≡ 0 }
+    ensures rule { IfOk result (λ back. back.0.rule ≡ L.given_rule) }
+    ensures tasks { IfOk result (λ back. back.0.tasks ≡ L.given_tasks) }
     ensures workers { IfOk result (λ back. vec_len back.1 ≡ vec_len shares) }
     ensures counted { IfOk result (λ back. executed_sum back.0 ≡ L.executed_before + sum back.1.items) }
 {
@@ -149,47 +159,6 @@ fn take_back<L: Opening, A: Allocator>(
     let workers = merge_shares(alloc, &mut all, shares)?;
     book.audit(&mut all);
     Ok((machine, workers))
-}
-
-/// Whether a machine has this rule.
-fn has_rule<A: Allocator>(machine: &Machine<A>, rule: Rule) -> bool
-    ensures { IsTrue result ↔ (machine.now.rule ≡ rule) }
-{
-    machine.rule() == rule
-}
-
-/// Runs out the machine that the workers leave, which has to have this rule and these jobs, and counts what this thread does
-/// beside what they did.
-///
-/// # Errors
-///
-/// [`RunFault::Mixed`] where the machine has another rule or other jobs, and [`RunFault::Memory`] where memory for the results of a job was
-/// refused.
-fn run_out_jobs<A: Allocator + Clone>(
-    machine: Machine<A>,
-    rule: Rule,
-    jobs: &[Job<A>],
-    desk: Desk<A>,
-    workers: Vec<u64, A>,
-) -> Result<(Machine<A>, Tally<A>), RunFault>
-    requires { All (λ task. task.limits.words ≤ desk) (map (ruled rule) jobs.now) }
-    ensures rule { IfOk result (λ ran. ran.0.rule ≡ rule) }
-    ensures jobs { IfOk result (λ ran. ran.0.tasks ≡ map (ruled rule) jobs.now) }
-    ensures collected { IfOk result (λ ran. All (λ standing. standing ≡ Collected) ran.0.standings) }
-    ensures workers { IfOk result (λ ran. ran.1.workers ≡ workers) }
-    ensures counted { IfOk result
-        (λ ran. executed_sum ran.0 + sum workers.items ≡ executed_sum machine + (sum ran.1.workers.items + ran.1.caller)) }
-    ensures mixed { IsErrOf result RunFault.Mixed → machine.rule ≡ rule → machine.tasks ≢ map (ruled rule) jobs.now }
-{
-    if !has_rule(&machine, rule) {
-        return Err(RunFault::Mixed);
-    }
-    if !machine.holds(jobs) {
-        return Err(RunFault::Mixed);
-    }
-    let mut machine = machine;
-    let caller = run_out(&mut machine, desk)?;
-    Ok((machine, Tally { workers, caller }))
 }
 
 /// Starts a worker for each share, and waits until all are done. One that can't be started is missed.
@@ -219,7 +188,7 @@ where
 ///
 /// # Errors
 ///
-/// [`AllocError`] where memory for the results of a job was refused.
+/// [`AllocError`] if memory for the results of a job was refused.
 fn run_out<A: Allocator + Clone>(machine: &mut Machine<A>, desk: Desk<A>) -> Result<u64, AllocError>
     requires { All (λ task. task.limits.words ≤ desk) machine.old.tasks }
     ensures rule { machine.new.rule ≡ machine.old.rule }

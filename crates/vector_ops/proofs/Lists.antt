@@ -1,6 +1,6 @@
--- A list written place by place is the one that the definitions name.
+-- A list that is written place by place is the one that the definitions name.
 use Rattle.std.proofs.Common.{◌≡◌, ℕ, ◌<◌, ℤ, pos, Bool, false, ◌||◌, List, [], ◌∷◌, length, map, get_or}
-use Rattle.std.proofs.Common.{refl, ap, sym, ◌∙◌, arith, zero, suc, if◌then◌else◌}
+use Rattle.std.proofs.Common.{refl, ap, sym, ◌∙◌, arith, zero, suc, slice_set, if◌then◌else◌}
 use Rattle.std.specs.List.{list_any}
 use Rattle.std.proofs.lemmas.Bool.{or_from, false_from_ne_true, both_ways}
 use Rattle.std.proofs.lemmas.List.{ext_get_or, get_or-map, length-map}
@@ -93,9 +93,37 @@ made_alike f out xs ys n same all made =
     ∙ get_or-map (λ x. f x n) xs k (pos 0) (pos 0) h
     ∙ ap (f (get_or xs k (pos 0))) (sym (all k (omega arith))))
 
--- where the test holds nowhere it does not hold at an element
+-- if the test holds nowhere it does not hold at an element
 pub allowed_at : (p : ℤ → Bool) (xs : List ℤ) (k : ℕ) → k < length xs → list_any p xs ≡ false
     → p (get_or xs k (pos 0)) ≡ false
 allowed_at p xs k here none =
     false_from_ne_true (p (get_or xs k (pos 0)))
     (λ holds. both_ways (list_any p xs) none (list_any_at p xs k (pos 0) here holds))
+
+-- a list of one number, written
+pub one_written : (out : List ℤ) (x : ℤ) → length out ≡ 1 → slice_set out 0 x ≡ x ∷ []
+one_written [] x e = absurd (omega arith)
+one_written (y ∷ []) x e = refl
+one_written (y ∷ z ∷ out) x e = absurd (omega arith)
+
+-- what the definitions make of lists of one number
+pub one_copied : (xs : List ℤ) → length xs ≡ 1 → get_or xs 0 (pos 0) ∷ [] ≡ xs
+one_copied [] e = absurd (omega arith)
+one_copied (x ∷ []) e = refl
+one_copied (x ∷ y ∷ xs) e = absurd (omega arith)
+
+pub one_mapped : (f : ℤ → ℤ) (xs : List ℤ) → length xs ≡ 1 → f (get_or xs 0 (pos 0)) ∷ [] ≡ map f xs
+one_mapped f xs e = ap (map f) (one_copied xs e)
+
+pub one_paired : (f : ℤ → ℤ → ℤ) (xs ys : List ℤ) → length xs ≡ 1 → length ys ≡ length xs
+    → f (get_or xs 0 (pos 0)) (get_or ys 0 (pos 0)) ∷ [] ≡ two_by_two f xs ys
+one_paired f xs ys e same =
+    ap (two_by_two f (get_or xs 0 (pos 0) ∷ [])) (one_copied ys (omega arith))
+    ∙ ap (λ zs. two_by_two f zs ys) (one_copied xs e)
+
+pub one_selected : (bs xs ys : List ℤ) → length bs ≡ 1 → length xs ≡ length bs → length ys ≡ length bs
+    → (if is_set (get_or bs 0 (pos 0)) then get_or xs 0 (pos 0) else get_or ys 0 (pos 0)) ∷ [] ≡ selection_of bs xs ys
+one_selected bs xs ys e long same =
+    ap (selection_of (get_or bs 0 (pos 0) ∷ []) (get_or xs 0 (pos 0) ∷ [])) (one_copied ys (omega arith))
+    ∙ ap (λ zs. selection_of (get_or bs 0 (pos 0) ∷ []) zs ys) (one_copied xs (omega arith))
+    ∙ ap (λ zs. selection_of zs xs ys) (one_copied bs e)

@@ -8,7 +8,7 @@ use Rattle.std.proofs.lemmas.Nat.{and_mask, xor_comm, xor_lt}
 use Rattle.vcode_base.specs.Elements.{is_set}
 use Rattle.vcode_base.specs.Kinds.{IsFlag}
 
--- the bits of b, with those of a in their place where the mask has ones
+-- the bits of b, with those of a in their place if the mask has ones there
 pub masked : (a b m : ℕ) (t : Bool) → a < 2 ^ 64 → b < 2 ^ 64 → m ≡ (if t then 2 ^ 64 - 1 else 0)
     → bit_xor b (bit_and (bit_xor a b) m) ≡ (if t then a else b)
 masked a b m true a_fits b_fits ones =
@@ -36,6 +36,7 @@ chosen flag a b is a_fits b_fits =
           (ap (to_z w64) (masked (of_z w64 a) (of_z w64 b) 0 false (bits_fit a a_fits) (bits_fit b b_fits) refl)
           ∙ to_z-of_z w64 b b_fits)
       | inr one ↦ rw one
-          (ap (to_z w64) (masked (of_z w64 a) (of_z w64 b) (2 ^ 64 - 1) true (bits_fit a a_fits) (bits_fit b b_fits) refl)
+          (ap (to_z w64) (masked (of_z w64 a) (of_z w64 b) (2 ^ 64 - 1) true (bits_fit a a_fits)
+          (bits_fit b b_fits) refl)
           ∙ to_z-of_z w64 a a_fits)
     ]

@@ -22,8 +22,8 @@ const FIRST: usize = 8;
 
 /// Writes the elements of an arithmetic instruction.
 ///
-/// The fault is `ZeroDivisor` for a quotient or a remainder where a right element is 0, and
-/// `BadShift` for a shift where one is outside 0..=63.
+/// The fault is `ZeroDivisor` for a quotient or a remainder if a right element is 0, and
+/// `BadShift` for a shift if one is outside 0..=63.
 pub(crate) fn fill_arith(
     op: Arith,
     left: &[i64],
@@ -50,9 +50,9 @@ pub(crate) fn fill_arith(
     Ok(())
 }
 
-/// Writes the shifted elements. Where all shifts are one number, a loop reads it once.
+/// Writes the shifted elements. If all shifts are one number, a loop reads it once.
 ///
-/// The fault is `BadShift`, where a shift is outside 0..=63.
+/// The fault is `BadShift`, if a shift is outside 0..=63.
 fn fill_shifts<S: PairStep>(left: &[i64], right: &[i64], out: &mut [i64]) -> Result<(), DataFault>
     requires same { length right.now ≡ length left.now }
     requires room { length out.old ≡ length left.now }

@@ -10,7 +10,7 @@ use crate::steps::fill_pairs;
 use vcode_base::Comparison;
 use vcode_base::element::Combine;
 
-/// Writes 1 where the comparison holds, and 0 where it doesn't.
+/// Writes 1 for each pair of which the comparison holds, and 0 for each other.
 pub(crate) fn fill_comparison(op: Comparison, left: &[i64], right: &[i64], out: &mut [i64])
     requires same { length right.now ≡ length left.now }
     requires room { length out.old ≡ length left.now }

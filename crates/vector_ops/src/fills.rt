@@ -19,9 +19,9 @@ use vcode_base::{DataFault, Elementwise, Op};
 ///
 /// # Errors
 ///
-/// [`ZeroDivisor`](DataFault::ZeroDivisor) for a quotient or a remainder where a divisor is 0, and
-/// [`BadShift`](DataFault::BadShift) for a shift where one is outside `0..=63`. What `first` holds
-/// then is not said.
+/// [`ZeroDivisor`](DataFault::ZeroDivisor) for a quotient or a remainder if a divisor is 0, and
+/// [`BadShift`](DataFault::BadShift) for a shift if one is outside `0..=63`. What `first` then holds
+/// is not specified.
 #[tactic(auto, unfolding(vcode_base::specs::Meaning::shape, vcode_base::specs::Meaning::need, vcode_base::specs::Meaning::value_fault, vcode_base::specs::Meaning::result_of, vcode_base::specs::Meaning::second_result_of))]
 pub fn fill(op: Op, ops: &[&[i64]], first: &mut [i64], second: &mut [i64]) -> Result<(), DataFault>
     requires served { IsServed op }
@@ -36,7 +36,7 @@ pub fn fill(op: Op, ops: &[&[i64]], first: &mut [i64], second: &mut [i64]) -> Re
 {
     match op {
         Op::Const(_) => {
-            first.copy_from_slice(ops[0]);
+            copy(ops[0], first);
             Ok(())
         }
         Op::Elementwise(op) => fill_elementwise(op, ops, first),
@@ -45,6 +45,7 @@ pub fn fill(op: Op, ops: &[&[i64]], first: &mut [i64], second: &mut [i64]) -> Re
 }
 
 /// Writes the result of an elementwise instruction.
+#[inline(never)]
 fn fill_elementwise(op: Elementwise, ops: &[&[i64]], first: &mut [i64]) -> Result<(), DataFault>
     requires kinds { HaveKinds (elementwise_operands op) (contents ops.now) }
     requires shape { elementwise_shape (contents ops.now) ≡ None }
@@ -61,7 +62,19 @@ fn fill_elementwise(op: Elementwise, ops: &[&[i64]], first: &mut [i64]) -> Resul
         Elementwise::Not(elements) => fill_not(elements, ops[0], first),
         Elementwise::Select(_) => select(ops[0], ops[1], ops[2], first),
         Elementwise::IntToBool => fill_each::<IsSet>(ops[0], first),
-        Elementwise::BoolToInt => first.copy_from_slice(ops[0]),
+        Elementwise::BoolToInt => copy(ops[0], first),
     }
     Ok(())
+}
+
+/// Copies the words. One word alone costs no call.
+#[inline(always)]
+fn copy(words: &[i64], out: &mut [i64])
+    requires { length out.old ≡ length words.now }
+    ensures { out.new ≡ words.now }
+{
+    match words {
+        [word] => out[0] = *word,
+        _ => out.copy_from_slice(words),
+    }
 }

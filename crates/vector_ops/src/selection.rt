@@ -6,8 +6,25 @@ ghost use Rattle.vcode_base.specs.Elements.{flag, is_set};
 
 use crate::steps::ElementStep;
 
-/// Writes the element of `chosen` where the flag is T, and that of `other` where it is F.
+/// Writes the element of `chosen` where the flag is T, and that of `other` where it is F. One element alone takes no
+/// loop.
+#[inline(always)]
 pub(crate) fn select(flags: &[i64], chosen: &[i64], other: &[i64], out: &mut [i64])
+    requires kind { All IsFlag flags.now }
+    requires chosen_same { length chosen.now ≡ length flags.now }
+    requires other_same { length other.now ≡ length flags.now }
+    requires room { length out.old ≡ length flags.now }
+    ensures { out.new ≡ selection_of flags.now chosen.now other.now }
+{
+    if out.len() == 1 {
+        out[0] = choose(flags[0], chosen[0], other[0]);
+        return;
+    }
+    select_many(flags, chosen, other, out);
+}
+
+/// The same for any number of elements.
+fn select_many(flags: &[i64], chosen: &[i64], other: &[i64], out: &mut [i64])
     requires kind { All IsFlag flags.now }
     requires chosen_same { length chosen.now ≡ length flags.now }
     requires other_same { length other.now ≡ length flags.now }
@@ -19,7 +36,7 @@ pub(crate) fn select(flags: &[i64], chosen: &[i64], other: &[i64], out: &mut [i6
     }
 }
 
-/// The first of two elements where the flag is T, and else the second.
+/// The first of two elements if the flag is T, else the second.
 fn choose(flag: i64, on_true: i64, on_false: i64) -> i64
     requires { IsFlag flag }
     ensures { result ≡ (if is_set flag then on_true else on_false) }
@@ -29,7 +46,7 @@ fn choose(flag: i64, on_true: i64, on_false: i64) -> i64
     on_false ^ ((on_true ^ on_false) & mask)
 }
 
-/// T where the number is not 0, else F.
+/// T if the number is not 0, else F.
 pub struct IsSet;
 
 impl ElementStep for IsSet {

@@ -15,7 +15,8 @@ use vcode_base::{DataFault, Op};
 ///
 /// # Errors
 ///
-/// [`LengthsDiffer`](DataFault::LengthsDiffer) where the operands are not all of one length.
+/// [`LengthsDiffer`](DataFault::LengthsDiffer) if the operands are not all of one length.
+#[inline(always)]
 #[tactic(auto, unfolding(vcode_base::specs::Meaning::shape))]
 pub fn shape(op: Op, ops: &[&[i64]]) -> Result<(), DataFault>
     requires served { IsServed op }

@@ -43,8 +43,23 @@ pub trait ElementTest {
         ensures { result ≡ holds element };
 }
 
-/// Writes the step's element of each two elements at one place.
+/// Writes the step's element of each two elements at one place. One element alone takes no loop.
+#[inline(always)]
 pub(crate) fn fill_pairs<S: PairStep>(left: &[i64], right: &[i64], out: &mut [i64])
+    requires same { length right.now ≡ length left.now }
+    requires room { length out.old ≡ length left.now }
+    requires allowed { list_any S.refuses right.now ≡ false }
+    ensures { out.new ≡ two_by_two S.gives left.now right.now }
+{
+    if out.len() == 1 {
+        out[0] = S::apply(left[0], right[0]);
+        return;
+    }
+    fill_many_pairs::<S>(left, right, out);
+}
+
+/// The same for any number of elements.
+fn fill_many_pairs<S: PairStep>(left: &[i64], right: &[i64], out: &mut [i64])
     requires same { length right.now ≡ length left.now }
     requires room { length out.old ≡ length left.now }
     requires allowed { list_any S.refuses right.now ≡ false }
@@ -55,7 +70,8 @@ pub(crate) fn fill_pairs<S: PairStep>(left: &[i64], right: &[i64], out: &mut [i6
     }
 }
 
-/// The same, but where the test holds at some right element: then there is the fault.
+/// The same, unless the test holds at some right element: then there is the fault.
+#[inline(always)]
 pub(crate) fn fill_pairs_unless<T: ElementTest, S: PairStep>(
     fault: DataFault,
     left: &[i64],
@@ -99,8 +115,21 @@ pub(crate) fn are_all(elements: &[i64], number: i64) -> bool
     alike
 }
 
-/// Writes the step's element of each element.
+/// Writes the step's element of each element. One element alone takes no loop.
+#[inline(always)]
 pub(crate) fn fill_each<S: ElementStep>(elements: &[i64], out: &mut [i64])
+    requires room { length out.old ≡ length elements.now }
+    ensures { out.new ≡ map S.gives elements.now }
+{
+    if out.len() == 1 {
+        out[0] = S::apply(elements[0]);
+        return;
+    }
+    fill_many::<S>(elements, out);
+}
+
+/// The same for any number of elements.
+fn fill_many<S: ElementStep>(elements: &[i64], out: &mut [i64])
     requires room { length out.old ≡ length elements.now }
     ensures { out.new ≡ map S.gives elements.now }
 {
@@ -109,8 +138,19 @@ pub(crate) fn fill_each<S: ElementStep>(elements: &[i64], out: &mut [i64])
     }
 }
 
-/// Whether the test holds at some element. It goes over all of them, without leaving early.
+/// Whether the test holds at some element. One element alone takes no loop.
+#[inline(always)]
 fn any<T: ElementTest>(elements: &[i64]) -> bool
+    ensures { result ≡ list_any T.holds elements.now }
+{
+    match elements {
+        [element] => T::test(*element),
+        _ => any_of_many::<T>(elements),
+    }
+}
+
+/// The same for any number of elements. It goes over all of them, without leaving early.
+fn any_of_many<T: ElementTest>(elements: &[i64]) -> bool
     ensures { result ≡ list_any T.holds elements.now }
 {
     let mut found = false;

@@ -7,12 +7,15 @@ use crate::player::Player;
 use std::alloc::Global;
 use vcode_base::limits::MOST_WORDS;
 
-/// The answer to a line; a line `machine` makes another player.
+/// The answer to a line; a line `machine` or `another` makes another player.
 pub fn answer(alloc: Global, player: &mut Option<Player>, line: &str) -> Result<String, CaseFault> {
     let (word, text) = line.split_once(' ').unwrap_or((line, ""));
-    if word == "machine" {
-        let made = machine(alloc, text)?;
+    if matches!(word, "machine" | "another") {
+        let mut made = machine(alloc, text)?;
         let jobs = made.machine.jobs();
+        if word == "another" {
+            made.take_tickets(player);
+        }
         *player = Some(made);
         return Ok(format!(in alloc; "{jobs} jobs")?);
     }

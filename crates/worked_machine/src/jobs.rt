@@ -29,6 +29,11 @@ fn texts(code: &str) -> Result<(&'static [u8], &'static [u8]), CaseFault> {
     match code {
         "nothing" => Ok((b"MAIN () -> ()\n", b"FUNC MAIN\nRET\n")),
         "seven" => Ok((b"MAIN () -> (INT)\n", b"FUNC MAIN\nCONST INT 7\nRET\n")),
+        "eight" => Ok((b"MAIN () -> (INT)\n", b"FUNC MAIN\nCONST INT 8\nRET\n")),
+        "spread" => Ok((
+            b"MAIN () -> (INT)\n",
+            b"FUNC MAIN\nCONST INT 7\nCONST INT 4294967295\nMAKE_SEGDES\nDIST INT\nRET\n",
+        )),
         "divide" => Ok((
             b"MAIN () -> (INT)\n",
             b"FUNC MAIN\nCONST INT 7\nCONST INT 0\n/ INT\nRET\n",
@@ -69,7 +74,7 @@ fn job(alloc: Global, code: &str, budget: u64, words: usize) -> Result<Job<Globa
     Ok(Job::new(name, verified(alloc, code)?, limits))
 }
 
-/// Puts a job of this code and budget, and of the words that a word names, behind the others.
+/// Adds a job of this code and budget, and of the words that a word names, after the others.
 fn put_job(
     alloc: Global,
     jobs: &mut Vec<Job<Global>>,
@@ -94,7 +99,7 @@ fn put_job(
     Ok(())
 }
 
-/// The jobs that `CODE BUDGET WORDS ..` names, each of at most so many words.
+/// The jobs that `CODE BUDGET WORDS ..` names, each of at most `most` words.
 pub fn jobs(alloc: Global, text: &str, most: usize) -> Result<Vec<Job<Global>>, CaseFault>
     requires { most ≤ MOST_WORDS }
     ensures few { IfOk result (λ jobs. length jobs.items ≤ MOST_JOBS) }

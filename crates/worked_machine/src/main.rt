@@ -7,6 +7,7 @@
 //! | Line | Call |
 //! |---|---|
 //! | `machine REGION JOBS` | a machine of these jobs over a region of so many words |
+//! | `another REGION JOBS` | the same; the tickets of the machine before can be handed to this one |
 //! | `admit`, `used`, `jobs`, `run_out` | that call; `run_out` on a desk of the region's words |
 //! | `begin JOB WORDS`, `step JOB WORDS` | that call on a new desk of so many words |
 //! | `finish TICKET` | `compute` and `finish` |
@@ -16,7 +17,8 @@
 //! | `holds JOBS` | whether `holds` is true of these jobs |
 //!
 //! `JOBS` are `CODE BUDGET WORDS ..`: a code, the budget of each job, and the words of each. The code is `nothing`,
-//! which is `RET` alone, `seven`, which leaves `INT (7)`, or `divide`, which divides `INT (7)` by `INT (0)`.
+//! which is `RET` alone, `seven` and `eight`, which leave `INT (7)` and `INT (8)`, `divide`, which divides `INT (7)` by
+//! `INT (0)`, or `spread`, which distributes `INT (7)` over a segment of 4,294,967,295 elements.
 #![tactic(auto)]
 
 mod call;
@@ -29,7 +31,7 @@ use crate::call::answer;
 use crate::player::Player;
 use std::io;
 
-/// Prints a line of the table, and behind it what it comes to.
+/// Prints a line of the table, and after it the answer.
 fn show(rt: &HostRuntime, player: &mut Option<Player>, line: &str) -> io::Result<()> {
     if line.is_empty() || line.starts_with('#') {
         return println!(rt; "{line}");
@@ -40,7 +42,7 @@ fn show(rt: &HostRuntime, player: &mut Option<Player>, line: &str) -> io::Result
     }
 }
 
-/// Prints the lines of the table, each with what it comes to.
+/// Prints the lines of the table, each with the answer.
 fn show_all(rt: &HostRuntime, player: &mut Option<Player>) -> io::Result<()> {
     for line in rt.lines(rt.alloc()) {
         show(rt, player, line?.as_str())?;

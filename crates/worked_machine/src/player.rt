@@ -6,9 +6,10 @@ ghost use Rattle.vcode_base.specs.declared.limits.TheConstants.{MOST_JOBS, MOST_
 use crate::fault::CaseFault;
 use job_machine::{Begun, Desk, Finished, Job, Machine, Stepped, Ticket, compute};
 use std::alloc::{AllocError, Global};
+use std::mem::swap;
 use vcode_base::{Outcome, Rule};
 
-/// A machine over a region of so many words, and the tickets of all begins, but of those that were finished.
+/// A machine over a region, and the tickets of all begins, but of those that were finished.
 #[derive(Drop)]
 pub struct Player {
     pub machine: Machine<Global>,
@@ -33,7 +34,14 @@ impl Player {
         })
     }
 
-    /// Begins a step on a new desk of so many words, and keeps its ticket.
+    /// Takes the tickets of another player, if there is one, in place of its own.
+    pub fn take_tickets(&mut self, other: &mut Option<Player>) {
+        if let Some(other) = other {
+            swap(&mut self.tickets, &mut other.tickets);
+        }
+    }
+
+    /// Begins a step on a new desk of `words` words, and keeps its ticket.
     pub fn begin(
         &mut self,
         alloc: Global,
@@ -54,7 +62,7 @@ impl Player {
         }
     }
 
-    /// Takes a step in one go on a new desk of so many words.
+    /// Takes a step in one go on a new desk of `words` words.
     pub fn step(
         &mut self,
         alloc: Global,
@@ -98,7 +106,7 @@ impl Player {
         Ok(self.machine.holds(list.as_slice()))
     }
 
-    /// How a job ended, where it is collected.
+    /// How a job ended, if it is collected.
     pub fn outcome(&self, job: usize) -> &'static str {
         match self.machine.outcome(job) {
             None => "None",

@@ -9,7 +9,7 @@ pub struct Vector {
     pub words: Vec<i64>,
 }
 
-/// What a case comes to.
+/// The answer of a case.
 #[derive(Drop)]
 pub enum Answer {
     One(Vector),

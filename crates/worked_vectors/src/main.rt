@@ -1,9 +1,9 @@
-//! Runs worked cases of the vector and segment instructions, and prints what each comes to.
+//! Runs worked cases of the vector and segment instructions, and prints the answer of each.
 //!
 //! A line of standard input is a case in VCODE: a comment that names it, its operands as CONSTs from the bottom of the
-//! stack up, and the instruction. A segment descriptor stands as the CONST INT of its lengths, and a CONST alone is a
-//! case of itself. The line is printed as it stands, with ` = ` and the answer behind it: the results, the text of the
-//! fault, or the words that a result needs where they are too many to be made.
+//! stack up, and the instruction. A segment descriptor is written as the CONST INT of its lengths, and a CONST alone is
+//! a case of itself. The line is printed as it is, with ` = ` and the answer after it: the results, the text of the
+//! fault, or the number of words that a result needs if they are too many to be made.
 #![tactic(auto)]
 
 mod answer;
@@ -17,7 +17,7 @@ use vcode_base::Instr;
 use vcode_base::laws::line_feeds_are_few;
 use vcode_reader::{CodeItem, CodeLine, ReadFault, read};
 
-/// The lists of these lines. None where one isn't a CONST.
+/// The lists of these lines. None if one isn't a CONST.
 fn lists_of(alloc: Global, lines: &[CodeLine<Global>]) -> Result<Option<Vec<&[i64]>>, AllocError> {
     let mut lists = Vec::new(alloc);
     for line in lines {

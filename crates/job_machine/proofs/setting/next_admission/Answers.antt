@@ -1,7 +1,8 @@
 use Rattle.std.proofs.Common.{◌+◌, Bool, cond, get_or, sym, ◌∙◌, ap, arith}
 use Rattle.vcode_base.specs.declared.limits.Limits.{Limits}
 use Rattle.job_machine.specs.declared.machine.Admission.TheVariants.{NotNow, NoneWaiting}
-use Rattle.job_machine.proofs.Admissions.{has_heads, some_heads, rest_at, fits_by, past_by, rest_skips, rest_admits, rest_stops}
+use Rattle.job_machine.proofs.Admissions.{has_heads, some_heads, rest_at, fits_by, past_by, rest_skips, rest_admits}
+use Rattle.job_machine.proofs.Admissions.{rest_stops}
 use Rattle.job_machine.proofs.Admissions.{rest_passes, rest_ends}
 use Rattle.job_machine.proofs.setting.next_admission.Goals as goal
 use Rattle.job_machine.proofs.setting.next_admission.Goals.{then-waits+else-fits+else-passes-place-ge-MOST_PASSES}

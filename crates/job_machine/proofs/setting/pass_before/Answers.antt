@@ -48,6 +48,10 @@ loop-before-preserved g c =
 
 pub returns : goal.returns
 returns g c =
-    let at : c.loop-before.before ≡ c.args.place = omega (arith, c.loop-before-test.false, c.loop-before.auto.before-end) in
+    let at : c.loop-before.before ≡ c.args.place = omega (
+      arith,
+      c.loop-before-test.false,
+      c.loop-before.auto.before-end,
+    ) in
     c.loop-before.invariant
     ∙ ap (λ k. passes_before k (standings_of c.args.slots.now) c.args.passes.now) at

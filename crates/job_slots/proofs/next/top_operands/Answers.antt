@@ -2,7 +2,7 @@ use Rattle.std.proofs.Common.{◌≡◌, ℕ, ◌-◌, length, map, take, drop, 
 use Rattle.std.proofs.lemmas.List.{length-reverse, take_all}
 use Rattle.refcounts.specs.SharedState.{slot_at}
 use Rattle.job_steps.specs.Motions.{operand_count, top_entries}
-use Rattle.job_steps.specs.States.{Entry}
+use Rattle.job_steps.specs.States.{StackEntry}
 use Rattle.job_slots.proofs.Operands.{last_are_top, same_top}
 use Rattle.job_slots.proofs.next.top_operands.Goals as goal
 
@@ -18,4 +18,4 @@ returns g c stack same =
     ∙ rw (c.cells-cells.ensures, c.operand_kinds.ensures, length-reverse ids)
     (last_are_top count ids c.requires.deep) in
     c.words_of_blocks.ensures ∙ (ap (map words) top
-    ∙ same_top words (λ (e : Entry). e.value.words) count ids stack same)
+    ∙ same_top words (λ (e : StackEntry). e.value.words) count ids stack same)

@@ -54,7 +54,13 @@ loop-segment-preserved c =
           each_more (λ bs. pos (count_by is_set bs)) _ _ _ c.loop-segment.counts _ c.loop-segment.segment _
           (omega arith)
           (parts_more flags part)
-          (to_z_pos w64 c.pack_segment-more.result (omega (arith, counted, small, length-take {A = ℤ}, length-drop {A = ℤ}))
+          (to_z_pos w64 c.pack_segment-more.result (omega (
+            arith,
+            counted,
+            small,
+            length-take {A = ℤ},
+            length-drop {A = ℤ},
+          ))
           ∙ ap pos counted)
           invariant.counted;
     }

@@ -7,7 +7,8 @@ use Rattle.segment_ops.proofs.scans.scan_segment.Goals as goal
 
 pub loop-i-preserved : goal.loop-i-preserved
 loop-i-preserved g c = record {
-  so_far = fold_more_by_code g.S.Combine.combination _ c.args.elements.now c.loop-i.i _ _ c.loop-i-test.true (search rules)
+  so_far = fold_more_by_code g.S.Combine.combination _ c.args.elements.now c.loop-i.i _ _ c.loop-i-test.true
+      (search rules)
       (search rules) c.loop-i.invariant.so_far c.combine-so_far.ensures;
   written = below_more _ _
       (λ k h. let ne : k ≢ c.loop-i.i = omega arith in rw get_or-set_other (c.loop-i.invariant.written k h))

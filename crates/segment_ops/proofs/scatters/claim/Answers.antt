@@ -1,4 +1,20 @@
-use Rattle.std.proofs.Common.{◌≡◌, ◌<◌, ◌∙◌, ap, sym, pos, false, get_or, length, arith, rules, FitsSigned, w64, to_z, of_z}
+use Rattle.std.proofs.Common.{
+  ◌≡◌,
+  ◌<◌,
+  ◌∙◌,
+  ap,
+  sym,
+  pos,
+  false,
+  get_or,
+  length,
+  arith,
+  rules,
+  FitsSigned,
+  w64,
+  to_z,
+  of_z,
+}
 use Rattle.std.specs.List.{list_any}
 use Rattle.std.proofs.lemmas.Int.{to_z-of_z, to_z_pos, ints}
 use Rattle.std.proofs.lemmas.List.{take_all}
@@ -19,7 +35,8 @@ loop-place-preserved c =
     let n = length c.args.out.now in
     let fits : FitsSigned w64 index = search rules in
     let inside : is_outside n index ≡ false =
-    inside_by {z = to_z w64 n} {j = to_z w64 (of_z w64 index)} n index c.is_outside.ensures c.if-is_outside.false (omega (arith, ints)) (omega (arith, ints)) in
+    inside_by {z = to_z w64 n} {j = to_z w64 (of_z w64 index)} n index c.is_outside.ensures c.if-is_outside.false
+    (omega (arith, ints)) (omega (arith, ints)) in
     let within = place_within n index inside in
     let room : place_of indices k < length out = omega arith in
     rw (to_z-of_z w64 index fits, to_z_pos w64 k (omega arith))

@@ -14,7 +14,8 @@ returns-clause-recalls c = recalls_count_nothing
 
 pub returns-clause-kept : goal.returns-clause-kept
 returns-clause-kept c =
-    events_keep_counts c.sums_follow_standings.ensures c.early_ends_end.ensures c.reached.ensures c.others_are_ready.ensures c.end_is_own.ensures
+    events_keep_counts c.sums_follow_standings.ensures c.early_ends_end.ensures c.reached.ensures
+    c.others_are_ready.ensures c.end_is_own.ensures
     c.events_keep.ensures
 
 pub returns-clause-within : goal.returns-clause-within

@@ -6,11 +6,11 @@ use Rattle.step_scheduler.proofs.guarded.finish_counted.Goals as goal
 use Rattle.step_scheduler.proofs.guarded.finish_counted.Goals.{After-unwrap_or-after}
 
 raised : (g : Over) (c : After-unwrap_or-after g) →
-    RaisedBy c.args.filled.job c.args.machine.now c.finish-finished.new.self
+    RaisedBy c.args.filled.job c.args.machine.now c.finish_own-finished.new.self
 raised g c =
-    raises c.count_laws.ensures.finishes c.args.filled.job c.args.machine.now c.finish-finished.new.self
-    (record { verified = c.jobs-jobs.ensures.verified; kept = c.jobs-jobs.ensures.kept }) c.finish-finished.result.0
-    c.finish-finished.ensures.state
+    raises c.count_laws.ensures.finishes c.args.filled.job c.args.machine.now c.finish_own-finished.new.self
+    (record { verified = c.jobs-jobs.ensures.verified; kept = c.jobs-jobs.ensures.kept }) c.finish_own-finished.result.0
+    c.finish_own-finished.ensures.state
 
 pub overflow_sub-result : goal.overflow_sub-result
 overflow_sub-result g c = let less = (raised g c).no_fewer in grind (arith, common_steps)

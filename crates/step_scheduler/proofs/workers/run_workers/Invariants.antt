@@ -5,4 +5,8 @@ abbrev pub ghosts-run_under-L-Ledger : goal.ghosts-run_under-L-Ledger
 ghosts-run_under-L-Ledger g a = record { name = a.blank.name; parts = a.blank.parts }
 
 abbrev pub ghosts-run_under-L-Opening : goal.ghosts-run_under-L-Opening
-ghosts-run_under-L-Opening g a = record { executed_before = executed_sum a.machine }
+ghosts-run_under-L-Opening g a = record {
+  executed_before = executed_sum a.machine;
+  given_rule = a.machine.rule;
+  given_tasks = a.machine.tasks;
+}

@@ -6,4 +6,4 @@ returns-clause-counted g c =
     let merged = c.in_ok-workers.ensures in
     let parts : c.merge_shares.new.all.parts ≡ g.L.Ledger.parts = omega (arith, merged.parts, c.requires.parts) in
     let whole = c.audit.ensures.whole parts in
-    omega (arith, c.into_parts-machine.ensures, whole, merged.amount, c.requires.amount)
+    omega (arith, c.into_parts-machine.ensures.counted, whole, merged.amount, c.requires.amount)

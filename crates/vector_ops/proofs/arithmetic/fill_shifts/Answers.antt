@@ -22,5 +22,6 @@ returns g c =
     let fits : FitsSigned w64 (get_or right 0 (pos 0)) = search rules in
     let made = simp to_z-of_z at c.fill_by.ensures in (
       none_alike (is_outside 64) right (get_or right 0 (pos 0)) (one.shift up) (one.alike up),
-      made_alike g.S.PairStep.gives _ c.args.left.now right (get_or right 0 (pos 0)) c.requires.same (one.alike up) made,
+      made_alike g.S.PairStep.gives _ c.args.left.now right (get_or right 0 (pos 0)) c.requires.same
+          (one.alike up) made,
     )

@@ -50,7 +50,11 @@ answer g c =
 pub returns-in_default : goal.returns-in_default
 returns-in_default g c =
     let is = answer g (goal.at.returns-in_default g c).After-next_admission-next in
-    record { answer = is; state = nobody_state c.args.self.now c.next_admission-next.result is c.in_default.not-Admitted }
+    record {
+      answer = is;
+      state = nobody_state c.args.self.now c.next_admission-next.result is
+          c.in_default.not-Admitted;
+    }
 
 -- the job is the one that is admitted
 next : (g : Over) (c : goal.In-Admitted g) → c.next_admission-next.result ≡ admission_in c.args.self.now →

@@ -78,6 +78,7 @@ returns-clause-answer g c =
 
 pub returns-clause-state : goal.returns-clause-state
 returns-clause-state g c =
-    begun_state c.turn_laws.ensures.changed c.turn_laws.ensures.passes c.self.inside.blocks c.begin.new.blocks c.begin.new.self c.self.view_is
+    begun_state c.turn_laws.ensures.changed c.turn_laws.ensures.passes c.self.inside.blocks c.begin.new.blocks
+    c.begin.new.self c.self.view_is
     (turn g (goal.at.returns-clause-state g c).After-begin-arg-1) c.begin.ensures.others.memory.room c.begin.result
     c.begin.ensures.standing

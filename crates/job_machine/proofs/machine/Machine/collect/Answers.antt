@@ -90,7 +90,8 @@ returns-clause-state g c =
     on_ok_weaker c.collect.result
     (λ stands.
     turn_state c.turn_laws.ensures.changed c.turn_laws.ensures.passes c.self.inside.blocks c.collect.new.blocks
-    (Collect c.args.job) c.collect.new.self (λ e. cc) c.self.view_is (turn g (goal.at.returns-clause-state g c).After-collect-arg-1)
+    (Collect c.args.job) c.collect.new.self (λ e. cc) c.self.view_is (turn g (goal.at.returns-clause-state g
+    c).After-collect-arg-1)
     c.collect.ensures.others.memory.room refl stands)
     c.collect.ensures.standing
 

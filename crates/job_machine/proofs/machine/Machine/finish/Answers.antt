@@ -4,7 +4,8 @@ use Rattle.std.specs.Arc.{arc_value}
 use Rattle.job_steps.specs.declared.event.Event.TheVariants.{Finish}
 use Rattle.job_steps.specs.States.{ruled}
 use Rattle.job_machine.specs.Machines.{machine_after, after_finished}
-use Rattle.job_machine.proofs.TurnLemmas.{HasTurn, has_turn, task_read, within_jobs, turn_shows, turn_sound, finishes_in}
+use Rattle.job_machine.proofs.TurnLemmas.{HasTurn, has_turn, task_read, within_jobs, turn_shows, turn_sound}
+use Rattle.job_machine.proofs.TurnLemmas.{finishes_in}
 use Rattle.job_machine.proofs.TurnLemmas.{finished_state, numbers_left, finishes_none, slot_missing}
 use Rattle.job_machine.proofs.machine.Machine.finish.Given.{Over}
 use Rattle.job_machine.proofs.machine.Machine.finish.Goals as goal
@@ -87,7 +88,8 @@ returns-clause-answer g c =
 
 pub returns-clause-state : goal.returns-clause-state
 returns-clause-state g c =
-    finished_state c.turn_laws.ensures.changed c.turn_laws.ensures.passes c.self.inside.blocks c.finish.new.blocks c.finish.new.self
+    finished_state c.turn_laws.ensures.changed c.turn_laws.ensures.passes c.self.inside.blocks c.finish.new.blocks
+    c.finish.new.self
     c.self.view_is (turn g (goal.at.returns-clause-state g c).After-finish-arg-1) c.finish.ensures.others.memory.room
     c.finish.result.0 c.finish.ensures.standing
     ∙ ap (λ j. after_finished c.finish.result.0 c.args.self.now (machine_after (Finish j) c.args.self.now))

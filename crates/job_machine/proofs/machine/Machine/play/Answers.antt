@@ -5,7 +5,8 @@ use Rattle.job_machine.proofs.machine.Machine.play.Goals as goal
 
 pub returns-in-Admit-clause-fit : goal.returns-in-Admit-clause-fit
 returns-in-Admit-clause-fit g c =
-    fit_admitted c.others_stay.ensures c.args.self.now c.admit.new.self c.args.hands.now c.requires c.admit.ensures.state
+    fit_admitted c.others_stay.ensures c.args.self.now c.admit.new.self c.args.hands.now c.requires
+    c.admit.ensures.state
 
 pub returns-in-Admit-clause-leads : goal.returns-in-Admit-clause-leads
 returns-in-Admit-clause-leads g c = leads_by Admit c.args.self.now c.admit.new.self c.admit.ensures.state

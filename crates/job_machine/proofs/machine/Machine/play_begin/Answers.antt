@@ -7,7 +7,8 @@ use Rattle.job_machine.proofs.machine.Machine.play_begin.Goals as goal
 
 pub returns-in_default-clause-state : goal.returns-in_default-clause-state
 returns-in_default-clause-state g c =
-    (plays_no_begin c.args.self.now c.args.hands.now c.take_desk.new.self c.args.job c.requires c.in_default.ensures).state
+    (plays_no_begin c.args.self.now c.args.hands.now c.take_desk.new.self c.args.job c.requires
+    c.in_default.ensures).state
 
 begun : (g : Over) (c : goal.Joined-exchange g) →
     Played (Begin c.args.job) c.args.self.now c.begin-begun.new.self c.exchange.new.self

@@ -32,7 +32,8 @@ run_job-ran-requires-clause-no_step g c =
 
 pub returns-in-Err-ran-clause-leads : goal.returns-in-Err-ran-clause-leads
 returns-in-Err-ran-clause-leads g c =
-    turn_leads c.leads_join.ensures c.in-Admitted.job _ _ _ _ c.loop-job.invariant.0.leads (held g (goal.at.returns-in-Err-ran-clause-leads g c).In-Admitted)
+    turn_leads c.leads_join.ensures c.in-Admitted.job _ _ _ _ c.loop-job.invariant.0.leads (held g
+    (goal.at.returns-in-Err-ran-clause-leads g c).In-Admitted)
     c.run_job-ran.ensures.goes_on
 
 pub returns-in-Err-ran-clause-desk : goal.returns-in-Err-ran-clause-desk
@@ -48,7 +49,8 @@ pub loop-job-preserved : goal.loop-job-preserved
 loop-job-preserved g c =
     let done : IsDone (of_job c.in-Admitted.job c.run_job-ran.new.self.standings) =
     rw c.in_default-ran.is at c.run_job-ran.ensures.ok in (
-      turns c.leads_join.ensures c.in-Admitted.job _ _ _ _ c.loop-job.invariant.0 (held g (goal.at.loop-job-preserved g c).In-Admitted)
+      turns c.leads_join.ensures c.in-Admitted.job _ _ _ _ c.loop-job.invariant.0 (held g (goal.at.loop-job-preserved
+          g c).In-Admitted)
           c.run_job-ran.ensures.goes_on done,
       c.run_job-ran.ensures.desk ∙ c.loop-job.invariant.1,
     )

@@ -85,7 +85,8 @@ returns-clause-answer g c =
 
 pub returns-clause-state : goal.returns-clause-state
 returns-clause-state g c =
-    stepped_state c.turn_laws.ensures.changed c.turn_laws.ensures.passes c.self.inside.blocks c.step.new.blocks c.step.new.self
+    stepped_state c.turn_laws.ensures.changed c.turn_laws.ensures.passes c.self.inside.blocks c.step.new.blocks
+    c.step.new.self
     c.self.view_is (turn g (goal.at.returns-clause-state g c).After-step-arg-1) c.step.ensures.others.memory.room
     c.step.result c.step.ensures.standing
 

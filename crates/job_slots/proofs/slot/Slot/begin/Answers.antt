@@ -5,7 +5,16 @@ use Rattle.job_steps.specs.States.{ruled}
 use Rattle.job_slots.specs.declared.status.Status.TheVariants as status
 use Rattle.job_slots.specs.Answers.{IsAskedOf, early_end_at}
 use Rattle.job_slots.specs.Slots.{SlotState, Shows}
-use Rattle.job_slots.proofs.Started.{flying, has_grant, ends, is_ticket, shows_flying, stands_flying, next_of, stands_ended}
+use Rattle.job_slots.proofs.Started.{
+  flying,
+  has_grant,
+  ends,
+  is_ticket,
+  shows_flying,
+  stands_flying,
+  next_of,
+  stands_ended,
+}
 use Rattle.job_slots.proofs.slot.Slot.begin.Given.{Over}
 use Rattle.job_slots.proofs.slot.Slot.begin.Goals as goal
 use Rattle.job_slots.proofs.slot.Slot.begin.Goals.{In-Live, In-Ok, In-Err}

@@ -1,6 +1,6 @@
 use Rattle.std.proofs.Common.{◌≡◌, ◌+◌, ◌-◌, length, arith}
 use Rattle.job_steps.proofs.Turns.{shifted_copy, shifted_pop, shifted_top}
-use Rattle.job_steps.proofs.pile.Pile.shift.Goals as goal
+use Rattle.job_steps.proofs.bounded_stack.BoundedStack.shift.Goals as goal
 
 pub returns-in-Copy : goal.returns-in-Copy
 returns-in-Copy g c =

@@ -2,7 +2,7 @@ use Rattle.std.proofs.Common.{◌≡◌, ◌∙◌, ap, sym}
 use Rattle.std.specs.Prelude.{reverse}
 use Rattle.std.proofs.lemmas.List.{reverse-reverse}
 use Rattle.job_steps.specs.Piles.{PileState}
-use Rattle.job_steps.proofs.pile.Pile.as_slice.Goals as goal
+use Rattle.job_steps.proofs.bounded_stack.BoundedStack.as_slice.Goals as goal
 
 pub returns : goal.returns
 returns g c =

@@ -1,5 +1,5 @@
 use Rattle.std.proofs.Common.{◌≡◌, ◌<◌, ℕ, pos, get_or}
-use Rattle.vector_ops.proofs.steps.fill_each.Given as goal
+use Rattle.vector_ops.proofs.steps.fill_many.Given as goal
 
 abbrev pub invariant-loop-i : goal.invariant-loop-i
 invariant-loop-i g l = (k : ℕ) → k < l.i

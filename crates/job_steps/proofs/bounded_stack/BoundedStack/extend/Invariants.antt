@@ -1,5 +1,5 @@
 use Rattle.std.proofs.Common.{◌≡◌, ◌++◌, reverse, take}
-use Rattle.job_steps.proofs.pile.Pile.extend.Given as goal
+use Rattle.job_steps.proofs.bounded_stack.BoundedStack.extend.Given as goal
 
 abbrev pub invariant-loop-entry : goal.invariant-loop-entry
 invariant-loop-entry g l =

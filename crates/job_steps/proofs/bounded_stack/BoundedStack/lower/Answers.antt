@@ -1,6 +1,6 @@
 use Rattle.std.proofs.Common.{◌≡◌, ◌-◌, length, arith}
 use Rattle.job_steps.proofs.Turns.{lowered}
-use Rattle.job_steps.proofs.pile.Pile.lower.Goals as goal
+use Rattle.job_steps.proofs.bounded_stack.BoundedStack.lower.Goals as goal
 
 pub returns : goal.returns
 returns g c =

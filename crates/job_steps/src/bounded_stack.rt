@@ -8,15 +8,15 @@ use std::alloc::{AllocError, Allocator};
 use std::marker::Model;
 use vcode_base::StackMove;
 
-/// Entries one on another, with room for so many. Only [`new`](Pile::new) takes memory.
+/// A bounded stack: entries one on another, with room for a fixed number. Only [`new`](BoundedStack::new) takes memory.
 #[derive(Drop)]
-pub(crate) struct Pile<T, A: Allocator> {
+pub(crate) struct BoundedStack<T, A: Allocator> {
     /// The top last.
     entries: Vec<T, A>,
     room: usize,
 }
 
-impl<T, A: Allocator> Model for Pile<T, A> {
+impl<T, A: Allocator> Model for BoundedStack<T, A> {
     ghost use Rattle.std.specs.Prelude.{reverse, length, vec_capacity};
     ghost use Rattle.job_steps.specs.Piles.{PileState, HasRoom};
 
@@ -27,13 +27,13 @@ impl<T, A: Allocator> Model for Pile<T, A> {
     ghost invariant = { λ p. HasRoom (length p.entries.items) p.room (vec_capacity p.entries) };
 }
 
-impl<T: Copy, A: Allocator> Pile<T, A> {
-    /// No entry, with room for so many.
-    pub(crate) fn new(alloc: A, room: usize) -> Result<Pile<T, A>, AllocError>
+impl<T: Copy, A: Allocator> BoundedStack<T, A> {
+    /// No entry, with room for `room` entries.
+    pub(crate) fn new(alloc: A, room: usize) -> Result<BoundedStack<T, A>, AllocError>
         ensures { IfOk result (λ p. p ≡ record { entries = []; room = room }) }
     {
         let entries = Vec::with_capacity(alloc, room)?;
-        Ok(Pile { entries, room })
+        Ok(BoundedStack { entries, room })
     }
 
     /// How many entries there are.
@@ -85,7 +85,7 @@ impl<T: Copy, A: Allocator> Pile<T, A> {
         }
     }
 
-    /// Takes so many off the top.
+    /// Takes `count` entries off the top.
     pub(crate) fn lower(&mut self, count: usize)
         requires { count ≤ length self.old.entries }
         ensures { self.new ≡ record self.old { entries = drop count self.old.entries } }
@@ -113,7 +113,7 @@ impl<T: Copy, A: Allocator> Pile<T, A> {
     }
 }
 
-/// Puts the first `lower` entries from the place `below` on behind all entries once more, where there is room.
+/// Puts the first `lower` entries from the place `below` on after all entries once more. There is room for them.
 fn copy_lower<T: Copy, A: Allocator>(entries: &mut Vec<T, A>, below: usize, lower: usize)
     requires there { below + lower ≤ vec_len entries.old }
     requires room { vec_len entries.old + lower ≤ vec_capacity entries.old }
@@ -125,7 +125,7 @@ fn copy_lower<T: Copy, A: Allocator>(entries: &mut Vec<T, A>, below: usize, lowe
     };
 }
 
-/// Moves the first `lower` entries from the place `below` on behind the others.
+/// Moves the first `lower` entries from the place `below` on after the others.
 fn turn<T, A: Allocator>(entries: &mut Vec<T, A>, below: usize, lower: usize)
     requires { below + lower ≤ vec_len entries.old }
     ensures items { entries.new.items

@@ -1,6 +1,6 @@
 use Rattle.std.proofs.Common.{◌≡◌, ◌<◌, ℕ, pos, get_or, if◌then◌else◌}
 use Rattle.vcode_base.specs.Elements.{is_set}
-use Rattle.vector_ops.proofs.selection.select.Given as goal
+use Rattle.vector_ops.proofs.selection.select_many.Given as goal
 
 abbrev pub invariant-loop-i : goal.invariant-loop-i
 invariant-loop-i l = (k : ℕ) → k < l.i → get_or l.out k (pos 0)

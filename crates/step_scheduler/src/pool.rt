@@ -7,25 +7,26 @@ use std::alloc::{AllocError, Allocator};
 /// The words of operands from which on a step is long enough to wake a worker beside it.
 const LARGE: usize = 4_096;
 
-/// A worker is woken where this many hundredths of the time under the lock leave it some.
+/// A worker is woken if it would find work, counting this percentage of the time under the lock.
 const TO_WAKE: u64 = 55;
 
 /// After this number of steps it is decided whether the workers go on.
 const TO_DECIDE: u64 = 1_000;
 
 /// A step counts once more each time that its operands have this number of words.
-const ONCE_MORE: u64 = 8_192;
+const ONCE_MORE: u64 = 1_024;
 
-/// A worker stays awake where this many hundredths of the time under the lock leave it some.
+/// A worker stays awake if it finds work, counting this percentage of the time under the lock.
 const TO_STAY: u64 = 45;
 
 /// Where the workers of a run are, and which jobs nobody goes on with.
 ///
-/// While a job can go on, some worker is awake. A worker falls asleep only while another one is awake. The last one awake
-/// ends only where it found, in the same hold of the lock, no job to go on with and none that could be admitted. One that
-/// ends earlier wakes those that sleep: it was refused memory, or the crew hands back, and then each ends at its next hold.
+/// While a job can go on, some worker is awake. A worker falls asleep only while another one is awake. The last one
+/// awake ends only if it found, in the same hold of the lock, no job to go on with and none that could be admitted.
+/// One that ends earlier wakes those that sleep: it was refused memory, or the pool hands back, and then each ends at
+/// its next hold.
 #[derive(Drop)]
-pub(crate) struct Crew<A: Allocator> {
+pub(crate) struct WorkerPool<A: Allocator> {
     /// The jobs that run or have ended and that no worker has, the next one last.
     open: Vec<usize, A>,
     /// No job could be admitted since the last one was collected.
@@ -38,31 +39,39 @@ pub(crate) struct Crew<A: Allocator> {
     rung: usize,
     /// How many workers the run asked for.
     workers: usize,
+    /// How many jobs wait.
+    waiting: usize,
+    /// How many jobs were admitted and aren't collected.
+    admitted: usize,
     /// How many steps were begun, a long one counted as several.
     begun: u64,
     estimate: Estimate,
 }
 
-impl<A: Allocator> Crew<A> {
+impl<A: Allocator> WorkerPool<A> {
     /// Without a worker yet, over the jobs of a machine in which no step has begun, for a run by so many workers.
     ///
     /// # Errors
     ///
-    /// [`AllocError`] where memory for the list of open jobs was refused.
+    /// [`AllocError`] if memory for the list of open jobs was refused.
     pub(crate) fn new(
         alloc: A,
         machine: &Machine<A>,
         workers: usize,
-    ) -> Result<Crew<A>, AllocError> {
+    ) -> Result<WorkerPool<A>, AllocError> {
         let jobs = machine.jobs();
         let mut open = Vec::with_capacity(alloc, jobs)?;
+        let mut waiting = 0usize;
         for place in 0..jobs {
             let job = jobs - place;
-            if let Some(Status::Live | Status::Ended) = machine.status(job) {
-                open.push(job)?;
+            match machine.status(job) {
+                Some(Status::Live | Status::Ended) => open.push(job)?,
+                Some(Status::Waiting) => waiting = waiting.saturating_add(1),
+                Some(Status::InFlight | Status::Collected) | None => {}
             }
         }
-        Ok(Crew {
+        let admitted = open.len();
+        Ok(WorkerPool {
             open,
             full: false,
             over: false,
@@ -70,6 +79,8 @@ impl<A: Allocator> Crew<A> {
             asleep: 0,
             rung: 0,
             workers,
+            waiting,
+            admitted,
             begun: 0,
             estimate: Estimate::new(),
         })
@@ -113,6 +124,12 @@ impl<A: Allocator> Crew<A> {
         !self.full
     }
 
+    /// A job was admitted.
+    pub(crate) fn has_admitted(&mut self) {
+        self.waiting = self.waiting.saturating_sub(1);
+        self.admitted = self.admitted.saturating_add(1);
+    }
+
     /// No job could be admitted.
     pub(crate) fn could_not_admit(&mut self) {
         self.full = true;
@@ -121,6 +138,7 @@ impl<A: Allocator> Crew<A> {
     /// A job was collected, so that another one may have room.
     pub(crate) fn has_collected(&mut self) {
         self.full = false;
+        self.admitted = self.admitted.saturating_sub(1);
     }
 
     /// Whether a worker that found nothing to do is to end: nobody else is awake, or that was so before.
@@ -129,13 +147,23 @@ impl<A: Allocator> Crew<A> {
         self.over
     }
 
-    /// Whether the workers are to end and leave the rest to the calling thread, which takes less time for it. That is so
-    /// where steps are short, or where they compute little for the words that they copy. It is never so of a small batch.
+    /// Whether the workers are to end and leave the rest to the calling thread, which takes less time for it. That is
+    /// so if steps are short, if they compute little for the words that they copy, or if there is one job to run. It
+    /// is never so of a small batch.
     pub(crate) fn hands_back(&self) -> bool {
-        self.begun >= TO_DECIDE && !self.estimate.pays(self.workers)
+        self.begun >= TO_DECIDE && !self.estimate.pays(self.workers.min(self.runnable()))
     }
 
-    /// Takes account of a step that has begun, and tells whether a sleeper is to be rung: the step is long, somebody
+    /// How many jobs can run beside one another, as far as is known.
+    fn runnable(&self) -> usize {
+        if self.full {
+            self.admitted
+        } else {
+            self.admitted.saturating_add(self.waiting)
+        }
+    }
+
+    /// Takes account of a step that has begun, and answers whether a sleeper is to be rung: the step is long, somebody
     /// sleeps, there may be a job to go on with, and one more worker would find work.
     pub(crate) fn rings(&mut self, ticket: &Ticket<A>) -> bool {
         let (words, longest) = operand_words(ticket);

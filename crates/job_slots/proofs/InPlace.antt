@@ -1,0 +1,113 @@
+-- The operands of an instruction whose result is computed where it is placed.
+use Rattle.std.proofs.Common.{◌≡◌, ℕ, ℤ, ◌+◌, ◌≤◌, true, false, List, [], ◌∷◌, length, Some, None, refl, sym, ◌∙◌, ap}
+use Rattle.std.proofs.Common.{subst, arith}
+use Rattle.std.proofs.lemmas.Bool.{false≢true}
+use Rattle.vcode_base.specs.declared.op.Op.{Op}
+use Rattle.vcode_base.specs.declared.instr.Instr.TheVariants.{Const, Elementwise, Segmented, If, Move, Call, Return}
+use Rattle.vcode_base.specs.Instructions.{op_of}
+use Rattle.vcode_base.specs.Kinds.{HaveKinds, source_kinds, result_kinds}
+use Rattle.vcode_base.specs.Laws.{ResultsHaveNeededLengths}
+use Rattle.vcode_base.specs.Meaning.{shape, need, second_result_of}
+use Rattle.vcode_reader.specs.Trees.{Item}
+use Rattle.refcounts.specs.Making.{words_at}
+use Rattle.refcounts.specs.SharedState.{IsLive}
+use Rattle.job_memory.specs.JobBlocks.{JobBlocks, own_slots, held_words}
+use Rattle.job_steps.specs.EventLaws.{IsVerified}
+use Rattle.job_steps.specs.Motions.{operand_count, top_entries}
+use Rattle.job_steps.specs.Questions.{Question}
+use Rattle.job_steps.specs.States.{Task, StackEntry, words_of}
+use Rattle.job_steps.specs.StepLaws.{CanBegin, StepsCanBegin}
+use Rattle.job_steps.specs.Steps.{next_item, question_of, sources_of, flag_of}
+use Rattle.job_steps.specs.Tickets.{question_by}
+use Rattle.job_steps.specs.Tracks.{Trace}
+use Rattle.job_slots.specs.declared.in_place.Placement.{Placement}
+use Rattle.job_slots.specs.Answers.{IsNext, IsAnswered}
+use Rattle.job_slots.specs.InPlace.{CanCompute, IsPlaceable, IsResult, is_constant, operands_in}
+use Rattle.job_slots.specs.Slots.{IsRunningSlot}
+use Rattle.job_slots.proofs.Begins.{can_begin}
+use Rattle.job_slots.proofs.EarlyEnds.{same_question}
+use Rattle.job_slots.proofs.Held.{are_there}
+use Rattle.job_slots.proofs.Instructions.{length_by_kinds}
+use Rattle.job_slots.proofs.Operands.{All-top, deep_enough, same_top}
+
+-- what an instruction reads from the stack
+read_on_top : (item : Item) (stack : List StackEntry) → is_constant (op_of item) ≡ false →
+    sources_of item stack ≡ words_of (top_entries (operand_count (op_of item)) stack)
+read_on_top (Const k list) stack reads = absurd (false≢true (sym reads))
+read_on_top (Elementwise e) stack reads = refl
+read_on_top (Segmented s) stack reads = refl
+read_on_top If stack reads = refl
+read_on_top (Move motion lower upper) stack reads = refl
+read_on_top (Call name) stack reads = refl
+read_on_top Return stack reads = refl
+
+module _ (law : StepsCanBegin ℕ) (job : ℕ) (blocks : JobBlocks) (task : Task) (t : Trace ℕ)
+    (run : IsRunningSlot (own_slots job blocks) task t) (verified : IsVerified task) (op : Op) (line : ℕ)
+    (sources : List (List ℤ)) (next : IsNext task t.executed op line sources) (reads : is_constant op ≡ false) where
+  can : CanBegin task t.executed run.state t
+  can = can_begin law (own_slots job blocks) task t run verified
+
+  abbrev item : Item
+  item = (next_item can.call).item
+
+  same : question_of item run.state.stack ≡ question_by op sources
+  same = same_question task t run.state op line sources run.running can next
+
+  op_is : op_of item ≡ op
+  op_is = ap (λ (q : Question). q.op) same
+
+  -- its operands are the words of the blocks at the top of the stack
+  operands_are : sources ≡ operands_in blocks op t.cells
+  operands_are =
+      let there = are_there job blocks.memory t.cells run.state.stack run.holds in
+      let on_top : sources_of item run.state.stack ≡ operands_in blocks (op_of item) t.cells =
+      read_on_top item run.state.stack (ap is_constant op_is ∙ reads)
+      ∙ sym (same_top (words_at blocks.memory) (λ (e : StackEntry). e.value.words) (operand_count (op_of item)) t.cells
+      run.state.stack there.lists) in
+      ap (λ (q : Question). q.sources) (sym same)
+      ∙ (on_top ∙ ap (λ (o : Op). operands_in blocks o t.cells) op_is)
+
+  pub is_placeable : (p : Placement) → HaveKinds (source_kinds op) sources → shape op sources ≡ None →
+      length (result_kinds op) ≡ 1 → need op sources ≡ (p.len, 0) → p.flag ≡ flag_of (question_by op sources) →
+      held_words job blocks + p.len ≤ task.limits.words → IsPlaceable task job blocks t op p
+  is_placeable p kinds shaped one needs flag room = record {
+    question = next.question ∙ ap (λ (s : List (List ℤ)). Some (question_by op s)) operands_are;
+    flag_is = flag ∙ ap (λ (s : List (List ℤ)). flag_of (question_by op s)) operands_are;
+    can = subst (λ (s : List (List ℤ)). CanCompute op s p.len) operands_are
+        (record { kinds = kinds; shaped = shaped; needs = needs });
+    one = one;
+    deep =
+        subst (λ (o : Op). operand_count o ≤ length t.cells) op_is
+        (deep_enough (op_of item) (length t.cells) can.deep);
+    live =
+        All-top (λ id. IsLive blocks.memory id) (operand_count op) t.cells
+        (are_there job blocks.memory t.cells run.state.stack run.holds).live;
+    room = room;
+  }
+
+-- ---- the result
+
+no_word : (words : List ℤ) → length words ≡ 0 → [] ≡ words
+no_word [] none = refl
+no_word (w ∷ ws) none = absurd (omega (arith, none))
+
+-- one result is all that the instruction answers
+pub answered : ResultsHaveNeededLengths → (task : Task) (job : ℕ) (blocks : JobBlocks) (t : Trace ℕ) (op : Op)
+    (p : Placement) → IsPlaceable task job blocks t op p → (words : List ℤ) →
+    IsResult op (operands_in blocks op t.cells) words → IsAnswered task t.executed op p.flag words []
+answered lengths task job blocks t op p placeable words is =
+    let sources = operands_in blocks op t.cells in
+    let needed = lengths op sources (length_by_kinds _ sources placeable.can.kinds) placeable.can.shaped is.no_fault in
+    let second : length (second_result_of op sources) ≡ 0 =
+    ap (λ (n : ℕ × ℕ). n.1) (sym needed ∙ placeable.can.needs) in
+    record {
+      question = question_by op sources;
+      asked = placeable.question;
+      op_is = refl;
+      flag_is = placeable.flag_is;
+      results = record {
+        no_fault = is.no_fault;
+        first_result = is.result_is;
+        second_result = no_word (second_result_of op sources) second;
+      };
+    }

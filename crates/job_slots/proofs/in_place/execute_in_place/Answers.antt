@@ -1,0 +1,146 @@
+use Rattle.std.proofs.Common.{◌≡◌, ◌∙◌, ◌+◌, ℕ, List, [], ◌∷◌, length, map, take, reverse, refl, sym, ap, subst, arith}
+use Rattle.std.proofs.Common.{length-take}
+use Rattle.std.proofs.lemmas.List.{length-reverse, reverse-reverse}
+use Rattle.vcode_base.specs.declared.kind.Kind.{Kind}
+use Rattle.vcode_base.specs.Meaning.{value_fault}
+use Rattle.refcounts.specs.Making.{words_at}
+use Rattle.refcounts.specs.SharedState.{AreLive}
+use Rattle.job_memory.specs.JobBlocks.{AreOwn, held_words, words_of}
+use Rattle.job_steps.specs.Motions.{operand_count, top_entries}
+use Rattle.job_steps.specs.States.{ruled}
+use Rattle.job_steps.specs.Tracks.{Advances}
+use Rattle.job_slots.specs.Commits.{held_under, taken_ids}
+use Rattle.job_slots.specs.Executions.{CanExecute, IsExecuted}
+use Rattle.job_slots.specs.InPlace.{CanCompute, IsResult, words_by}
+use Rattle.job_slots.proofs.Exchanges.{HasReplaced, own_still, placed_then_released}
+use Rattle.job_slots.proofs.Executed.{executed_past}
+use Rattle.job_slots.proofs.InPlace.{answered}
+use Rattle.job_slots.proofs.Operands.{few_operands}
+use Rattle.job_slots.proofs.in_place.execute_in_place.Given.{Over}
+use Rattle.job_slots.proofs.in_place.execute_in_place.Goals as goal
+use Rattle.job_slots.proofs.in_place.execute_in_place.Goals.{
+  After-top-operands,
+  After-release_all,
+  After-go_past,
+  In-Ok,
+}
+
+operands_are : (g : Over) (c : goal.After-top-operands g) →
+    c.top-operands.result.now ≡ taken_ids c.args.op c.args.track.now.cells
+operands_are g c =
+    c.top-operands.ensures
+    ∙ (ap (λ (ks : List Kind). top_entries (length ks) (reverse c.cells.result.now)) c.operand_kinds.ensures
+    ∙ (ap (λ (ids : List ℕ). top_entries (operand_count c.args.op) (reverse ids)) c.cells.ensures
+    ∙ ap (λ (ids : List ℕ). top_entries (operand_count c.args.op) ids) (reverse-reverse c.args.track.now.cells)))
+
+pub place_with-requires-clause-room : goal.place_with-requires-clause-room
+place_with-requires-clause-room g c = omega (arith, c.requires.placeable.room, ap words_of c.requires.grant)
+
+pub place_with-requires-clause-few : goal.place_with-requires-clause-few
+place_with-requires-clause-few g c =
+    let at = goal.at.place_with-requires-clause-few g c in
+    let top = take (operand_count c.args.op) c.args.track.now.cells in
+    omega (
+      arith,
+      ap length (operands_are g at.After-top-operands),
+      length-reverse top,
+      length-take (operand_count c.args.op) c.args.track.now.cells,
+      few_operands c.args.op,
+    )
+
+pub place_with-requires-clause-live : goal.place_with-requires-clause-live
+place_with-requires-clause-live g c =
+    subst (λ (ids : List ℕ). AreLive c.args.blocks.now.memory ids)
+    (sym (operands_are g (goal.at.place_with-requires-clause-live g c).After-top-operands)) c.requires.placeable.live
+
+pub place_with-requires-clause-can : goal.place_with-requires-clause-can
+place_with-requires-clause-can g c =
+    subst (λ (ids : List ℕ). CanCompute c.args.op (map (words_at c.args.blocks.now.memory) ids) c.args.placement.len)
+    (sym (operands_are g (goal.at.place_with-requires-clause-can g c).After-top-operands)) c.requires.placeable.can
+
+-- the words that were written are the result
+result_is : (g : Over) (c : In-Ok g) →
+    IsResult c.args.op (map (words_at c.args.blocks.now.memory) (taken_ids c.args.op c.args.track.now.cells))
+    c.in-Ok.ensures.placed.words
+result_is g c =
+    subst (λ (ids : List ℕ). IsResult c.args.op (map (words_at c.args.blocks.now.memory) ids)
+    c.in-Ok.ensures.placed.words) (operands_are g (goal.at.In-Ok g c).After-top-operands) c.in-Ok.ensures.placed.so
+
+can : (g : Over) (c : In-Ok g) →
+    CanExecute c.args.number c.args.blocks.now (ruled c.args.rule c.args.job.now) c.args.track.now c.args.op
+    c.args.placement.flag c.in-Ok.ensures.placed.words []
+can g c =
+    c.steps_execute.ensures c.args.number c.args.blocks.now (ruled c.args.rule c.args.job.now) c.args.track.now
+    c.args.op c.args.placement.flag c.in-Ok.ensures.placed.words [] c.requires.flying c.requires.verified
+    c.used-used.ensures.tidy
+    (answered c.results_have_needed_lengths.ensures (ruled c.args.rule c.args.job.now) c.args.number c.args.blocks.now
+    c.args.track.now c.args.op c.args.placement c.requires.placeable c.in-Ok.ensures.placed.words (result_is g c))
+
+pub release_all-requires-clause-own : goal.release_all-requires-clause-own
+release_all-requires-clause-own g c =
+    let at = goal.at.release_all-requires-clause-own g c in
+    let placed = c.in-Ok.ensures.placed in
+    let taken : List ℕ = taken_ids c.args.op c.args.track.now.cells in
+    let still = own_still c.args.number c.args.blocks.now c.place_with.new.self c.in-Ok.id placed.words taken
+    placed.empty
+    placed.placed (can g at.In-Ok).can_settle.own in
+    subst (λ (ids : List ℕ). AreOwn c.args.number c.place_with.new.self ids)
+    (sym (operands_are g at.After-top-operands))
+    still
+
+replaced : (g : Over) (c : goal.After-release_all g) →
+    HasReplaced c.args.rule c.args.number (taken_ids c.args.op c.args.track.now.cells) c.in-Ok.id
+    c.in-Ok.ensures.placed.words c.args.blocks.now c.release_all.new.self
+replaced g c =
+    let at = goal.at.After-release_all g c in
+    let placed = c.in-Ok.ensures.placed in
+    placed_then_released (record {
+      only_free = c.releases_only_free.ensures;
+      only_their_job = c.releases_change_only_their_job.ensures;
+    }) c.args.rule c.args.number (taken_ids c.args.op c.args.track.now.cells) c.top-operands.result.now c.in-Ok.id
+    placed.words c.args.blocks.now c.place_with.new.self c.release_all.new.self placed.in_range placed.empty
+    placed.placed
+    (operands_are g at.After-top-operands) c.release_all.ensures (can g at.In-Ok).can_settle.own
+
+pub overflow_add-held : goal.overflow_add-held
+overflow_add-held g c =
+    omega (arith, c.requires.placeable.room, c.held-held.ensures.value, c.args.job.now.limits.words_in_range)
+
+pub go_past-requires-clause-can : goal.go_past-requires-clause-can
+go_past-requires-clause-can g c = (can g (goal.at.go_past-requires-clause-can g c).In-Ok).goes_past
+
+pub go_past-requires-clause-given : goal.go_past-requires-clause-given
+go_past-requires-clause-given g c = sym c.requires.placeable.one
+
+executed : (g : Over) (c : goal.After-go_past g) →
+    IsExecuted c.args.number c.args.blocks.now c.release_all.new.self (ruled c.args.rule c.args.job.now)
+    c.args.track.now c.go_past.new.track
+executed g c =
+    let at = goal.at.After-go_past g c in
+    let placed = c.in-Ok.ensures.placed in
+    let old : ℕ = held_words c.args.number c.args.blocks.now in
+    let new : ℕ = held_words c.args.number c.release_all.new.self in
+    let held : ℕ = held_under c.args.rule c.args.number c.args.op c.args.track.now.cells c.args.blocks.now in
+    let here = replaced g at.After-release_all in
+    let before : c.held-held.result + c.args.placement.len ≡ old + length placed.words =
+    omega (arith, c.held-held.ensures.value, placed.long) in
+    let words : c.words_by-words.result ≡ held + length placed.words =
+    c.words_by-words.ensures
+    ∙ (ap (λ (n : ℕ). words_by c.args.rule n c.held.result) before
+    ∙ (ap (λ (n : ℕ). words_by c.args.rule (old + length placed.words) n) c.held.ensures.value ∙ here.counted)) in
+    let all : c.words_by-words.result ≡ held + length placed.words + 0 = omega (arith, words) in
+    executed_past (can g at.In-Ok) (record { given = sym c.requires.placeable.one; settled = here.is }) refl
+    (subst (λ (n : ℕ). Advances c.args.job.now.verified c.args.op c.args.placement.flag (c.in-Ok.id ∷ []) n
+    c.args.track.now c.go_past.new.track) all c.go_past.ensures)
+
+pub returns-in-Ok-clause-after : goal.returns-in-Ok-clause-after
+returns-in-Ok-clause-after g c = (executed g (goal.at.returns-in-Ok-clause-after g c).After-go_past).after
+
+pub returns-in-Ok-clause-others : goal.returns-in-Ok-clause-others
+returns-in-Ok-clause-others g c = (executed g (goal.at.returns-in-Ok-clause-others g c).After-go_past).others
+
+pub returns-in-Err-clause-fault : goal.returns-in-Err-clause-fault
+returns-in-Err-clause-fault g c =
+    ap (λ (ids : List ℕ). value_fault c.args.op (map (words_at c.args.blocks.now.memory) ids))
+    (sym (operands_are g (goal.at.returns-in-Err-clause-fault g c).After-top-operands))
+    ∙ c.in-Err.ensures.fault

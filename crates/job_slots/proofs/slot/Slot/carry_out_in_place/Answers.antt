@@ -1,0 +1,56 @@
+use Rattle.std.proofs.Common.{◌≡◌, ℕ, Some, sym, ◌∙◌, ap, subst}
+use Rattle.vcode_base.specs.Meaning.{value_fault}
+use Rattle.job_steps.specs.States.{ruled}
+use Rattle.job_steps.specs.Tracks.{Trace}
+use Rattle.job_slots.specs.InPlace.{IsPlaceable, operands_in}
+use Rattle.job_slots.specs.Slots.{SlotState}
+use Rattle.job_slots.proofs.Committed.{IsCommitted, executed_inside, committed}
+use Rattle.job_slots.proofs.slot.Slot.carry_out_in_place.Given.{Over}
+use Rattle.job_slots.proofs.slot.Slot.carry_out_in_place.Goals as goal
+use Rattle.job_slots.proofs.slot.Slot.carry_out_in_place.Goals.{After-go_on}
+
+pub execute_in_place-requires-clause-placeable : goal.execute_in_place-requires-clause-placeable
+execute_in_place-requires-clause-placeable g c =
+    subst (λ (s : SlotState). IsPlaceable (ruled c.args.rule c.args.job.now) c.args.number c.args.blocks.now s.trace
+    c.args.op c.args.placement) (sym c.self.view_is) c.requires.placeable
+
+carried : (g : Over) (c : goal.After-go_on g) →
+    IsCommitted c.args.number (ruled c.args.rule c.args.job.now) c.args.self.now c.execute_in_place.new.blocks
+    c.go_on.result c.go_on.new.self
+carried g c =
+    let mid : SlotState = record {
+      status = c.self.inside.status;
+      trace = c.execute_in_place.new.track;
+      outcome = c.self.inside.outcome;
+    } in
+    let executed = executed_inside c.args.number (ruled c.args.rule c.args.job.now) c.args.self.now c.self.inside.track
+    c.execute_in_place.new.track c.args.blocks.now _ (ap (λ (s : SlotState). s.trace) c.self.view_is)
+    c.in-Ok.ensures.after c.execute_in_place.ensures.limits c.in-Ok.ensures.others
+    c.execute_in_place.ensures.same_grant in
+    committed c.reached.ensures c.end_is_own.ensures c.args.number (ruled c.args.rule c.args.job.now) c.args.self.now
+    c.args.blocks.now _ c.requires.shows c.requires.flying mid executed
+    c.go_on.result c.go_on.new.self (record { done = c.go_on.ensures.done; ended = c.go_on.ensures.ended })
+
+pub returns-in-Ok-clause-carried : goal.returns-in-Ok-clause-carried
+returns-in-Ok-clause-carried g c =
+    let is = carried g (goal.at.returns-in-Ok-clause-carried g c).After-go_on in
+    record { goes_on = is.goes_on; returned = is.returned; standing = is.standing }
+
+pub returns-in-Ok-clause-shows : goal.returns-in-Ok-clause-shows
+returns-in-Ok-clause-shows g c = (carried g (goal.at.returns-in-Ok-clause-shows g c).After-go_on).shows
+
+pub returns-in-Err-clause-unchanged : goal.returns-in-Err-clause-unchanged
+returns-in-Err-clause-unchanged g c =
+    let same = c.in-Err.ensures.unchanged in (
+      ap (λ (t : Trace ℕ). let s : SlotState = record {
+        status = c.self.inside.status;
+        trace = t;
+        outcome = c.self.inside.outcome;
+      } in s) same.0 ∙ c.self.view_is,
+      same.1,
+    )
+
+pub returns-in-Err-clause-fault : goal.returns-in-Err-clause-fault
+returns-in-Err-clause-fault g c =
+    subst (λ (s : SlotState). value_fault c.args.op (operands_in c.args.blocks.now c.args.op s.trace.cells)
+    ≡ Some c.in-Err.fault) c.self.view_is c.in-Err.ensures.fault

@@ -1,0 +1,66 @@
+-- When an instruction's result can be computed where it is placed.
+use Rattle.std.specs.Prelude.{◌≡◌, ℕ, ℤ, ◌+◌, ◌≤◌, Bool, true, false, List, length, map, Some, None}
+use Rattle.vcode_base.specs.declared.op.Op.{Op}
+use Rattle.vcode_base.specs.declared.op.Op.TheVariants.{Const}
+use Rattle.vcode_base.specs.declared.rule.Rule.{Rule}
+use Rattle.vcode_base.specs.declared.rule.Rule.TheVariants.{First, Second}
+use Rattle.vcode_base.specs.Kinds.{HaveKinds, source_kinds, result_kinds}
+use Rattle.vcode_base.specs.Meaning.{shape, need, value_fault, result_of}
+use Rattle.refcounts.specs.Making.{words_at}
+use Rattle.refcounts.specs.SharedState.{AreLive}
+use Rattle.job_memory.specs.JobBlocks.{JobBlocks, held_words}
+use Rattle.job_steps.specs.Motions.{operand_count}
+use Rattle.job_steps.specs.States.{Task}
+use Rattle.job_steps.specs.Steps.{flag_of}
+use Rattle.job_steps.specs.Tickets.{question_by}
+use Rattle.job_steps.specs.Tracks.{Trace}
+use Rattle.job_steps.specs.declared.event.Event.TheVariants as event
+use Rattle.job_steps.specs.Events.{next_standing}
+use Rattle.job_steps.specs.Standings.{Live, Ended}
+use Rattle.job_slots.specs.declared.in_place.Placement.{Placement}
+use Rattle.job_slots.specs.Answers.{question_at}
+use Rattle.job_slots.specs.Commits.{taken_ids}
+use Rattle.job_slots.specs.Slots.{SlotState, standing_of}
+
+abbrev pub is_constant : Op → Bool
+is_constant (Const k) = true
+is_constant op = false
+
+-- the instruction makes one result of so many words of these operands, unless their values have a fault
+pub record CanCompute (op : Op) (sources : List (List ℤ)) (len : ℕ) : Type 0 where
+  pub kinds : HaveKinds (source_kinds op) sources
+  pub shaped : shape op sources ≡ None
+  pub needs : need op sources ≡ (len, 0)
+
+-- the operands have no fault, and this is the result
+pub record IsResult (op : Op) (sources : List (List ℤ)) (words : List ℤ) : Type 0 where
+  pub no_fault : value_fault op sources ≡ None
+  pub result_is : words ≡ result_of op sources
+
+-- the words of the operands, from the bottom of the stack up
+abbrev pub operands_in : JobBlocks → Op → List ℕ → List (List ℤ)
+operands_in blocks op cells = map (words_at blocks.memory) (taken_ids op cells)
+
+-- this instruction is the next of the job, its operands are on the stack, and the job has room for its one result of so
+-- many words beside them
+pub record IsPlaceable (task : Task) (job : ℕ) (blocks : JobBlocks) (t : Trace ℕ) (op : Op) (p : Placement)
+    : Type 0 where
+  pub question : question_at task t.executed ≡ Some (question_by op (operands_in blocks op t.cells))
+  pub flag_is : p.flag ≡ flag_of (question_by op (operands_in blocks op t.cells))
+  pub can : CanCompute op (operands_in blocks op t.cells) p.len
+  pub one : length (result_kinds op) ≡ 1
+  pub deep : operand_count op ≤ length t.cells
+  pub live : AreLive blocks.memory (taken_ids op t.cells)
+  pub room : held_words job blocks + p.len ≤ task.limits.words
+
+-- the instruction is executed, and the job goes on or has returned
+pub record Carries (job : ℕ) (task : Task) (old new : SlotState) (on : Bool) : Type 0 where
+  pub goes_on : on ≡ true →
+      next_standing (event.Finish job) task (standing_of old) ≡ Some (Live (old.trace.executed + 1))
+  pub returned : on ≡ false → next_standing (event.Finish job) task (standing_of old) ≡ Some Ended
+  pub standing : Some (standing_of new) ≡ next_standing (event.Finish job) task (standing_of old)
+
+-- the number that counts under a rule
+abbrev pub words_by : Rule → (under_first under_second : ℕ) → ℕ
+words_by First under_first under_second = under_first
+words_by Second under_first under_second = under_second
