@@ -1,21 +1,26 @@
 # make try     builds the program without proving anything, and runs the example sum_of_two on it
-# make         the program, proved, at bin/vjobs
+# make         the program, proved, at bin/vjobs: crates that don't use each other are proved side by side
 # make run     runs the example sum_of_two
-# make test    the gate: every proof from nothing, the wrong bodies to be refused, all tests, tables and examples
+# make packing the programs around it, proved: bin/vjobs-pack and bin/vjobs-split
+# make test    runs all tests, tables and examples without proving anything
+# make gate    the gate: every proof from nothing, the wrong bodies to be refused, all tests, tables and examples
 # make install PREFIX=..   installs bin/vjobs, which make has built, its man page, the pages and the examples; /usr/local without PREFIX
-# make dist LOG=FILE   packs the same into bin/vjobs-COMMIT.tar.gz; FILE is the output of make test on this commit
+# make dist LOG=FILE   packs the same into bin/vjobs-COMMIT.tar.gz; FILE is the output of make gate on this commit
 # make names   checks that every name exists which a page, a comment or a wrong body uses
 # make check CRATE=name   proves one crate and runs its tests
 # make bench   times reading, the steps of jobs, workers, the instructions beside plain C, the memory, and the verifier; no test
 # make soak    runs batches on 1 to 16 workers for an hour, and stops at the first report that differs; not in the gate
 # make models  compares the programs with a second writing of the rules, in Python, on random cases; not in the gate
+# make hostile MINUTES=60   runs batches that were changed at random for so many minutes, and compares each report with the
+#              second writing, its memory with the sum in docs/OPERATING.md, and its time with its limits; not in the gate
 
-.PHONY: all try run test install dist names check bench soak models clean
+.PHONY: all try run packing test gate install dist names check bench soak hostile models clean
 
 PREFIX = /usr/local
+MINUTES = 60
 
 all:
-	cd crates/vjobs && rt run -- --help > /dev/null
+	.ci/prove vjobs
 	mkdir -p bin
 	cp crates/vjobs/out/vjobs bin/vjobs
 
@@ -26,7 +31,18 @@ try:
 run: all
 	bin/vjobs examples/sum_of_two.vcode
 
+# Without an argument vjobs-split ends with 2.
+packing:
+	.ci/prove vjobs_pack
+	cd crates/vjobs_split && { rt run > out.log 2>&1 || test -x out/vjobs_split || { cat out.log; exit 1; }; }; rm -f out.log
+	mkdir -p bin
+	cp crates/vjobs_pack/out/vjobs_pack bin/vjobs-pack
+	cp crates/vjobs_split/out/vjobs_split bin/vjobs-split
+
 test:
+	.ci/try
+
+gate:
 	rt ci
 
 install: bin/vjobs
@@ -57,11 +73,11 @@ bench: all
 soak: all
 	python3 bench/soak.py 60
 
+hostile: all
+	python3 models/hostile.py $(MINUTES)
+
 models: all
-	cd crates/worked_texts && rt run < stdin > /dev/null
-	cd crates/worked_vectors && rt run < stdin > /dev/null
-	cd crates/worked_regions && rt run < stdin > /dev/null
-	cd crates/worked_machine && rt run < stdin > /dev/null
+	.ci/prove worked_texts worked_vectors worked_regions worked_machine
 	python3 models/examples.py
 	python3 models/compare.py
 

@@ -1,10 +1,12 @@
 #!/usr/bin/env python3
-"""Times the memory of a region: releases and makes of blocks of mixed lengths, in no order, and takes and gives of ranges of
-words beside a plain list of holes in C.
+"""Times the memory of a region: releases and makes of blocks of mixed lengths, in no order, and takes and gives of
+ranges of words beside a plain list of holes in C. It also prints the most memory that `bin/vjobs` takes for results that
+share a vector.
 
-Run it at the top of the repository. It builds crates/bench_memory (proving it and what it stands on, unless that was done) and
-bench/plain_holes.c. The words that packing moves are those of the same load by a plain model of first fit with packing, written
-here: the memory itself counts none. The programs and the model have to end with the same blocks, words and holes.
+Run it at the top of the repository, after `make`. It builds crates/bench_memory (proving it and what it stands on,
+unless that was done) and bench/plain_holes.c. The words that packing moves are those of the same load by a plain model
+of first fit with packing, written here: the memory itself counts none. The programs and the model have to end with the
+same blocks, words and holes.
 """
 import bisect
 import pathlib
@@ -137,6 +139,37 @@ def print_takes(lines):
     print(f"a reset takes {nanoseconds(resets, '') / 1000:.1f} microseconds")
 
 
+# ---- results that share a vector
+
+SHARED_RESULTS, SHARED_WORDS = 256, 1_000_000
+# The address space that three jobs with such results have to keep within.
+THREE_JOBS_BYTES = 3_000_000_000
+
+
+def job(results, code):
+    signature = f"MAIN () -> ({' '.join(['INT'] * results)})"
+    lines = ["JOB t 1048576 300 1 300", "SIGNATURES", signature, "CODE", "FUNC MAIN", *code, "RET", "END"]
+    return "".join(f"{line}\n" for line in lines).encode()
+
+
+def most_megabytes(batch, workers, *limited):
+    """The most memory of a run. A small program starts it, since a process begins with the most of what started it."""
+    words = ["time", "-f", "%M", *limited, str(TOP / "bin" / "vjobs"), "--workers", str(workers), "-"]
+    run = subprocess.run(words, input=batch, check=True, stdout=subprocess.DEVNULL, stderr=subprocess.PIPE)
+    return int(run.stderr) * 1024 / 1_000_000
+
+
+def print_shared_results():
+    vector = ["CONST INT 0", "CONST INT 1", f"CONST INT {SHARED_WORDS}", "MAKE_SEGDES", "INDEX"]
+    many, few = job(SHARED_RESULTS, [*vector, *["COPY 1 0"] * (SHARED_RESULTS - 1)]), job(0, [])
+    print(f"megabytes of a job that returns one vector of {SHARED_WORDS} words {SHARED_RESULTS} times,"
+          " of one RET with the same limits, and of three such jobs")
+    for workers in (1, 4):
+        of_many, of_few = most_megabytes(many, workers), most_megabytes(few, workers)
+        of_three = most_megabytes(many * 3, workers, "prlimit", f"--as={THREE_JOBS_BYTES}")
+        print(f"  {workers} workers: {of_many:.1f}, {of_few:.1f}, {of_three:.1f}")
+
+
 def main():
     crate = TOP / "crates" / "bench_memory"
     subprocess.run(["rt", "run"], cwd=crate, check=True, stdout=subprocess.DEVNULL)
@@ -145,6 +178,7 @@ def main():
     lines = lines_of(program, "time")
     print_blocks(lines[:2], LONG)
     print_takes(lines[2:])
+    print_shared_results()
 
 
 if __name__ == "__main__":

@@ -72,7 +72,7 @@ def verified(signatures_line, signatures, code_line, code):
     return functions
 
 
-def job_lines(job, region, is_second):
+def job_lines(job, region, is_second, run):
     begun, _, numbers, signatures, code = job
     limits = Limits(*numbers)
     if limits.words > region:
@@ -80,8 +80,8 @@ def job_lines(job, region, is_second):
     return run(verified(*signatures, *code), limits, is_second)
 
 
-def report(data, region):
-    """The report of a batch over a region of so many words, and the exit status."""
+def report(data, region, run=run):
+    """The report of a batch over a region of so many words, and the exit status; `run` says how a job ends."""
     try:
         is_second, jobs = jobs_of(data)
     except BatchRefused as refusal:
@@ -89,7 +89,7 @@ def report(data, region):
     lines, refused = [], 0
     for number, job in enumerate(jobs, 1):
         try:
-            lines.append(f"JOB {number} {job[1]} {job_lines(job, region, is_second)}")
+            lines.append(f"JOB {number} {job[1]} {job_lines(job, region, is_second, run)}")
         except Fault as fault:
             refused += 1
             lines.append(f"JOB {number} {job[1]} REFUSED {fault}")

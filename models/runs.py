@@ -167,9 +167,9 @@ def shown(entry):
     return f"{entry.kind.upper()} ({' '.join(words)})"
 
 
-def run(functions, limits, is_second=False):
+def run(functions, limits, is_second=False, of=Run):
     """How a verified program ends within these limits, and what it used, as the report has it."""
-    job = Run(functions, limits, is_second)
+    job = of(functions, limits, is_second)
     try:
         while job.calls:
             job.step()

@@ -22,12 +22,12 @@ use Rattle.batch_front.specs.Runs.{WritesReport, WritesFront, WritesWhole}
 use Rattle.batch_front.proofs.Bytes.{front_at_stop, front_when_full, reads_more, reads_none}
 use Rattle.batch_front.proofs.Bytes.{rest_at_stop, rest_is_some, rest_when_full, some_rest, consumes_nothing}
 
--- the fault of a result, and another one where it has none
+-- the fault of a result, and another one if it has none
 abbrev pub fault_in : {T : Type 0} → FrontFault → Result T FrontFault → FrontFault
 fault_in other (Ok v) = other
 fault_in other (Err fault) = fault
 
--- some bytes were read and fed, and so many are left of those that may be read
+-- some bytes were read and fed, and this number is left of those that may be read
 pub record HasFed (old new : Option (List ℕ)) (feed : FeedState) (left : ℕ) : Type 0 where
   pub bytes : List ℕ
   pub consumed : Consumes old new bytes
@@ -41,8 +41,9 @@ fed_nothing a feed h = record { bytes = []; consumed = consumes_nothing a; come 
 front_of : (n : ℕ) (xs ys : List ℕ) → n ≤ length xs → take n (xs ++ ys) ≡ take n xs
 front_of n xs ys h = grind (arith, common_steps)
 
--- one piece more: the first bytes of a buffer, behind which others lie
-pub fed_more : (a b c : Option (List ℕ)) (old new : FeedState) (left n : ℕ) (buffer behind : List ℕ) → HasFed a b old left
+-- one piece more: the first bytes of a buffer, after which others lie
+pub fed_more : (a b c : Option (List ℕ)) (old new : FeedState) (left n : ℕ) (buffer behind : List ℕ)
+    → HasFed a b old left
     → Consumes b c (take n buffer) → n ≤ length buffer → n ≤ left
     → ((before : List ℕ) → HasCome old before → HasCome new (before ++ take n (buffer ++ behind)))
     → HasFed a c new (left - n)
@@ -101,7 +102,8 @@ fed_to_end a b c feed left k cs h p none end =
     }
 
 -- a reader that gave as many bytes as may be read
-pub fed_to_limit : (a b : Option (List ℕ)) (feed : FeedState) (left : ℕ) → HasFed a b feed left → left ≡ 0 → IsFed a b feed
+pub fed_to_limit : (a b : Option (List ℕ)) (feed : FeedState) (left : ℕ) → HasFed a b feed left → left ≡ 0
+    → IsFed a b feed
 fed_to_limit a b feed left h none =
     let room = h.room in
     let full : length h.bytes ≡ MOST_BATCH_BYTES + 1 = omega (arith, room, none) in
@@ -120,7 +122,8 @@ fed_no_further a b feed left h =
 -- ---- the batch that was read
 
 -- its report was written, and its status is this
-pub report_of_input : (region : ℕ) (old : Option (List ℕ)) (batch : Batch (List JobEntry)) (before after : Option (List ℕ))
+pub report_of_input : (region : ℕ) (old : Option (List ℕ)) (batch : Batch (List JobEntry))
+    (before after : Option (List ℕ))
     (status : Status) → IsBatchIn region old batch → Appends before after (report_of batch) → status ≡ status_of batch
     → WritesReport region old before after status
 report_of_input region None batch before after status h w s = tt
@@ -128,7 +131,8 @@ report_of_input region (Some input) batch before after status h w s =
     (batch, subst (λ bytes. IsBatch region bytes batch) h.first h.comes, w, s)
 
 -- a front of its report was written
-pub front_of_input : (region : ℕ) (old : Option (List ℕ)) (batch : Batch (List JobEntry)) (before after : Option (List ℕ))
+pub front_of_input : (region : ℕ) (old : Option (List ℕ)) (batch : Batch (List JobEntry))
+    (before after : Option (List ℕ))
     (n : ℕ) → IsBatchIn region old batch → Appends before after (take n (report_of batch))
     → WritesFront region old before after
 front_of_input region None batch before after n h w = tt
@@ -136,7 +140,8 @@ front_of_input region (Some input) batch before after n h w =
     (batch, subst (λ bytes. IsBatch region bytes batch) h.first h.comes, n, w)
 
 -- all of its report was written
-pub whole_of_input : (region : ℕ) (old : Option (List ℕ)) (batch : Batch (List JobEntry)) (before after : Option (List ℕ))
+pub whole_of_input : (region : ℕ) (old : Option (List ℕ)) (batch : Batch (List JobEntry))
+    (before after : Option (List ℕ))
     → IsBatchIn region old batch → Appends before after (report_of batch) → WritesWhole region old before after
 whole_of_input region None batch before after h w = tt
 whole_of_input region (Some input) batch before after h w =
@@ -168,7 +173,8 @@ at_err (Ok status) fault e p = cc
 at_err (Err other) fault e p = p
 
 pub whole_told : {F : Type 0} (region : ℕ) (old : Option (List ℕ)) (text : List ℕ) (is : Status)
-    (before after : Option (List ℕ)) (result : Result Status FrontFault) (fault : FrontFault) → IsTold region old text is
+    (before after : Option (List ℕ)) (result : Result Status FrontFault) (fault : FrontFault)
+    → IsTold region old text is
     → OnErr result (F → Appends before after text) → result ≡ Err fault → F → WritesWhole region old before after
 whole_told region old text is before after result fault told all e flushing =
     whole_of_input region old told.batch before after told.comes

@@ -1,5 +1,23 @@
 -- A job's own lines of a report.
-use Rattle.std.proofs.Common.{◌≡◌, ℕ, zero, suc, List, [], ◌∷◌, slice_get, Option, Some, Result, Ok, refl, sym, ap, ◌∙◌, subst}
+use Rattle.std.proofs.Common.{
+  ◌≡◌,
+  ℕ,
+  zero,
+  suc,
+  List,
+  [],
+  ◌∷◌,
+  slice_get,
+  Option,
+  Some,
+  Result,
+  Ok,
+  refl,
+  sym,
+  ap,
+  ◌∙◌,
+  subst,
+}
 use Rattle.std.specs.Prelude.{option_map}
 use Rattle.std.proofs.lemmas.Option.{none-some, same_Some}
 use Rattle.vcode_base.specs.declared.rule.Rule.{Rule}
@@ -48,7 +66,8 @@ pub own_lines_in_batches : OneEntry → OwnLinesInBatches
 own_lines_in_batches one region place rule job input other entries others batch again at there =
     let x = entry_at region place rule job input entries batch at in
     let y = entry_at region place rule job other others again there in
-    let text = λ (o : Option JobEntry). option_map (λ (entry : JobEntry). entry_text place (ruled_entry rule entry)) o in
+    let text = λ (o : Option JobEntry). option_map (λ (entry : JobEntry). entry_text place
+    (ruled_entry rule entry)) o in
     ap text x.is_at
     ∙ ap (λ (entry : JobEntry). Some (entry_text place (ruled_entry rule entry)))
     (one region job x.entry y.entry x.is_entry y.is_entry)

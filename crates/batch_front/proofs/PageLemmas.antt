@@ -1,6 +1,40 @@
 -- A report on its way to a writer.
-use Rattle.std.proofs.Common.{◌≡◌, ℕ, zero, suc, ◌+◌, ◌≤◌, List, [], ◌∷◌, ◌++◌, length, take, get_or, Option, None, Some, Ok, Err}
-use Rattle.std.proofs.Common.{◌↔◌, Bool, inl, inr, true, false, refl, sym, ap, subst, ◌∙◌, arith, append_assoc, append-nil}
+use Rattle.std.proofs.Common.{
+  ◌≡◌,
+  ℕ,
+  zero,
+  suc,
+  ◌+◌,
+  ◌≤◌,
+  List,
+  [],
+  ◌∷◌,
+  ◌++◌,
+  length,
+  take,
+  get_or,
+  Option,
+  None,
+  Some,
+  Ok,
+  Err,
+}
+use Rattle.std.proofs.Common.{
+  ◌↔◌,
+  Bool,
+  inl,
+  inr,
+  true,
+  false,
+  refl,
+  sym,
+  ap,
+  subst,
+  ◌∙◌,
+  arith,
+  append_assoc,
+  append-nil,
+}
 use Rattle.std.specs.Prelude.{OnOk, OnErr, IsErrOf}
 use Rattle.std.specs.declared.result.Result.{Result}
 use Rattle.std.specs.Io.KnownBytes.{Appends, Keeps}
@@ -20,7 +54,8 @@ use Rattle.batch_front.specs.Pages.{Ends, HasSent, IsSaid, IsWritten, Puts, Send
 -- ---- bytes
 
 -- what is appended in two steps
-appends_two : (a b c : Option (List ℕ)) (xs ys zs : List ℕ) → Appends a b xs → Appends b c ys → zs ≡ xs ++ ys → Appends a c zs
+appends_two : (a b c : Option (List ℕ)) (xs ys zs : List ℕ) → Appends a b xs → Appends b c ys → zs ≡ xs ++ ys
+    → Appends a c zs
 appends_two None b c xs ys zs p q e = tt
 appends_two (Some x) None c xs ys zs p q e = absurd p
 appends_two (Some x) (Some y) None xs ys zs p q e = absurd q
@@ -57,7 +92,8 @@ not_both writer count h (inl failed) = true≢false (sym failed ∙ h.0)
 not_both writer count h (inr many) = let few = h.1 in omega (arith, few, many)
 
 -- more is said, and kept back
-said_more : {D : Type 0} (contents : D → Option (List ℕ)) (spent : ℕ) (start : Option (List ℕ)) (said kept text : List ℕ)
+said_more : {D : Type 0} (contents : D → Option (List ℕ)) (spent : ℕ) (start : Option (List ℕ))
+    (said kept text : List ℕ)
     (writer : Device D) → IsSaid contents spent start said kept writer
     → IsSaid contents spent start (said ++ text) (kept ++ text) writer
 said_more contents spent start said kept text writer (inl (worked, h)) =
@@ -79,7 +115,7 @@ said_more contents spent start said kept text writer (inr (fault, h)) =
       },
     )
 
--- where a test says that a device isn't without a fault
+-- if a test says that a device isn't without a fault
 pub not_working : {P : Type 0} (works : Bool) → ((works ≡ true) ↔ P) → works ≡ false → P → ⊥
 not_working works iff off p = true≢false (sym (iff.1 p) ∙ off)
 
@@ -106,7 +142,8 @@ sends_bytes contents spent kept old new (Ok done) well all front worked fault at
       worked,
       record {
         sent = said;
-        appended = appends_two start (contents (inner_of old)) (contents (inner_of new)) h.sent kept said h.appended all h.all;
+        appended = appends_two start (contents (inner_of old)) (contents
+            (inner_of new)) h.sent kept said h.appended all h.all;
         all = sym (append-nil said);
       },
     )
@@ -117,7 +154,8 @@ sends_bytes contents spent kept old new (Err e) well all front worked fault at_w
         at_write = at_write;
         front = (
           length h.sent + front.0,
-          appends_two start (contents (inner_of old)) (contents (inner_of new)) h.sent (take front.0 kept) _ h.appended front.1
+          appends_two start (contents (inner_of old)) (contents (inner_of new)) h.sent
+              (take front.0 kept) _ h.appended front.1
               (ap (λ (l : List ℕ). take (length h.sent + front.0) l) h.all ∙ front_more front.0 h.sent kept),
         );
       },
@@ -138,15 +176,16 @@ puts_nothing {contents = contents} {page = page} {writer = writer} = record {
 -- one text after another
 pub puts_then : {D : Type 0} {contents : D → Option (List ℕ)} {p q r : Page} {a b c : Device D} {text more : List ℕ}
     → Puts contents p a q b text → Puts contents q b r c more → Puts contents p a r c (text ++ more)
-puts_then {contents = contents} {p = p} {q = q} {r = r} {b = b} {c = c} {text = text} {more = more} first second = record {
-  spent = second.spent ∙ first.spent;
-  said = λ start said h.
-      let there = subst (λ (s : ℕ). IsSaid contents s start (said ++ text) q.bytes.items b) (sym first.spent)
-      (first.said start said h) in
-      let then = subst (λ (s : ℕ). IsSaid contents s start ((said ++ text) ++ more) r.bytes.items c) first.spent
-      (second.said start (said ++ text) there) in
-      subst (λ (l : List ℕ). IsSaid contents p.spent start l r.bytes.items c) (append_assoc said text more) then;
-}
+puts_then {contents = contents} {p = p} {q = q} {r = r} {b = b} {c = c} {text = text} {more = more} first second =
+    record {
+      spent = second.spent ∙ first.spent;
+      said = λ start said h.
+          let there = subst (λ (s : ℕ). IsSaid contents s start (said ++ text) q.bytes.items b) (sym first.spent)
+          (first.said start said h) in
+          let then = subst (λ (s : ℕ). IsSaid contents s start ((said ++ text) ++ more) r.bytes.items c) first.spent
+          (second.said start (said ++ text) there) in
+          subst (λ (l : List ℕ). IsSaid contents p.spent start l r.bytes.items c) (append_assoc said text more) then;
+    }
 
 -- the same text in other words
 pub puts_same : {D : Type 0} {contents : D → Option (List ℕ)} {p q : Page} {a b : Device D} {text same : List ℕ}
@@ -181,15 +220,17 @@ puts_sent contents page new old writer sends none same = record {
       (subst (λ (l : List ℕ). IsSaid contents page.spent start said l writer) (sym none) (sends start said h));
 }
 
--- where nothing is kept back, a text is sent at once
-pub puts_at_once : {D : Type 0} (contents : D → Option (List ℕ)) (page new : Page) (old writer : Device D) (text : List ℕ)
+-- if nothing is kept back, a text is sent at once
+pub puts_at_once : {D : Type 0} (contents : D → Option (List ℕ)) (page new : Page) (old writer : Device D)
+    (text : List ℕ)
     → Sends contents page.spent text old writer → page.bytes.items ≡ [] → new.bytes.items ≡ page.bytes.items
     → new.spent ≡ page.spent → Puts contents page old new writer text
 puts_at_once contents page new old writer text sends none kept same = record {
   spent = same;
   said = λ start said h.
       subst (λ (l : List ℕ). IsSaid contents page.spent start (said ++ text) l writer) (sym (kept ∙ none))
-      (sends start (said ++ text) (subst (λ (l : List ℕ). IsSaid contents page.spent start (said ++ text) (l ++ text) old) none
+      (sends start (said ++ text) (subst (λ (l : List ℕ). IsSaid contents page.spent start (said ++ text)
+      (l ++ text) old) none
       (said_more contents page.spent start said page.bytes.items text old h)));
 }
 
@@ -248,7 +289,8 @@ ends_flushed contents page new old sent writer result puts none well kept flushe
     ended (subst (λ (l : List ℕ). IsSaid contents page.spent start l new.bytes.items sent) (append-nil said)
     (puts.said start said h))
   where
-    here : HasSent start (contents (inner_of sent)) said new.bytes.items → Appends start (contents (inner_of writer)) said
+    here : HasSent start (contents (inner_of sent)) said new.bytes.items
+        → Appends start (contents (inner_of writer)) said
     here h =
         appends_kept start (contents (inner_of sent)) (contents (inner_of writer)) said
         (appends_same start (contents (inner_of sent)) h.sent said h.appended
@@ -260,7 +302,11 @@ ends_flushed contents page new old sent writer result puts none well kept flushe
       all_written = on_ok result (here h);
       flushed = flushed;
       worked = subst (λ (s : ℕ). OnOk result (HasWorked writer (interrupts_of writer + s))) puts.spent worked;
-      front_written = (length said, appends_same start (contents (inner_of writer)) said _ (here h) (take_whole (length said) said (omega arith)));
+      front_written = (
+        length said,
+        appends_same start (contents (inner_of writer)) said _ (here h)
+            (take_whole (length said) said (omega arith)),
+      );
       before_flush = on_err result (λ _. here h);
       fault = subst (λ (s : ℕ). OnErr result (IsAtFault writer (interrupts_of writer + s))) puts.spent fault;
       write_alone = alone;

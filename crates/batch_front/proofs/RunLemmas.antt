@@ -32,8 +32,9 @@ outcome_out (t ∷ ts) (s ∷ ss) zero e all = ap (λ k. outcome_at t k) (All-he
 outcome_out (t ∷ ts) (s ∷ ss) (suc place) e all =
     outcome_out ts ss place (omega (arith, e)) (All-tail (λ s. s ≡ Collected) s ss all)
 
--- what is told of a job is what its run alone comes to
-pub outcome_told : (m : MachineState) (job : ℕ) → HasRunOut m → outcome_in job m ≡ option_map outcome (of_job job m.tasks)
+-- what is reported of a job is the result of its run alone
+pub outcome_told : (m : MachineState) (job : ℕ) → HasRunOut m
+    → outcome_in job m ≡ option_map outcome (of_job job m.tasks)
 outcome_told m zero h = refl
 outcome_told m (suc place) h = outcome_out m.tasks m.standings place h.same_length h.collected
 
@@ -52,7 +53,8 @@ pub told_as : (task : Option Task) (ending : Outcome (List Vector)) (instruction
     → Some words ≡ option_map peak task → outcome_text ending ++ used_text instructions words ≡ told_text task
 told_as None ending instructions words there e f g = absurd there
 told_as (Some task) ending instructions words there e f g =
-    ap (λ (o : Outcome (List Vector)). outcome_text o ++ used_text instructions words) (same_Some ending (outcome task) e)
+    ap (λ (o : Outcome (List Vector)). outcome_text o ++ used_text instructions words)
+    (same_Some ending (outcome task) e)
     ∙ (ap (λ (n : ℕ). outcome_text (outcome task) ++ used_text n words)
     (same_Some instructions (executed_count task) f)
     ∙ ap (λ (n : ℕ). outcome_text (outcome task) ++ used_text (executed_count task) n) (same_Some words (peak task) g))

@@ -1,4 +1,4 @@
--- The jobs of a batch on a machine: their numbers, and what is told of them.
+-- The jobs of a batch on a machine: their numbers, and what is reported of them.
 use Rattle.std.proofs.Common.{◌≡◌, ℕ, zero, suc, ◌+◌, ◌-◌, ◌≤◌, ◌<◌, take, get_or, Bool, true, false, ◌&&◌}
 use Rattle.std.proofs.Common.{List, [], ◌∷◌, ◌++◌, length}
 use Rattle.std.proofs.Common.{cond, map, refl, sym, ap, subst, ◌∙◌, arith, Some}
@@ -25,7 +25,16 @@ use Rattle.batch_front.specs.Reports.{TaskEntry, ruled_entries, ruled_fate}
 use Rattle.batch_front.specs.Reports.{end_text, entries_text, entry_text, fate_text, has_returned, is_refused}
 use Rattle.batch_front.specs.Reports.{job_text, jobs_status, jobs_text, refused_count}
 use Rattle.batch_front.specs.Answers.{IsRunOut}
-use Rattle.batch_front.specs.Seats.{AreAmong, AreSeated, AreSeatsOf, BatchFits, EntriesFit, FateFits, HasRunOut, IsAmong}
+use Rattle.batch_front.specs.Seats.{
+  AreAmong,
+  AreSeated,
+  AreSeatsOf,
+  BatchFits,
+  EntriesFit,
+  FateFits,
+  HasRunOut,
+  IsAmong,
+}
 use Rattle.batch_front.specs.Seats.{IsFateOn, IsSeatOf, Seat}
 use Rattle.batch_front.specs.Seats.{fate_tasks, fate_text_on, has_returned_on, have_returned_on, report_text}
 use Rattle.batch_front.specs.Seats.{seat_text, seats_status}
@@ -43,7 +52,7 @@ at_front [] ys place task e = cc
 at_front (x ∷ xs) ys zero task e = e
 at_front (x ∷ xs) ys (suc place) task e = at_front xs ys place task e
 
--- where tasks go behind others, these keep their numbers
+-- if tasks are added after others, these keep their numbers
 number_kept : {T : Type 0} (xs ys : List T) (number : ℕ) (task : T) → of_job number xs ≡ Some task
     → of_job number (xs ++ ys) ≡ Some task
 number_kept xs ys zero task e = cc
@@ -54,19 +63,23 @@ at_end [] task = refl
 at_end (x ∷ xs) task = at_end xs task
 
 -- the last task has their count as its number
-pub last_number : {T : Type 0} (xs : List T) (task : T) → of_job (length (xs ++ task ∷ [])) (xs ++ task ∷ []) ≡ Some task
+pub last_number : {T : Type 0} (xs : List T) (task : T) → of_job (length (xs ++ task ∷ []))
+    (xs ++ task ∷ []) ≡ Some task
 last_number xs task =
     let count : length (xs ++ task ∷ []) ≡ suc (length xs) = grind (arith, common_steps) in rw count (at_end xs task)
 
-fate_kept : {T : Type 0} (xs ys : List T) (seat : Fate ℕ) (fate : Fate T) → IsFateOn xs seat fate → IsFateOn (xs ++ ys) seat fate
+fate_kept : {T : Type 0} (xs ys : List T) (seat : Fate ℕ) (fate : Fate T) → IsFateOn xs seat fate
+    → IsFateOn (xs ++ ys) seat fate
 fate_kept xs ys (Ready number) (Ready task) h = number_kept xs ys number task h
 fate_kept xs ys (Ready number) (Refused line fault) h = h
 fate_kept xs ys (Refused line fault) fate h = h
 
-seat_kept : {T : Type 0} (xs ys : List T) (seat : Seat) (entry : EntryOf T) → IsSeatOf xs seat entry → IsSeatOf (xs ++ ys) seat entry
+seat_kept : {T : Type 0} (xs ys : List T) (seat : Seat) (entry : EntryOf T) → IsSeatOf xs seat entry
+    → IsSeatOf (xs ++ ys) seat entry
 seat_kept xs ys seat entry h = record { name = h.name; fate = fate_kept xs ys seat.fate entry.fate h.fate }
 
-seats_kept : {T : Type 0} (xs ys : List T) (seats : List Seat) (entries : List (EntryOf T)) → AreSeatsOf xs seats entries
+seats_kept : {T : Type 0} (xs ys : List T) (seats : List Seat) (entries : List (EntryOf T))
+    → AreSeatsOf xs seats entries
     → AreSeatsOf (xs ++ ys) seats entries
 seats_kept xs ys [] [] h = h
 seats_kept xs ys [] (entry ∷ entries) h = h
@@ -124,7 +137,8 @@ counted_in (e ∷ es) =
     omega (arith, one, joined, refused, later)
 
 -- there are no more tasks than jobs, and the others are refused
-pub counted : {T : Type 0} (entries : List (EntryOf T)) → length (tasks_of entries) + refused_count entries ≡ length entries
+pub counted : {T : Type 0} (entries : List (EntryOf T)) → length
+    (tasks_of entries) + refused_count entries ≡ length entries
 counted {T = T} entries =
     ap (λ n. length (tasks_of entries) + n)
     (sym (is_count_by refused_in (λ (e : EntryOf T). is_refused e.fate) refl (λ _ _. refl)
@@ -140,14 +154,16 @@ tasks_few entries tasks most e h =
 fate_tasks_fit : (region : ℕ) (fate : Fate JobValue) → FateFits region fate
     → All (λ job. job.limits.words ≤ region) (fate_tasks fate)
 fate_tasks_fit region (Ready job) h =
-    All-cons (λ (job : JobValue). job.limits.words ≤ region) job [] h (All-nil (λ (job : JobValue). job.limits.words ≤ region))
+    All-cons (λ (job : JobValue). job.limits.words ≤ region) job [] h (All-nil (λ
+    (job : JobValue). job.limits.words ≤ region))
 fate_tasks_fit region (Refused line fault) h = All-nil (λ (job : JobValue). job.limits.words ≤ region)
 
 pub tasks_fit : (region : ℕ) (entries : List JobEntry) → EntriesFit region entries
     → All (λ job. job.limits.words ≤ region) (tasks_of entries)
 tasks_fit region [] h = All-nil (λ (job : JobValue). job.limits.words ≤ region)
 tasks_fit region (e ∷ es) h =
-    All-append (λ (job : JobValue). job.limits.words ≤ region) (fate_tasks e.fate) (tasks_of es) (fate_tasks_fit region e.fate h.0)
+    All-append (λ (job : JobValue). job.limits.words ≤ region) (fate_tasks e.fate) (tasks_of es)
+    (fate_tasks_fit region e.fate h.0)
     (tasks_fit region es h.1)
 
 fate_fits : (region : ℕ) (job : JobText) (fate : Fate JobValue) → IsFate region job fate → FateFits region fate
@@ -166,7 +182,7 @@ pub batch_fits : (region : ℕ) (bytes : List ℕ) (batch : Batch (List JobEntry
 batch_fits region bytes (BatchRefused line fault) h = tt
 batch_fits region bytes (Jobs rule entries) h = entries_fit region h.0 entries h.2
 
--- ---- what is told of them
+-- ---- what is reported of them
 
 fate_among : (tasks : List Task) (seat : Fate ℕ) (fate : Fate Task) → IsFateOn tasks seat fate → IsAmong tasks seat
 fate_among tasks (Ready number) (Ready task) h = rw h tt
@@ -219,7 +235,8 @@ one_told_more tasks number (s ∷ ss) (suc place) any h =
 
 pub seats_with_one : (tasks : List Task) (seats : List Seat) (place : ℕ) (seat : Seat) → place < length seats
     → seat ≡ get_or seats place seat
-    → seats_text tasks 1 (take place seats) ++ seat_text tasks (place + 1) seat ≡ seats_text tasks 1 (take (place + 1) seats)
+    → seats_text tasks 1 (take place seats) ++ seat_text tasks (place + 1) seat ≡ seats_text tasks 1 (take
+    (place + 1) seats)
 seats_with_one tasks seats place seat l e =
     let number : place + 1 ≡ 1 + place = omega arith in
     ap (λ n. seats_text tasks 1 (take place seats) ++ seat_text tasks n seat) number
@@ -248,7 +265,7 @@ have_returned tasks (s ∷ ss) (e ∷ es) h =
     ap (λ b. b && have_returned_on tasks ss) (fate_returned tasks s.fate e.fate h.0.fate)
     ∙ ap (λ b. has_returned e.fate && b) (have_returned tasks ss es h.1)
 
--- what is told of the seats is told of the jobs
+-- what is reported of the seats is reported of the jobs
 pub record IsTold (tasks : List Task) (seats : List Seat) (entries : List TaskEntry) : Type 0 where
   pub among : AreAmong tasks seats
   pub fewer : length tasks ≤ length seats
@@ -325,7 +342,8 @@ tasks_ruled rule (e ∷ es) =
     ∙ ap (λ ts. fate_tasks (ruled_fate rule e.fate) ++ ts) (tasks_ruled rule es)
 
 -- the seats of jobs that a machine took over, which has this rule
-pub seated_by : (rule : Rule) (tasks : List Task) (jobs : List JobValue) (seats : List Seat) (all entries : List JobEntry)
+pub seated_by : (rule : Rule) (tasks : List Task) (jobs : List JobValue) (seats : List Seat)
+    (all entries : List JobEntry)
     → tasks ≡ map (ruled rule) jobs → all ≡ entries → AreSeatsOf jobs seats all → jobs ≡ tasks_of all
     → AreSeated tasks seats (ruled_entries rule entries)
 seated_by rule tasks jobs seats all entries e f h k =

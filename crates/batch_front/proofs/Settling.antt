@@ -42,7 +42,7 @@ collect_closed : (job : ℕ) (m : MachineState) → is_over (of_job job m.standi
 unfolding is_open
 collect_closed job m e = ap is_some (not_ended job (of_job job m.tasks) (of_job job m.standings) e)
 
--- an admission where none fits
+-- an admission when none fits
 admit_closed : (m : MachineState) → admission m.region m.tasks (queue_of m) ≡ None →
     is_open m.region m.tasks Admit (queue_of m) ≡ false
 unfolding is_open
@@ -69,7 +69,7 @@ settled_same closed m s =
     ap (after_admissions (length m.tasks)) (collections_none closed (length m.tasks) m s.none_ended)
     ∙ admissions_none closed (length m.tasks) m s.none_admitted
 
--- where none has ended, all that have room are admitted
+-- if none has ended, all that have room are admitted
 pub settled_waiting : ClosedChangeNothing → (m : MachineState) → NoneEnded m →
     settled m ≡ after_admissions (length m.tasks) m
 unfolding settled
@@ -78,7 +78,7 @@ settled_waiting closed m none =
 
 -- ---- an event of one job
 
--- it leaves other jobs where they stood
+-- it leaves other jobs as they were
 other_same : OthersStay → (event : Event) (job other : ℕ) (m : MachineState) →
     job_of m.region m.tasks event (queue_of m) ≡ Some job → other ≢ job →
     of_job other (machine_after event m).standings ≡ of_job other m.standings
@@ -207,7 +207,8 @@ admission_same event m leaves =
     admission_of m.region m.tasks (queue_of m) event leaves (job_of m.region m.tasks event (queue_of m))
 
 but_one : OthersStay → (event : Event) (job : ℕ) (m : MachineState) → LeavesNext event →
-    job_of m.region m.tasks event (queue_of m) ≡ Some job → IsSettledBut job m → IsSettledBut job (machine_after event m)
+    job_of m.region m.tasks event (queue_of m) ≡ Some job → IsSettledBut job m
+    → IsSettledBut job (machine_after event m)
 but_one stay event job m leaves is s = record {
   none_ended = λ other ne. ap is_over (other_same stay event job other m is ne) ∙ s.none_ended other ne;
   none_admitted = admission_same event m leaves ∙ s.none_admitted;
@@ -229,7 +230,7 @@ settled_but job m s = record { none_ended = λ other ne. s.none_ended other; non
 
 -- ---- a job that may have ended
 
--- where it hasn't, all is settled
+-- if it hasn't, all is settled
 pub settled_by : (job : ℕ) (m : MachineState) → IsSettledBut job m → is_over (of_job job m.standings) ≡ false →
     IsSettled m
 settled_by job m s e = record { none_ended = λ other. by other (cases_eq other job); none_admitted = s.none_admitted }
@@ -246,7 +247,7 @@ collections_before closed (suc n) job m s l =
     ap (machine_after (Collect (suc n))) (collections_before closed n job m s (omega (arith, l)))
     ∙ passed closed (Collect (suc n)) m (collect_closed (suc n) m (s.none_ended (suc n) (λ e. omega (arith, l, e))))
 
--- and so do those behind it
+-- and so do those after it
 collections_of : ClosedChangeNothing → OthersStay → (n job : ℕ) (m : MachineState) → IsSettledBut job m → 1 ≤ job →
     job ≤ n → after_collections n m ≡ machine_after (Collect job) m
 collections_of closed stay zero job m s first last = absurd (omega (arith, first, last))
@@ -331,7 +332,7 @@ has_collected closed stay change job m same s e =
 
 -- ---- admissions
 
--- where all wait, none has ended
+-- if all wait, none has ended
 first_none : (tasks : List Task) (i : ℕ) → is_over (slice_get (first_standings tasks) i) ≡ false
 first_none [] i = refl
 first_none (task ∷ tasks) zero = refl
@@ -386,7 +387,7 @@ fewer_waiting have change job m is =
     ap (λ (q : Queue). waiting_count q.standings + 1) (changes.changed (Live 0) refl)
     ∙ waiting_with job m.standings room.waits
 
--- so many admissions leave none that can be admitted, or as many fewer waiting
+-- n admissions leave none that can be admitted, or n fewer waiting
 abbrev CountsDown : ℕ → MachineState → MachineState → Type 0
 CountsDown n m new =
     (admission new.region new.tasks (queue_of new) ≡ None)
@@ -426,7 +427,8 @@ none_admitted closed have change n m few new (inr left) = by (admission new.regi
     by None is = is
     by (Some job) is = let one = fewer_waiting have change job new is in absurd (omega (arith, one, few, left))
 
-ended_set : (ss : List Standing) (i j : ℕ) (new : Standing) → is_over (Some new) ≡ false → is_over (slice_get ss j) ≡ false →
+ended_set : (ss : List Standing) (i j : ℕ) (new : Standing) → is_over (Some new) ≡ false
+    → is_over (slice_get ss j) ≡ false →
     is_over (slice_get (set ss i new) j) ≡ false
 ended_set [] i j new e h = h
 ended_set (s ∷ ss) zero zero new e h = e
@@ -465,7 +467,7 @@ none_ended_all : (n : ℕ) (m : MachineState) → NoneEnded m → NoneEnded (aft
 none_ended_all zero m none = none
 none_ended_all (suc n) m none = none_ended_after (after_admissions n m) (none_ended_all n m none)
 
--- a machine that another comes to when it settles
+-- the machine that another becomes when it settles
 pub record HasSettled (m new : MachineState) : Type 0 where
   pub state : new ≡ settled m
   pub settled : IsSettled new

@@ -35,7 +35,7 @@ all_wait m rule region tasks e = ap (λ k. k.standings) e ∙ ap (λ k. first_st
 no_step_first : (m : MachineState) → m.standings ≡ first_standings m.tasks → HasNoStep m
 no_step_first m e = ap recalled_standings e ∙ waiting m.tasks ∙ sym e
 
--- where no step has begun, none is given up
+-- if no step has begun, none is given up
 pub hands_fit : {A : Type 0} (m : MachineState) (hands : List (Hand A)) → m.standings ≡ first_standings m.tasks
     → HandsFit (recalled m) hands → HandsFit m hands
 hands_fit m hands wait h =

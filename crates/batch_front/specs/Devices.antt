@@ -44,7 +44,7 @@ IsTroubled old new Interrupted =
     (has_failed new ≡ has_failed old) × (interrupts_of new ≡ saturating_suc (interrupts_of old))
 IsTroubled old new Failed = (has_failed new ≡ true) × (interrupts_of new ≡ interrupts_of old)
 
--- ---- a run, in which so many interruptions came
+-- ---- a run in which n interruptions came
 
 -- a device without a fault: it never failed, and no interruption is one too many
 abbrev pub HasWorked : {D : Type 0} → Device D → ℕ → Type 0

@@ -16,11 +16,11 @@ ReadsFirstBytes old new = IfSome old (λ input. new ≡ Some (drop (MOST_BATCH_B
 abbrev pub ReadsNoFurther : Option (List ℕ) → Option (List ℕ) → Type 0
 ReadsNoFurther old new = IfSome old (λ input. (n : ℕ) × (n ≤ MOST_BATCH_BYTES + 1) × (new ≡ Some (drop n input)))
 
--- the first bytes of an input, where that is known
+-- the first bytes of an input, if they are known
 abbrev pub AreFirstBytes : Option (List ℕ) → List ℕ → Type 0
 AreFirstBytes old bytes = IfSome old (λ input. bytes ≡ first_bytes input)
 
--- what some bytes come to, which are the first of an input where that is known
+-- the answer to some bytes, which are the first of an input if that is known
 pub record IsBatchIn (region : ℕ) (old : Option (List ℕ)) (batch : Batch (List JobEntry)) : Type 0 where
   pub bytes : List ℕ
   pub first : AreFirstBytes old bytes

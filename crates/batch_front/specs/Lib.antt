@@ -1,5 +1,4 @@
 pub mod Answers
-pub mod CommandLines
 pub mod Devices
 pub mod Exits
 pub mod Inputs

@@ -38,7 +38,7 @@ word_text Int word = signed_decimal word
 word_text Flags word = flag_text word
 word_text Segdes word = signed_decimal word
 
--- a word behind another
+-- a word after another
 abbrev pub next_word_text : Kind → ℤ → List ℕ
 next_word_text kind word = 32 ∷ word_text kind word
 
@@ -65,7 +65,7 @@ ruled_entries rule entries = map (ruled_entry rule) entries
 
 -- ---- jobs
 
--- a line of this head: where a fault stands and what it is
+-- a line of this head: the line of a fault and what it is
 abbrev pub fault_text : List ℕ → ℕ → List ℕ → List ℕ
 fault_text head line name = head ++ codes "line " ++ decimal line ++ codes " " ++ name ++ codes "\n"
 

@@ -7,17 +7,17 @@ use Rattle.batch_front.specs.declared.status.Status.{Status}
 use Rattle.batch_front.specs.Inputs.{first_bytes}
 use Rattle.batch_front.specs.Reports.{report_of, status_of}
 
--- behind what the output held stands the report of the batch that the input is, and the status is the batch's
+-- after what the output held comes the report of the batch that the input is, and the status is the batch's
 abbrev pub WritesReport : ℕ → Option (List ℕ) → Option (List ℕ) → Option (List ℕ) → Status → Type 0
 WritesReport region input old new status = IfSome input (λ bytes. (batch : Batch (List JobEntry)) ×
     IsBatch region (first_bytes bytes) batch × Appends old new (report_of batch) × (status ≡ status_of batch))
 
--- behind what the output held stands a part of that report, from its front
+-- after what the output held comes a part of that report, from its front
 abbrev pub WritesFront : ℕ → Option (List ℕ) → Option (List ℕ) → Option (List ℕ) → Type 0
 WritesFront region input old new = IfSome input (λ bytes. (batch : Batch (List JobEntry)) ×
     IsBatch region (first_bytes bytes) batch × (n : ℕ) × Appends old new (take n (report_of batch)))
 
--- all of that report stands after what the output held
+-- after what the output held comes all of that report
 abbrev pub WritesWhole : ℕ → Option (List ℕ) → Option (List ℕ) → Option (List ℕ) → Type 0
 WritesWhole region input old new = IfSome input (λ bytes. (batch : Batch (List JobEntry)) ×
     IsBatch region (first_bytes bytes) batch × Appends old new (report_of batch))

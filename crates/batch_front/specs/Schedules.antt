@@ -23,7 +23,7 @@ two_digits (Some tens) (Some ones) = Some (10 * tens + ones)
 two_digits (Some tens) None = None
 two_digits None ones = None
 
--- the number, where a job may have it
+-- the number, if a job may have it
 abbrev pub job_within : Option ℕ → Option ℕ
 job_within None = None
 job_within (Some n) = if nat_le 1 n && nat_le n MOST_JOBS then Some n else None
@@ -58,6 +58,6 @@ items_of (piece ∷ pieces) = item_before (item_of piece) (items_of pieces)
 abbrev pub schedule_in : List (List ℕ) → Option (List Item)
 schedule_in pieces = if nat_le (length pieces) MOST_SCHEDULE_ITEMS then items_of pieces else None
 
--- the items that stand between the commas of a text
+-- the items between the commas of a text
 unfoldable pub schedule_of : List ℕ → Option (List Item)
 schedule_of text = schedule_in (slice_split (λ b. b == 44) text)

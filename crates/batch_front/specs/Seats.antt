@@ -1,4 +1,4 @@
--- The jobs of a batch on a machine: each by its number there, and what is told of it when the machine has run out.
+-- The jobs of a batch on a machine: each by its number there, and what is reported of it when the machine has run out.
 use Rattle.std.specs.Prelude.{◌≡◌, ◌+◌, ◌-◌, ◌≤◌, ℕ, Bool, false, if◌then◌else◌, List, [], ◌∷◌, ◌++◌, length, All}
 use Rattle.std.specs.Prelude.{Option, Some, None}
 use Rattle.std.specs.List.{list_all}
@@ -40,9 +40,9 @@ abbrev pub BatchFits : ℕ → Batch (List JobEntry) → Type 0
 BatchFits region (BatchRefused line fault) = Unit {0}
 BatchFits region (Jobs rule entries) = EntriesFit region entries
 
--- ---- where the jobs stand
+-- ---- the numbers of the jobs
 
--- a job's name, and its number on a machine where it may run
+-- a job's name, and its number on a machine if it may run
 abbrev pub Seat : Type 0
 Seat = Entry (List ℕ) (Fate ℕ)
 
@@ -68,7 +68,7 @@ pub record AreSeated (tasks : List Task) (seats : List Seat) (entries : List Tas
   pub tasks_are : tasks ≡ tasks_of entries
   pub seats_are : AreSeatsOf tasks seats entries
 
--- ---- what is told of them
+-- ---- what is reported of them
 
 -- all jobs have run to their ends and are collected
 pub record HasRunOut (m : MachineState) : Type 0 where

@@ -12,7 +12,7 @@ use Rattle.batch_front.specs.Seats.{Seat}
 
 -- ---- between two turns
 
--- the machine when so many jobs are collected, as far as they have ended
+-- the machine after the first n jobs are collected, as far as they have ended
 abbrev pub after_collections : ℕ → MachineState → MachineState
 after_collections zero m = m
 after_collections (suc n) m = machine_after (event.Collect (suc n)) (after_collections n m)

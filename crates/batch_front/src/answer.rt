@@ -129,7 +129,7 @@ where
     Ok(told(machine, seats))
 }
 
-/// The jobs of a batch that may run on a machine of its rule, where they all wait, and the seats of all jobs.
+/// The jobs of a batch that may run on a machine of its rule, in which they all wait, and the seats of all jobs.
 fn seat_jobs<A: Allocator + Copy>(
     alloc: A,
     rule: Rule,
@@ -234,7 +234,7 @@ pub(crate) fn write_answer<A: Allocator, W: Write>(
     Ok(status(answer))
 }
 
-/// What a batch came to.
+/// The status of a batch.
 fn status<A: Allocator>(answer: &BatchAnswer<A>) -> Status
     requires { IsKnown answer.now }
     ensures { result ≡ answer_status answer.now }

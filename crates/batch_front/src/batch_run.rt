@@ -21,17 +21,17 @@ use vcode_base::limits::MOST_BATCH_BYTES;
 
 /// Reads a batch, runs its jobs over one region on the calling thread, and then writes the report and nothing else.
 ///
-/// Of the reader no more is read than one byte more than a batch may have, [`MOST_BATCH_BYTES`]. Neither device was used
-/// before. The jobs take the turns of the schedule first, if there is one, and are run out then; the report is the same
-/// with any schedule or none. All outcomes are known before the first byte of the report is written, and the report takes
-/// no memory as a whole. An interruption is no fault by itself: the call is made again, but for the interruption that
-/// passes [`MOST_INTERRUPTIONS`] in this run.
+/// Of the reader no more is read than one byte more than a batch may have, [`MOST_BATCH_BYTES`]. Neither device was
+/// used before. The jobs take the turns of the schedule first, if there is one, and are run out then; the report is the
+/// same with any schedule or none. All outcomes are known before the first byte of the report is written, and the
+/// report takes no memory as a whole. An interruption is no fault by itself: the call is made again, but for the
+/// interruption that passes [`MOST_INTERRUPTIONS`] in this run.
 ///
 /// # Errors
 ///
 /// [`FrontFault::Read`] and [`FrontFault::Memory`] come before the first write, and how much was read until then is not
-/// said. At [`FrontFault::Write`] the writer has the first bytes of the report, perhaps none and perhaps all of them. It
-/// has all of them if the fault was at the flush, which [`Device::flushing`] reports.
+/// said. At [`FrontFault::Write`] the writer has the first bytes of the report, perhaps none and perhaps all of them.
+/// It has all of them if the fault was at the flush, which [`Device::flushing`] reports.
 pub fn run_alone<A: Allocator + Copy, R: Read, W: Write>(
     alloc: A,
     reader: &mut Device<R>,
@@ -77,9 +77,10 @@ pub fn run_alone<A: Allocator + Copy, R: Read, W: Write>(
     write_answer(writer, &answer, reader.interrupts())
 }
 
-/// The same as [`run_alone`] if a schedule is given. Else the jobs are run by at most as many worker threads as `options`
-/// says. Each calls the gate between the begin and the finish of each of its steps, and holds no lock then. What the workers
-/// leave is run out on the calling thread, which calls no gate. The report is the same for any number of workers.
+/// The same as [`run_alone`] if a schedule is given. Else the jobs are run by at most as many worker threads as
+/// `options` says. Each calls the gate between the begin and the finish of each of its steps, and holds no lock then.
+/// What the workers leave is run out on the calling thread, which calls no gate. The report is the same for any number
+/// of workers.
 ///
 /// The devices are used as [`run_alone`] uses them.
 ///

@@ -16,8 +16,8 @@ pub(crate) enum Trouble {
     Failed,
 }
 
-/// A reader or a writer, whether it has failed, and how often it was interrupted. Of a writer also whether its last call
-/// was a flush, and whether that flush gave no error.
+/// A reader or a writer, whether it has failed, and how often it was interrupted. Of a writer also whether its last
+/// call was a flush, and whether that flush gave no error.
 #[derive(Drop)]
 pub struct Device<D> {
     inner: D,
@@ -52,7 +52,7 @@ impl<D> Device<D> {
         self.failed
     }
 
-    /// How often it answered that it was interrupted; the greatest `u64` stands for that many or more.
+    /// How often it answered that it was interrupted; the greatest `u64` means that many or more.
     pub fn interrupts(&self) -> u64
         ensures { result ≡ interrupts_of self.now }
     {

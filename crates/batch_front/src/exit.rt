@@ -5,8 +5,8 @@ ghost use Rattle.batch_front.specs.Exits.{exit_of};
 use crate::fault::FrontFault;
 use crate::status::Status;
 
-/// The number that the program exits with after a run: 0 where every job returned, 1 where some didn't, 2 where the
-/// batch was refused, 3 where the run failed.
+/// The number that the program exits with after a run: 0 if every job returned, 1 if some didn't, 2 if the
+/// batch was refused, 3 if the run failed.
 pub fn exit_status(outcome: &Result<Status, FrontFault>) -> u8
     ensures { result ≡ exit_of outcome.now }
 {

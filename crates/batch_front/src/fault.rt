@@ -1,6 +1,4 @@
 //! What can go wrong outside a batch.
-ghost use Rattle.std.specs.Prelude.{◌≡◌};
-ghost use Rattle.batch_front.specs.Exits.{line_exit_of};
 
 use std::alloc::{AllocError, AllocFailed};
 use step_scheduler::RunFault;
@@ -67,45 +65,5 @@ impl<T: Drop> From<AllocFailed<T>> for ScheduleFault {
 
     fn from(_: AllocFailed<T>) -> ScheduleFault {
         ScheduleFault::Memory
-    }
-}
-
-/// Why a command line gives no run.
-#[derive(Debug, Drop, Error)]
-pub enum LineFault {
-    /// The line is refused, with the reason as it is to be printed.
-    #[error("{0}")]
-    Usage(String),
-    /// What the line gives as a schedule is none.
-    #[error("vjobs: bad schedule")]
-    BadSchedule,
-    /// A growth of memory was refused.
-    #[error("vjobs: out of memory")]
-    Memory,
-}
-
-impl From<ScheduleFault> for LineFault {
-    ghost use Rattle.std.specs.Prelude.{◌≡◌};
-    ghost use Rattle.batch_front.specs.Exits.{line_fault_of};
-
-    ghost from_gives = { λ fault line_fault. line_fault ≡ line_fault_of fault };
-
-    fn from(fault: ScheduleFault) -> LineFault {
-        match fault {
-            ScheduleFault::Bad => LineFault::BadSchedule,
-            ScheduleFault::Memory => LineFault::Memory,
-        }
-    }
-}
-
-impl LineFault {
-    /// The number that the program exits with: 2 where the line or its schedule is refused, 3 for want of memory.
-    pub fn exit_status(&self) -> u8
-        ensures { result ≡ line_exit_of self.now }
-    {
-        match self {
-            LineFault::Usage(_) | LineFault::BadSchedule => 2,
-            LineFault::Memory => 3,
-        }
     }
 }

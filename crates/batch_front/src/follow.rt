@@ -15,7 +15,7 @@ use job_steps::laws::{
 };
 use std::alloc::{AllocError, Allocator};
 
-/// Admits one job after another, as many as can be admitted, where none has ended.
+/// Admits one job after another, as many as can be admitted, if none has ended.
 fn admit_all<A: Allocator + Clone>(
     machine: &mut Machine<A>,
     hands: &mut Hands<A>,

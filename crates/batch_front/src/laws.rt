@@ -4,8 +4,8 @@ ghost use Rattle.batch_front.specs.Laws.{OwnLines, OwnLinesInBatches};
 
 use batch_reader::laws::one_entry;
 
-/// The report's lines on a job are one function of the job's text, of its place, of the region and of the rule: whatever
-/// else the batch holds, and however the other jobs end.
+/// The report's lines on a job are one function of the job's text, of its place, of the region and of the rule:
+/// whatever else the batch holds, and however the other jobs end.
 ///
 /// The text of a job is its own lines with their numbers.
 pub fn own_lines()

@@ -1,17 +1,15 @@
 //! A batch of jobs from a reader to a writer: its bytes in, its report out.
 //!
-//! [`run_alone`] reads a batch, runs its jobs on the calling thread and writes the report; [`run`] has worker threads run
-//! the jobs. [`read_line`] reads the command line of the program, and [`arguments_fault`] says why there is none.
-//! [`parse_schedule`] reads in which order the jobs are to take their turns on the calling thread; their ends
-//! depend neither on it nor on the workers. `batch_reader`, below, defines the answer to a batch, which is one for each
-//! text and region; `Reports` in `specs/` says what is printed of it, and the status. [`laws`] says what a job's
+//! [`run_alone`] reads a batch, runs its jobs on the calling thread and writes the report; [`run`] has worker threads
+//! run the jobs. [`parse_schedule`] reads in which order the jobs are to take their turns on the calling thread; their
+//! ends depend neither on it nor on the workers. `batch_reader`, below, defines the answer to a batch, which is one for
+//! each text and region; `Reports` in `specs/` says what is printed of it, and the status. [`laws`] says what a job's
 //! lines of the report depend on. `Seats` has the jobs of a batch as they stand on a machine, `Schedules` the items
 //! that a text has.
 #![tactic(auto)]
 
 mod answer;
 mod batch_run;
-mod command_line;
 mod device;
 mod exit;
 mod fault;
@@ -28,10 +26,9 @@ mod transfer;
 
 pub use batch_reader::{Batch, BatchFault, Entry, Fate, Feed, JobEntries, JobEntry, JobFault};
 pub use batch_run::{run, run_alone};
-pub use command_line::{Line, arguments_fault, read_line};
 pub use device::{Device, MOST_INTERRUPTIONS};
 pub use exit::exit_status;
-pub use fault::{FrontFault, LineFault, ScheduleFault};
+pub use fault::{FrontFault, ScheduleFault};
 pub use options::Options;
 pub use schedule::{Item, parse_schedule};
 pub use status::Status;

@@ -60,7 +60,7 @@ pub(crate) fn run_on_caller<A: Allocator + Copy>(
     requires { machine.old.standings ≡ first_standings machine.old.tasks }
     ensures tasks { OnOk result (machine.new.tasks ≡ machine.old.tasks) }
     ensures out { OnOk result (HasRunOut machine.new) }
-    // Events lead to it from where the schedule has left the jobs.
+    // Events lead to it from the standings in which the schedule has left the jobs.
     ensures followed { OnOk result (IfSome options.now.schedule
         (λ schedule. Leads (after_schedule seats.now schedule.items machine.old) machine.new)) }
 {

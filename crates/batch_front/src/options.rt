@@ -9,7 +9,7 @@ pub struct Options {
     /// The words of the region that the jobs share, at least 1 and at most
     /// [`MOST_WORDS`](vcode_base::limits::MOST_WORDS).
     pub region: u32,
-    /// The worker threads that run the jobs where no schedule is given, at least 1 and at most
+    /// The worker threads that run the jobs if no schedule is given, at least 1 and at most
     /// [`MOST_WORKERS`](vcode_base::limits::MOST_WORKERS).
     pub workers: u32,
     /// The turns that the jobs take before they are run out, if any are asked for.

@@ -112,7 +112,7 @@ fn put_values<A: Allocator, W: Write>(
     }
 }
 
-/// Puts a line of this head, where a fault stands, and its name.
+/// Puts a line of this head, with the line of a fault and its name.
 pub(crate) fn put_fault<W: Write>(
     page: &mut Page,
     writer: &mut Device<W>,

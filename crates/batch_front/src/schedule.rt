@@ -45,7 +45,7 @@ fn digit(byte: u8) -> Option<usize>
     Some(usize::from(byte - b'0'))
 }
 
-/// This number, where a job may have it.
+/// This number, if a job may have it.
 fn job_within(number: usize) -> Option<usize>
     ensures { result ≡ job_within (Some number) }
 {
@@ -83,11 +83,11 @@ fn item_of(text: &[u8]) -> Option<Item>
 /// Reads a schedule: items with a comma between each two, at least one and at most [`MOST_SCHEDULE_ITEMS`].
 ///
 /// An item is the number of a job, 1 to [`MOST_JOBS`] in one or two digits, which is a [`Item::Step`]. A `b` right
-/// before it makes it a [`Item::Begin`], and an `f` a [`Item::Finish`]. No other bytes may stand anywhere.
+/// before it makes it a [`Item::Begin`], and an `f` a [`Item::Finish`]. No other bytes are allowed.
 ///
 /// # Errors
 ///
-/// [`ScheduleFault::Bad`] where the text is no schedule, and [`ScheduleFault::Memory`] where a growth was refused.
+/// [`ScheduleFault::Bad`] if the text is no schedule, and [`ScheduleFault::Memory`] if a growth was refused.
 pub fn parse_schedule<A: Allocator>(alloc: A, text: &str) -> Result<Vec<Item, A>, ScheduleFault>
     ensures items { IfOk result (λ items. schedule_of text.now ≡ Some items.items) }
     ensures bad { IsErrOf result Bad → schedule_of text.now ≡ None }

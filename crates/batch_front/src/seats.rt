@@ -17,10 +17,10 @@ use std::alloc::{AllocError, Allocator};
 use std::io::Write;
 use vcode_base::Outcome;
 
-/// A job's name, and its number on a machine where it may run.
+/// A job's name, and its number on a machine if it may run.
 pub(crate) type Seat<A> = Entry<JobName<A>, Fate<usize>>;
 
-/// Puts a job that may run behind the others, and gives its number.
+/// Adds a job that may run after the others, and gives its number.
 fn seat_fate<A: Allocator>(
     fate: Fate<Job<A>>,
     jobs: &mut Vec<Job<A>, A>,
@@ -37,7 +37,7 @@ fn seat_fate<A: Allocator>(
     }
 }
 
-/// Puts the job of an entry behind the others, where it may run.
+/// Adds the job of an entry after the others, if it may run.
 fn seat<A: Allocator>(entry: JobEntry<A>, jobs: &mut Vec<Job<A>, A>) -> Result<Seat<A>, AllocError>
     ensures seat { IfOk result (λ seat. IsSeatOf jobs.new.items seat entry) }
     ensures jobs { OnOk result (jobs.new.items ≡ jobs.old.items ++ fate_tasks entry.fate) }

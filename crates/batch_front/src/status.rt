@@ -1,4 +1,4 @@
-/// What a batch came to.
+/// The status of a batch.
 #[derive(Clone, Copy, PartialEq, Eq, Debug)]
 pub enum Status {
     /// Every job returned, or there was none.

@@ -58,7 +58,7 @@ fn feed_all<A: Allocator + Copy, R: Read>(
     Ok(())
 }
 
-/// What the first bytes of a reader that was not used come to: to its end, or one more than a batch may have.
+/// The answer to the first bytes of a reader that was not used: to its end, or one more than a batch may have.
 pub(crate) fn read_batch<A: Allocator + Copy, R: Read>(
     alloc: A,
     reader: &mut Device<R>,

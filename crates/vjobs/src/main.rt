@@ -1,10 +1,8 @@
 //! Runs a batch of VCODE jobs and prints the report on it.
 #![tactic(auto)]
 
-use batch_front::{
-    Device, FrontFault, Line, LineFault, NoGate, Options, Status, arguments_fault, exit_status,
-    read_line, run,
-};
+use batch_front::{Device, FrontFault, NoGate, Options, Status, exit_status, run};
+use command_line::{Line, LineFault, arguments_fault, read_line};
 use std::alloc::Global;
 use std::env;
 use std::fs::File;
@@ -46,7 +44,7 @@ where
     run(rt, alloc, &mut reader, &mut writer, options, &NoGate)
 }
 
-/// Runs the batch in the file of this name, or, where it is `-`, the one that a reader gives.
+/// Runs the batch in the file of this name, or, if it is `-`, the batch that a reader gives.
 fn run_file<H, I, O>(
     rt: &H,
     alloc: Global,

@@ -7,13 +7,13 @@ use batch_front::{Options, parse_schedule};
 use std::alloc::{AllocError, Global};
 use vcode_base::limits::MOST_WORDS;
 
-/// A batch, and what it is to come to.
+/// A batch, and the wanted result.
 #[derive(Clone, Copy)]
 pub struct Case<'a> {
     pub name: &'a str,
     /// The words of the region.
     region: u32,
-    /// The schedules by which it is run, with blanks or LFs between them; none where it is run without one.
+    /// The schedules by which it is run, with blanks or LFs between them; none if it is run without one.
     pub schedules: &'a str,
     pub batch: &'a str,
     pub exit: u8,
@@ -37,7 +37,7 @@ impl Case<'_> {
     }
 }
 
-/// The case that a table has behind `=== job `, if it is one.
+/// The case that a table has after `=== job `, if it is one.
 pub fn case_of(text: &str) -> Option<Case<'_>> {
     let (head, text) = text.split_once('\n')?;
     let (name, region) = head.split_once(", region ")?;
@@ -59,7 +59,7 @@ pub fn case_of(text: &str) -> Option<Case<'_>> {
     })
 }
 
-/// The lines of a batch or a report, as often as they are to stand there.
+/// The lines of a batch or a report, each as often as the table says.
 pub fn written_out(alloc: Global, text: &str) -> Result<String, AllocError> {
     let mut parts = text.split("=== ");
     let mut written = String::from_str(alloc, parts.next().unwrap_or(""))?;
@@ -67,6 +67,9 @@ pub fn written_out(alloc: Global, text: &str) -> Result<String, AllocError> {
         let (head, lines) = part.split_once('\n').unwrap_or((part, ""));
         match head.split_once(' ') {
             Some((count, "times")) => put_times(&mut written, lines, count.parse().unwrap_or(0))?,
+            Some((count, "times on one line")) => {
+                put_times(&mut written, lines.trim_end(), count.parse().unwrap_or(0))?;
+            }
             _ => written.push_str(lines)?,
         }
         if head == "open" {
@@ -76,7 +79,7 @@ pub fn written_out(alloc: Global, text: &str) -> Result<String, AllocError> {
     Ok(written)
 }
 
-/// Appends lines so many times.
+/// Appends lines `count` times.
 fn put_times(written: &mut String, lines: &str, count: u32) -> Result<(), AllocError> {
     for number in 0..count {
         put_once(written, lines, number.saturating_add(1))?;

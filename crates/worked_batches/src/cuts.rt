@@ -4,7 +4,7 @@ use batch_front::{Device, Options, exit_status, run_alone};
 use std::alloc::Global;
 use std::io::{Read, Result as IoResult};
 
-/// What a batch comes to.
+/// The result of a batch.
 #[derive(Drop, PartialEq, Eq)]
 pub struct Ending {
     /// The number that `vjobs` exits with.
@@ -12,7 +12,7 @@ pub struct Ending {
     pub report: Vec<u8>,
 }
 
-/// Gives a text, at most so many bytes a read.
+/// Gives a text, at most `most` bytes a read.
 #[derive(Drop)]
 struct Pieces<'a> {
     left: &'a [u8],
@@ -26,7 +26,7 @@ impl Read for Pieces<'_> {
     }
 }
 
-/// What a batch comes to where a read gives at most so many bytes.
+/// The result of a batch if a read gives at most `most` bytes.
 fn ending_in_pieces(alloc: Global, batch: &[u8], options: &Options, most: usize) -> Ending {
     let mut reader = Device::new(Pieces { left: batch, most });
     let mut writer = Device::new(Vec::new(alloc));
@@ -37,8 +37,8 @@ fn ending_in_pieces(alloc: Global, batch: &[u8], options: &Options, most: usize)
     }
 }
 
-/// What a batch comes to, at once and where a read gives at most 1, 7 or 4,096 bytes. None where these runs don't all
-/// come to the same.
+/// The result of a batch, at once and if a read gives at most 1, 7 or 4,096 bytes. None if these runs don't all
+/// give the same.
 pub fn ending_however_cut(alloc: Global, batch: &[u8], options: &Options) -> Option<Ending> {
     let whole = ending_in_pieces(alloc, batch, options, batch.len());
     for most in [1, 7, 4_096] {

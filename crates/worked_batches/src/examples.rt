@@ -6,10 +6,10 @@ use std::io::Write;
 use std::{fs, io};
 use vcode_base::limits::MOST_WORDS;
 
-/// The words of the region that `vjobs` takes where none is given.
+/// The words of the region that `vjobs` takes if none is given.
 const REGION: u32 = MOST_WORDS as u32;
 
-/// Runs the example of this name and prints whether its report is the one that is wanted.
+/// Runs the example of this name and prints whether its report is the wanted one.
 pub fn show_example(rt: &HostRuntime, name: &str) -> io::Result<()> {
     let batch = format!(in rt.alloc(); "examples/{name}.vcode")?;
     let batch = fs::read(rt, batch.as_str())?;

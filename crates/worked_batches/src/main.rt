@@ -1,10 +1,10 @@
-//! Runs batches, and compares each report byte by byte with the one that is wanted, however the batch is cut into pieces.
+//! Runs batches, and compares each report byte by byte with the wanted one, however the batch is cut into pieces.
 //!
-//! A line `table NAME` of standard input names a file of `tables/`. It is printed how many of its jobs give their reports
-//! and exits. A job that doesn't is named above that, with what it comes to.
+//! A line `table NAME` of standard input names a file of `tables/`. Its line of output says how many of its jobs give
+//! their reports and exits. A job that doesn't is named above that, with its result.
 //!
-//! A line `example NAME` names an example of `examples/`. Its name is printed with the number that `vjobs` exits with, and
-//! where its report is another one, that report.
+//! A line `example NAME` names an example of `examples/`. Its name is printed with the number that `vjobs` exits with,
+//! and if its report is another one, that report.
 #![tactic(auto)]
 
 mod case;

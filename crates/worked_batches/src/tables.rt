@@ -13,6 +13,7 @@
 //! A blank line or the end of the table stands behind the report, and remarks may follow. In a batch and in a report,
 //!
 //! - lines between `=== N times` and `=== once` stand there N times, and `#` in them is the number of the time, from 1;
+//! - a line between `=== N times on one line` and `=== once` stands there N times without an LF;
 //! - `=== open` takes the LF off the line above it.
 
 use crate::case::{Case, case_of, written_out};
@@ -21,14 +22,14 @@ use std::alloc::{AllocError, Global};
 use std::io::Write;
 use std::{fs, io};
 
-/// Whether a batch comes to what its case says.
+/// Whether a batch gives what its case says.
 fn is_wanted(alloc: Global, case: Case<'_>, ending: &Ending) -> Result<bool, AllocError> {
     let mut report = written_out(alloc, case.report)?;
     report.push('\n')?;
     Ok(ending.exit == case.exit && ending.report.as_slice() == report.as_bytes())
 }
 
-/// Runs a case by a schedule or without one. Answers whether it comes to what it says; if not, prints what it comes to.
+/// Runs a case by a schedule or without one. Answers whether it gives what it says; if not, prints what it gives.
 fn gives_report(rt: &HostRuntime, case: Case<'_>, schedule: Option<&str>) -> io::Result<bool> {
     let name = case.name;
     let batch = written_out(rt.alloc(), case.batch)?;
@@ -51,7 +52,7 @@ fn gives_report(rt: &HostRuntime, case: Case<'_>, schedule: Option<&str>) -> io:
     Ok(false)
 }
 
-/// Runs a case by each of its schedules, or without one where it has none. Answers whether it always comes to what it
+/// Runs a case by each of its schedules, or without one if it has none. Answers whether it always gives what it
 /// says.
 fn gives_reports(rt: &HostRuntime, case: Case<'_>) -> io::Result<bool> {
     if case.schedules.is_empty() {
@@ -65,7 +66,7 @@ fn gives_reports(rt: &HostRuntime, case: Case<'_>) -> io::Result<bool> {
     Ok(true)
 }
 
-/// Runs the table of this name, and prints how many of its cases come to what they say.
+/// Runs the table of this name, and prints how many of its cases give what they say.
 pub fn show_table(rt: &HostRuntime, name: &str) -> io::Result<()> {
     let table = format!(in rt.alloc(); "tables/{name}")?;
     let table = fs::read_to_string(rt, table.as_str())?;

@@ -16,16 +16,16 @@ pub const EXECUTED_BY_TWO: [u64; 2] = [2, 4];
 ///
 /// # Errors
 ///
-/// [`AllocError`] where memory for the text was refused.
+/// [`AllocError`] if memory for the text was refused.
 pub(crate) fn twelve_jobs(alloc: Global) -> Result<String, AllocError> {
     twelve_jobs_by(alloc, "")
 }
 
-/// The same jobs behind this line.
+/// The same jobs after this line.
 ///
 /// # Errors
 ///
-/// [`AllocError`] where memory for the text was refused.
+/// [`AllocError`] if memory for the text was refused.
 pub(crate) fn twelve_jobs_by(alloc: Global, rule_line: &str) -> Result<String, AllocError> {
     format!(in alloc;
         "{rule_line}JOB t 5 16 4 100\nSIGNATURES\nMAIN () -> (INT)\nCODE\nFUNC MAIN\n\

@@ -4,7 +4,7 @@ use std::alloc::Global;
 use std::io::{Read, repeat};
 use vcode_base::limits::MOST_BATCH_BYTES;
 
-/// What a run from this reader came to, and what it has written.
+/// The answer of a run from this reader, and what it has written.
 fn ending<R: Read + Drop>(alloc: Global, reader: R) -> (Result<Status, FrontFault>, Vec<u8>) {
     let options = Options {
         region: 64,
@@ -27,13 +27,33 @@ fn a_reader_has_no_end(rt: HostRuntime) {
     );
 }
 
+/// A byte that a batch repeats, how often, and what the batch comes to and reports.
+type Repeated = (u8, u64, Status, &'static [u8]);
+
+const MOST: u64 = MOST_BATCH_BYTES as u64;
+
+/// Batches of the greatest length, and of a byte more.
+const REPEATED: [Repeated; 4] = [
+    (b' ', MOST, Status::AllReturned, b"END 0 jobs 0 refused\n"),
+    (b'\n', MOST, Status::AllReturned, b"END 0 jobs 0 refused\n"),
+    (
+        b' ',
+        MOST + 1,
+        Status::BatchRefused,
+        b"BATCH line 1 B4 TOO_LARGE\n",
+    ),
+    (
+        b'\n',
+        MOST + 1,
+        Status::BatchRefused,
+        b"BATCH line 16777217 B4 TOO_LARGE\n",
+    ),
+];
+
 #[test]
-fn a_batch_is_as_long_as_it_may_be(rt: HostRuntime) {
-    let reader = repeat(b' ').take(MOST_BATCH_BYTES as u64);
-    let (outcome, written) = ending(rt.alloc(), reader);
-    let report: &[u8] = b"END 0 jobs 0 refused\n";
-    assert_eq!(rt;
-        (outcome, written.as_slice()),
-        (Ok(Status::AllReturned), report)
-    );
+fn a_batch_is_as_long_as_it_may_be_or_longer(rt: HostRuntime) {
+    for (byte, times, status, report) in REPEATED {
+        let (outcome, written) = ending(rt.alloc(), repeat(byte).take(times));
+        assert_eq!(rt; (outcome, written.as_slice()), (Ok(status), report));
+    }
 }

@@ -1,5 +1,5 @@
 //! The texts of faults.
-use batch_front::{FrontFault, LineFault, exit_status};
+use batch_front::{FrontFault, exit_status};
 use std::test::Fail;
 
 #[test]
@@ -13,11 +13,5 @@ fn tells_faults(rt: HostRuntime) -> Result<(), Fail> {
         assert_eq!(rt; format!(in rt.alloc(); "{fault}")?.as_str(), text);
         assert_eq!(rt; exit_status(&Err(fault)), 3);
     }
-    let fault = LineFault::Memory;
-    assert_eq!(rt;
-        format!(in rt.alloc(); "{fault}")?.as_str(),
-        "vjobs: out of memory"
-    );
-    assert_eq!(rt; fault.exit_status(), 3);
     Ok(())
 }

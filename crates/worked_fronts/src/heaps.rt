@@ -24,7 +24,7 @@ const REPORT: &[u8] = b"JOB 1 a RETURNED\nINT (1 2)\nUSED 2 instructions 2 words
     JOB 2 b REFUSED line 12 V7 NO_MAIN\n\
     JOB 3 c MEMORY line 18 M1 WORDS\nUSED 0 instructions 0 words\nEND 3 jobs 1 refused\n";
 
-/// What a run comes to that takes its memory of this heap, and what was written.
+/// The answer of a run that takes its memory of this heap, and what was written.
 fn ending(heap: &LocalHeap, alloc: Global) -> (Result<Status, FrontFault>, Vec<u8>) {
     let options = Options {
         region: REGION,
@@ -47,7 +47,7 @@ fn is_whole(rt: &impl Abort, alloc: Global, heap: &LocalHeap) -> bool {
     is_whole
 }
 
-/// The same of a heap of so many bytes, of which a run keeps none.
+/// The same of a heap of `size` bytes, of which a run keeps none.
 fn is_whole_over(rt: &impl Abort, alloc: Global, size: usize) -> Result<bool, AllocError> {
     let heap = LocalHeap::new(alloc, size)?;
     let is_whole = is_whole(rt, alloc, &heap);

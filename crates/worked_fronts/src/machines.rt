@@ -10,7 +10,7 @@ use std::test::Fail;
 use vcode_base::Rule;
 use vcode_base::limits::MOST_JOBS;
 
-/// Puts the job of an entry behind the others.
+/// Adds the job of an entry after the others.
 fn put_job(entry: JobEntry<Global>, jobs: &mut Vec<Job<Global>>, most: usize) -> Result<(), Fail>
     requires few { length jobs.old.items ≤ MOST_JOBS }
     requires words { All (λ job. job.limits.words ≤ most) jobs.old.items }
@@ -28,7 +28,7 @@ fn put_job(entry: JobEntry<Global>, jobs: &mut Vec<Job<Global>>, most: usize) ->
     Ok(())
 }
 
-/// The rule of a batch and its jobs, each of at most so many words. What `feed` refuses `end` tells again.
+/// The rule of a batch and its jobs, each of at most `most` words. What `feed` refuses `end` answers again.
 fn jobs(alloc: Global, batch: &[u8], most: usize) -> Result<(Rule, Vec<Job<Global>>), Fail>
     requires { most ≤ MOST_WORDS }
     ensures few { IfOk result (λ r. length r.1.items ≤ MOST_JOBS) }

@@ -42,7 +42,7 @@ const REPORT_BY_THE_SECOND_RULE: &[u8] = b"JOB 1 t RETURNED\nINT (6)\nUSED 5 ins
     JOB 11 t FAULT line 107 F7 INDEX_TWICE\nUSED 4 instructions 5 words\n\
     JOB 12 t MEMORY line 118 M1 WORDS\nUSED 3 instructions 2 words\nEND 12 jobs 0 refused\n";
 
-/// What a run came to, and what was written.
+/// The answer of a run, and what was written.
 fn ending<H, G>(
     rt: &H,
     alloc: Global,
@@ -60,7 +60,7 @@ where
     (outcome, writer.into_inner())
 }
 
-/// How a batch is run by so many workers, where it has no schedule.
+/// The options of a run by `workers` workers, without a schedule.
 fn options_of(workers: u32) -> Options
     requires { (1 ≤ workers) × (workers ≤ MOST_WORKERS) }
 {

@@ -18,7 +18,7 @@ use std::thread::Threads;
 use step_scheduler::{Gate, NoGate, Tally, run_workers};
 use vcode_base::Rule;
 
-/// What so many workers, which pass this gate, make of a machine.
+/// The machine that these workers, which pass this gate, hand back.
 fn ran<R, G>(
     rt: &R,
     alloc: Global,
@@ -67,7 +67,7 @@ fn two_workers_compute_at_once(rt: HostRuntime) -> Result<(), Fail> {
     Ok(())
 }
 
-/// The run of the twelve jobs behind this line by so many workers.
+/// The run of the twelve jobs after this line by `workers` workers.
 fn run_of_twelve<R: Threads + Wait + Sync>(
     rt: &R,
     alloc: Global,
@@ -81,7 +81,7 @@ fn run_of_twelve<R: Threads + Wait + Sync>(
     ran(rt, alloc, machine, workers, &NoGate)
 }
 
-/// Whether each of the twelve jobs is collected and has executed so many instructions.
+/// Whether each of the twelve jobs is collected and has executed its number of instructions.
 fn are_the_twelve(machine: &Machine<Global>, executed: &[u64; 12]) -> bool {
     for place in 0..12usize {
         if machine.status(place + 1) != Some(Status::Collected) {
@@ -103,7 +103,7 @@ fn by_workers(tally: &Tally<Global>) -> u64 {
     sum
 }
 
-/// So many workers execute what the twelve jobs execute.
+/// These workers execute what the twelve jobs execute.
 fn execute_the_twelve<R>(rt: &R, alloc: Global, workers: usize) -> Result<(), Fail>
 where
     R: Abort + Threads + Wait + Sync,
@@ -125,7 +125,7 @@ fn each_number_of_workers_executes_the_same(rt: HostRuntime) -> Result<(), Fail>
     execute_the_twelve(&rt, rt.alloc(), 16)
 }
 
-/// So many workers execute what the twelve jobs execute by the second rule, which the machine keeps.
+/// These workers execute what the twelve jobs execute by the second rule, which the machine keeps.
 fn execute_by_the_second_rule<R>(rt: &R, alloc: Global, workers: usize) -> Result<(), Fail>
 where
     R: Abort + Threads + Wait + Sync,

@@ -1,5 +1,5 @@
 //! Schedules as texts.
-use batch_front::{Item, LineFault, ScheduleFault, parse_schedule, read_line};
+use batch_front::{Item, ScheduleFault, parse_schedule};
 use std::test::Fail;
 
 #[test]
@@ -21,22 +21,11 @@ fn refuses_other_texts(rt: HostRuntime) {
 }
 
 #[test]
-fn takes_no_line_with_a_bad_schedule(rt: HostRuntime) {
-    for list in ["1,x", ""] {
-        let line = read_line(rt.alloc(), &["vjobs", "--schedule", list, "FILE"]);
-        assert!(rt; matches!(&line, Err(LineFault::BadSchedule)), "{list}");
-        assert_eq!(rt; line.err().map(|fault| fault.exit_status()), Some(2));
-    }
-}
-
-#[test]
 fn tells_faults_of_schedules(rt: HostRuntime) -> Result<(), Fail> {
     for (fault, text) in [
         (ScheduleFault::Bad, "vjobs: bad schedule"),
         (ScheduleFault::Memory, "vjobs: out of memory"),
     ] {
-        assert_eq!(rt; format!(in rt.alloc(); "{fault}")?.as_str(), text);
-        let fault = LineFault::from(fault);
         assert_eq!(rt; format!(in rt.alloc(); "{fault}")?.as_str(), text);
     }
     Ok(())

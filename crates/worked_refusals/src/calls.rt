@@ -55,7 +55,7 @@ fn ended_machine<'h>(rt: &impl Abort, heap: &'h Heap) -> Result<HeapMachine<'h>,
     Ok(machine)
 }
 
-/// Whether the first job is collected at once. If not, all stands as it did, and the job is collected by a second call.
+/// Whether the first job is collected at once. If not, all is as it was, and the job is collected by a second call.
 fn is_collected(rt: &impl Abort, heap: &Heap, machine: HeapMachine<'_>, growth: u64) -> bool {
     let mut machine = machine;
     let before = snapshot_of(&machine);
@@ -109,8 +109,8 @@ fn runs_out<'h>(heap: &'h Heap, machine: &mut HeapMachine<'h>, growth: u64) -> R
     Ok(ran.is_ok())
 }
 
-/// A job of a machine that was refused memory has ended, no step is in flight, and what was done before stands: either the
-/// first job has ended and the second is as before its step, or the first is collected and the second has ended.
+/// A job of a machine that was refused memory has ended, no step is in flight, and what was done before is kept: either
+/// the first job has ended and the second is as before its step, or the first is collected and the second has ended.
 fn has_stopped(rt: &impl Abort, machine: &HeapMachine<'_>) {
     let stood = snapshot_of(machine);
     let (second, executed) = match stood.first.status {

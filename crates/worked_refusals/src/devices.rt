@@ -37,9 +37,9 @@ impl Read for Reader {
 #[derive(Clone, Copy, PartialEq, Eq)]
 pub enum Failure {
     Never,
-    /// The write after so many bytes takes none.
+    /// The write after this number of bytes takes none.
     TakesNone(usize),
-    /// The write after so many bytes fails.
+    /// The write after this number of bytes fails.
     Fails(usize),
     /// The flush fails.
     AtFlush,

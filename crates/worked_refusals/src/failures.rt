@@ -17,7 +17,7 @@ enum Way {
 /// All ways.
 const WAYS: [Way; 2] = [Way::Alone, Way::ByWorkers];
 
-/// What a run from this reader to this writer came to, and the writer.
+/// The answer of a run from this reader to this writer, and the writer.
 fn ending<R>(
     rt: &R,
     alloc: Global,
@@ -154,7 +154,7 @@ fn a_flush_fails(rt: HostRuntime) {
     }
 }
 
-/// How often reads, writes and the flush are interrupted, and what a run comes to then and has written.
+/// How often reads, writes and the flush are interrupted, and the answer of a run then and what it has written.
 type Interruptions = (u32, u32, u32, Result<Status, FrontFault>, &'static [u8]);
 
 const WHOLE: Result<Status, FrontFault> = Ok(Status::AllReturned);

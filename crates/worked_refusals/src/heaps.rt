@@ -10,7 +10,7 @@ pub type Heap = RefusingHeap<Global>;
 /// More growths than any call of these tests asks for.
 pub const MOST_GROWTHS: u64 = 10_000;
 
-/// A heap was asked for so many growths, refused one or none of them, and has so many bytes in blocks.
+/// A heap was asked for this number of growths, refused one or none of them, and has this number of bytes in blocks.
 fn has_counted(rt: &impl Abort, heap: &Heap, growths: u64, has_refused: bool, bytes: usize) {
     assert_eq!(rt; heap.growths(), growths);
     assert_eq!(rt; heap.has_refused(), has_refused);

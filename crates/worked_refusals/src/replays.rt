@@ -52,7 +52,7 @@ fn snapshot_before(rt: &impl Abort, heap: &Heap, place: usize) -> Result<Snapsho
     Ok(snapshot_of(&machine))
 }
 
-/// What a replay is refused memory for, if it is. All stands then as it has to.
+/// The memory that a replay is refused, if it is. All is then as it has to be.
 fn refused_replay(rt: &impl Abort, heap: &Heap, growth: u64) -> Result<Option<ReplayFault>, Fail> {
     let mut machine = begun_machine(rt, heap)?;
     let before = snapshot_of(&machine);

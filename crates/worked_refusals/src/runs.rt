@@ -10,7 +10,7 @@ use std::sync::Wait;
 use std::test::Fail;
 use std::thread::Threads;
 
-/// What a run came to, and what was written.
+/// The answer of a run, and what was written.
 type Ending = (Result<Status, FrontFault>, Vec<u8>);
 
 /// How the batch is run.

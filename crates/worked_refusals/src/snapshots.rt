@@ -4,7 +4,7 @@ use job_machine::{Machine, Status};
 use std::alloc::Allocator;
 use vcode_base::Outcome;
 
-/// Where a job stands.
+/// The state of a job.
 #[derive(Clone, Copy, PartialEq, Eq, Debug)]
 pub struct Standing {
     pub status: Option<Status>,
@@ -12,7 +12,7 @@ pub struct Standing {
     pub peak: Option<usize>,
 }
 
-/// Where both jobs stand, and the words that they hold.
+/// The states of both jobs, and the words that they hold.
 #[derive(Clone, Copy, PartialEq, Eq, Debug)]
 pub struct Snapshot {
     pub first: Standing,
@@ -20,7 +20,7 @@ pub struct Snapshot {
     pub used: usize,
 }
 
-/// Where the job of this number stands.
+/// The state of the job of this number.
 fn standing_of<A: Allocator>(machine: &Machine<A>, job: usize) -> Standing {
     Standing {
         status: machine.status(job),

@@ -16,7 +16,8 @@ new-requires-clause-words g c =
 
 pub returns-clause-seated : goal.returns-clause-seated
 returns-clause-seated g c =
-    seated_by c.args.rule c.in_ok-machine.machine.tasks c.seats.new.jobs.items c.in_ok-seats.seats.items _ c.args.entries
+    seated_by c.args.rule c.in_ok-machine.machine.tasks c.seats.new.jobs.items c.in_ok-seats.seats.items _
+    c.args.entries
     (ap (λ m. m.tasks) c.in_ok-machine.ensures) c.into_vec.ensures c.in_ok-seats.ensures.seats
     c.in_ok-seats.ensures.jobs
 

@@ -23,5 +23,6 @@ returns-clause-state g c =
     let m = c.args.machine.now in
     let over = ended_is (of_job c.args.job m.standings) (sym c.has_ended.ensures ∙ c.if-not-has_ended.false) in
     c.in_ok-admit_all.ensures.state ∙ ap settled c.in_ok-play.ensures.ok
-    ∙ (has_collected c.closed_change_nothing.ensures c.others_stay.ensures c.events_change_their_job.ensures c.args.job m
+    ∙ (has_collected c.closed_change_nothing.ensures c.others_stay.ensures c.events_change_their_job.ensures c.args.job
+    m
     c.jobs-jobs.ensures.kept.same_length c.requires.others_settled over).same

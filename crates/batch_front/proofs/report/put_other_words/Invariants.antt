@@ -6,4 +6,5 @@ use Rattle.batch_front.proofs.report.put_other_words.Given as goal
 
 abbrev pub invariant-loop-word : goal.invariant-loop-word
 invariant-loop-word g l =
-    Puts g.W.Write.contents l.fn.page l.fn.writer l.page l.writer (flat_map (next_word_text l.kind) (take l.word-index l.words))
+    Puts g.W.Write.contents l.fn.page l.fn.writer l.page l.writer (flat_map (next_word_text l.kind)
+    (take l.word-index l.words))

@@ -1,8 +1,8 @@
 -- What a command line can ask for.
 use Rattle.std.specs.Prelude.{◌≡◌, ℕ, ◌≤◌, List, Some, IfSome}
 use Rattle.vcode_base.specs.declared.limits.TheConstants.{MOST_WORDS, MOST_WORKERS}
-use Rattle.batch_front.specs.declared.command_line.Line.{Line}
-use Rattle.batch_front.specs.declared.command_line.Line.TheVariants.{Run, Help}
+use Rattle.command_line.specs.declared.line.Line.{Line}
+use Rattle.command_line.specs.declared.line.Line.TheVariants.{Run, Help}
 use Rattle.batch_front.specs.declared.options.Options.{Options}
 use Rattle.batch_front.specs.declared.schedule.Item.{Item}
 use Rattle.batch_front.specs.Schedules.{schedule_of}

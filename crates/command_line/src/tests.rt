@@ -1,5 +1,6 @@
-//! Command lines.
-use batch_front::{Line, LineFault, Options, arguments_fault, read_line};
+//! Command lines, and the texts of what is wrong with one.
+use crate::{Line, LineFault, arguments_fault, read_line};
+use batch_front::{Options, ScheduleFault};
 use std::io::ErrorKind;
 use std::test::Fail;
 use vcode_base::limits::MOST_WORDS;
@@ -61,6 +62,11 @@ fn helps(rt: HostRuntime) {
     assert!(rt;
         matches!(&line, Ok(Line::Help(text)) if text.contains("--region <N>") && text.contains("--workers <W>"))
     );
+    assert!(rt;
+        matches!(&line, Ok(Line::Help(text))
+        if text.contains("  3  reading, writing or memory failed\n")
+            && text.ends_with("  vjobs --region 64 --workers 2 batch.vcode\n"))
+    );
 }
 
 #[test]
@@ -84,4 +90,26 @@ fn wants_memory_for_arguments(rt: HostRuntime) {
     let fault = arguments_fault(rt.alloc(), ErrorKind::OutOfMemory);
     assert!(rt; matches!(&fault, LineFault::Memory));
     assert_eq!(rt; fault.exit_status(), 3);
+}
+
+#[test]
+fn takes_no_line_with_a_bad_schedule(rt: HostRuntime) {
+    for list in ["1,x", ""] {
+        let line = read_line(rt.alloc(), &["vjobs", "--schedule", list, "FILE"]);
+        assert!(rt; matches!(&line, Err(LineFault::BadSchedule)), "{list}");
+        assert_eq!(rt; line.err().map(|fault| fault.exit_status()), Some(2));
+    }
+}
+
+#[test]
+fn tells_faults(rt: HostRuntime) -> Result<(), Fail> {
+    for (fault, text, exit) in [
+        (ScheduleFault::Bad, "vjobs: bad schedule", 2),
+        (ScheduleFault::Memory, "vjobs: out of memory", 3),
+    ] {
+        let fault = LineFault::from(fault);
+        assert_eq!(rt; format!(in rt.alloc(); "{fault}")?.as_str(), text);
+        assert_eq!(rt; fault.exit_status(), exit);
+    }
+    Ok(())
 }

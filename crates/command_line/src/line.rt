@@ -1,18 +1,17 @@
-//! The command line.
+//! What a command line asks for.
 
 ghost use Rattle.std.specs.Prelude.{◌≡◌, ◌≢◌, IfOk};
 ghost use Rattle.std.specs.declared.io.ErrorKind.TheVariants.{InvalidData};
-ghost use Rattle.batch_front.specs.declared.fault.LineFault.TheVariants.{Memory};
-ghost use Rattle.batch_front.specs.CommandLines.{LineFits};
+ghost use Rattle.command_line.specs.declared.fault.LineFault.TheVariants.{Memory};
+ghost use Rattle.command_line.specs.Lines.{LineFits};
 
+use crate::command::{DEFAULT_WORKERS, MOST_REGION, MOST_THREADS, command};
 use crate::fault::LineFault;
-use crate::options::Options;
-use crate::schedule::parse_schedule;
+use batch_front::{Options, parse_schedule};
+use clap::ArgMatches;
 use clap::error::ErrorKind;
-use clap::{Arg, ArgMatches, Command, value_parser};
 use std::alloc::Global;
 use std::io::ErrorKind as IoErrorKind;
-use vcode_base::limits::{MOST_WORDS, MOST_WORKERS};
 
 /// What a command line asks for.
 #[derive(Drop)]
@@ -21,70 +20,6 @@ pub enum Line {
     Run(Options, String),
     /// The text of help or of the version, to be printed.
     Help(String),
-}
-
-/// The words of a region where no number is given: as many as there may be.
-const MOST_REGION: u32 = MOST_WORDS as u32;
-
-/// The same as the text of an argument.
-const MOST_REGION_TEXT: &str = "1048576";
-
-/// The most workers.
-const MOST_THREADS: u32 = MOST_WORKERS as u32;
-
-/// The workers where no number is given.
-const DEFAULT_WORKERS: u32 = 4;
-
-/// The same as the text of an argument.
-const DEFAULT_WORKERS_TEXT: &str = "4";
-
-/// The option for the words of the region.
-fn region_option<'a>(alloc: Global) -> Arg<'a> {
-    Arg::new(alloc, "region")
-        .long("region")
-        .value_name("N")
-        .value_parser(value_parser!(u32).range(1..=i64::from(MOST_REGION)))
-        .default_value(MOST_REGION_TEXT)
-        .help("Words of the region that the jobs share")
-}
-
-/// The option for the number of workers.
-fn workers_option<'a>(alloc: Global) -> Arg<'a> {
-    Arg::new(alloc, "workers")
-        .long("workers")
-        .value_name("W")
-        .value_parser(value_parser!(u32).range(1..=i64::from(MOST_THREADS)))
-        .default_value(DEFAULT_WORKERS_TEXT)
-        .help("Threads that run the jobs where no schedule is given")
-}
-
-/// The option for a schedule.
-fn schedule_option<'a>(alloc: Global) -> Arg<'a> {
-    Arg::new(alloc, "schedule")
-        .long("schedule")
-        .value_name("LIST")
-        .help("Turns that the jobs take first, as in 1,b2,1,f2")
-}
-
-/// The argument for the batch.
-fn file_argument<'a>(alloc: Global) -> Arg<'a> {
-    Arg::new(alloc, "file")
-        .value_name("FILE")
-        .required(true)
-        .help("The batch, or - for standard input")
-}
-
-/// The command.
-fn command<'a>(alloc: Global) -> Result<Command<'a>, clap::Error> {
-    Ok(
-        Command::new(alloc, "vjobs")
-            .about("Runs a batch of VCODE jobs and prints a report")
-            .version("0.1.0")
-            .arg(region_option(alloc))?
-            .arg(workers_option(alloc))?
-            .arg(schedule_option(alloc))?
-            .arg(file_argument(alloc))?,
-    )
 }
 
 /// What was matched.
@@ -124,14 +59,15 @@ fn line_of(alloc: Global, error: &clap::Error) -> Result<Line, LineFault>
 
 /// Reads a command line, the program's name first: `vjobs [--region N] [--workers W] [--schedule LIST] FILE`.
 ///
-/// The region is at least 1 word and at most [`MOST_WORDS`], and that where none is given. The workers are at least 1 and
-/// at most [`MOST_WORKERS`], and 4 where no number is given. The schedule is what [`parse_schedule`] reads of the list.
-/// A line that asks for help or for the version is [`Line::Help`].
+/// The region is at least 1 word and at most [`MOST_WORDS`](vcode_base::limits::MOST_WORDS), which it is if none is
+/// given. The workers are at least 1 and at most [`MOST_WORKERS`](vcode_base::limits::MOST_WORKERS), and 4 if no number
+/// is given. The schedule is what [`parse_schedule`] reads of the list. A line that asks for help or for the version is
+/// [`Line::Help`].
 ///
 /// # Errors
 ///
-/// [`LineFault::Usage`] where the line is refused, [`LineFault::BadSchedule`] where its list is no schedule, and
-/// [`LineFault::Memory`] where a growth was refused.
+/// [`LineFault::Usage`] if the line is refused, [`LineFault::BadSchedule`] if its list is no schedule, and
+/// [`LineFault::Memory`] if a growth was refused.
 pub fn read_line(alloc: Global, words: &[&str]) -> Result<Line, LineFault>
     ensures { IfOk result LineFits }
 {
@@ -145,7 +81,7 @@ pub fn read_line(alloc: Global, words: &[&str]) -> Result<Line, LineFault>
     }
 }
 
-/// Why a program's arguments give no words, where reading them gave an error of this kind: `InvalidData` says that one
+/// Why a program's arguments give no words, if reading them gave an error of this kind: `InvalidData` says that one
 /// is not UTF-8, which is [`LineFault::Usage`]. For any other kind it is [`LineFault::Memory`].
 pub fn arguments_fault(alloc: Global, kind: IoErrorKind) -> LineFault
     ensures memory { kind ≢ InvalidData → result ≡ Memory }
