@@ -1,0 +1,113 @@
+-- A file that is read as a batch.
+use Rattle.std.proofs.Common.{◌≡◌, ℕ, ◌<◌, List, [], ◌∷◌, length, get_or, Result, Ok, Err, refl, sym, ap, ◌∙◌, arith, subst}
+use Rattle.vcode_base.specs.declared.rule.Rule.{Rule}
+use Rattle.job_steps.specs.States.{JobValue}
+use Rattle.batch_reader.specs.declared.entry.Batch.{Batch as Batched}
+use Rattle.batch_reader.specs.declared.entry.Batch.TheVariants.{Jobs}
+use Rattle.batch_reader.specs.declared.entry.Fate.{Fate}
+use Rattle.batch_reader.specs.declared.entry.Fate.TheVariants.{Ready, Refused}
+use Rattle.batch_reader.specs.declared.fault.JobFault.{JobFault}
+use Rattle.batch_reader.specs.Batches.{JobText}
+use Rattle.batch_reader.specs.Fates.{AreEntries, IsBatch, IsFate, JobEntry, signed_program_of}
+use Rattle.batch_packer.specs.declared.fault.PackFault.{PackFault}
+use Rattle.batch_packer.specs.declared.fault.PackFault.TheVariants.{Memory, Batch, NoJob, ManyJobs, Job}
+use Rattle.batch_packer.specs.Packs.{HoldsJob, IsRunnable, RefusesFile, RefusesJobs}
+
+-- no entry, no job
+pub no_entries : (region : ℕ) (jobs : List JobText) (entries : List JobEntry) → length entries ≡ 0
+    → AreEntries region jobs entries → jobs ≡ []
+no_entries region [] entries none are = refl
+no_entries region (job ∷ jobs) [] none are = absurd are
+no_entries region (job ∷ jobs) (entry ∷ entries) none are = absurd (omega (arith, none))
+
+-- two entries, two jobs
+pub many_entries : (region : ℕ) (jobs : List JobText) (entries : List JobEntry) → 1 < length entries
+    → AreEntries region jobs entries
+    → (first : JobText) × (second : JobText) × (more : List JobText) × (jobs ≡ first ∷ second ∷ more)
+many_entries region [] [] many are = absurd (omega (arith, many))
+many_entries region [] (entry ∷ entries) many are = absurd are
+many_entries region (job ∷ []) [] many are = absurd are
+many_entries region (job ∷ []) (entry ∷ []) many are = absurd (omega (arith, many))
+many_entries region (job ∷ []) (entry ∷ other ∷ entries) many are = absurd are.1
+many_entries region (job ∷ second ∷ jobs) entries many are = (job, second, jobs, refl)
+
+-- the entry of the only job
+pub record OnlyEntry (region : ℕ) (jobs : List JobText) (entry : JobEntry) : Type 0 where
+  pub job : JobText
+  pub only : jobs ≡ job ∷ []
+  pub fate : IsFate region job entry.fate
+
+pub only_entry : (region : ℕ) (jobs : List JobText) (entries : List JobEntry) (any : JobEntry) → length entries ≡ 1
+    → AreEntries region jobs entries → OnlyEntry region jobs (get_or entries 0 any)
+only_entry region [] [] any one are = absurd (omega (arith, one))
+only_entry region [] (entry ∷ entries) any one are = absurd are
+only_entry region (job ∷ jobs) [] any one are = absurd are
+only_entry region (job ∷ []) (entry ∷ entries) any one are = record { job = job; only = refl; fate = are.0.fate }
+only_entry region (job ∷ second ∷ jobs) (entry ∷ []) any one are = absurd are.1
+only_entry region (job ∷ second ∷ jobs) (entry ∷ other ∷ entries) any one are = absurd (omega (arith, one))
+
+pub ready_entry : (region : ℕ) (jobs : List JobText) (entries all : List JobEntry) (any : JobEntry) (ready : JobValue)
+    → all ≡ entries → length entries ≡ 1 → AreEntries region jobs entries → (get_or all 0 any).fate ≡ Ready ready
+    → IsRunnable region jobs
+ready_entry region jobs entries all any ready same one are is =
+    let o = only_entry region jobs entries any one are in
+    let fate : IsFate region o.job (Ready ready) = subst (λ (f : Fate JobValue). IsFate region o.job f)
+    (ap (λ (es : List JobEntry). (get_or es 0 any).fate) (sym same) ∙ is) o.fate in
+    record {
+      job = o.job;
+      only = o.only;
+      program = (fate.signatures, ready.verified.program);
+      runs = fate.program;
+    }
+
+pub refused_entry : (region : ℕ) (jobs : List JobText) (entries all : List JobEntry) (any : JobEntry) (line : ℕ)
+    (fault : JobFault)
+    → all ≡ entries → length entries ≡ 1 → AreEntries region jobs entries → (get_or all 0 any).fate ≡ Refused line fault
+    → (job : JobText) × (jobs ≡ job ∷ []) × (signed_program_of region job ≡ Err (fault, line))
+refused_entry region jobs entries all any line fault same one are is =
+    let o = only_entry region jobs entries any one are in
+    let fate : IsFate region o.job (Refused line fault) = subst (λ (f : Fate JobValue). IsFate region o.job f)
+    (ap (λ (es : List JobEntry). (get_or es 0 any).fate) (sym same) ∙ is) o.fate in
+    (o.job, o.only, fate)
+
+-- ---- the answer to a file
+
+holds_entries : (region other : ℕ) (bytes : List ℕ) (rule : Rule) (entries : List JobEntry) → other ≡ region
+    → IsBatch other bytes (Jobs rule entries)
+    → ((r : ℕ) (jobs : List JobText) → AreEntries r jobs entries → IsRunnable r jobs) → HoldsJob region bytes rule
+holds_entries region other bytes rule entries same batch runs = record {
+  jobs = batch.0;
+  is_batch = batch.1;
+  runnable = subst (λ (r : ℕ). IsRunnable r batch.0) same (runs other batch.0 batch.2);
+}
+
+refuses_entries : (region other : ℕ) (bytes : List ℕ) (rule : Rule) (entries : List JobEntry) (fault : PackFault)
+    → other ≡ region → IsBatch other bytes (Jobs rule entries)
+    → ((r : ℕ) (jobs : List JobText) → AreEntries r jobs entries → RefusesJobs r jobs fault)
+    → RefusesFile region bytes fault
+refuses_entries region other bytes rule entries NoJob same batch refuses =
+    (rule, batch.0, batch.1, subst (λ (r : ℕ). RefusesJobs r batch.0 NoJob) same (refuses other batch.0 batch.2))
+refuses_entries region other bytes rule entries ManyJobs same batch refuses =
+    (rule, batch.0, batch.1, subst (λ (r : ℕ). RefusesJobs r batch.0 ManyJobs) same (refuses other batch.0 batch.2))
+refuses_entries region other bytes rule entries (Job line fault) same batch refuses =
+    (rule, batch.0, batch.1, subst (λ (r : ℕ). RefusesJobs r batch.0 (Job line fault)) same (refuses other batch.0 batch.2))
+refuses_entries region other bytes rule entries (Batch line fault) same batch refuses =
+    absurd (refuses other batch.0 batch.2)
+refuses_entries region other bytes rule entries Memory same batch refuses = tt
+
+pub holds_job : (region other : ℕ) (bytes : List ℕ) (batch : Batched (List JobEntry)) (rule : Rule)
+    (entries : List JobEntry)
+    → other ≡ region → batch ≡ Jobs rule entries → IsBatch other bytes batch
+    → ((r : ℕ) (jobs : List JobText) → AreEntries r jobs entries → IsRunnable r jobs) → HoldsJob region bytes rule
+holds_job region other bytes batch rule entries same is answer runs =
+    holds_entries region other bytes rule entries same
+    (subst (λ (b : Batched (List JobEntry)). IsBatch other bytes b) is answer) runs
+
+pub refuses_jobs : (region other : ℕ) (bytes : List ℕ) (batch : Batched (List JobEntry)) (rule : Rule)
+    (entries : List JobEntry) (fault : PackFault)
+    → other ≡ region → batch ≡ Jobs rule entries → IsBatch other bytes batch
+    → ((r : ℕ) (jobs : List JobText) → AreEntries r jobs entries → RefusesJobs r jobs fault)
+    → RefusesFile region bytes fault
+refuses_jobs region other bytes batch rule entries fault same is answer refuses =
+    refuses_entries region other bytes rule entries fault same
+    (subst (λ (b : Batched (List JobEntry)). IsBatch other bytes b) is answer) refuses

@@ -1,0 +1,7 @@
+pub mod Blanked
+pub mod Continued
+pub mod Files
+pub mod Joined
+pub mod JoinedLines
+pub mod Packs
+pub mod Texts

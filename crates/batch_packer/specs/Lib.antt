@@ -1,0 +1,3 @@
+pub mod Joins
+pub mod Laws
+pub mod Packs
