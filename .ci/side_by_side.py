@@ -30,7 +30,7 @@ def lines_of(crate):
 
 
 def side_by_side(uses, work, weight=lines_of):
-    """Does the work on each crate once it is done on those that the crate uses. The longest chain of crates comes first.
+    """Does the work on each crate once it is done on those that the crate uses. The longest chain comes first.
 
     The work is given the crate and a number of jobs. It returns whether it succeeded, and what is to be printed. Crates
     above one where it fails aren't begun. Returns whether it succeeded everywhere."""

@@ -24,7 +24,7 @@ import steps
 TOP = Path(__file__).resolve().parent.parent
 WORKERS = (1, 2, 4)
 LENGTHS, JOBS = (100, 1_000, 10_000, 30_000), (1, 4, 16)
-# Each job has room for so many vectors.
+# The number of vectors that each job has room for.
 VECTORS = 6
 
 
