@@ -266,6 +266,7 @@ impl<A: Allocator> Machine<A> {
     /// At `Done` and `Ended` the job is as a begin and then the finish of that step leave it. `NotReady` exactly if
     /// there is no such job, or it waits, a step of it has begun, or it is over. `SmallDesk` exactly if it is live and
     /// the desk has fewer words than the job. Nothing changes then.
+    #[inline(always)]
     pub fn step(&mut self, job: usize, desk: &mut Desk<A>) -> Stepped
         ensures answer { StepsIn job desk.old (of_job job self.old.tasks) (of_job job self.old.standings) result }
         ensures state { self.new ≡ after_stepped result self.old (after_step job self.old) }

@@ -21,6 +21,7 @@ use Rattle.verifier.specs.Typed.{TypedProgram}
 use Rattle.job_slots.specs.Slots.{IsRunningSlot}
 use Rattle.job_slots.specs.Answers.{question_before, question_in, question_at, line_before, line_in, line_at}
 use Rattle.job_slots.specs.Answers.{early_end_of, early_end_at, IsNext}
+use Rattle.job_slots.specs.Lines.{IsLineOf}
 use Rattle.job_slots.proofs.Operands.{deep_enough}
 
 -- ---- the definitions at a state at which the job runs
@@ -47,12 +48,6 @@ early_end_when task n s runs = ap (early_end_of task) runs
 pub can_begin : StepsCanBegin ℕ → (slots : List Slot) (task : Task) (t : Trace ℕ) (run : IsRunningSlot slots task t) →
     IsVerified task → CanBegin task t.executed run.state t
 can_begin law slots task t run verified = law verified.0 task verified.1 t.executed run.state t run.running run.at
-
--- the line is that of the next instruction
-abbrev pub IsLineOf : Task → Trace ℕ → CodeLine → Type 0
-IsLineOf task t line =
-    (call : Active) (outer : List Active) → StandAll (functions_of task.verified) t.frames (call ∷ outer) →
-    next_item call ≡ instruction_of line
 
 -- a line that is read in the task's program
 pub line_of : (task : Task) (t : Trace ℕ) (program : Program) (verified : TypedProgram) (line : CodeLine) →

@@ -3,6 +3,7 @@ mod Begins
 mod Collecting
 mod Commits
 mod Committed
+mod Constants
 mod Copied
 mod Counts
 mod EarlyEnds

@@ -4,5 +4,6 @@ pub mod Answers
 pub mod Commits
 pub mod Copies
 pub mod Laws
+pub mod Lines
 pub mod Executions
 pub mod InPlace

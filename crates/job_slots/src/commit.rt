@@ -48,6 +48,7 @@ impl NewBlocks {
 }
 
 /// Executes the next instruction of a job that runs, whose results are these words.
+#[inline(always)]
 pub(crate) fn execute<A: Allocator>(
     rule: Rule,
     job: &Job<A>,

@@ -1,6 +1,8 @@
 //! The next instruction of a job, with the words of its operands.
 
-ghost use Rattle.std.specs.Prelude.{◌≡◌, ◌≤◌, ◌↔◌, List, [], ◌∷◌, IsTrue, length, map, take, Some};
+ghost use Rattle.std.specs.Prelude.{◌≡◌, ◌≤◌, ◌↔◌, ℤ, List, [], ◌∷◌, IsTrue, length, map, take, Some};
+ghost use Rattle.vcode_base.specs.declared.instr.Instr.TheVariants as instr;
+ghost use Rattle.vcode_base.specs.declared.kind.Scalar.{Scalar};
 ghost use Rattle.vcode_base.specs.Instructions.{op_of};
 ghost use Rattle.vcode_base.specs.Kinds.{HaveKinds, source_kinds};
 ghost use Rattle.vcode_base.specs.Meaning.{operand};
@@ -15,6 +17,7 @@ ghost use Rattle.job_steps.specs.States.{StackEntry, ruled, words_of};
 ghost use Rattle.job_steps.specs.Steps.{sources_of};
 ghost use Rattle.job_slots.specs.Slots.{IsRunningSlot};
 ghost use Rattle.job_slots.specs.Answers.{IsNext, line_at, question_at};
+ghost use Rattle.job_slots.specs.Lines.{IsLineOf};
 
 use block_memory::BlockId;
 use job_memory::JobMemory;
@@ -34,6 +37,7 @@ pub(crate) struct Operands<'a> {
 
 impl<'a> Operands<'a> {
     /// The lists.
+    #[inline(always)]
     pub(crate) fn as_slice(&self) -> &[&'a [i64]]
         ensures { result.now ≡ take self.now.count self.now.lists }
     {
@@ -64,16 +68,58 @@ pub(crate) fn read_next<'a, A: Allocator>(
         (contents (take result.operands.count result.operands.lists)) }
     ensures kinds { HaveKinds (source_kinds result.op) (contents (take result.operands.count result.operands.lists)) }
 {
-    steps_can_begin::<BlockId>();
-    let line = track.line(job.verified().program());
-    Next {
-        op: op_of(line),
-        line: line.number,
-        operands: operands_of(line, track, blocks),
-    }
+    let line = next_line(rule, job, track, number, blocks);
+    next_at(rule, job, track, number, blocks, line, op_of(line))
 }
 
 /// The line of the next instruction of a job that runs.
+#[inline(always)]
+pub(crate) fn next_line<'a, A: Allocator>(
+    rule: Rule,
+    job: &'a Job<A>,
+    track: &Track<BlockId, A>,
+    number: usize,
+    blocks: &JobMemory<A>,
+) -> &'a CodeLine<A>
+    requires running { IsRunningSlot (own_slots number blocks.now) (ruled rule job.now) track.now }
+    requires verified { IsVerified (ruled rule job.now) }
+    ensures { IsLineOf (ruled rule job.now) track.now result.now }
+{
+    steps_can_begin::<BlockId>();
+    track.line(job.verified().program())
+}
+
+/// The next instruction of a job that runs, which is this one, of this line.
+#[inline(always)]
+pub(crate) fn next_at<'a, A: Allocator>(
+    rule: Rule,
+    job: &Job<A>,
+    track: &Track<BlockId, A>,
+    number: usize,
+    blocks: &'a JobMemory<A>,
+    line: &'a CodeLine<A>,
+    op: Op,
+) -> Next<'a>
+    requires running { IsRunningSlot (own_slots number blocks.now) (ruled rule job.now) track.now }
+    requires verified { IsVerified (ruled rule job.now) }
+    requires line { IsLineOf (ruled rule job.now) track.now line.now }
+    requires op { op ≡ op_of (instruction_in line.now.item) }
+    ensures next { IsNext (ruled rule job.now) track.now.executed result.op result.line
+        (contents (take result.operands.count result.operands.lists)) }
+    ensures kinds { HaveKinds (source_kinds result.op) (contents (take result.operands.count result.operands.lists)) }
+    ensures op { result.op ≡ op }
+    ensures constant { (k : Scalar) (list : List ℤ) → instruction_in line.now.item ≡ instr.Const k list
+        → contents (take result.operands.count result.operands.lists) ≡ list ∷ [] }
+{
+    steps_can_begin::<BlockId>();
+    Next {
+        op,
+        line: line.number,
+        operands: operands_of(line, op, track, blocks),
+    }
+}
+
+/// The number of the line of the next instruction of a job that runs.
 pub(crate) fn line_of_next<A: Allocator>(
     rule: Rule,
     job: &Job<A>,
@@ -86,7 +132,7 @@ pub(crate) fn line_of_next<A: Allocator>(
     ensures { line_at (ruled rule job.now) track.now.executed ≡ Some result }
 {
     steps_can_begin::<BlockId>();
-    track.line(job.verified().program()).number
+    next_line(rule, job, track, number, blocks).number
 }
 
 /// The instruction of a line of code without its list or name.
@@ -100,21 +146,23 @@ fn op_of<A: Allocator>(line: &CodeLine<A>) -> Op
     }
 }
 
-/// The operands of a line of code.
+/// The operands of a line of code of this instruction.
 #[inline(always)]
 fn operands_of<'a, A: Allocator>(
     line: &'a CodeLine<A>,
+    op: Op,
     track: &Track<BlockId, A>,
     blocks: &'a JobMemory<A>,
 ) -> Operands<'a>
-    requires deep { operand_count (op_of (instruction_in line.now.item)) ≤ length track.now.cells }
+    requires op { op ≡ op_of (instruction_in line.now.item) }
+    requires deep { operand_count op ≤ length track.now.cells }
     requires live { AreLive blocks.now.memory track.now.cells }
     ensures { (stack : List StackEntry) → map (λ id. (slot_at blocks.now.memory id).words) track.now.cells ≡ words_of stack
         → contents (take result.count result.lists) ≡ sources_of (instruction_in line.now.item) stack }
 {
     match &line.item {
-        CodeItem::Do(instruction) => sources(instruction, track, blocks),
-        CodeItem::If | CodeItem::Else | CodeItem::Endif => top_operands(Op::If, track, blocks),
+        CodeItem::Do(instruction) => sources(instruction, op, track, blocks),
+        CodeItem::If | CodeItem::Else | CodeItem::Endif => top_operands(op, track, blocks),
     }
 }
 
@@ -122,17 +170,19 @@ fn operands_of<'a, A: Allocator>(
 #[inline(always)]
 fn sources<'a, A: Allocator>(
     instruction: &'a Instruction<A>,
+    op: Op,
     track: &Track<BlockId, A>,
     blocks: &'a JobMemory<A>,
 ) -> Operands<'a>
-    requires deep { operand_count (op_of instruction.now) ≤ length track.now.cells }
+    requires op { op ≡ op_of instruction.now }
+    requires deep { operand_count op ≤ length track.now.cells }
     requires live { AreLive blocks.now.memory track.now.cells }
     ensures { (stack : List StackEntry) → map (λ id. (slot_at blocks.now.memory id).words) track.now.cells ≡ words_of stack
         → contents (take result.count result.lists) ≡ sources_of instruction.now stack }
 {
     match instruction {
         Instr::Const(_, list) => constant(list.as_slice()),
-        _ => top_operands(instruction.op(), track, blocks),
+        _ => top_operands(op, track, blocks),
     }
 }
 

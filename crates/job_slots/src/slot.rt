@@ -13,7 +13,10 @@ ghost use Rattle.job_steps.specs.Events.{next_standing};
 ghost use Rattle.job_steps.specs.Runs.{outcome, executed_count, peak};
 ghost use Rattle.job_steps.specs.Standings.{Live, InFlight, Ended};
 ghost use Rattle.job_steps.specs.States.{ruled};
-ghost use Rattle.job_slots.specs.Answers.{early_end_at, line_at};
+ghost use Rattle.job_steps.specs.Frames.{instruction_in};
+ghost use Rattle.vcode_base.specs.Instructions.{op_of};
+ghost use Rattle.job_slots.specs.Answers.{IsAnswered, early_end_at, line_at};
+ghost use Rattle.job_slots.specs.Lines.{IsLineOf};
 ghost use Rattle.job_slots.specs.declared.status.Status.TheVariants as status;
 ghost use Rattle.job_slots.specs.declared.answer.Finished.TheVariants as finished;
 ghost use Rattle.job_slots.specs.InPlace.{Carries, IsPlaceable, operands_in};
@@ -22,13 +25,13 @@ ghost use Rattle.job_slots.specs.Slots.{Shows, Leaves, IsActive, IsNewSlot, IsRe
 ghost use Rattle.job_slots.specs.Slots.{recalled_slot};
 ghost use Rattle.job_slots.specs.Answers.{Begins, IsPutOff, Finishes, Fits, IsEnding, is_ended, is_in_flight};
 ghost use Rattle.job_slots.specs.Answers.{or_same, question_at, standing_after_begun, standing_after_finished};
-ghost use Rattle.job_slots.specs.Answers.{Steps, IsPassedOver, IsAnswered, after_stepped, standing_after_step};
+ghost use Rattle.job_slots.specs.Answers.{Steps, IsPassedOver, after_stepped, standing_after_step};
 
 use crate::answer::{Begun, Finished, Stepped};
 use crate::collect::results;
 use crate::commit::execute;
 use crate::in_place::{Placement, execute_in_place, placement_of};
-use crate::next::{is_asked, line_of_next, read_next};
+use crate::next::{is_asked, line_of_next, next_at, next_line};
 use crate::status::Status;
 use crate::ticket::{Halted, early_end, ticket_of};
 use block_memory::BlockId;
@@ -41,7 +44,8 @@ use job_steps::{Desk, Filled, Job, Track, flag};
 use refcounts::laws::{releases_are_counted, releases_keep_blocks};
 use std::alloc::{AllocError, Allocator};
 use std::marker::Model;
-use vcode_base::{DataFault, Op, Outcome, Rule, Values};
+use vcode_base::{DataFault, Elementwise, Instr, Op, Outcome, Rule, StackMove, Values};
+use vcode_reader::{CodeItem, CodeLine};
 
 /// The place of a job in its run, and how it ended, once that is known.
 ///
@@ -262,6 +266,7 @@ impl<A: Allocator> Slot<A> {
     /// There have to be numbers for two blocks more. At `Done` and `Ended` the job is as a begin and then the finish
     /// of that step leave it. `NotReady` exactly if the job waits, a step of it has begun, or it is over. `SmallDesk`
     /// exactly if it is live and the desk has fewer words than the job. Nothing changes then.
+    #[inline(always)]
     pub fn step(
         &mut self,
         rule: Rule,
@@ -281,9 +286,6 @@ impl<A: Allocator> Slot<A> {
         ensures unchanged { IsPassedOver result → (self.new ≡ self.old) × (blocks.new ≡ blocks.old) }
     {
         changes_join();
-        early_ends_end();
-        others_are_ready();
-        end_is_own();
         match self.status {
             Status::Live => {}
             Status::Waiting | Status::InFlight | Status::Ended | Status::Collected => {
@@ -293,7 +295,81 @@ impl<A: Allocator> Slot<A> {
         if desk.words() < job.limits().words {
             return Stepped::SmallDesk;
         }
-        let next = read_next(rule, job, &self.track, number, blocks);
+        let line = next_line(rule, job, &self.track, number, blocks);
+        match &line.item {
+            CodeItem::Do(Instr::Const(kind, _)) => {
+                self.step_line(rule, job, number, blocks, desk, line, Op::Const(*kind))
+            }
+            CodeItem::Do(Instr::Elementwise(Elementwise::Arith(op))) => {
+                let op = Op::Elementwise(Elementwise::Arith(*op));
+                self.step_line(rule, job, number, blocks, desk, line, op)
+            }
+            CodeItem::Do(Instr::Elementwise(Elementwise::Compare(op))) => {
+                let op = Op::Elementwise(Elementwise::Compare(*op));
+                self.step_line(rule, job, number, blocks, desk, line, op)
+            }
+            CodeItem::Do(Instr::Elementwise(op)) => {
+                self.step_long(rule, job, number, blocks, desk, line, Op::Elementwise(*op))
+            }
+            CodeItem::Do(Instr::Segmented(op)) => {
+                self.step_long(rule, job, number, blocks, desk, line, Op::Segmented(*op))
+            }
+            CodeItem::Do(Instr::Move(StackMove::Copy, lower, upper)) => {
+                let op = Op::Move(StackMove::Copy, *lower, *upper);
+                self.step_line(rule, job, number, blocks, desk, line, op)
+            }
+            CodeItem::Do(Instr::Move(StackMove::Pop, lower, upper)) => {
+                let op = Op::Move(StackMove::Pop, *lower, *upper);
+                self.step_line(rule, job, number, blocks, desk, line, op)
+            }
+            CodeItem::Do(Instr::Move(StackMove::MoveToTop, lower, upper)) => {
+                let op = Op::Move(StackMove::MoveToTop, *lower, *upper);
+                self.step_line(rule, job, number, blocks, desk, line, op)
+            }
+            CodeItem::Do(Instr::Call(_)) => {
+                self.step_line(rule, job, number, blocks, desk, line, Op::Call)
+            }
+            CodeItem::Do(Instr::Return) => {
+                self.step_line(rule, job, number, blocks, desk, line, Op::Return)
+            }
+            CodeItem::Do(Instr::If) | CodeItem::If | CodeItem::Else | CodeItem::Endif => {
+                self.step_line(rule, job, number, blocks, desk, line, Op::If)
+            }
+        }
+    }
+
+    /// Carries out the next instruction of a job that is live, which is this one, of this line. A call for each kind of
+    /// instruction is fitted to it.
+    #[inline(always)]
+    fn step_line(
+        &mut self,
+        rule: Rule,
+        job: &Job<A>,
+        number: usize,
+        blocks: &mut JobMemory<A>,
+        desk: &mut Desk<A>,
+        line: &CodeLine<A>,
+        op: Op,
+    ) -> Stepped
+        requires shows { Shows number blocks.old (ruled rule job.now) self.old }
+        requires live { self.old.status ≡ status.Live }
+        requires numbers { block_count blocks.old.memory + 2 ≤ length blocks.old.memory.slots }
+        requires enough { job.now.limits.words ≤ desk.old }
+        requires line { IsLineOf (ruled rule job.now) self.old.trace line.now }
+        requires op { op ≡ op_of (instruction_in line.now.item) }
+        ensures answer { Steps number desk.old (ruled rule job.now) (standing_of self.old) result }
+        ensures shows { Shows number blocks.new (ruled rule job.now) self.new }
+        ensures others { ChangesOnlyOf number blocks.old blocks.new }
+        ensures standing { standing_of self.new
+            ≡ standing_after_step number (ruled rule job.now) (standing_of self.old) }
+        ensures desk { desk.new ≡ desk.old }
+        ensures steps { IsPassedOver result → ⊥ }
+    {
+        changes_join();
+        early_ends_end();
+        others_are_ready();
+        end_is_own();
+        let next = next_at(rule, job, &self.track, number, blocks, line, op);
         if let Some(ending) = early_end(rule, job, &self.track, number, blocks, &next) {
             self.end(rule, job, number, blocks, ending);
             return Stepped::Ended;
@@ -302,26 +378,88 @@ impl<A: Allocator> Slot<A> {
             let (op, line) = (next.op, next.line);
             return self.step_in_place(rule, job, number, blocks, op, line, placement);
         }
-        let (op, line, operands) = (next.op, next.line, next.operands.as_slice());
+        let (op, number_of_line, operands) = (next.op, next.line, next.operands.as_slice());
+        let flag = flag(operands);
+        if let CodeItem::Do(Instr::Const(_, list)) = &line.item {
+            return self.take_results(rule, job, number, blocks, op, flag, list.as_slice(), &[]);
+        }
         match desk.fill(op, operands) {
             Ok((first, second)) => {
-                let flag = flag(operands);
-                self.status = Status::InFlight;
-                if self.carry_out(rule, job, number, blocks, op, flag, first, second) {
-                    Stepped::Done
-                } else {
-                    Stepped::Ended
-                }
+                self.take_results(rule, job, number, blocks, op, flag, first, second)
             }
             Err(fault) => {
-                let ending = Outcome::Fault(fault, line);
+                let ending = Outcome::Fault(fault, number_of_line);
                 self.end(rule, job, number, blocks, ending);
                 Stepped::Ended
             }
         }
     }
 
+    /// Executes the next instruction of a job that is live, whose results are these words.
+    #[inline(always)]
+    fn take_results(
+        &mut self,
+        rule: Rule,
+        job: &Job<A>,
+        number: usize,
+        blocks: &mut JobMemory<A>,
+        op: Op,
+        flag: bool,
+        first: &[i64],
+        second: &[i64],
+    ) -> Stepped
+        requires shows { Shows number blocks.old (ruled rule job.now) self.old }
+        requires live { self.old.status ≡ status.Live }
+        requires goes_on { early_end_at (ruled rule job.now) self.old.trace.executed ≡ None }
+        requires answered { IsAnswered (ruled rule job.now) self.old.trace.executed op flag first.now second.now }
+        requires numbers { block_count blocks.old.memory + 2 ≤ length blocks.old.memory.slots }
+        ensures answer { (words : ℕ) → job.now.limits.words ≤ words
+            → Steps number words (ruled rule job.now) (standing_of self.old) result }
+        ensures shows { Shows number blocks.new (ruled rule job.now) self.new }
+        ensures others { ChangesOnlyOf number blocks.old blocks.new }
+        ensures standing { standing_of self.new
+            ≡ standing_after_step number (ruled rule job.now) (standing_of self.old) }
+        ensures steps { IsPassedOver result → ⊥ }
+    {
+        self.status = Status::InFlight;
+        if self.carry_out(rule, job, number, blocks, op, flag, first, second) {
+            Stepped::Done
+        } else {
+            Stepped::Ended
+        }
+    }
+
+    /// The same, in a function of its own.
+    #[inline(never)]
+    fn step_long(
+        &mut self,
+        rule: Rule,
+        job: &Job<A>,
+        number: usize,
+        blocks: &mut JobMemory<A>,
+        desk: &mut Desk<A>,
+        line: &CodeLine<A>,
+        op: Op,
+    ) -> Stepped
+        requires shows { Shows number blocks.old (ruled rule job.now) self.old }
+        requires live { self.old.status ≡ status.Live }
+        requires numbers { block_count blocks.old.memory + 2 ≤ length blocks.old.memory.slots }
+        requires enough { job.now.limits.words ≤ desk.old }
+        requires line { IsLineOf (ruled rule job.now) self.old.trace line.now }
+        requires op { op ≡ op_of (instruction_in line.now.item) }
+        ensures answer { Steps number desk.old (ruled rule job.now) (standing_of self.old) result }
+        ensures shows { Shows number blocks.new (ruled rule job.now) self.new }
+        ensures others { ChangesOnlyOf number blocks.old blocks.new }
+        ensures standing { standing_of self.new
+            ≡ standing_after_step number (ruled rule job.now) (standing_of self.old) }
+        ensures desk { desk.new ≡ desk.old }
+        ensures steps { IsPassedOver result → ⊥ }
+    {
+        self.step_line(rule, job, number, blocks, desk, line, op)
+    }
+
     /// Carries out the next instruction of a job that is live, whose result is computed where it is placed.
+    #[inline(never)]
     fn step_in_place(
         &mut self,
         rule: Rule,
@@ -566,6 +704,7 @@ impl<A: Allocator> Slot<A> {
     }
 
     /// After an instruction: true if the job runs on, and false if it has returned and its results are on its stack.
+    #[inline(always)]
     fn go_on(&mut self) -> bool
         ensures done { result ≡ true → (0 < length self.old.trace.frames)
             × (self.new ≡ record self.old { status = status.Live }) }
@@ -573,8 +712,7 @@ impl<A: Allocator> Slot<A> {
             × (self.new ≡ record self.old { status = status.Ended; outcome = None }) }
     {
         if self.track.calls() == 0 {
-            self.outcome = None;
-            self.status = Status::Ended;
+            self.has_returned();
             false
         } else {
             self.status = Status::Live;
@@ -582,7 +720,19 @@ impl<A: Allocator> Slot<A> {
         }
     }
 
+    /// The job has returned, and its results are on its stack.
+    #[cold]
+    #[inline(never)]
+    fn has_returned(&mut self)
+        ensures { self.new ≡ record self.old { status = status.Ended; outcome = None } }
+    {
+        self.outcome = None;
+        self.status = Status::Ended;
+    }
+
     /// The job, which runs, ends otherwise than by return.
+    #[cold]
+    #[inline(never)]
     fn end(
         &mut self,
         rule: Rule,

@@ -37,6 +37,7 @@ impl<T: Copy, A: Allocator> BoundedStack<T, A> {
     }
 
     /// How many entries there are.
+    #[inline(always)]
     pub(crate) fn len(&self) -> usize
         ensures len { result ≡ length self.now.entries }
         ensures within { result ≤ self.now.room }
@@ -46,6 +47,7 @@ impl<T: Copy, A: Allocator> BoundedStack<T, A> {
     }
 
     /// The entry at a depth, 0 at the top.
+    #[inline(always)]
     pub(crate) fn at(&self, depth: usize) -> T
         requires { depth < length self.now.entries }
         ensures { slice_get self.now.entries depth ≡ Some result }
@@ -54,6 +56,7 @@ impl<T: Copy, A: Allocator> BoundedStack<T, A> {
     }
 
     /// All entries, from the bottom up.
+    #[inline(always)]
     pub(crate) fn as_slice(&self) -> &[T]
         ensures { result.now ≡ reverse self.now.entries }
     {
@@ -68,6 +71,7 @@ impl<T: Copy, A: Allocator> BoundedStack<T, A> {
     }
 
     /// Puts one entry on the others.
+    #[inline(always)]
     pub(crate) fn push(&mut self, entry: T)
         requires { length self.old.entries < self.old.room }
         ensures { self.new ≡ record self.old { entries = entry ∷ self.old.entries } }
@@ -76,6 +80,7 @@ impl<T: Copy, A: Allocator> BoundedStack<T, A> {
     }
 
     /// Puts these on the others, the last of them at the top.
+    #[inline(always)]
     pub(crate) fn extend(&mut self, entries: &[T])
         requires { length self.old.entries + length entries.now ≤ self.old.room }
         ensures { self.new ≡ record self.old { entries = reverse entries.now ++ self.old.entries } }
@@ -86,6 +91,7 @@ impl<T: Copy, A: Allocator> BoundedStack<T, A> {
     }
 
     /// Takes `count` entries off the top.
+    #[inline(always)]
     pub(crate) fn lower(&mut self, count: usize)
         requires { count ≤ length self.old.entries }
         ensures { self.new ≡ record self.old { entries = drop count self.old.entries } }
@@ -95,6 +101,7 @@ impl<T: Copy, A: Allocator> BoundedStack<T, A> {
     }
 
     /// Moves the `lower` entries that lie below the top `upper`.
+    #[inline(always)]
     pub(crate) fn shift(&mut self, motion: StackMove, lower: usize, upper: usize)
         requires there { lower + upper ≤ length self.old.entries }
         requires room { depth_after_move motion lower (length self.old.entries) ≤ self.old.room }
@@ -114,18 +121,25 @@ impl<T: Copy, A: Allocator> BoundedStack<T, A> {
 }
 
 /// Puts the first `lower` entries from the place `below` on after all entries once more. There is room for them.
+#[inline(always)]
 fn copy_lower<T: Copy, A: Allocator>(entries: &mut Vec<T, A>, below: usize, lower: usize)
     requires there { below + lower ≤ vec_len entries.old }
     requires room { vec_len entries.old + lower ≤ vec_capacity entries.old }
     ensures items { entries.new.items ≡ entries.old.items ++ take lower (drop below entries.old.items) }
     ensures capacity { vec_capacity entries.old ≤ vec_capacity entries.new }
 {
+    if lower == 1 {
+        let entry = entries[below];
+        entries.push_reserved(entry);
+        return;
+    }
     let Ok(()) = entries.extend_from_within(below..below + lower) else {
         unreachable!()
     };
 }
 
 /// Moves the first `lower` entries from the place `below` on after the others.
+#[inline(always)]
 fn turn<T, A: Allocator>(entries: &mut Vec<T, A>, below: usize, lower: usize)
     requires { below + lower ≤ vec_len entries.old }
     ensures items { entries.new.items
@@ -134,5 +148,10 @@ fn turn<T, A: Allocator>(entries: &mut Vec<T, A>, below: usize, lower: usize)
     ensures len { vec_len entries.new ≡ vec_len entries.old }
     ensures capacity { vec_capacity entries.new ≡ vec_capacity entries.old }
 {
+    if lower == 1 {
+        let entry = entries.remove(below);
+        entries.push_reserved(entry);
+        return;
+    }
     entries[below..].rotate_left(lower);
 }

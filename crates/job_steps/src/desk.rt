@@ -59,6 +59,7 @@ impl<A: Allocator + Clone> Desk<A> {
 
 impl<A: Allocator> Desk<A> {
     /// The words that it was made with.
+    #[inline(always)]
     pub fn words(&self) -> usize
         ensures { result ≡ self.now }
     {

@@ -10,6 +10,7 @@ use vcode_base::{Limits, MemoryFault, Op, StackMove};
 /// The limit that an instruction would pass, given how many words would be held and needed, and how many
 /// entries and active calls there are before it.
 #[tactic(auto, unfolding(crate::specs::Steps::memory_fault))]
+#[inline(always)]
 pub(crate) fn memory_fault(
     limits: &Limits,
     op: Op,
@@ -32,6 +33,7 @@ pub(crate) fn memory_fault(
     }
 }
 
+#[inline(always)]
 fn is_call(op: Op) -> bool
     ensures { result ≡ is_call op }
 {
@@ -43,6 +45,7 @@ fn is_call(op: Op) -> bool
 
 /// How many entries an instruction leaves, of `depth` entries before.
 #[tactic(auto, using(crate::proofs::StackLemmas::few_results))]
+#[inline(always)]
 fn depth_after(op: Op, depth: usize) -> usize
     requires { depth ≤ MOST_CELLS }
     ensures { result ≡ depth_after op depth }
@@ -53,6 +56,7 @@ fn depth_after(op: Op, depth: usize) -> usize
     }
 }
 
+#[inline(always)]
 fn depth_after_move(motion: StackMove, lower: usize, depth: usize) -> usize
     requires depth { depth ≤ MOST_CELLS }
     requires lower { lower < 2 ^ 16 }

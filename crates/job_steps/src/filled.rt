@@ -173,6 +173,7 @@ pub(crate) fn results_in(
 
 /// The choice of an `IF` of these operands: whether its flag is T. Of another instruction it is whether the first word
 /// of its first operand is other than 0.
+#[inline(always)]
 pub fn flag(ops: &[&[i64]]) -> bool
     ensures { (op : Op) → result ≡ flag_of (question_by op (contents ops.now)) }
 {
@@ -183,6 +184,7 @@ pub fn flag(ops: &[&[i64]]) -> bool
 }
 
 /// Whether the first of these words is other than 0, if there is one.
+#[inline(always)]
 fn is_set(words: &[i64]) -> bool
     ensures { result ≡ is_set (slice_index_or words.now 0 (pos 0)) }
 {

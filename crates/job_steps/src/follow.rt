@@ -37,6 +37,7 @@ fn main_frame<A: Allocator>(job: &Job<A>) -> Frame
 }
 
 /// Follows the next instruction of the innermost call, whose flag is given if it is an `IF`.
+#[inline(always)]
 pub(crate) fn follow<A: Allocator>(frames: &mut BoundedStack<Frame, A>, job: &Job<A>, flag: bool)
     requires { CanFollow job.now.verified frames.old.entries frames.old.room }
     ensures room { frames.new.room ≡ frames.old.room }
@@ -51,6 +52,7 @@ pub(crate) fn follow<A: Allocator>(frames: &mut BoundedStack<Frame, A>, job: &Jo
 }
 
 /// Follows the instruction of the innermost frame, which is no `IF`.
+#[inline(always)]
 fn follow_instruction<A: Allocator>(
     frames: &mut BoundedStack<Frame, A>,
     job: &Job<A>,
@@ -76,6 +78,7 @@ fn follow_instruction<A: Allocator>(
 }
 
 /// The first frame of the function that a `CALL` names.
+#[inline(always)]
 fn called<A: Allocator>(frame: Frame, job: &Job<A>) -> Frame
     requires { (name : List ℕ) × (callee : Callee) × IsCallOf job.now.verified frame name callee }
     ensures { (name : List ℕ) (callee : Callee) → IsCallOf job.now.verified frame name callee
@@ -86,6 +89,7 @@ fn called<A: Allocator>(frame: Frame, job: &Job<A>) -> Frame
 }
 
 /// The innermost call goes on here.
+#[inline(always)]
 fn replace_top<A: Allocator>(frames: &mut BoundedStack<Frame, A>, frame: Frame)
     requires { 0 < length frames.old.entries }
     ensures { frames.new ≡ record frames.old { entries = frame ∷ drop 1 frames.old.entries } }

@@ -22,6 +22,7 @@ pub struct Frame {
 
 impl Frame {
     /// The first line of a function.
+    #[inline(always)]
     pub(crate) fn first(function: usize) -> Frame
         ensures { result ≡ record { function = function; place = 0 } }
     {
@@ -29,6 +30,7 @@ impl Frame {
     }
 
     /// Its line.
+    #[inline(always)]
     pub(crate) fn line<'a, A: Allocator>(self, program: &'a Program<A>) -> &'a CodeLine<A>
         requires { (call : Active) × Stands program.now.functions self call }
         ensures { (call : Active) → Stands program.now.functions self call → result.now ≡ next_line call }
@@ -37,6 +39,7 @@ impl Frame {
     }
 
     /// The frame after an instruction that goes on at what follows it.
+    #[inline(always)]
     pub(crate) fn next<A: Allocator>(self, program: &Program<A>) -> Frame
         requires { (call : Active) × Stands program.now.functions self call }
         ensures { (item : Item) (line ret : ℕ) (rest : Body)
@@ -51,6 +54,7 @@ impl Frame {
     }
 
     /// The frame at the part of an `IF` that its flag chooses.
+    #[inline(always)]
     pub(crate) fn chosen<A: Allocator>(self, program: &Program<A>, flag: bool) -> Frame
         requires { (call : Active) × Stands program.now.functions self call }
         ensures { (line end ret : ℕ) (first second rest : Body)
@@ -66,6 +70,7 @@ impl Frame {
     }
 
     /// Its function, which has a line at its place.
+    #[inline(always)]
     fn function<'a, A: Allocator>(self, program: &'a Program<A>) -> &'a Function<A>
         requires { (call : Active) × Stands program.now.functions self call }
         ensures function { slice_get program.now.functions self.function ≡ Some result.now }
@@ -76,6 +81,7 @@ impl Frame {
 }
 
 /// The place after this one.
+#[inline(always)]
 fn behind<A: Allocator>(function: &Function<A>, place: usize) -> usize
     requires { place < length (lines_of function.now) }
     ensures { result ≡ place + 1 }
@@ -85,6 +91,7 @@ fn behind<A: Allocator>(function: &Function<A>, place: usize) -> usize
 }
 
 /// The place of the part of an `IF` that its flag chooses.
+#[inline(always)]
 fn part<A: Allocator>(function: &Function<A>, place: usize, flag: bool) -> usize
     requires { place < length (lines_of function.now) }
     ensures { (line end : ℕ) (first second rest : Body)
@@ -102,6 +109,7 @@ fn part<A: Allocator>(function: &Function<A>, place: usize, flag: bool) -> usize
 }
 
 /// The first place from this one on that the code stops at: at an `ELSE` or `ENDIF` it goes on at once.
+#[inline(always)]
 fn settled<A: Allocator>(function: &Function<A>, place: usize) -> usize
     ensures same { remaining (drop result (lines_of function.now)) ≡ remaining (drop place (lines_of function.now)) }
     ensures stops { StopAt (drop result (lines_of function.now)) }
@@ -114,6 +122,7 @@ fn settled<A: Allocator>(function: &Function<A>, place: usize) -> usize
 }
 
 /// The place at which an `ELSE` or an `ENDIF` at this place goes on.
+#[inline(always)]
 fn passed<A: Allocator>(function: &Function<A>, place: usize) -> Option<usize>
     ensures { MatchOption result
         (StopAt (drop place (lines_of function.now)))

@@ -59,6 +59,7 @@ impl<A: Allocator> Job<A> {
     }
 
     /// What it runs, with the kinds that the functions take and give.
+    #[inline(always)]
     pub fn verified(&self) -> &Verified<A>
         ensures same { result.now ≡ self.now.verified }
         // Some signatures verify the program, whose bodies are proper.
@@ -69,6 +70,7 @@ impl<A: Allocator> Job<A> {
     }
 
     /// What it may use.
+    #[inline(always)]
     pub fn limits(&self) -> Limits
         ensures { result ≡ self.now.limits }
     {

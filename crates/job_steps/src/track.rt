@@ -67,6 +67,7 @@ impl<C: Copy, A: Allocator> Track<C, A> {
     }
 
     /// What the job may use.
+    #[inline(always)]
     pub fn limits(&self) -> Limits
         ensures { result ≡ self.now.limits }
     {
@@ -74,6 +75,7 @@ impl<C: Copy, A: Allocator> Track<C, A> {
     }
 
     /// How many entries the stack has.
+    #[inline(always)]
     fn depth(&self) -> usize
         ensures depth { result ≡ length self.now.cells }
         ensures within { result ≤ self.now.limits.cells }
@@ -82,6 +84,7 @@ impl<C: Copy, A: Allocator> Track<C, A> {
     }
 
     /// How many calls are active.
+    #[inline(always)]
     pub fn calls(&self) -> usize
         ensures calls { result ≡ length self.now.frames }
         ensures within { result ≤ self.now.limits.calls }
@@ -90,6 +93,7 @@ impl<C: Copy, A: Allocator> Track<C, A> {
     }
 
     /// How many instructions were executed.
+    #[inline(always)]
     pub fn executed(&self) -> u64
         ensures { result ≡ self.now.executed }
     {
@@ -104,6 +108,7 @@ impl<C: Copy, A: Allocator> Track<C, A> {
     }
 
     /// All cells, from the bottom up.
+    #[inline(always)]
     pub fn cells(&self) -> &[C]
         ensures { result.now ≡ reverse self.now.cells }
     {
@@ -111,6 +116,7 @@ impl<C: Copy, A: Allocator> Track<C, A> {
     }
 
     /// The line of the next instruction in the job's program. Some call has to be active.
+    #[inline(always)]
     pub fn line<'a>(&self, program: &'a Program<A>) -> &'a CodeLine<A>
         requires { AreActive program.now.functions self.now.frames }
         ensures line { (call : Active) (outer : List Active)
@@ -124,6 +130,7 @@ impl<C: Copy, A: Allocator> Track<C, A> {
 
     /// The first limit that an instruction would pass, given that `words` words are held and needed: that of words,
     /// then of cells, then at a `CALL` that of calls. `None` if it passes none.
+    #[inline(always)]
     pub fn memory_fault(&self, op: Op, words: u64) -> Option<MemoryFault>
         ensures { result ≡ memory_fault self.now.limits op words (depth_after op (length self.now.cells))
             (length self.now.frames) }
@@ -137,6 +144,7 @@ impl<C: Copy, A: Allocator> Track<C, A> {
     ///
     /// The entries that it takes have to be there, no limit may be passed, and a function that it calls has
     /// to be there. At `RET` of the only active call none is active afterwards, and the entries stay.
+    #[inline(always)]
     pub fn advance(&mut self, job: &Job<A>, op: Op, flag: bool, results: &[C], words: usize)
         requires budget { self.old.executed < self.old.limits.budget }
         requires deep { IsDeep op (length self.old.cells) }
@@ -159,6 +167,7 @@ impl<C: Copy, A: Allocator> Track<C, A> {
 }
 
 /// The entries that an instruction takes go, and its results come in their place.
+#[inline(always)]
 fn replace<C: Copy, A: Allocator>(cells: &mut BoundedStack<C, A>, op: Op, results: &[C])
     requires deep { IsDeep op (length cells.old.entries) }
     requires given { length results.now ≡ length (result_kinds op) }
@@ -175,6 +184,7 @@ fn replace<C: Copy, A: Allocator>(cells: &mut BoundedStack<C, A>, op: Op, result
 }
 
 /// Counts an instruction at which `words` words were held and needed.
+#[inline(always)]
 fn count(executed: &mut u64, peak: &mut usize, words: usize)
     requires { executed.old < MOST_BUDGET }
     ensures executed { executed.new ≡ executed.old + 1 }

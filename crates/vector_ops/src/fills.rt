@@ -23,6 +23,7 @@ use vcode_base::{DataFault, Elementwise, Op};
 /// [`BadShift`](DataFault::BadShift) for a shift if one is outside `0..=63`. What `first` then holds
 /// is not specified.
 #[tactic(auto, unfolding(vcode_base::specs::Meaning::shape, vcode_base::specs::Meaning::need, vcode_base::specs::Meaning::value_fault, vcode_base::specs::Meaning::result_of, vcode_base::specs::Meaning::second_result_of))]
+#[inline(always)]
 pub fn fill(op: Op, ops: &[&[i64]], first: &mut [i64], second: &mut [i64]) -> Result<(), DataFault>
     requires served { IsServed op }
     requires kinds { HaveKinds (source_kinds op) (contents ops.now) }
@@ -45,7 +46,7 @@ pub fn fill(op: Op, ops: &[&[i64]], first: &mut [i64], second: &mut [i64]) -> Re
 }
 
 /// Writes the result of an elementwise instruction.
-#[inline(never)]
+#[inline(always)]
 fn fill_elementwise(op: Elementwise, ops: &[&[i64]], first: &mut [i64]) -> Result<(), DataFault>
     requires kinds { HaveKinds (elementwise_operands op) (contents ops.now) }
     requires shape { elementwise_shape (contents ops.now) ≡ None }

@@ -1,0 +1,152 @@
+use Rattle.std.proofs.Common.{rules, ◌≡◌, ℤ, List, [], ◌∷◌, take, Some, None, refl, subst, sym, ap, ◌∙◌}
+use Rattle.std.specs.Borrow.{Bor}
+use Rattle.vcode_base.specs.declared.instr.Instr.TheVariants as instr
+use Rattle.vcode_base.specs.declared.op.Op.TheVariants.{Const}
+use Rattle.vcode_base.specs.Instructions.{op_of}
+use Rattle.vcode_reader.specs.declared.line.CodeItem.TheVariants as code_item
+use Rattle.job_steps.specs.Frames.{instruction_in}
+use Rattle.vcode_base.specs.declared.outcome.Outcome.TheVariants.{Fault}
+use Rattle.vcode_base.specs.Meaning.{value_fault}
+use Rattle.vcode_base.specs.Operands.{contents}
+use Rattle.job_memory.specs.JobBlocks.{own_slots}
+use Rattle.job_steps.specs.States.{ruled}
+use Rattle.job_steps.specs.Steps.{flag_of}
+use Rattle.job_steps.specs.Tickets.{AreResults, question_by}
+use Rattle.job_slots.specs.Answers.{EndsByStep, IsAnswered, early_end_at}
+use Rattle.job_slots.specs.Slots.{SlotState, IsRunningSlot}
+use Rattle.job_slots.proofs.Constants.{constant_is_list}
+use Rattle.job_slots.proofs.Started.{runs}
+use Rattle.job_slots.proofs.OneGo.{ends_early, ends_by_fault, is_halted, stands_halted}
+use Rattle.job_slots.proofs.slot.Slot.step_line.Given.{Over}
+use Rattle.job_slots.proofs.slot.Slot.step_line.Goals as goal
+use Rattle.job_slots.proofs.slot.Slot.step_line.Goals.{In-Some, In-Err, After-next_at-next, After-flag-flag}
+
+running : (g : Over) (c : goal.After-next_at-next g) →
+    IsRunningSlot (own_slots c.args.number c.args.blocks.now) (ruled c.args.rule c.args.job.now) c.self.inside.track
+running g c =
+    let task = ruled c.args.rule c.args.job.now in
+    subst (λ (s : SlotState). IsRunningSlot (own_slots c.args.number c.args.blocks.now) task s.trace)
+    (sym c.self.view_is)
+    (runs c.args.number c.args.blocks.now task c.args.self.now c.requires.shows c.requires.live)
+
+-- ---- the job ends before its operands' values are looked at
+
+halts : (g : Over) (c : goal.In-Some g) →
+    IsRunningSlot (own_slots c.args.number c.args.blocks.now) (ruled c.args.rule c.args.job.now) c.self.inside.track →
+    EndsByStep c.args.number (ruled c.args.rule c.args.job.now) c.args.self.now.trace.executed
+    c.args.self.now.trace.peak c.in-Some.ending
+halts g c run =
+    let task = ruled c.args.rule c.args.job.now in
+    subst (λ (s : SlotState). EndsByStep c.args.number task s.trace.executed s.trace.peak c.in-Some.ending)
+    c.self.view_is
+    (ends_early c.early_ends_end.ensures _ c.args.number task c.self.inside.track run c.in-Some.ending
+    c.requires.shows.verified (sym c.in-Some.ensures.ends))
+
+pub end-requires-clause-ending : goal.end-requires-clause-ending
+end-requires-clause-ending g c =
+    let at = goal.at.end-requires-clause-ending g c in
+    (halts g at.In-Some (running g at.After-next_at-next)).is
+
+pub returns-in-Some-clause-answer : goal.returns-in-Some-clause-answer
+returns-in-Some-clause-answer g c =
+    let at = goal.at.returns-in-Some-clause-answer g c in
+    is_halted c.args.number c.args.desk.now c.args.blocks.now (ruled c.args.rule c.args.job.now) c.args.self.now
+    c.requires.shows c.requires.live c.requires.enough c.in-Some.ending
+    (halts g at.In-Some (running g at.After-next_at-next))
+
+pub returns-in-Some-clause-standing : goal.returns-in-Some-clause-standing
+returns-in-Some-clause-standing g c =
+    let at = goal.at.returns-in-Some-clause-standing g c in
+    stands_halted c.args.number c.args.desk.now c.args.blocks.now (ruled c.args.rule c.args.job.now) c.args.self.now
+    c.requires.shows c.requires.live c.end.new.self c.in-Some.ending (halts g at.In-Some (running g at.After-next_at-next))
+    c.end.ensures.ended
+
+-- ---- the instruction is executed
+
+early : (g : Over) (c : goal.After-flag-flag g) →
+    early_end_at (ruled c.args.rule c.args.job.now) c.args.self.now.trace.executed ≡ None
+early g c =
+    subst (λ (s : SlotState). early_end_at (ruled c.args.rule c.args.job.now) s.trace.executed ≡ None) c.self.view_is
+    (sym c.in_default.ensures.ends)
+
+answered : (g : Over) (c : goal.After-flag-flag g) (first second : List ℤ) →
+    AreResults (question_by c.next_at-next.result.op (contents c.as_slice-operands.result.now)) first second →
+    IsAnswered (ruled c.args.rule c.args.job.now) c.self.inside.track.executed c.next_at-next.result.op
+    c.flag-flag.result first second
+answered g c first second results =
+    let next = c.next_at-next.result in
+    let sources = contents (take next.operands.count next.operands.lists) in
+    record {
+      question = question_by next.op sources;
+      asked = c.next_at-next.ensures.next.question;
+      op_is = refl;
+      flag_is =
+          c.flag-flag.ensures next.op
+          ∙ ap (λ (lists : List (Bor (List ℤ))). flag_of (question_by next.op (contents lists)))
+          c.as_slice-operands.ensures;
+      results = rw (← c.as_slice-operands.ensures) results;
+    }
+
+-- the result of a CONST is its list
+pub take_results-requires-clause-answered : goal.take_results-requires-clause-answered
+take_results-requires-clause-answered g c =
+    let at = goal.at.take_results-requires-clause-answered g c in
+    let next = c.next_at-next.result in
+    let kind = c.in-Do-Const.field-0-0 in
+    let list = c.in-Do-Const.list in
+    let item_is : c.args.line.now.item ≡ code_item.Do (instr.Const kind list) = first_of (search rules, cc) in
+    let instruction : instruction_in c.args.line.now.item ≡ instr.Const kind list = ap instruction_in item_is in
+    let op_is : next.op ≡ Const kind = c.next_at-next.ensures.op ∙ (c.requires.op ∙ ap op_of instruction) in
+    let sources : contents c.as_slice-operands.result.now ≡ list ∷ [] =
+    ap (λ (lists : List (Bor (List ℤ))). contents lists) c.as_slice-operands.ensures
+    ∙ c.next_at-next.ensures.constant kind list instruction in
+    let results : AreResults (question_by next.op (contents c.as_slice-operands.result.now)) c.as_slice.result.now [] =
+    subst (λ (first : List ℤ). AreResults (question_by next.op (contents c.as_slice-operands.result.now)) first [])
+    (sym c.as_slice.ensures) (constant_is_list next.op kind list _ op_is sources) in
+    subst (λ (s : SlotState). IsAnswered (ruled c.args.rule c.args.job.now) s.trace.executed next.op c.flag-flag.result
+    c.as_slice.result.now []) c.self.view_is (answered g at.After-flag-flag c.as_slice.result.now [] results)
+
+pub take_results-requires-in-Ok-clause-answered : goal.take_results-requires-in-Ok-clause-answered
+take_results-requires-in-Ok-clause-answered g c =
+    let at = goal.at.take_results-requires-in-Ok-clause-answered g c in
+    subst (λ (s : SlotState). IsAnswered (ruled c.args.rule c.args.job.now) s.trace.executed c.next_at-next.result.op
+    c.flag-flag.result c.in-Ok.first.now c.in-Ok.second.now) c.self.view_is
+    (answered g at.After-flag-flag c.in-Ok.first.now c.in-Ok.second.now c.in-Ok.ensures.answer)
+
+-- ---- the job ends by the values of its operands
+
+fails : (g : Over) (c : goal.In-Err g) →
+    IsRunningSlot (own_slots c.args.number c.args.blocks.now) (ruled c.args.rule c.args.job.now) c.self.inside.track →
+    EndsByStep c.args.number (ruled c.args.rule c.args.job.now) c.args.self.now.trace.executed
+    c.args.self.now.trace.peak (Fault c.in-Err.fault c.next_at-next.result.line)
+fails g c run =
+    let task = ruled c.args.rule c.args.job.now in
+    let next = c.next_at-next.result in
+    let sources = contents (take next.operands.count next.operands.lists) in
+    let faulty : value_fault next.op sources ≡ Some c.in-Err.fault =
+    ap (λ (lists : List (Bor (List ℤ))). value_fault next.op (contents lists)) (sym c.as_slice-operands.ensures)
+    ∙ c.in-Err.ensures.answer in
+    subst (λ (s : SlotState). EndsByStep c.args.number task s.trace.executed s.trace.peak
+    (Fault c.in-Err.fault next.line)) c.self.view_is
+    (ends_by_fault c.others_are_ready.ensures c.end_is_own.ensures _ c.args.number task c.self.inside.track run
+    (question_by next.op sources) c.in-Err.fault next.line c.requires.shows.verified (sym c.in_default.ensures.ends)
+    c.next_at-next.ensures.next.question faulty c.next_at-next.ensures.next.line_is)
+
+pub end-requires-in-Err-clause-ending : goal.end-requires-in-Err-clause-ending
+end-requires-in-Err-clause-ending g c =
+    let at = goal.at.end-requires-in-Err-clause-ending g c in
+    (fails g at.In-Err (running g at.After-next_at-next)).is
+
+pub returns-in-Err-clause-answer : goal.returns-in-Err-clause-answer
+returns-in-Err-clause-answer g c =
+    let at = goal.at.returns-in-Err-clause-answer g c in
+    is_halted c.args.number c.args.desk.now c.args.blocks.now (ruled c.args.rule c.args.job.now) c.args.self.now
+    c.requires.shows c.requires.live c.requires.enough
+    (Fault c.in-Err.fault c.next_at-next.result.line) (fails g at.In-Err (running g at.After-next_at-next))
+
+pub returns-in-Err-clause-standing : goal.returns-in-Err-clause-standing
+returns-in-Err-clause-standing g c =
+    let at = goal.at.returns-in-Err-clause-standing g c in
+    stands_halted c.args.number c.args.desk.now c.args.blocks.now (ruled c.args.rule c.args.job.now) c.args.self.now
+    c.requires.shows c.requires.live c.end-in-Err.new.self (Fault c.in-Err.fault c.next_at-next.result.line)
+    (fails g at.In-Err (running g at.After-next_at-next)) c.end-in-Err.ensures.ended

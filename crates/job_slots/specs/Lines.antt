@@ -1,0 +1,13 @@
+-- Which line of the code is that of a job's next instruction.
+use Rattle.std.specs.Prelude.{◌≡◌, ℕ, List, ◌∷◌}
+use Rattle.vcode_reader.specs.Trees.{CodeLine}
+use Rattle.job_steps.specs.Frames.{StandAll, instruction_of}
+use Rattle.job_steps.specs.States.{Task, Active}
+use Rattle.job_steps.specs.Steps.{next_item}
+use Rattle.job_steps.specs.Tracks.{Trace, functions_of}
+
+-- the line is that of the next instruction
+abbrev pub IsLineOf : Task → Trace ℕ → CodeLine → Type 0
+IsLineOf task t line =
+    (call : Active) (outer : List Active) → StandAll (functions_of task.verified) t.frames (call ∷ outer) →
+    next_item call ≡ instruction_of line
