@@ -26,12 +26,14 @@ impl Model for BlockId {
 
 impl BlockId {
     /// The number itself, which is below `ids()` of the memory that gave it.
+    #[inline(always)]
     pub fn number(self) -> usize
         ensures { result ≡ self }
     {
         self.number
     }
 
+    #[inline(always)]
     pub(crate) fn new(number: usize) -> Self
         ensures { result ≡ number }
     {
@@ -97,6 +99,7 @@ pub trait VectorMemory {
         ensures { result.now ≡ words_at (content self.now) id };
 
     /// How many words a block has.
+    #[inline(always)]
     fn len(&self, id: BlockId) -> usize
         requires { IsLive (content self.now) id }
         ensures { result ≡ length (words_at (content self.now) id) }
@@ -105,6 +108,7 @@ pub trait VectorMemory {
     }
 
     /// A word of a block, counted from 0.
+    #[inline(always)]
     fn word(&self, id: BlockId, i: usize) -> i64
         requires live { IsLive (content self.now) id }
         requires within { i < length (words_at (content self.now) id) }
