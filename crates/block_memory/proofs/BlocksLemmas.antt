@@ -1,14 +1,14 @@
 -- Lemmas on the blocks of a region: a block that is written changes no other.
 use Rattle.std.proofs.Common.{◌≡◌, ◌≢◌, ◌⊎◌, ℕ, zero, suc, ℤ, pos, ◌+◌, ◌<◌, ◌≤◌, List, length, take, drop, map}
 use Rattle.std.proofs.Common.{slice_index, slice_index_or, slice_set, replicate, ◌∷◌, Option, Some, None, is_some}
-use Rattle.std.proofs.Common.{max, inl, inr, refl, sym, ap, ◌∙◌, arith}
+use Rattle.std.proofs.Common.{max, inl, inr, refl, sym, ap, subst, ◌∙◌, arith}
 use Rattle.std.proofs.Math.Nat.{le-max_left, le-max_right, max-le}
 use Rattle.std.proofs.lemmas.Bool.{cases_eq, cases_lt}
-use Rattle.std.proofs.lemmas.List.{ext_get_or, length-map, length-set, map-set, get_or_default}
+use Rattle.std.proofs.lemmas.List.{ext_get_or, length-map, length-set, map-set, get_or_default, set-get_or}
 use Rattle.std.proofs.Math.ListN.{get_or-map}
 use Rattle.block_memory.specs.Table.{value_at}
 use Rattle.block_memory.specs.Layout.{PlacedBlock, Layout, Covers, IsClear, IsBare, Begins, words_of, words_at}
-use Rattle.block_memory.specs.Layout.{block_at_place}
+use Rattle.block_memory.specs.Layout.{block_at_place, block_with_words, place_at, place_of}
 use Rattle.block_memory.specs.BlocksInside.{block_of_span, slots_from, AreBlocks}
 use Rattle.block_memory.specs.BlocksWritten.{IsWritten, IsMarked, IsLengthened}
 use Rattle.block_memory.specs.Writing.{IsApart, span_of, span_at as span_in, words_in}
@@ -314,6 +314,52 @@ after_put words long words' starts starts' spans n owner place len a w bare size
     after_longer words long words' starts starts' spans n
     (record { owner = owner; place = place; len = len }) (take len (drop place words')) a w written marked (sym size)
     (λ other word from below covers. absurd (bare other word from below covers)) within
+
+-- what lies in the region after a block was written over
+pub record IsAfterRewrite (words words' : List ℤ) (starts : List ℕ) (spans : List (Option Span)) (n : ℕ)
+    (new : List ℤ) : Type 0 where
+  pub are_spans : AreSpans words' starts spans
+  pub slots : slots_from words' spans ≡ slice_set (slots_from words spans) n
+      (block_with_words new (value_at (slots_from words spans) n))
+
+-- a block that is written over, in words that no other block covers
+pub after_rewrite : (words words' : List ℤ) (starts : List ℕ) (spans : List (Option Span)) (n : ℕ) (s : Span)
+    (new : List ℤ) → AreSpans words starts spans → value_at spans n ≡ Some s → IsWritten words words' s.place new
+    → s.len ≡ length new → IsClear (slots_from words spans) n s.place s.len
+    → IsAfterRewrite words words' starts spans n new
+after_rewrite words words' starts spans n s new a there written size clear =
+    let after = after_write words words' starts starts spans n s new
+    (record {
+      are_spans = a;
+      written = written;
+      marked = record {
+        longer = omega arith;
+        reached = λ some. a.reached n s there some;
+        marked = λ some. a.started n s there some;
+        others = λ i other inside. refl;
+        kept = λ none. refl;
+      };
+      long = size;
+      fits = a.within n s there;
+      clear = clear;
+      in_range = IsSome-in_range spans n (ap is_some there);
+    }) in
+    let same : slice_set spans n (Some s) ≡ spans =
+    ap (λ (o : Option Span). slice_set spans n o) (sym there) ∙ set-get_or spans n None in
+    let is : value_at (slots_from words spans) n ≡ block_of_span words (Some s) =
+    value_at-slots words spans n ∙ ap (block_of_span words) there in
+    record {
+      are_spans = subst (λ (l : List (Option Span)). AreSpans words' starts l) same after.are_spans;
+      slots =
+          ap (λ (l : List (Option Span)). slots_from words' l) (sym same)
+          ∙ (after.slots ∙ ap (λ (o : Option PlacedBlock). slice_set (slots_from words spans) n
+          (block_with_words new o)) (sym is));
+    }
+
+-- the place of a block is that of its span
+pub place_by_span : (words : List ℤ) (spans : List (Option Span)) (n : ℕ) (s : Span) → value_at spans n ≡ Some s
+    → place_at (slots_from words spans) n ≡ s.place
+place_by_span words spans n s there = ap place_of (value_at-slots words spans n ∙ ap (block_of_span words) there)
 
 -- a block's words are those of its span
 words_of_span : (words : List ℤ) (o : Option Span) → words_of (block_of_span words o) ≡ words_in words (span_of o)

@@ -4,7 +4,7 @@ ghost use Rattle.std.specs.Prelude.{IsSome, is_some, IfOk, IfSome, IfNone, All, 
 ghost use Rattle.std.specs.Prelude.{vec_capacity};
 ghost use Rattle.block_memory.specs.Table.{value_at, value_count};
 ghost use Rattle.block_memory.specs.Layout.{IsBare, IsClear, Begins, owner_at, place_at, words_at, with_slot};
-ghost use Rattle.block_memory.specs.Layout.{layout_after_move};
+ghost use Rattle.block_memory.specs.Layout.{layout_after_move, layout_after_rewrite};
 ghost use Rattle.block_memory.specs.BlocksWritten.{IsWritten, IsMarked, IsLengthened};
 ghost use Rattle.block_memory.specs.Writing.{IsPutWith, IsApart, span_at, span_of, words_in};
 
@@ -307,6 +307,18 @@ impl<A: Allocator> Blocks<A> {
         let number = self.spans.insert(Span { owner, place, len });
         mark_start(&mut self.starts, place, len, number);
         (number, written)
+    }
+
+    /// Writes other words over those of the block of a number, which has as many and shares none with another.
+    #[inline(always)]
+    pub(crate) fn rewrite(&mut self, number: usize, words: &[i64])
+        requires there { IsSome (value_at self.old.slots number) }
+        requires same_length { length words.now ≡ length (words_at self.old.slots number) }
+        requires clear { IsClear self.old.slots number (place_at self.old.slots number) (length words.now) }
+        ensures { self.new ≡ layout_after_rewrite self.old number words.now }
+    {
+        let span = *self.spans.value(number);
+        write_words(&mut self.words, span.place, words);
     }
 
     /// Takes the block of a number away, and answers where it was.

@@ -149,6 +149,17 @@ pub trait VectorMemory {
         ensures { result ≡ length (content self.now) };
 }
 
+/// A memory in which other words can be written over those of a block.
+pub trait RewritableMemory: VectorMemory {
+    /// Writes other words over those of a block, which has as many.
+    fn rewrite(&mut self, id: BlockId, words: &[i64])
+        requires live { IsLive (Self.content self.old) id }
+        requires same_length { length words.now ≡ length (words_at (Self.content self.old) id) }
+        ensures rewritten { Self.content self.new ≡ with_block (Self.content self.old) id
+            (record { owner = owner_at (Self.content self.old) id; words = words.now }) }
+        ensures same_room { Self.room self.new ≡ Self.room self.old };
+}
+
 /// A memory that lends the words of its blocks to a [`Writer`] of a new one.
 pub trait LendingMemory: VectorMemory {
     /// Places a new block of `len` words, which fit, for an owner. A writer writes it where it lies, and is lent the

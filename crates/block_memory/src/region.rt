@@ -5,7 +5,7 @@ ghost use Rattle.block_memory.specs.Content.{IsLive, no_blocks, block_count, use
 ghost use Rattle.block_memory.specs.Placing.{IsPlacedWith};
 
 use crate::blocks::Blocks;
-use crate::memory::{BlockId, LendingMemory, NoRoom, VectorMemory};
+use crate::memory::{BlockId, LendingMemory, NoRoom, RewritableMemory, VectorMemory};
 use crate::pack::{WholePacking, give_room, pack_region, take_room};
 use crate::packing::{MoveCounts, Packing};
 use crate::slide::SlidingPacking;
@@ -202,6 +202,13 @@ impl<P: Packing, A: Allocator> VectorMemory for PackedRegion<P, A> {
 
     fn ids(&self) -> usize {
         self.blocks.numbers()
+    }
+}
+
+impl<P: Packing, A: Allocator> RewritableMemory for PackedRegion<P, A> {
+    #[inline(always)]
+    fn rewrite(&mut self, id: BlockId, words: &[i64]) {
+        self.blocks.rewrite(id.number(), words);
     }
 }
 

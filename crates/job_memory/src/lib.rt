@@ -15,6 +15,7 @@ ghost use Rattle.job_memory.specs.JobBlocks.{held_words, with_grant, with_memory
 
 pub mod laws;
 mod placing;
+mod rewriting;
 
 use block_memory::{BlockId, SlidingMemory};
 use refcounts::SharedMemory;

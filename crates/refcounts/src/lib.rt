@@ -15,6 +15,7 @@ ghost use Rattle.refcounts.specs.SharedState.{state_after_releases, occurrences,
 
 pub mod laws;
 mod making;
+mod rewriting;
 
 use block_memory::{BlockId, NoRoom, VectorMemory};
 use std::alloc::{AllocError, Allocator};
