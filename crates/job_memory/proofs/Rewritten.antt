@@ -115,6 +115,7 @@ pub record IsTurnedOver (job id : ℕ) (taken : List ℕ) (blocks : JobBlocks) :
   pub words :
       (slot_at (state_after_releases (state_after_share blocks.memory id) taken) id).words ≡ (slot_at
       blocks.memory id).words
+  pub within : id < length blocks.memory.slots
   pub fresh : slot_at (state_after_releases blocks.memory taken) id ≡ empty_slot
 
 pub turned_over : ReleasesAreCounted → ReleasesKeepBlocks → (job id : ℕ) (taken : List ℕ) (blocks : JobBlocks)
@@ -143,6 +144,7 @@ turned_over are_counted kept job id taken blocks own listed single =
           keeps.0 ∙ (ap (λ (s : Slot). s.owner) here
           ∙ own_owner job m id (omega (arith, own id, listed)));
       words = keeps.1 ∙ ap (λ (s : Slot). s.words) here;
+      within = live_within m.slots id live;
       fresh =
           tidy_releases m id taken (λ none. absurd (omega (arith, none, single))) (omega (arith, gone, once, single));
     }

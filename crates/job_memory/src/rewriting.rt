@@ -1,5 +1,5 @@
 //! Writing a new block over one that goes.
-ghost use Rattle.std.specs.Prelude.{◌≡◌, ◌+◌, ◌≤◌, ◌↔◌, length, IsTrue};
+ghost use Rattle.std.specs.Prelude.{◌≡◌, ◌+◌, ◌<◌, ◌≤◌, ◌↔◌, length, IsTrue};
 ghost use Rattle.refcounts.specs.SharedState.{empty_slot, slot_at, occurrences, state_after_releases};
 ghost use Rattle.job_memory.specs.JobBlocks.{HasGrant, AreOwn, with_memory, with_block};
 
@@ -27,7 +27,8 @@ impl<A: Allocator> JobMemory<A> {
         requires listed { 1 ≤ occurrences id taken.now }
         requires single { (slot_at self.old.memory id).count ≡ 1 }
         requires same_length { length words.now ≡ length (slot_at self.old.memory id).words }
-        ensures fresh { slot_at (state_after_releases self.old.memory taken.now) id ≡ empty_slot }
+        ensures fresh { (id < length self.old.memory.slots)
+            × (slot_at (state_after_releases self.old.memory taken.now) id ≡ empty_slot) }
         ensures exchanged { self.new ≡ with_block
             (with_memory self.old (state_after_releases self.old.memory taken.now)) job id words.now }
     {

@@ -38,7 +38,9 @@ rewrite-requires-clause-same_length g c =
     (known g (goal.at.rewrite-requires-clause-same_length g c).After-releases_keep_blocks).words))
 
 pub returns-clause-fresh : goal.returns-clause-fresh
-returns-clause-fresh g c = (known g (goal.at.returns-clause-fresh g c).After-releases_keep_blocks).fresh
+returns-clause-fresh g c =
+    let k = known g (goal.at.returns-clause-fresh g c).After-releases_keep_blocks in
+    (k.within, k.fresh)
 
 pub returns-clause-exchanged : goal.returns-clause-exchanged
 returns-clause-exchanged g c =
