@@ -1,14 +1,14 @@
 -- Lemmas on the blocks of a region: a block that is written changes no other.
 use Rattle.std.proofs.Common.{◌≡◌, ◌≢◌, ◌⊎◌, ℕ, zero, suc, ℤ, pos, ◌+◌, ◌<◌, ◌≤◌, List, length, take, drop, map}
 use Rattle.std.proofs.Common.{slice_index, slice_index_or, slice_set, replicate, ◌∷◌, Option, Some, None, is_some}
-use Rattle.std.proofs.Common.{max, inl, inr, refl, sym, ap, ◌∙◌, arith}
+use Rattle.std.proofs.Common.{max, inl, inr, refl, sym, ap, subst, ◌∙◌, arith}
 use Rattle.std.proofs.Math.Nat.{le-max_left, le-max_right, max-le}
 use Rattle.std.proofs.lemmas.Bool.{cases_eq, cases_lt}
-use Rattle.std.proofs.lemmas.List.{ext_get_or, length-map, length-set, map-set, get_or_default}
+use Rattle.std.proofs.lemmas.List.{ext_get_or, length-map, length-set, map-set, get_or_default, set-get_or}
 use Rattle.std.proofs.Math.ListN.{get_or-map}
 use Rattle.block_memory.specs.Table.{value_at}
 use Rattle.block_memory.specs.Layout.{PlacedBlock, Layout, Covers, IsClear, IsBare, Begins, words_of, words_at}
-use Rattle.block_memory.specs.Layout.{block_at_place}
+use Rattle.block_memory.specs.Layout.{block_at_place, block_with_words, place_at, place_of}
 use Rattle.block_memory.specs.BlocksInside.{block_of_span, slots_from, AreBlocks}
 use Rattle.block_memory.specs.BlocksWritten.{IsWritten, IsMarked, IsLengthened}
 use Rattle.block_memory.specs.Writing.{IsApart, span_of, span_at as span_in, words_in}
@@ -18,14 +18,14 @@ use Rattle.block_memory.proofs.LayoutLemmas.{length-part, same_part, value_at-se
 
 -- each span lies among the words, and where it has words its number stands at the first of them
 pub record AreSpans (words : List ℤ) (starts : List ℕ) (spans : List (Option Span)) : Type 0 where
-  pub same_size : length starts ≡ length words
   pub within : (n : ℕ) (s : Span) → value_at spans n ≡ Some s → s.place + s.len ≤ length words
+  pub reached : (n : ℕ) (s : Span) → value_at spans n ≡ Some s → 0 < s.len → s.place < length starts
   pub started : (n : ℕ) (s : Span) → value_at spans n ≡ Some s → 0 < s.len → slice_index starts s.place ≡ n
 
 pub spans_of : (words : List ℤ) (starts : List ℕ) (spans : List (Option Span)) (size room starts_room : ℕ)
     → AreBlocks words starts spans size room starts_room → AreSpans words starts spans
 spans_of words starts spans size room starts_room b =
-    record { same_size = b.same_size; within = b.within; started = b.started }
+    record { within = b.within; reached = b.reached; started = b.started }
 
 -- the blocks of a region whose lists are as long as lists that were made longer for words of the region
 pub are_blocks : (words long words' : List ℤ) (starts' : List ℕ) (spans : List (Option Span))
@@ -34,8 +34,8 @@ pub are_blocks : (words long words' : List ℤ) (starts' : List ℕ) (spans : Li
     → AreBlocks words' starts' spans size room starts_room
 are_blocks words long words' starts' spans size end room starts_room a w same few fits has_room starts_have =
     record {
-      same_size = a.same_size;
       within = a.within;
+      reached = a.reached;
       started = a.started;
       few = rw (same ∙ w.long) (max-le few fits);
       words_room = has_room;
@@ -121,16 +121,21 @@ module _ (words words' : List ℤ) (starts starts' : List ℕ) (spans : List (Op
           | inr nothing ↦ let none : s.len ≡ 0 = omega arith in
               rw (w.marked.kept none) (w.are_spans.started k t there some)
         ]
-        | inr elsewhere ↦ w.marked.others t.place elsewhere ∙ w.are_spans.started k t there some
+        | inr elsewhere ↦ w.marked.others t.place elsewhere (w.are_spans.reached k t there some)
+            ∙ w.are_spans.started k t there some
       ]
 
   are_spans_then : AreSpans words' starts' (slice_set spans n (Some s))
   are_spans_then =
       record {
-        same_size = w.marked.same_size ∙ (w.are_spans.same_size ∙ sym w.written.same_size);
         within = λ k t there. elim (span_at spans n k s t w.in_range there) [
           | inl here ↦ rw (here.1, w.written.same_size) w.fits
           | inr elsewhere ↦ rw w.written.same_size (w.are_spans.within k t elsewhere.1)
+        ];
+        reached = λ k t there some. elim (span_at spans n k s t w.in_range there) [
+          | inl here ↦ rw here.1 (w.marked.reached (rw here.1 at some))
+          | inr elsewhere ↦ let before = w.are_spans.reached k t elsewhere.1 some in
+              omega (arith, before, w.marked.longer)
         ];
         started = λ k t there some. elim (span_at spans n k s t w.in_range there) [
           | inl here ↦ rw (here.1, here.0) (w.marked.marked (rw here.1 at some))
@@ -187,13 +192,13 @@ module _ (words words' : List ℤ) (starts starts' : List ℕ) (spans : List (Op
     slots = ext_get_or None new_slots (slice_set old_slots n new_block) same_length (λ k h. at_number k);
   }
 
--- what a list has that was made longer
-pub record IsLonger (words words' : List ℤ) (starts' : List ℕ) (spans : List (Option Span)) : Type 0 where
-  pub are_spans : AreSpans words' starts' spans
+-- what lies in words that were made longer
+pub record IsLonger (words words' : List ℤ) (starts : List ℕ) (spans : List (Option Span)) : Type 0 where
+  pub are_spans : AreSpans words' starts spans
   pub slots : slots_from words' spans ≡ slots_from words spans
 
-module _ (words words' : List ℤ) (starts starts' : List ℕ) (spans : List (Option Span)) (len : ℕ)
-    (a : AreSpans words starts spans) (w : IsLengthened words words' len) (s : IsLengthened starts starts' len) where
+module _ (words words' : List ℤ) (starts : List ℕ) (spans : List (Option Span)) (len : ℕ)
+    (a : AreSpans words starts spans) (w : IsLengthened words words' len) where
   within_longer : (n : ℕ) (t : Span) → value_at spans n ≡ Some t → t.place + t.len ≤ length words'
   within_longer n t there =
       omega (arith, a.within n t there, w.long, le-max_left (length words) len)
@@ -206,14 +211,9 @@ module _ (words words' : List ℤ) (starts starts' : List ℕ) (spans : List (Op
       (same_part words' words t.place t.len (pos 0) (within_longer n t there) inside
       (λ i h. w.kept (t.place + i) (pos 0) (omega arith)))
 
-  pub longer : IsLonger words words' starts' spans
+  pub longer : IsLonger words words' starts spans
   longer = record {
-    are_spans = record {
-      same_size = s.long ∙ (ap (λ n. max n len) a.same_size ∙ sym w.long);
-      within = within_longer;
-      started = λ n t there some. let inside = a.within n t there in let same = a.same_size in
-          s.kept t.place 0 (omega arith) ∙ a.started n t there some;
-    };
+    are_spans = record { within = within_longer; reached = a.reached; started = a.started };
     slots = ext_get_or None (slots_from words' spans) (slots_from words spans)
         (length-map spans (block_of_span words') ∙ sym (length-map spans (block_of_span words)))
         (λ n h. value_at-slots words' spans n
@@ -230,17 +230,16 @@ pub length-words_of-span : (words : List ℤ) (starts : List ℕ) (spans : List 
 length-words_of-span words starts spans n s a there =
     ap length (words_of-span words spans n s there) ∙ length-part words s.place s.len (a.within n s there)
 
--- a block that is written in lists that were made longer for it
-after_longer : (words long words' : List ℤ) (starts starts_long starts' : List ℕ) (spans : List (Option Span)) (n : ℕ)
+-- a block that is written in words that were made longer for it
+after_longer : (words long words' : List ℤ) (starts starts' : List ℕ) (spans : List (Option Span)) (n : ℕ)
     (s : Span) (new : List ℤ) → AreSpans words starts spans → IsLengthened words long (s.place + s.len)
-    → IsLengthened starts starts_long (s.place + s.len) → IsWritten long words' s.place new
-    → IsMarked starts_long starts' s.place s.len n → s.len ≡ length new
+    → IsWritten long words' s.place new → IsMarked starts starts' s.place s.len n → s.len ≡ length new
     → IsClear (slots_from words spans) n s.place s.len → n < length spans
     → IsAfterWrite words words' starts' spans n s new
-after_longer words long words' starts starts_long starts' spans n s new a w t written marked size clear within =
-    let now = longer words long starts starts_long spans (s.place + s.len) a w t in
+after_longer words long words' starts starts' spans n s new a w written marked size clear within =
+    let now = longer words long starts spans (s.place + s.len) a w in
     let reached = le-max_right (length words) (s.place + s.len) in
-    let after = after_write long words' starts_long starts' spans n s new
+    let after = after_write long words' starts starts' spans n s new
     (record {
       are_spans = now.are_spans;
       written = written;
@@ -257,22 +256,22 @@ after_longer words long words' starts starts_long starts' spans n s new a w t wr
     }
 
 -- a span that is moved, with its words
-pub after_move : (words long words' : List ℤ) (starts starts_long starts' : List ℕ) (spans : List (Option Span))
+pub after_move : (words long words' : List ℤ) (starts starts' : List ℕ) (spans : List (Option Span))
     (n to : ℕ) (s : Span) → AreSpans words starts spans → value_at spans n ≡ Some s
-    → IsLengthened words long (to + s.len) → IsLengthened starts starts_long (to + s.len)
+    → IsLengthened words long (to + s.len)
     → IsClear (slots_from words spans) n to (length (words_at (slots_from words spans) n))
-    → IsWritten long words' to (take s.len (drop s.place long)) → IsMarked starts_long starts' to s.len n
+    → IsWritten long words' to (take s.len (drop s.place long)) → IsMarked starts starts' to s.len n
     → IsAfterWrite words words' starts' spans n (record { owner = s.owner; place = to; len = s.len })
     (take s.len (drop s.place words))
-after_move words long words' starts starts_long starts' spans n to s a there w t clear written marked =
+after_move words long words' starts starts' spans n to s a there w clear written marked =
     let size = length-words_of-span words starts spans n s a there in
     let inside = a.within n s there in
     let more = le-max_left (length words) (to + s.len) in
     let same : take s.len (drop s.place long) ≡ take s.len (drop s.place words) =
     same_part long words s.place s.len (pos 0) (omega (arith, inside, more, w.long)) inside
     (λ i h. w.kept (s.place + i) (pos 0) (omega arith)) in
-    after_longer words long words' starts starts_long starts' spans n
-    (record { owner = s.owner; place = to; len = s.len }) (take s.len (drop s.place words)) a w t
+    after_longer words long words' starts starts' spans n
+    (record { owner = s.owner; place = to; len = s.len }) (take s.len (drop s.place words)) a w
     (rw same at written) marked (sym (length-part words s.place s.len inside)) (rw size at clear)
     (IsSome-in_range spans n (ap is_some there))
 
@@ -292,30 +291,75 @@ pub same_layout : (size size' : ℕ) (slots placed' : List (Option PlacedBlock))
 same_layout size size' slots placed' e f = cc
 
 -- a new block, in words that no block covers
-pub after_insert : (words long words' : List ℤ) (starts starts_long starts' : List ℕ) (spans : List (Option Span))
+pub after_insert : (words long words' : List ℤ) (starts starts' : List ℕ) (spans : List (Option Span))
     (n owner place : ℕ) (new : List ℤ) → AreSpans words starts spans
-    → IsLengthened words long (place + length new) → IsLengthened starts starts_long (place + length new)
+    → IsLengthened words long (place + length new)
     → IsBare (slots_from words spans) place (length new) → IsWritten long words' place new
-    → IsMarked starts_long starts' place (length new) n → n < length spans
+    → IsMarked starts starts' place (length new) n → n < length spans
     → IsAfterWrite words words' starts' spans n (record { owner = owner; place = place; len = length new }) new
-after_insert words long words' starts starts_long starts' spans n owner place new a w t bare written marked within =
-    after_longer words long words' starts starts_long starts' spans n
-    (record { owner = owner; place = place; len = length new }) new a w t written marked refl
+after_insert words long words' starts starts' spans n owner place new a w bare written marked within =
+    after_longer words long words' starts starts' spans n
+    (record { owner = owner; place = place; len = length new }) new a w written marked refl
     (λ other word from below covers. absurd (bare other word from below covers)) within
 
 -- a new block of so many words, whatever they are
-pub after_put : (words long words' : List ℤ) (starts starts_long starts' : List ℕ) (spans : List (Option Span))
-    (n owner place len : ℕ) → AreSpans words starts spans
-    → IsLengthened words long (place + len) → IsLengthened starts starts_long (place + len)
+pub after_put : (words long words' : List ℤ) (starts starts' : List ℕ) (spans : List (Option Span))
+    (n owner place len : ℕ) → AreSpans words starts spans → IsLengthened words long (place + len)
     → IsBare (slots_from words spans) place len → length (take len (drop place words')) ≡ len
-    → IsWritten long words' place (take len (drop place words')) → IsMarked starts_long starts' place len n
+    → IsWritten long words' place (take len (drop place words')) → IsMarked starts starts' place len n
     → n < length spans
     → IsAfterWrite words words' starts' spans n (record { owner = owner; place = place; len = len })
     (take len (drop place words'))
-after_put words long words' starts starts_long starts' spans n owner place len a w t bare size written marked within =
-    after_longer words long words' starts starts_long starts' spans n
-    (record { owner = owner; place = place; len = len }) (take len (drop place words')) a w t written marked (sym size)
+after_put words long words' starts starts' spans n owner place len a w bare size written marked within =
+    after_longer words long words' starts starts' spans n
+    (record { owner = owner; place = place; len = len }) (take len (drop place words')) a w written marked (sym size)
     (λ other word from below covers. absurd (bare other word from below covers)) within
+
+-- what lies in the region after a block was written over
+pub record IsAfterRewrite (words words' : List ℤ) (starts : List ℕ) (spans : List (Option Span)) (n : ℕ)
+    (new : List ℤ) : Type 0 where
+  pub are_spans : AreSpans words' starts spans
+  pub slots : slots_from words' spans ≡ slice_set (slots_from words spans) n
+      (block_with_words new (value_at (slots_from words spans) n))
+
+-- a block that is written over, in words that no other block covers
+pub after_rewrite : (words words' : List ℤ) (starts : List ℕ) (spans : List (Option Span)) (n : ℕ) (s : Span)
+    (new : List ℤ) → AreSpans words starts spans → value_at spans n ≡ Some s → IsWritten words words' s.place new
+    → s.len ≡ length new → IsClear (slots_from words spans) n s.place s.len
+    → IsAfterRewrite words words' starts spans n new
+after_rewrite words words' starts spans n s new a there written size clear =
+    let after = after_write words words' starts starts spans n s new
+    (record {
+      are_spans = a;
+      written = written;
+      marked = record {
+        longer = omega arith;
+        reached = λ some. a.reached n s there some;
+        marked = λ some. a.started n s there some;
+        others = λ i other inside. refl;
+        kept = λ none. refl;
+      };
+      long = size;
+      fits = a.within n s there;
+      clear = clear;
+      in_range = IsSome-in_range spans n (ap is_some there);
+    }) in
+    let same : slice_set spans n (Some s) ≡ spans =
+    ap (λ (o : Option Span). slice_set spans n o) (sym there) ∙ set-get_or spans n None in
+    let is : value_at (slots_from words spans) n ≡ block_of_span words (Some s) =
+    value_at-slots words spans n ∙ ap (block_of_span words) there in
+    record {
+      are_spans = subst (λ (l : List (Option Span)). AreSpans words' starts l) same after.are_spans;
+      slots =
+          ap (λ (l : List (Option Span)). slots_from words' l) (sym same)
+          ∙ (after.slots ∙ ap (λ (o : Option PlacedBlock). slice_set (slots_from words spans) n
+          (block_with_words new o)) (sym is));
+    }
+
+-- the place of a block is that of its span
+pub place_by_span : (words : List ℤ) (spans : List (Option Span)) (n : ℕ) (s : Span) → value_at spans n ≡ Some s
+    → place_at (slots_from words spans) n ≡ s.place
+place_by_span words spans n s there = ap place_of (value_at-slots words spans n ∙ ap (block_of_span words) there)
 
 -- a block's words are those of its span
 words_of_span : (words : List ℤ) (o : Option Span) → words_of (block_of_span words o) ≡ words_in words (span_of o)
@@ -375,6 +419,29 @@ pub slots_from-remove : (words : List ℤ) (spans : List (Option Span)) (n : ℕ
     → slots_from words (slice_set spans n None) ≡ slice_set (slots_from words spans) n None
 slots_from-remove words spans n = map-set (block_of_span words) spans n None
 
+-- the blocks of a region after one went
+pub blocks-remove : (words : List ℤ) (starts : List ℕ) (spans : List (Option Span)) (size room starts_room n : ℕ)
+    → AreBlocks words starts spans size room starts_room → n < length spans
+    → AreBlocks words starts (slice_set spans n None) size room starts_room
+blocks-remove words starts spans size room starts_room n b inside =
+    record {
+      within = λ k s there. b.within k s (still k s there);
+      reached = λ k s there some. b.reached k s (still k s there) some;
+      started = λ k s there some. b.started k s (still k s there) some;
+      few = b.few;
+      words_room = b.words_room;
+      starts_room = b.starts_room;
+    }
+  where
+    still : (k : ℕ) (s : Span) → value_at (slice_set spans n None) k ≡ Some s → value_at spans k ≡ Some s
+    still k s there =
+        elim (cases_eq k n) [
+          | inl same ↦
+              absurd (None≢Some s (sym (ap (value_at (slice_set spans n None)) same
+              ∙ value_at-set_same spans n None inside) ∙ there))
+          | inr other ↦ sym (value_at-set_other spans n k None other) ∙ there
+        ]
+
 -- no block at first
 pub slots_from-empty : (words : List ℤ) (n : ℕ) → slots_from words (replicate n None) ≡ replicate n None
 slots_from-empty words zero = refl
@@ -418,16 +485,13 @@ none_begins words starts spans place m a inside read none n b =
     let same : m ≡ n = read ∙ (get_or_default starts place m 0 inside ∙ by_span.start) in
     none by_span.span (rw same by_span.there) by_span.here by_span.some
 
--- no block with words begins past the words that were in use so far
+-- no block with words begins past the highest word at which one began so far
 pub none_past : (words : List ℤ) (starts : List ℕ) (spans : List (Option Span)) (place : ℕ)
     → AreSpans words starts spans → length starts ≤ place → (n : ℕ) → Begins (slots_from words spans) n place → ⊥
 none_past words starts spans place a past n b =
     let by_span = begins_by-span words starts spans n place a b in
-    let inside = a.within n by_span.span by_span.there in
-    let here = by_span.here in
-    let some = by_span.some in
-    let same = a.same_size in
-    omega arith
+    let before = a.reached n by_span.span by_span.there by_span.some in
+    omega (arith, before, by_span.here)
 
 pub begins-span : (words : List ℤ) (starts : List ℕ) (spans : List (Option Span)) (n place : ℕ) (s : Span)
     → AreSpans words starts spans → value_at spans n ≡ Some s → s.place ≡ place → 0 < s.len

@@ -33,6 +33,14 @@ used_words-with_block c id b h empty =
     let was : size (block_at c id) ≡ 0 = ap size empty in
     omega (arith, change, was)
 
+-- a block gets other words, as many
+pub used_words-rewritten : (c : Content) (id : ℕ) (b : Block) → IsLive c id → length b.words ≡ length (words_at c id)
+    → used_words (with_block c id b) ≡ used_words c
+used_words-rewritten c id b live same =
+    let size : Option Block → ℕ = λ o. length (words_of o) in
+    let change = sum_by-set size c id (Some b) None (IsSome-in_range c id live) in
+    omega (arith, change, same)
+
 -- a block goes
 pub used_words-without_block : (c : Content) (id : ℕ) → IsLive c id
     → used_words (without_block c id) + length (words_at c id) ≡ used_words c

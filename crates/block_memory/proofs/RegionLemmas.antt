@@ -2,19 +2,20 @@
 use Rattle.std.proofs.Common.{◌≡◌, ℕ, ℤ, zero, suc, ◌+◌, ◌-◌, ◌<◌, ◌≤◌, true, false, List, ◌∷◌, length, replicate}
 use Rattle.std.proofs.Common.{slice_set, Option, Some, None, is_some, IsSome, inl, inr, refl, sym, ap, subst, ◌∙◌}
 use Rattle.std.proofs.Common.{arith}
-use Rattle.std.proofs.lemmas.Bool.{cases_lt}
+use Rattle.std.proofs.lemmas.Bool.{cases_eq, cases_lt}
 use Rattle.std.proofs.lemmas.List.{map-set, length-map, length-set, length-replicate, get_or-replicate}
 use Rattle.std.proofs.lemmas.List.Folds.{sum_by-replicate}
 use Rattle.holes.specs.FreeWords.{Region, is_free, NoneFree, set_range, given_to, free_from, widest, hole_count}
 use Rattle.holes.specs.Laws.{OneHoleMoreThanRanges}
 use Rattle.block_memory.specs.Content.{Block, no_blocks, IsLive, used_words, with_block, without_block}
 use Rattle.block_memory.specs.Content.{words_of as content_words_of, words_at as content_words_at}
+use Rattle.block_memory.specs.Content.{Content, owner_of as content_owner_of, owner_at as content_owner_at}
 use Rattle.block_memory.specs.Table.{value_at}
 use Rattle.block_memory.specs.Layout.{PlacedBlock, Layout, Covers, IsBare, block_of, content_of, place_of, words_of}
-use Rattle.block_memory.specs.Layout.{place_at, words_at, with_slot}
+use Rattle.block_memory.specs.Layout.{place_at, words_at, with_slot, IsClear, block_with_words, layout_after_rewrite}
 use Rattle.block_memory.specs.Region.{AreWithin, IsCovered, CoverRegion, IsRegion, ArePacked, HasRoom}
 use Rattle.block_memory.proofs.Lists.{IsSome-in_range, None≢Some, true-not_false}
-use Rattle.block_memory.proofs.ContentLemmas.{used_words-with_block, used_words-without_block}
+use Rattle.block_memory.proofs.ContentLemmas.{used_words-with_block, used_words-rewritten, used_words-without_block}
 use Rattle.block_memory.proofs.LayoutLemmas.{Covers-set, Covers-set_here, Covers-set_other, Covers-set_none}
 use Rattle.block_memory.proofs.LayoutLemmas.{Covers-by, AreApart-set, AreWithin-set, AreWithin-set_none}
 use Rattle.block_memory.proofs.LayoutLemmas.{block_at-content_of, words_at-content_of, is_some-content_of}
@@ -303,3 +304,108 @@ content_of-put slots n p = map-set block_of slots n (Some p)
 pub content_of-remove : (slots : List (Option PlacedBlock)) (n : ℕ)
     → content_of (slice_set slots n None) ≡ without_block (content_of slots) n
 content_of-remove slots n = map-set block_of slots n None
+
+-- a block is written over
+module _ (layout : Layout) (holes : Region) (used n : ℕ) (p : PlacedBlock) (new : List ℤ)
+    (r : IsRegion layout holes used) (there : value_at layout.slots n ≡ Some p)
+    (long : length new ≡ length p.words) where
+  abbrev rewritten : PlacedBlock
+  rewritten = record { owner = p.owner; place = p.place; words = new }
+
+  its_number : n < length layout.slots
+  its_number = IsSome-in_range layout.slots n (ap is_some there)
+
+  its_words : (word : ℕ) → p.place ≤ word → word < p.place + length new → Covers layout.slots n word
+  its_words word from below = record { block = p; there = there; from = from; below = omega (arith, below, long) }
+
+  -- no other block covers one of its words
+  its_own : IsClear layout.slots n p.place (length new)
+  its_own other word from below c = r.cover.apart other n word c (its_words word from below)
+
+  cover_rewritten : CoverRegion (slice_set layout.slots n (Some rewritten)) holes.free
+  cover_rewritten =
+      record {
+        apart = AreApart-set layout.slots n rewritten its_number r.cover.apart its_own;
+        covered = λ k word c. elim (Covers-set layout.slots n k word rewritten its_number c) [
+          | inl here ↦ r.cover.covered n word (its_words word here.1.0 here.1.1)
+          | inr other ↦ r.cover.covered k word other.1
+        ];
+        others = λ word below taken. still word (r.cover.others word below taken);
+      }
+    where
+      still : (word : ℕ) → IsCovered layout.slots word → IsCovered (slice_set layout.slots n (Some rewritten)) word
+      still word c =
+          elim (cases_eq c.number n) [
+            | inl same ↦
+                let by = Covers-by layout.slots n word p there
+                (subst (λ (k : ℕ). Covers layout.slots k word) same c.covers) in
+                record {
+                  number = n;
+                  covers = Covers-set_here layout.slots n word rewritten its_number by.0 (omega (arith, by.1, long));
+                }
+            | inr other ↦
+                record {
+                  number = c.number;
+                  covers = Covers-set_other layout.slots n c.number word (Some rewritten) other c.covers;
+                }
+          ]
+
+  there_still : IsLive (content_of layout.slots) n
+  there_still = is_some-content_of layout.slots n ∙ ap is_some there
+
+  content_rewritten : content_of (slice_set layout.slots n (Some rewritten)) ≡ with_block (content_of layout.slots) n
+      (record { owner = p.owner; words = new })
+  content_rewritten = map-set block_of layout.slots n (Some rewritten)
+
+  region_rewritten : IsRegion (with_slot layout n (Some rewritten)) holes used
+  region_rewritten =
+      record {
+        cover = cover_rewritten;
+        within = AreWithin-set layout.slots layout.size n rewritten its_number r.within
+            (let w = r.within n p there in omega (arith, w, long));
+        same_size = r.same_size;
+        room = let same = length-set layout.slots n (Some rewritten) in let room = r.room in omega (arith, same, room);
+        counted =
+            let size : length new ≡ length (content_words_at (content_of layout.slots) n) =
+            long ∙ sym (ap length (words_at-content_of layout.slots n ∙ ap words_of there)) in
+            let kept = used_words-rewritten (content_of layout.slots) n (record { owner = p.owner; words = new })
+            there_still size in
+            r.counted ∙ (sym kept ∙ ap used_words (sym content_rewritten));
+        fits = r.fits;
+      }
+
+-- what is known of a block that is written over
+pub record CanRewrite (layout : Layout) (holes : Region) (used n : ℕ) (new : List ℤ) : Type 0 where
+  pub there : IsSome (value_at layout.slots n)
+  pub same_length : length new ≡ length (words_at layout.slots n)
+  pub clear : IsClear layout.slots n (place_at layout.slots n) (length new)
+  pub region : IsRegion (layout_after_rewrite layout n new) holes used
+  pub content : content_of (layout_after_rewrite layout n new).slots ≡ with_block (content_of layout.slots) n
+      (record { owner = content_owner_at (content_of layout.slots) n; words = new })
+
+pub can_rewrite : (layout : Layout) (holes : Region) (used n : ℕ) (new : List ℤ) → IsRegion layout holes used
+    → IsLive (content_of layout.slots) n → length new ≡ length (content_words_at (content_of layout.slots) n)
+    → CanRewrite layout holes used n new
+can_rewrite layout holes used n new r live same =
+    let some = slot_there layout.slots n live in
+    let p = the_block layout.slots n some in
+    let size : length new ≡ length (words_at layout.slots n) =
+    same ∙ ap length (words_at-content_of layout.slots n) in
+    let long : length new ≡ length p.0.words = size ∙ ap (λ o. length (words_of o)) p.1 in
+    let owner : content_owner_at (content_of layout.slots) n ≡ p.0.owner =
+    ap content_owner_of (block_at-content_of layout.slots n ∙ ap block_of p.1) in
+    record {
+      there = some;
+      same_length = size;
+      clear =
+          subst (λ (place : ℕ). IsClear layout.slots n place (length new)) (sym (ap place_of p.1))
+          (its_own layout holes used n p.0 new r p.1 long);
+      region =
+          subst (λ (o : Option PlacedBlock). IsRegion (with_slot layout n (block_with_words new o)) holes used)
+          (sym p.1) (region_rewritten layout holes used n p.0 new r p.1 long);
+      content =
+          ap (λ (o : Option PlacedBlock). content_of (slice_set layout.slots n (block_with_words new o))) p.1
+          ∙ (content_rewritten layout holes used n p.0 new r p.1 long
+          ∙ ap (λ (k : ℕ). let c : Content = with_block (content_of layout.slots) n
+          (record { owner = k; words = new }) in c) (sym owner));
+    }

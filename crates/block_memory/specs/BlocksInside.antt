@@ -15,11 +15,11 @@ abbrev pub slots_from : List ℤ → List (Option Span) → List (Option PlacedB
 slots_from words spans = map (block_of_span words) spans
 
 -- each span lies among the words that were in use so far, and if it has words its number is at the first of them. There
--- is room for the other words of the region
+-- is room for the other words of the region, and for a number at each of its words
 pub record AreBlocks (words : List ℤ) (starts : List ℕ) (spans : List (Option Span))
     (size words_capacity starts_capacity : ℕ) : Type 0 where
-  pub same_size : length starts ≡ length words
   pub within : (n : ℕ) (s : Span) → value_at spans n ≡ Some s → s.place + s.len ≤ length words
+  pub reached : (n : ℕ) (s : Span) → value_at spans n ≡ Some s → 0 < s.len → s.place < length starts
   pub started : (n : ℕ) (s : Span) → value_at spans n ≡ Some s → 0 < s.len → slice_index starts s.place ≡ n
   pub few : length words ≤ size
   pub words_room : size ≤ words_capacity

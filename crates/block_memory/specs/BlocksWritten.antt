@@ -1,5 +1,5 @@
 -- What writing a block into a region changes: words from a place on, and a number at the first of them.
-use Rattle.std.specs.Prelude.{◌≡◌, ◌≢◌, ℕ, ℤ, ◌+◌, ◌<◌, max, List, length, take, drop, slice_index}
+use Rattle.std.specs.Prelude.{◌≡◌, ◌≢◌, ℕ, ℤ, ◌+◌, ◌<◌, ◌≤◌, max, List, length, take, drop, slice_index}
 use Rattle.std.specs.List.{SameBelow, SameFrom}
 
 -- these words are at the place and after it, and the others are as before
@@ -11,10 +11,11 @@ pub record IsWritten (old new : List ℤ) (place : ℕ) (words : List ℤ) : Typ
 
 -- the number is at the place of the first of `len` words, if there are any, and the others are as before
 pub record IsMarked (old new : List ℕ) (place len number : ℕ) : Type 0 where
-  pub same_size : length new ≡ length old
+  pub longer : length old ≤ length new
+  pub reached : 0 < len → place < length new
   pub marked : 0 < len → slice_index new place ≡ number
+  pub others : (i : ℕ) → i ≢ place → i < length old → slice_index new i ≡ slice_index old i
   pub kept : len ≡ 0 → new ≡ old
-  pub others : (i : ℕ) → i ≢ place → slice_index new i ≡ slice_index old i
 
 -- the list is at least so long, with the items that it had
 pub record IsLengthened {X : Type 0} (old new : List X) (len : ℕ) : Type 0 where

@@ -79,3 +79,13 @@ block_at_place to (Some p) = Some (record { owner = p.owner; place = to; words =
 -- the layout after the block of the number was moved
 abbrev pub layout_after_move : Layout → ℕ → ℕ → Layout
 layout_after_move layout number to = with_slot layout number (block_at_place to (value_at layout.slots number))
+
+-- a block with other words
+abbrev pub block_with_words : List ℤ → Option PlacedBlock → Option PlacedBlock
+block_with_words words None = None
+block_with_words words (Some p) = Some (record { owner = p.owner; place = p.place; words = words })
+
+-- the layout after other words were written over those of the block of the number
+abbrev pub layout_after_rewrite : Layout → ℕ → List ℤ → Layout
+layout_after_rewrite layout number words =
+    with_slot layout number (block_with_words words (value_at layout.slots number))

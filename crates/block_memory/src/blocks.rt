@@ -4,7 +4,7 @@ ghost use Rattle.std.specs.Prelude.{IsSome, is_some, IfOk, IfSome, IfNone, All, 
 ghost use Rattle.std.specs.Prelude.{vec_capacity};
 ghost use Rattle.block_memory.specs.Table.{value_at, value_count};
 ghost use Rattle.block_memory.specs.Layout.{IsBare, IsClear, Begins, owner_at, place_at, words_at, with_slot};
-ghost use Rattle.block_memory.specs.Layout.{layout_after_move};
+ghost use Rattle.block_memory.specs.Layout.{layout_after_move, layout_after_rewrite};
 ghost use Rattle.block_memory.specs.BlocksWritten.{IsWritten, IsMarked, IsLengthened};
 ghost use Rattle.block_memory.specs.Writing.{IsPutWith, IsApart, span_at, span_of, words_in};
 
@@ -15,8 +15,9 @@ use crate::writer::{MOST_LENT, Writer, write_block};
 use std::alloc::{AllocError, Allocator};
 use std::marker::Model;
 
-/// Numbered blocks in one region of words. All memory is taken when it is made, and written when it is used: both lists
-/// are as long as the words that were in use so far.
+/// Numbered blocks in one region of words. All memory is taken when it is made, and written when it is used: the list of
+/// words is as long as the words that were in use so far, and the list of starts ends at the highest word at which a
+/// block began so far.
 #[derive(Drop)]
 pub struct Blocks<A: Allocator> {
     size: usize,
@@ -42,7 +43,7 @@ impl<A: Allocator> Model for Blocks<A> {
 }
 
 // Makes a list at least so long, within what is reserved for it. Only items that it did not have are written.
-#[inline(never)]
+#[inline(always)]
 fn lengthen<A: Allocator, T: Copy>(list: &mut Vec<T, A>, len: usize, item: T)
     requires { len ≤ vec_capacity list.old }
     ensures enough { len ≤ length list.new.items }
@@ -51,37 +52,28 @@ fn lengthen<A: Allocator, T: Copy>(list: &mut Vec<T, A>, len: usize, item: T)
     ensures capacity { vec_capacity list.old ≤ vec_capacity list.new }
 {
     let before = list.len();
-    if before >= len {
-        return;
+    if before < len {
+        fill_up(list, len, item);
     }
+}
+
+// Puts an item at each place of a list from its end on until it is so long.
+#[inline(never)]
+fn fill_up<A: Allocator, T: Copy>(list: &mut Vec<T, A>, len: usize, item: T)
+    requires room { len ≤ vec_capacity list.old }
+    requires longer { length list.old.items ≤ len }
+    ensures long { length list.new.items ≡ len }
+    ensures lengthened { IsLengthened list.old.items list.new.items len }
+    ensures capacity { vec_capacity list.old ≤ vec_capacity list.new }
+{
+    let _before = list.len();
     let Ok(()) = list.resize(len, item) else {
         unreachable!()
     };
 }
 
-// Makes both lists of a region at least so long, within what is reserved for them.
-#[inline(always)]
-fn reach<A: Allocator>(words: &mut Vec<i64, A>, starts: &mut Vec<usize, A>, end: usize)
-    requires words_room { end ≤ vec_capacity words.old }
-    requires starts_room { end ≤ vec_capacity starts.old }
-    requires same_size { length starts.old.items ≡ length words.old.items }
-    ensures words_enough { end ≤ length words.new.items }
-    ensures words_longer { length words.old.items ≤ length words.new.items }
-    ensures words_lengthened { IsLengthened words.old.items words.new.items end }
-    ensures words_capacity { vec_capacity words.old ≤ vec_capacity words.new }
-    ensures starts_enough { end ≤ length starts.new.items }
-    ensures starts_lengthened { IsLengthened starts.old.items starts.new.items end }
-    ensures starts_capacity { vec_capacity starts.old ≤ vec_capacity starts.new }
-{
-    let before = words.len();
-    if before >= end {
-        return;
-    }
-    lengthen(words, end, 0);
-    lengthen(starts, end, 0);
-}
-
 // Copies the new words to a place of the region. One word alone costs no call.
+#[inline(always)]
 fn write_words(region: &mut [i64], place: usize, words: &[i64])
     requires { place + length words.now ≤ length region.old }
     ensures { IsWritten region.old region.new place words.now }
@@ -106,12 +98,15 @@ fn move_words(region: &mut [i64], from: usize, len: usize, to: usize) -> usize
     len
 }
 
-// Writes a block's number at its first word, if it has words.
-fn mark_start(starts: &mut [usize], place: usize, len: usize, number: usize)
-    requires { place + len ≤ length starts.old }
-    ensures { IsMarked starts.old starts.new place len number }
+// Writes a block's number at its first word, if it has words. The list then reaches up to that word.
+#[inline(always)]
+fn mark_start<A: Allocator>(starts: &mut Vec<usize, A>, place: usize, len: usize, number: usize)
+    requires { place + len ≤ vec_capacity starts.old }
+    ensures marked { IsMarked starts.old.items starts.new.items place len number }
+    ensures capacity { vec_capacity starts.old ≤ vec_capacity starts.new }
 {
     if len > 0 {
+        lengthen(starts, place + 1, 0);
         starts[place] = number;
     }
 }
@@ -182,6 +177,7 @@ impl<A: Allocator> Blocks<A> {
     }
 
     /// How many words the region has.
+    #[inline(always)]
     pub(crate) fn size(&self) -> usize
         ensures { result ≡ self.now.size }
     {
@@ -189,6 +185,7 @@ impl<A: Allocator> Blocks<A> {
     }
 
     /// How many numbers there are.
+    #[inline(always)]
     pub(crate) fn numbers(&self) -> usize
         ensures { result ≡ length self.now.slots }
     {
@@ -196,6 +193,7 @@ impl<A: Allocator> Blocks<A> {
     }
 
     /// How many blocks there are.
+    #[inline(always)]
     pub(crate) fn count(&self) -> usize
         ensures { result ≡ value_count self.now.slots }
     {
@@ -203,6 +201,7 @@ impl<A: Allocator> Blocks<A> {
     }
 
     /// Whether a number has a block.
+    #[inline(always)]
     pub(crate) fn is_there(&self, number: usize) -> bool
         ensures { result ≡ is_some (value_at self.now.slots number) }
     {
@@ -210,6 +209,7 @@ impl<A: Allocator> Blocks<A> {
     }
 
     /// The owner of the block of a number.
+    #[inline(always)]
     pub(crate) fn owner(&self, number: usize) -> usize
         requires { IsSome (value_at self.now.slots number) }
         ensures { result ≡ owner_at self.now.slots number }
@@ -218,6 +218,7 @@ impl<A: Allocator> Blocks<A> {
     }
 
     /// The place of the block of a number.
+    #[inline(always)]
     pub(crate) fn place(&self, number: usize) -> usize
         requires { IsSome (value_at self.now.slots number) }
         ensures { result ≡ place_at self.now.slots number }
@@ -226,6 +227,7 @@ impl<A: Allocator> Blocks<A> {
     }
 
     /// The words of the block of a number.
+    #[inline(always)]
     pub(crate) fn words(&self, number: usize) -> &[i64]
         requires { IsSome (value_at self.now.slots number) }
         ensures { result.now ≡ words_at self.now.slots number }
@@ -257,6 +259,7 @@ impl<A: Allocator> Blocks<A> {
     }
 
     /// Puts a block of the words at a place at which no block covers a word, and answers its number, which had none.
+    #[inline(always)]
     pub(crate) fn put(&mut self, owner: usize, place: usize, words: &[i64]) -> usize
         requires number { value_count self.old.slots < length self.old.slots }
         requires within { place + length words.now ≤ self.old.size }
@@ -267,7 +270,7 @@ impl<A: Allocator> Blocks<A> {
             (Some (record { owner = owner; place = place; words = words.now })) }
     {
         let len = words.len();
-        reach(&mut self.words, &mut self.starts, place + len);
+        lengthen(&mut self.words, place + len, 0);
         write_words(&mut self.words, place, words);
         let number = self.spans.insert(Span { owner, place, len });
         mark_start(&mut self.starts, place, len, number);
@@ -300,14 +303,26 @@ impl<A: Allocator> Blocks<A> {
             (λ fault. W.faults writer.now (map (words_at self.old.slots) lent.now) fault)) }
     {
         lengthen(&mut self.words, place + len, 0);
-        lengthen(&mut self.starts, place + len, 0);
         let written = write_lent(&mut self.words, &self.spans, place, len, lent, writer);
         let number = self.spans.insert(Span { owner, place, len });
         mark_start(&mut self.starts, place, len, number);
         (number, written)
     }
 
+    /// Writes other words over those of the block of a number, which has as many and shares none with another.
+    #[inline(always)]
+    pub(crate) fn rewrite(&mut self, number: usize, words: &[i64])
+        requires there { IsSome (value_at self.old.slots number) }
+        requires same_length { length words.now ≡ length (words_at self.old.slots number) }
+        requires clear { IsClear self.old.slots number (place_at self.old.slots number) (length words.now) }
+        ensures { self.new ≡ layout_after_rewrite self.old number words.now }
+    {
+        let span = *self.spans.value(number);
+        write_words(&mut self.words, span.place, words);
+    }
+
     /// Takes the block of a number away, and answers where it was.
+    #[inline(always)]
     pub(crate) fn remove(&mut self, number: usize) -> Span
         requires { IsSome (value_at self.old.slots number) }
         ensures place { result.place ≡ place_at self.old.slots number }
@@ -327,7 +342,7 @@ impl<A: Allocator> Blocks<A> {
         ensures few { result ≤ length (words_at self.old.slots number) }
     {
         let Span { owner, place, len } = *self.spans.value(number);
-        reach(&mut self.words, &mut self.starts, to + len);
+        lengthen(&mut self.words, to + len, 0);
         let moved = move_words(&mut self.words, place, len, to);
         mark_start(&mut self.starts, to, len, number);
         let span = Span {

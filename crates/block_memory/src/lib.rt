@@ -17,7 +17,7 @@ mod span;
 mod table;
 mod writer;
 
-pub use memory::{BlockId, LendingMemory, NoRoom, VectorMemory};
+pub use memory::{BlockId, LendingMemory, NoRoom, RewritableMemory, VectorMemory};
 pub use plain::PlainMemory;
 pub use region::{PackedRegion, RegionMemory, SlidingMemory};
 pub use writer::{MOST_LENT, Writer};

@@ -26,12 +26,14 @@ impl Model for BlockId {
 
 impl BlockId {
     /// The number itself, which is below `ids()` of the memory that gave it.
+    #[inline(always)]
     pub fn number(self) -> usize
         ensures { result ≡ self }
     {
         self.number
     }
 
+    #[inline(always)]
     pub(crate) fn new(number: usize) -> Self
         ensures { result ≡ number }
     {
@@ -97,6 +99,7 @@ pub trait VectorMemory {
         ensures { result.now ≡ words_at (content self.now) id };
 
     /// How many words a block has.
+    #[inline(always)]
     fn len(&self, id: BlockId) -> usize
         requires { IsLive (content self.now) id }
         ensures { result ≡ length (words_at (content self.now) id) }
@@ -105,6 +108,7 @@ pub trait VectorMemory {
     }
 
     /// A word of a block, counted from 0.
+    #[inline(always)]
     fn word(&self, id: BlockId, i: usize) -> i64
         requires live { IsLive (content self.now) id }
         requires within { i < length (words_at (content self.now) id) }
@@ -143,6 +147,17 @@ pub trait VectorMemory {
     /// How many numbers there are: the number of blocks that the memory was made for. Each number is below it.
     fn ids(&self) -> usize
         ensures { result ≡ length (content self.now) };
+}
+
+/// A memory in which other words can be written over those of a block.
+pub trait RewritableMemory: VectorMemory {
+    /// Writes other words over those of a block, which has as many.
+    fn rewrite(&mut self, id: BlockId, words: &[i64])
+        requires live { IsLive (Self.content self.old) id }
+        requires same_length { length words.now ≡ length (words_at (Self.content self.old) id) }
+        ensures rewritten { Self.content self.new ≡ with_block (Self.content self.old) id
+            (record { owner = owner_at (Self.content self.old) id; words = words.now }) }
+        ensures same_room { Self.room self.new ≡ Self.room self.old };
 }
 
 /// A memory that lends the words of its blocks to a [`Writer`] of a new one.

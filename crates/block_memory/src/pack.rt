@@ -6,7 +6,7 @@ ghost use Rattle.block_memory.specs.Layout.{content_of};
 ghost use Rattle.block_memory.specs.Region.{AreApart, AreWithin, ArePacked, IsRegion, HasRoom};
 
 use crate::blocks::Blocks;
-use crate::packing::{Packing, Room};
+use crate::packing::{MoveCounts, Packing};
 use holes::Holes;
 use std::alloc::Allocator;
 
@@ -61,58 +61,51 @@ pub(crate) fn pack_region<A: Allocator>(
 pub struct WholePacking;
 
 impl Packing for WholePacking {
+    #[inline(never)]
     fn make_room<A: Allocator>(
         blocks: &mut Blocks<A>,
         holes: &mut Holes<A>,
         used: usize,
         len: usize,
-        _slid: usize,
-    ) -> Room {
-        let moved = pack_region(blocks, holes, used);
+        counts: &mut MoveCounts,
+    ) -> usize {
+        counts.last = pack_region(blocks, holes, used);
+        counts.slid = 0;
         match holes.take(len) {
-            Some(place) => Room {
-                place,
-                moved,
-                slid: 0,
-            },
+            Some(place) => place,
             None => unreachable!(),
         }
     }
 }
 
-/// Takes the words for a block of so many words from the lowest hole that has them. If none has, blocks move first. So
-/// many words slid before.
+/// Takes the words for a block of so many words from the lowest hole that has them, and answers the place of the first.
+/// If none has, blocks move first, and what moves is counted.
+#[inline(always)]
 pub(crate) fn take_room<P: Packing, A: Allocator>(
     blocks: &mut Blocks<A>,
     holes: &mut Holes<A>,
     used: usize,
     len: usize,
-    slid: usize,
-) -> Room
+    counts: &mut MoveCounts,
+) -> usize
     requires region { IsRegion blocks.old holes.old used }
     requires fits { used + len ≤ blocks.old.size }
     ensures size { blocks.new.size ≡ blocks.old.size }
     ensures content { content_of blocks.new.slots ≡ content_of blocks.old.slots }
-    ensures room { HasRoom blocks.new holes.new used result.place len }
+    ensures room { HasRoom blocks.new holes.new used result len }
 {
+    counts.last = 0;
     if len == 0 {
-        return Room {
-            place: 0,
-            moved: 0,
-            slid,
-        };
+        return 0;
     }
     match holes.take(len) {
-        Some(place) => Room {
-            place,
-            moved: 0,
-            slid,
-        },
-        None => P::make_room(blocks, holes, used, len, slid),
+        Some(place) => place,
+        None => P::make_room(blocks, holes, used, len, counts),
     }
 }
 
 /// Gives the words of a block that is gone back to the holes.
+#[inline(always)]
 pub(crate) fn give_room<A: Allocator>(holes: &mut Holes<A>, place: usize, len: usize)
     requires within { place + len ≤ length holes.old.free }
     requires none_free { NoneFree holes.old.free place len }

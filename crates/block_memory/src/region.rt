@@ -5,9 +5,9 @@ ghost use Rattle.block_memory.specs.Content.{IsLive, no_blocks, block_count, use
 ghost use Rattle.block_memory.specs.Placing.{IsPlacedWith};
 
 use crate::blocks::Blocks;
-use crate::memory::{BlockId, LendingMemory, NoRoom, VectorMemory};
+use crate::memory::{BlockId, LendingMemory, NoRoom, RewritableMemory, VectorMemory};
 use crate::pack::{WholePacking, give_room, pack_region, take_room};
-use crate::packing::{Packing, Room};
+use crate::packing::{MoveCounts, Packing};
 use crate::slide::SlidingPacking;
 use crate::writer::{MOST_LENT, Writer};
 use holes::Holes;
@@ -27,8 +27,7 @@ pub struct PackedRegion<P, A: Allocator> {
     blocks: Blocks<A>,
     holes: Holes<A>,
     used: usize,
-    // What the last `place` took.
-    last: Room,
+    counts: MoveCounts,
     packing: PhantomData<P>,
 }
 
@@ -54,7 +53,7 @@ impl<P, A: Allocator> Model for PackedRegion<P, A> {
     ghost Value = { RegionState };
 
     ghost view = { λ m. record
-        { room = m.blocks.size; content = content_of m.blocks.slots; free = m.holes.free; moved = m.last.moved } };
+        { room = m.blocks.size; content = content_of m.blocks.slots; free = m.holes.free; moved = m.counts.last } };
 
     ghost invariant = { λ m. IsRegion m.blocks m.holes m.used };
 }
@@ -77,11 +76,7 @@ impl<P: Packing, A: Allocator> PackedRegion<P, A> {
             blocks,
             holes,
             used: 0,
-            last: Room {
-                place: 0,
-                moved: 0,
-                slid: 0,
-            },
+            counts: MoveCounts { last: 0, slid: 0 },
             packing: PhantomData,
         })
     }
@@ -107,16 +102,15 @@ impl<P: Packing, A: Allocator> PackedRegion<P, A> {
         ensures same_room { self.new.room ≡ self.old.room }
     {
         let _size = self.blocks.size();
-        let room = take_room::<P, A>(
+        let place = take_room::<P, A>(
             &mut self.blocks,
             &mut self.holes,
             self.used,
             len,
-            self.last.slid,
+            &mut self.counts,
         );
-        let (number, written) = self.blocks.put_with(owner, room.place, len, lent, writer);
+        let (number, written) = self.blocks.put_with(owner, place, len, lent, writer);
         self.used += len;
-        self.last = room;
         let id = BlockId::new(number);
         match written {
             Ok(()) => Ok(id),
@@ -128,7 +122,7 @@ impl<P: Packing, A: Allocator> PackedRegion<P, A> {
     pub fn moved(&self) -> usize
         ensures { result ≡ self.now.moved }
     {
-        self.last.moved
+        self.counts.last
     }
 }
 
@@ -141,24 +135,25 @@ impl<P: Packing, A: Allocator> VectorMemory for PackedRegion<P, A> {
 
     ghost may_refuse = { false };
 
+    #[inline(always)]
     fn place(&mut self, owner: usize, words: &[i64]) -> Result<BlockId, NoRoom> {
         let len = words.len();
         if len > self.blocks.size() - self.used {
             return Err(NoRoom::Full);
         }
-        let room = take_room::<P, A>(
+        let place = take_room::<P, A>(
             &mut self.blocks,
             &mut self.holes,
             self.used,
             len,
-            self.last.slid,
+            &mut self.counts,
         );
-        let number = self.blocks.put(owner, room.place, words);
+        let number = self.blocks.put(owner, place, words);
         self.used += len;
-        self.last = room;
         Ok(BlockId::new(number))
     }
 
+    #[inline(always)]
     fn free(&mut self, id: BlockId) {
         one_hole_more_than_ranges();
         let span = self.blocks.remove(id.number());
@@ -166,14 +161,17 @@ impl<P: Packing, A: Allocator> VectorMemory for PackedRegion<P, A> {
         self.used -= span.len;
     }
 
+    #[inline(always)]
     fn is_live(&self, id: BlockId) -> bool {
         self.blocks.is_there(id.number())
     }
 
+    #[inline(always)]
     fn owner(&self, id: BlockId) -> usize {
         self.blocks.owner(id.number())
     }
 
+    #[inline(always)]
     fn words(&self, id: BlockId) -> &[i64] {
         self.blocks.words(id.number())
     }
@@ -185,13 +183,15 @@ impl<P: Packing, A: Allocator> VectorMemory for PackedRegion<P, A> {
         ensures one_hole { hole_count self.new.free ≤ 1 }
     {
         pack_region(&mut self.blocks, &mut self.holes, self.used);
-        self.last.slid = 0;
+        self.counts.slid = 0;
     }
 
+    #[inline(always)]
     fn used(&self) -> usize {
         self.used
     }
 
+    #[inline(always)]
     fn size(&self) -> usize {
         self.blocks.size()
     }
@@ -202,6 +202,13 @@ impl<P: Packing, A: Allocator> VectorMemory for PackedRegion<P, A> {
 
     fn ids(&self) -> usize {
         self.blocks.numbers()
+    }
+}
+
+impl<P: Packing, A: Allocator> RewritableMemory for PackedRegion<P, A> {
+    #[inline(always)]
+    fn rewrite(&mut self, id: BlockId, words: &[i64]) {
+        self.blocks.rewrite(id.number(), words);
     }
 }
 

@@ -7,7 +7,7 @@ ghost use Rattle.block_memory.specs.Region.{IsRegion};
 
 use crate::blocks::Blocks;
 use crate::pack::WholePacking;
-use crate::packing::{Packing, Room};
+use crate::packing::{MoveCounts, Packing};
 use holes::Holes;
 use holes::laws::one_hole_more_than_ranges;
 use std::alloc::Allocator;
@@ -50,15 +50,16 @@ fn slide_down<A: Allocator>(
 pub struct SlidingPacking;
 
 impl Packing for SlidingPacking {
+    #[inline(never)]
     fn make_room<A: Allocator>(
         blocks: &mut Blocks<A>,
         holes: &mut Holes<A>,
         used: usize,
         len: usize,
-        slid: usize,
-    ) -> Room {
-        if slid > blocks.size() {
-            return WholePacking::make_room(blocks, holes, used, len, slid);
+        counts: &mut MoveCounts,
+    ) -> usize {
+        if counts.slid > blocks.size() {
+            return WholePacking::make_room(blocks, holes, used, len, counts);
         }
         let mut moved = 0;
         // The blocks before `place` lie together up to `packed`, and the words from there on to `place` are free.
@@ -75,12 +76,10 @@ impl Packing for SlidingPacking {
                 None => place += 1,
             }
         }
+        counts.last = moved;
+        counts.slid = counts.slid.saturating_add(moved);
         match holes.take(len) {
-            Some(place) => Room {
-                place,
-                moved,
-                slid: slid.saturating_add(moved),
-            },
+            Some(place) => place,
             None => unreachable!(),
         }
     }

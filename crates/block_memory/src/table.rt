@@ -53,6 +53,7 @@ impl<T, A: Allocator> Table<T, A> {
     }
 
     /// How many places there are.
+    #[inline(always)]
     pub(crate) fn len(&self) -> usize
         ensures { result ≡ length self.now }
     {
@@ -60,6 +61,7 @@ impl<T, A: Allocator> Table<T, A> {
     }
 
     /// How many places have a value.
+    #[inline(always)]
     pub(crate) fn values(&self) -> usize
         ensures { result ≡ value_count self.now }
     {
@@ -67,6 +69,7 @@ impl<T, A: Allocator> Table<T, A> {
     }
 
     /// The value of a number, which has one.
+    #[inline(always)]
     pub(crate) fn value(&self, number: usize) -> &T
         requires { IsSome (value_at self.now number) }
         ensures { value_at self.now number ≡ Some result.now }
@@ -78,6 +81,7 @@ impl<T, A: Allocator> Table<T, A> {
     }
 
     /// The value of a number, if it has one. A number past the last has none.
+    #[inline(always)]
     pub(crate) fn find(&self, number: usize) -> Option<&T>
         ensures { option_copied result ≡ value_at self.now number }
     {
@@ -86,6 +90,7 @@ impl<T, A: Allocator> Table<T, A> {
     }
 
     /// Replaces the value of a number.
+    #[inline(always)]
     pub(crate) fn set(&mut self, number: usize, value: T)
     where
         T: Drop,
@@ -96,6 +101,7 @@ impl<T, A: Allocator> Table<T, A> {
     }
 
     /// Puts a value at an empty number, of which there is one, and answers the number.
+    #[inline(always)]
     pub(crate) fn insert(&mut self, value: T) -> usize
     where
         T: Drop,
@@ -112,6 +118,7 @@ impl<T, A: Allocator> Table<T, A> {
     }
 
     /// Takes the value of a number, which has one. The number is empty then.
+    #[inline(always)]
     pub(crate) fn remove(&mut self, number: usize) -> T
         requires { IsSome (value_at self.old number) }
         ensures value { value_at self.old number ≡ Some result }

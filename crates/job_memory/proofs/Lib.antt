@@ -5,3 +5,4 @@ mod Views
 mod Turns
 mod Released
 mod Placed
+mod Rewritten

@@ -16,17 +16,17 @@ rest_from ids index id within is =
     at_drop_more (λ (rest : List ℕ). rest) ids index id within
     ∙ ap (λ n. n ∷ drop (index + 1) ids) (sym is)
 
-at_set_here : (memory : SharedState) (id other : ℕ) (slot : Slot) → other ≡ id → id < length memory.slots
+pub at_set_here : (memory : SharedState) (id other : ℕ) (slot : Slot) → other ≡ id → id < length memory.slots
     → slot_at (with_slot memory id slot) other ≡ slot
 at_set_here memory id other slot e within =
     ap (slot_at (with_slot memory id slot)) e ∙ get_or-set_same memory.slots id slot empty_slot within
 
-at_set_other : (memory : SharedState) (id other : ℕ) (slot : Slot) → other ≢ id
+pub at_set_other : (memory : SharedState) (id other : ℕ) (slot : Slot) → other ≢ id
     → slot_at (with_slot memory id slot) other ≡ slot_at memory other
 at_set_other memory id other slot ne = get_or-set_other memory.slots id other slot empty_slot ne
 
 -- a share leaves each count as it was, or one higher
-count_shared : (memory : SharedState) (first id : ℕ) → IsLive memory first
+pub count_shared : (memory : SharedState) (first id : ℕ) → IsLive memory first
     → ((slot_at memory id).count ≤ (slot_at (state_after_share memory first) id).count)
     × ((slot_at (state_after_share memory first) id).count ≤ (slot_at memory id).count + 1)
 count_shared memory first id live =

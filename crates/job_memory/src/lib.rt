@@ -15,6 +15,7 @@ ghost use Rattle.job_memory.specs.JobBlocks.{held_words, with_grant, with_memory
 
 pub mod laws;
 mod placing;
+mod rewriting;
 
 use block_memory::{BlockId, SlidingMemory};
 use refcounts::SharedMemory;
@@ -122,6 +123,7 @@ impl<A: Allocator> JobMemory<A> {
     ///
     /// Each of them is there, and has so few references that they and the length of the list are at most what a `u64`
     /// counts.
+    #[inline(always)]
     pub fn share_all(&mut self, ids: &[BlockId])
         requires live { AreLive self.old.memory ids.now }
         requires few { All (λ id. (slot_at self.old.memory id).count + length ids.now ≤ u64.MAX) ids.now }
@@ -133,6 +135,7 @@ impl<A: Allocator> JobMemory<A> {
     }
 
     /// One reference more to a block.
+    #[inline(always)]
     fn share(&mut self, id: BlockId)
         requires live { IsLive self.old.memory id }
         requires few { (slot_at self.old.memory id).count < u64.MAX }
@@ -186,6 +189,7 @@ impl<A: Allocator> JobMemory<A> {
     }
 
     /// The words of a block.
+    #[inline(always)]
     pub fn words(&self, id: BlockId) -> &[i64]
         requires { IsLive self.now.memory id }
         ensures { result.now ≡ (slot_at self.now.memory id).words }

@@ -20,6 +20,7 @@ impl<A: Allocator> JobMemory<A> {
     /// # Errors
     ///
     /// The fault that the writer finds. Nothing changes then.
+    #[inline(always)]
     pub fn place_with<W: Writer>(
         &mut self,
         job: usize,

@@ -1,6 +1,7 @@
 -- What a memory of counted blocks shows, in the words of the memory of blocks and of the counts that it keeps.
-use Rattle.std.proofs.Common.{◌≡◌, ℕ, ◌+◌, ◌-◌, ◌<◌, List, length, get_or, set, Option, None, sym, ◌∙◌, ap, subst}
-use Rattle.std.proofs.Common.{arith}
+use Rattle.std.proofs.Common.{◌≡◌, ℕ, ◌+◌, ◌-◌, ◌<◌, List, length, get_or, set, Option, Some, None, sym, ◌∙◌, ap}
+use Rattle.std.proofs.Common.{subst, arith}
+use Rattle.std.proofs.lemmas.List.{set-get_or}
 use Rattle.block_memory.specs.Content.{Block, Content, block_at, IsLive, owner_at, words_at, used_words, block_count}
 use Rattle.refcounts.specs.SharedState.{SharedState, empty_slot, slot_at, with_slot, state_after_share}
 use Rattle.refcounts.specs.SharedState.{state_after_release, used_words as used_words_of}
@@ -8,7 +9,10 @@ use Rattle.refcounts.specs.SharedState.{block_count as block_count_of, IsLive as
 use Rattle.refcounts.specs.Inside.{slot_of, state_of, IsCounted}
 use Rattle.refcounts.proofs.Slots.{slots_of-set, length-slots_of, words_in-slots_of, blocks_in-slots_of, live_is}
 use Rattle.refcounts.proofs.Slots.{live_within_content, count_is, owner_is, words_is, slots_shared, slots_released}
-use Rattle.refcounts.proofs.Slots.{slots_freed, none_is, same_slots, read_count}
+use Rattle.refcounts.proofs.Slots.{slots_freed, none_is, same_slots, read_count, counted_set}
+
+Some≢None : (b : Block) → Some b ≡ None → ⊥
+Some≢None b e = cc
 
 -- what is known of the memory as a whole
 pub record Totals (room : ℕ) (content : Content) (state : SharedState) : Type 0 where
@@ -78,6 +82,23 @@ pub slot_at-empty : (room : ℕ) (content : Content) (counts : List ℕ) (state 
 slot_at-empty room content counts state id counted view gone =
     sym (ap (λ (s : SharedState). slot_at s id) view) ∙ none_is content counts id counted.ids gone
 
+-- a block that one reference names, and other words in its place
+module _ (room : ℕ) (content : Content) (counts : List ℕ) (state : SharedState) (id : ℕ) (b : Block)
+    (counted : IsCounted content counts) (view : state_of room content counts ≡ state)
+    (single : (slot_at state id).count ≡ 1) where
+  its_block : NamedBlock content counts state id
+  its_block = named_block room content counts state id counted view (omega (arith, single))
+
+  -- its count stays
+  same_counts : set counts id 1 ≡ counts
+  same_counts = ap (set counts id) (sym (its_block.count ∙ single)) ∙ set-get_or counts id 0
+
+  pub counted-rewrite : IsCounted (set content id (Some b)) counts
+  counted-rewrite =
+      subst (λ (ns : List ℕ). IsCounted (set content id (Some b)) ns) same_counts
+      (counted_set content counts id (Some b) 1 counted its_block.inside (λ some. omega arith)
+      (λ e. absurd (Some≢None b e)))
+
 -- the state after a block and its count were put at a number
 pub state_of-set : (room : ℕ) (content : Content) (counts : List ℕ) (state : SharedState) (id : ℕ)
     (block : Option Block) (count : ℕ)
@@ -86,6 +107,15 @@ pub state_of-set : (room : ℕ) (content : Content) (counts : List ℕ) (state :
 state_of-set room content counts state id block count view =
     same_slots room _ _ (slots_of-set content counts id block count)
     ∙ ap (λ (s : SharedState). with_slot s id (slot_of block count)) view
+
+-- the state after other words were written over those of a block
+pub state_of-rewrite : (room : ℕ) (content : Content) (counts : List ℕ) (state : SharedState) (id : ℕ) (b : Block)
+    → IsCounted content counts → state_of room content counts ≡ state → (slot_at state id).count ≡ 1
+    → state_of room (set content id (Some b)) counts ≡ with_slot state id (slot_of (Some b) 1)
+state_of-rewrite room content counts state id b counted view single =
+    ap (λ (ns : List ℕ). state_of room (set content id (Some b)) ns)
+    (sym (same_counts room content counts state id b counted view single))
+    ∙ state_of-set room content counts state id (Some b) 1 view
 
 module _ (room : ℕ) (content : Content) (counts : List ℕ) (state : SharedState) (id : ℕ)
     (counted : IsCounted content counts) (view : state_of room content counts ≡ state) where

@@ -15,6 +15,7 @@ ghost use Rattle.refcounts.specs.SharedState.{state_after_releases, occurrences,
 
 pub mod laws;
 mod making;
+mod rewriting;
 
 use block_memory::{BlockId, NoRoom, VectorMemory};
 use std::alloc::{AllocError, Allocator};
@@ -64,6 +65,7 @@ impl<M: VectorMemory, A: Allocator> SharedMemory<M, A> {
     ///
     /// `Full` exactly if the words in use and these together are more than fit; `Memory` only if they would fit,
     /// and only over a memory that may refuse. Nothing changes at either.
+    #[inline(always)]
     pub fn make(&mut self, owner: usize, words: &[i64]) -> Result<BlockId, NoRoom>
         requires { block_count self.old < length self.old.slots }
         ensures fresh { IfOk result (λ id. (id < length self.old.slots) × (slot_at self.old id ≡ empty_slot)) }
@@ -80,6 +82,7 @@ impl<M: VectorMemory, A: Allocator> SharedMemory<M, A> {
     }
 
     /// One reference more to a block, which has fewer than the greatest `u64`. Nothing else changes.
+    #[inline(always)]
     pub fn share(&mut self, id: BlockId)
         requires live { IsLive self.old id }
         requires few { (slot_at self.old id).count < u64.MAX }
@@ -90,6 +93,7 @@ impl<M: VectorMemory, A: Allocator> SharedMemory<M, A> {
 
     /// One reference less to a block. True exactly if it was the last one, and then the block is freed. No other block
     /// changes.
+    #[inline(always)]
     pub fn release(&mut self, id: BlockId) -> bool
         requires { IsLive self.old id }
         ensures last { IsTrue result ↔ ((slot_at self.old id).count ≡ 1) }
@@ -106,6 +110,7 @@ impl<M: VectorMemory, A: Allocator> SharedMemory<M, A> {
 
     /// One reference less to each of these blocks, once for each time that it is listed: at most as often as references
     /// name it. The last one of a block frees it. Answers how many words this frees.
+    #[inline(always)]
     pub fn release_all(&mut self, ids: &[BlockId]) -> u64
         requires { AreNamed self.old ids.now }
         ensures released { self.new ≡ state_after_releases self.old ids.now }
@@ -143,6 +148,7 @@ impl<M: VectorMemory, A: Allocator> SharedMemory<M, A> {
     }
 
     /// The number of references to a block, 0 for a number without a block.
+    #[inline(always)]
     pub fn count(&self, id: BlockId) -> u64
         ensures value { result ≡ (slot_at self.now id).count }
         ensures tidy { IsTidy self.now }
@@ -151,6 +157,7 @@ impl<M: VectorMemory, A: Allocator> SharedMemory<M, A> {
     }
 
     /// The number of words of a block.
+    #[inline(always)]
     pub fn len(&self, id: BlockId) -> usize
         requires { IsLive self.now id }
         ensures { result ≡ length (slot_at self.now id).words }
@@ -159,6 +166,7 @@ impl<M: VectorMemory, A: Allocator> SharedMemory<M, A> {
     }
 
     /// Whose a block is.
+    #[inline(always)]
     pub fn owner(&self, id: BlockId) -> usize
         requires { IsLive self.now id }
         ensures { result ≡ (slot_at self.now id).owner }
@@ -167,6 +175,7 @@ impl<M: VectorMemory, A: Allocator> SharedMemory<M, A> {
     }
 
     /// The words of a block.
+    #[inline(always)]
     pub fn words(&self, id: BlockId) -> &[i64]
         requires { IsLive self.now id }
         ensures { result.now ≡ (slot_at self.now id).words }
@@ -175,6 +184,7 @@ impl<M: VectorMemory, A: Allocator> SharedMemory<M, A> {
     }
 
     /// A word of a block, counted from 0.
+    #[inline(always)]
     pub fn word(&self, id: BlockId, i: usize) -> i64
         requires live { IsLive self.now id }
         requires within { i < length (slot_at self.now id).words }
@@ -194,6 +204,7 @@ impl<M: VectorMemory, A: Allocator> SharedMemory<M, A> {
 
     /// The number of words of all blocks, at most `size()`. A block counts once, however many references name it. A
     /// number that no reference names has no block.
+    #[inline(always)]
     pub fn used(&self) -> usize
         ensures value { result ≡ used_words self.now }
         ensures within { result ≤ self.now.room }
@@ -203,6 +214,7 @@ impl<M: VectorMemory, A: Allocator> SharedMemory<M, A> {
     }
 
     /// The number of words that fit.
+    #[inline(always)]
     pub fn size(&self) -> usize
         ensures { result ≡ self.now.room }
     {

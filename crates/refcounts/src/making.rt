@@ -16,6 +16,7 @@ impl<M: LendingMemory, A: Allocator> SharedMemory<M, A> {
     /// # Errors
     ///
     /// The fault that the writer finds. Nothing changes then.
+    #[inline(always)]
     pub fn make_with<W: Writer>(
         &mut self,
         owner: usize,

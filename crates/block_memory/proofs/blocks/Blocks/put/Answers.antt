@@ -7,42 +7,38 @@ use Rattle.block_memory.proofs.blocks.Blocks.put.Goals as goal
 use Rattle.block_memory.proofs.blocks.Blocks.put.Goals.{After-mark_start}
 
 after : (g : Over) (c : After-mark_start g) →
-    IsAfterWrite c.self.inside.words.items c.write_words.new.region c.mark_start.new.starts c.self.inside.spans
+    IsAfterWrite c.self.inside.words.items c.write_words.new.region c.mark_start.new.starts.items c.self.inside.spans
     c.insert-number.result (record { owner = c.args.owner; place = c.args.place; len = length c.args.words.now })
     c.args.words.now
 after g c =
     let here = c.self.inside in
-    after_insert here.words.items c.reach.new.words.items c.write_words.new.region here.starts.items
-    c.reach.new.starts.items c.mark_start.new.starts here.spans c.insert-number.result c.args.owner c.args.place
-    c.args.words.now (spans_of _ _ _ _ _ _ c.self.invariant) c.reach.ensures.words_lengthened
-    c.reach.ensures.starts_lengthened
+    after_insert here.words.items c.lengthen.new.list.items c.write_words.new.region here.starts.items
+    c.mark_start.new.starts.items here.spans c.insert-number.result c.args.owner c.args.place
+    c.args.words.now (spans_of _ _ _ _ _ _ c.self.invariant) c.lengthen.ensures.lengthened
     (rw (← c.self.view_is) at c.requires.bare) (rw c.deref_mut.ensures.value at c.write_words.ensures)
-    (rw c.deref_mut-2.ensures.value at c.mark_start.ensures) c.insert-number.ensures.in_range
+    c.mark_start.ensures.marked c.insert-number.ensures.in_range
 
 pub invariant_of-self : goal.invariant_of-self
 invariant_of-self g c =
     let here = c.self.inside in
     let words =
-    items_after_write c.reach.new.words c.deref_mut.result.now c.write_words.new.region c.deref_mut.ensures.value
+    items_after_write c.lengthen.new.list c.deref_mut.result.now c.write_words.new.region c.deref_mut.ensures.value
     c.write_words.ensures.same_size in
-    let starts =
-    items_after_write c.reach.new.starts c.deref_mut-2.result.now c.mark_start.new.starts
-    c.deref_mut-2.ensures.value c.mark_start.ensures.same_size in
     let fits = rw (← c.self.view_is) at c.requires.within in
     let long = c.write_words.ensures.same_size ∙ ap length c.deref_mut.ensures.value in
-    let room : here.size ≤ vec_capacity c.reach.new.words =
-    omega (arith, c.reach.ensures.words_capacity, c.self.invariant.words_room) in
-    let starts_room : here.size ≤ vec_capacity c.reach.new.starts =
-    omega (arith, c.reach.ensures.starts_capacity, c.self.invariant.starts_room) in
-    rw (words, starts, c.insert-number.ensures.inserted) (are_blocks here.words.items c.reach.new.words.items
-    c.write_words.new.region c.mark_start.new.starts _ here.size (c.args.place + length c.args.words.now) _ _
-    (after g (goal.at.invariant_of-self g c).After-mark_start).are_spans c.reach.ensures.words_lengthened long
+    let room : here.size ≤ vec_capacity c.lengthen.new.list =
+    omega (arith, c.lengthen.ensures.capacity, c.self.invariant.words_room) in
+    let starts_room : here.size ≤ vec_capacity c.mark_start.new.starts =
+    omega (arith, c.mark_start.ensures.capacity, c.self.invariant.starts_room) in
+    rw (words, c.insert-number.ensures.inserted) (are_blocks here.words.items c.lengthen.new.list.items
+    c.write_words.new.region c.mark_start.new.starts.items _ here.size (c.args.place + length c.args.words.now) _ _
+    (after g (goal.at.invariant_of-self g c).After-mark_start).are_spans c.lengthen.ensures.lengthened long
     c.self.invariant.few fits room starts_room)
 
 pub returns-clause-put : goal.returns-clause-put
 returns-clause-put g c =
     let words =
-    items_after_write c.reach.new.words c.deref_mut.result.now c.write_words.new.region c.deref_mut.ensures.value
+    items_after_write c.lengthen.new.list c.deref_mut.result.now c.write_words.new.region c.deref_mut.ensures.value
     c.write_words.ensures.same_size in
     rw (words, c.insert-number.ensures.inserted)
     (same_layout c.self.inside.size c.self.inside.size _ _ refl

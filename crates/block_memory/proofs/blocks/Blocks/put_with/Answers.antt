@@ -19,28 +19,27 @@ use Rattle.block_memory.proofs.BlocksLemmas.{span_apart, all_by_span}
 use Rattle.block_memory.proofs.blocks.Blocks.put_with.Given.{Over}
 use Rattle.block_memory.proofs.blocks.Blocks.put_with.Goals as goal
 use Rattle.block_memory.proofs.blocks.Blocks.put_with.Goals.{
-  After-lengthen-2,
+  After-lengthen,
   After-write_lent-written,
   After-mark_start,
 }
 
--- what lies in the lists that were made longer
-now : (g : Over) (c : goal.After-lengthen-2 g) →
-    IsLonger c.self.inside.words.items c.lengthen.new.list.items c.lengthen-2.new.list.items c.self.inside.spans
+-- what lies in the words that were made longer
+now : (g : Over) (c : goal.After-lengthen g) →
+    IsLonger c.self.inside.words.items c.lengthen.new.list.items c.self.inside.starts.items c.self.inside.spans
 now g c =
     let here = c.self.inside in
-    longer here.words.items c.lengthen.new.list.items here.starts.items c.lengthen-2.new.list.items here.spans
+    longer here.words.items c.lengthen.new.list.items here.starts.items here.spans
     (c.args.place + c.args.len) (spans_of _ _ _ _ _ _ c.self.invariant) c.lengthen.ensures.lengthened
-    c.lengthen-2.ensures.lengthened
 
 pub write_lent-written-requires-clause-apart : goal.write_lent-written-requires-clause-apart
 write_lent-written-requires-clause-apart g c =
     let here = c.self.inside in
-    let after = now g (goal.at.write_lent-written-requires-clause-apart g c).After-lengthen-2 in
+    let after = now g (goal.at.write_lent-written-requires-clause-apart g c).After-lengthen in
     let bare : IsBare c.args.self.now.slots c.args.place c.args.len = c.requires.bare in
     subst (λ (ws : List ℤ). All (λ id. IsApart (length ws) c.args.place c.args.len (span_at here.spans id))
     c.args.lent.now) (sym c.deref_mut.ensures.value)
-    (λ k d within. span_apart c.lengthen.new.list.items c.lengthen-2.new.list.items here.spans _ c.args.place c.args.len
+    (λ k d within. span_apart c.lengthen.new.list.items here.starts.items here.spans _ c.args.place c.args.len
     after.are_spans (rw after.slots (rw (← c.self.view_is) at bare)))
 
 pub write_lent-written-requires-clause-can : goal.write_lent-written-requires-clause-can
@@ -52,7 +51,7 @@ write_lent-written-requires-clause-can g c =
     ap (λ (ws : List ℤ). map (λ id. words_in ws (span_at here.spans id)) c.args.lent.now) c.deref_mut.ensures.value
     ∙ (all_by_span c.lengthen.new.list.items here.spans c.args.lent.now
     ∙ (ap (λ (slots : List (Option PlacedBlock)). map (words_at slots) c.args.lent.now)
-    (now g at.After-lengthen-2).slots
+    (now g at.After-lengthen).slots
     ∙ ap (λ (l : Layout). map (words_at l.slots) c.args.lent.now) c.self.view_is)) in
     subst (λ ws. g.W.Writer.can_write c.args.writer.now ws c.args.len) (sym lists) c.requires.can
 
@@ -67,17 +66,17 @@ long g c =
 
 after : (g : Over) (c : goal.After-mark_start g) →
     length (take c.args.len (drop c.args.place c.write_lent-written.new.words)) ≡ c.args.len →
-    IsAfterWrite c.self.inside.words.items c.write_lent-written.new.words c.mark_start.new.starts c.self.inside.spans
+    IsAfterWrite c.self.inside.words.items c.write_lent-written.new.words c.mark_start.new.starts.items c.self.inside.spans
     c.insert-number.result (record { owner = c.args.owner; place = c.args.place; len = c.args.len })
     (take c.args.len (drop c.args.place c.write_lent-written.new.words))
 after g c size =
     let here = c.self.inside in
     after_put here.words.items c.lengthen.new.list.items c.write_lent-written.new.words here.starts.items
-    c.lengthen-2.new.list.items c.mark_start.new.starts here.spans c.insert-number.result c.args.owner c.args.place
-    c.args.len (spans_of _ _ _ _ _ _ c.self.invariant) c.lengthen.ensures.lengthened c.lengthen-2.ensures.lengthened
+    c.mark_start.new.starts.items here.spans c.insert-number.result c.args.owner c.args.place
+    c.args.len (spans_of _ _ _ _ _ _ c.self.invariant) c.lengthen.ensures.lengthened
     (rw (← c.self.view_is) at c.requires.bare) size (rw c.deref_mut.ensures.value at
     c.write_lent-written.ensures.written)
-    (rw c.deref_mut-2.ensures.value at c.mark_start.ensures) c.insert-number.ensures.in_range
+    c.mark_start.ensures.marked c.insert-number.ensures.in_range
 
 pub invariant_of-self : goal.invariant_of-self
 invariant_of-self g c =
@@ -86,18 +85,15 @@ invariant_of-self g c =
     items_after_write c.lengthen.new.list c.deref_mut.result.now c.write_lent-written.new.words
     c.deref_mut.ensures.value
     c.write_lent-written.ensures.written.same_size in
-    let starts =
-    items_after_write c.lengthen-2.new.list c.deref_mut-2.result.now c.mark_start.new.starts
-    c.deref_mut-2.ensures.value c.mark_start.ensures.same_size in
     let at = goal.at.invariant_of-self g c in
     let fits = rw (← c.self.view_is) at c.requires.within in
     let size = c.write_lent-written.ensures.written.same_size ∙ ap length c.deref_mut.ensures.value in
     let room : here.size ≤ vec_capacity c.lengthen.new.list =
     omega (arith, c.lengthen.ensures.capacity, c.self.invariant.words_room) in
-    let starts_room : here.size ≤ vec_capacity c.lengthen-2.new.list =
-    omega (arith, c.lengthen-2.ensures.capacity, c.self.invariant.starts_room) in
-    rw (words, starts, c.insert-number.ensures.inserted) (are_blocks here.words.items c.lengthen.new.list.items
-    c.write_lent-written.new.words c.mark_start.new.starts _ here.size (c.args.place + c.args.len) _ _
+    let starts_room : here.size ≤ vec_capacity c.mark_start.new.starts =
+    omega (arith, c.mark_start.ensures.capacity, c.self.invariant.starts_room) in
+    rw (words, c.insert-number.ensures.inserted) (are_blocks here.words.items c.lengthen.new.list.items
+    c.write_lent-written.new.words c.mark_start.new.starts.items _ here.size (c.args.place + c.args.len) _ _
     (after g at.After-mark_start (long g at.After-write_lent-written)).are_spans c.lengthen.ensures.lengthened size
     c.self.invariant.few fits room starts_room)
 
@@ -115,7 +111,7 @@ returns-clause-put g c =
     ap (λ (ws : List ℤ). map (λ id. words_in ws (span_at here.spans id)) c.args.lent.now) c.deref_mut.ensures.value
     ∙ (all_by_span c.lengthen.new.list.items here.spans c.args.lent.now
     ∙ (ap (λ (slots : List (Option PlacedBlock)). map (words_at slots) c.args.lent.now)
-    (now g at.After-lengthen-2).slots
+    (now g at.After-lengthen).slots
     ∙ ap (λ (l : Layout). map (words_at l.slots) c.args.lent.now) c.self.view_is)) in
     let written =
     subst (λ ws. MatchResult c.write_lent-written.result (λ _. g.W.Writer.writes c.args.writer.now ws new)

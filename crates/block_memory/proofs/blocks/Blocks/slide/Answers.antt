@@ -10,41 +10,46 @@ use Rattle.block_memory.proofs.blocks.Blocks.slide.Goals.{After-mark_start}
 
 after : (g : Over) (c : After-mark_start g) →
     let s = c.value.result.now in
-    IsAfterWrite c.self.inside.words.items c.move_words-moved.new.region c.mark_start.new.starts c.self.inside.spans
+    IsAfterWrite c.self.inside.words.items c.move_words-moved.new.region c.mark_start.new.starts.items c.self.inside.spans
     c.args.number (record { owner = s.owner; place = c.args.to; len = s.len })
     (take s.len (drop s.place c.self.inside.words.items))
 after g c =
     let here = c.self.inside in
-    after_move here.words.items c.reach.new.words.items c.move_words-moved.new.region here.starts.items
-    c.reach.new.starts.items c.mark_start.new.starts here.spans c.args.number c.args.to c.value.result.now
-    (spans_of _ _ _ _ _ _ c.self.invariant) c.value.ensures c.reach.ensures.words_lengthened
-    c.reach.ensures.starts_lengthened
+    after_move here.words.items c.lengthen.new.list.items c.move_words-moved.new.region here.starts.items
+    c.mark_start.new.starts.items here.spans c.args.number c.args.to c.value.result.now
+    (spans_of _ _ _ _ _ _ c.self.invariant) c.value.ensures c.lengthen.ensures.lengthened
     (rw (← c.self.view_is) at c.requires.clear) (rw c.deref_mut.ensures.value at c.move_words-moved.ensures.written)
-    (rw c.deref_mut-2.ensures.value at c.mark_start.ensures)
+    c.mark_start.ensures.marked
+
+pub mark_start-requires : goal.mark_start-requires
+mark_start-requires g c =
+    let here = c.self.inside in
+    let within = rw (← c.self.view_is) at c.requires.within in
+    let size =
+    length-words_of-span here.words.items here.starts.items here.spans c.args.number c.value.result.now
+    (spans_of _ _ _ _ _ _ c.self.invariant) c.value.ensures in
+    omega (arith, within, size, c.self.invariant.starts_room)
 
 pub invariant_of-self : goal.invariant_of-self
 invariant_of-self g c =
     let here = c.self.inside in
     let moved = c.move_words-moved in
     let words =
-    items_after_write c.reach.new.words c.deref_mut.result.now moved.new.region c.deref_mut.ensures.value
+    items_after_write c.lengthen.new.list c.deref_mut.result.now moved.new.region c.deref_mut.ensures.value
     moved.ensures.written.same_size in
-    let starts =
-    items_after_write c.reach.new.starts c.deref_mut-2.result.now c.mark_start.new.starts
-    c.deref_mut-2.ensures.value c.mark_start.ensures.same_size in
     let within = rw (← c.self.view_is) at c.requires.within in
     let size =
     length-words_of-span here.words.items here.starts.items here.spans c.args.number c.value.result.now
     (spans_of _ _ _ _ _ _ c.self.invariant) c.value.ensures in
     let fits : c.args.to + c.value.result.now.len ≤ here.size = omega (arith, within, size) in
     let long = moved.ensures.written.same_size ∙ ap length c.deref_mut.ensures.value in
-    let room : here.size ≤ vec_capacity c.reach.new.words =
-    omega (arith, c.reach.ensures.words_capacity, c.self.invariant.words_room) in
-    let starts_room : here.size ≤ vec_capacity c.reach.new.starts =
-    omega (arith, c.reach.ensures.starts_capacity, c.self.invariant.starts_room) in
-    rw (words, starts, c.set.ensures) (are_blocks here.words.items c.reach.new.words.items
-    moved.new.region c.mark_start.new.starts _ here.size (c.args.to + c.value.result.now.len) _ _
-    (after g (goal.at.invariant_of-self g c).After-mark_start).are_spans c.reach.ensures.words_lengthened long
+    let room : here.size ≤ vec_capacity c.lengthen.new.list =
+    omega (arith, c.lengthen.ensures.capacity, c.self.invariant.words_room) in
+    let starts_room : here.size ≤ vec_capacity c.mark_start.new.starts =
+    omega (arith, c.mark_start.ensures.capacity, c.self.invariant.starts_room) in
+    rw (words, c.set.ensures) (are_blocks here.words.items c.lengthen.new.list.items
+    moved.new.region c.mark_start.new.starts.items _ here.size (c.args.to + c.value.result.now.len) _ _
+    (after g (goal.at.invariant_of-self g c).After-mark_start).are_spans c.lengthen.ensures.lengthened long
     c.self.invariant.few fits room starts_room)
 
 pub returns-clause-moved : goal.returns-clause-moved
@@ -52,7 +57,7 @@ returns-clause-moved g c =
     let here = c.self.inside in
     let moved = c.move_words-moved in
     let words =
-    items_after_write c.reach.new.words c.deref_mut.result.now moved.new.region c.deref_mut.ensures.value
+    items_after_write c.lengthen.new.list c.deref_mut.result.now moved.new.region c.deref_mut.ensures.value
     moved.ensures.written.same_size in
     rw (words, c.set.ensures)
     (same_layout here.size here.size _ _ refl

@@ -4,7 +4,7 @@ use Rattle.block_memory.proofs.pack.WholePackingPacking.make_room.Goals as goal
 
 pub unreachable-requires : goal.unreachable-requires
 unreachable-requires g c =
-    let packed = c.pack_region-moved in
+    let packed = c.pack_region-counts in
     let size = packed.ensures.size in
     let fits : c.args.used + c.args.len ≤ packed.new.blocks.size = omega (arith, size, c.requires.fits) in
     wide_enough packed.new.blocks packed.new.holes c.args.used c.args.len packed.ensures.packed fits

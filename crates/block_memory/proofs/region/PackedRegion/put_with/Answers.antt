@@ -9,47 +9,47 @@ use Rattle.block_memory.proofs.LayoutLemmas.{block_at-content_of, words_at-conte
 use Rattle.block_memory.proofs.RegionLemmas.{HasRoom-bare, IsRegion-put, content_of-put}
 use Rattle.block_memory.proofs.region.PackedRegion.put_with.Given.{Over}
 use Rattle.block_memory.proofs.region.PackedRegion.put_with.Goals as goal
-use Rattle.block_memory.proofs.region.PackedRegion.put_with.Goals.{After-take_room-room, After-new-id, in-Ok, in-Err}
+use Rattle.block_memory.proofs.region.PackedRegion.put_with.Goals.{After-take_room-place, After-new-id, in-Ok, in-Err}
 
 -- the blocks have moved, and are those of the memory
-same : (g : Over) (c : goal.After-take_room-room g) →
-    content_of c.take_room-room.new.blocks.slots ≡ c.args.self.now.content
-same g c = c.take_room-room.ensures.content ∙ ap (λ (m : RegionState). m.content) c.self.view_is
+same : (g : Over) (c : goal.After-take_room-place g) →
+    content_of c.take_room-place.new.blocks.slots ≡ c.args.self.now.content
+same g c = c.take_room-place.ensures.content ∙ ap (λ (m : RegionState). m.content) c.self.view_is
 
-lists : (g : Over) (c : goal.After-take_room-room g) →
-    map (layout_words_at c.take_room-room.new.blocks.slots) c.args.lent.now
+lists : (g : Over) (c : goal.After-take_room-place g) →
+    map (layout_words_at c.take_room-place.new.blocks.slots) c.args.lent.now
     ≡ map (words_at c.args.self.now.content) c.args.lent.now
 lists g c =
-    (λ i. map (λ n. sym (words_at-content_of c.take_room-room.new.blocks.slots n) i) c.args.lent.now)
+    (λ i. map (λ n. sym (words_at-content_of c.take_room-place.new.blocks.slots n) i) c.args.lent.now)
     ∙ ap (λ (k : Content). map (words_at k) c.args.lent.now) (same g c)
 
-fits : (g : Over) (c : goal.After-take_room-room g) →
-    c.self.inside.used + c.args.len ≤ c.take_room-room.new.blocks.size
+fits : (g : Over) (c : goal.After-take_room-place g) →
+    c.self.inside.used + c.args.len ≤ c.take_room-place.new.blocks.size
 fits g c =
     let room = c.requires.room in
     let inside = rw (← c.self.view_is) at room in
-    omega (arith, inside, c.self.invariant.counted, c.take_room-room.ensures.size)
+    omega (arith, inside, c.self.invariant.counted, c.take_room-place.ensures.size)
 
 pub put_with-number-requires-clause-bare : goal.put_with-number-requires-clause-bare
 put_with-number-requires-clause-bare g c =
-    let room = c.take_room-room in
-    HasRoom-bare room.new.blocks room.new.holes c.self.inside.used room.result.place c.args.len room.ensures.room
+    let room = c.take_room-place in
+    HasRoom-bare room.new.blocks room.new.holes c.self.inside.used room.result c.args.len room.ensures.room
 
 pub put_with-number-requires-clause-can : goal.put_with-number-requires-clause-can
 put_with-number-requires-clause-can g c =
     subst (λ ws. g.W.Writer.can_write c.args.writer.now ws c.args.len)
-    (sym (lists g (goal.at.put_with-number-requires-clause-can g c).After-take_room-room)) c.requires.can
+    (sym (lists g (goal.at.put_with-number-requires-clause-can g c).After-take_room-place)) c.requires.can
 
 pub invariant_of-self : goal.invariant_of-self
 invariant_of-self g c =
-    let room = c.take_room-room in
+    let room = c.take_room-place in
     let put = c.put_with-number.ensures.put in
-    let within = fits g (goal.at.invariant_of-self g c).After-take_room-room in
-    let roomy : HasRoom room.new.blocks room.new.holes c.self.inside.used room.result.place (length put.0) =
-    subst (λ (k : ℕ). HasRoom room.new.blocks room.new.holes c.self.inside.used room.result.place k) (sym put.1.0)
+    let within = fits g (goal.at.invariant_of-self g c).After-take_room-place in
+    let roomy : HasRoom room.new.blocks room.new.holes c.self.inside.used room.result (length put.0) =
+    subst (λ (k : ℕ). HasRoom room.new.blocks room.new.holes c.self.inside.used room.result k) (sym put.1.0)
     room.ensures.room in
     subst (λ (k : ℕ). IsRegion c.put_with-number.new.self room.new.holes (c.self.inside.used + k)) put.1.0
-    (rw put.1.2 (IsRegion-put room.new.blocks room.new.holes c.self.inside.used room.result.place
+    (rw put.1.2 (IsRegion-put room.new.blocks room.new.holes c.self.inside.used room.result
     c.put_with-number.result.0 c.args.owner put.0 roomy c.put_with-number.ensures.in_range
     c.put_with-number.ensures.vacant (omega (arith, within, put.1.0))))
 
@@ -59,9 +59,9 @@ with_words : (g : Over) (c : goal.After-new-id g) (is : List ℤ → Type 0) →
     c.args.len is
 with_words g c is so =
     let put = c.put_with-number.ensures.put in
-    let slots = c.take_room-room.new.blocks.slots in
+    let slots = c.take_room-place.new.blocks.slots in
     let content : content_of slots ≡ c.args.self.now.content =
-    c.take_room-room.ensures.content ∙ ap (λ (m : RegionState). m.content) c.self.view_is in
+    c.take_room-place.ensures.content ∙ ap (λ (m : RegionState). m.content) c.self.view_is in
     rw c.new-id.ensures (record {
       words = put.0;
       in_range = omega (arith, c.put_with-number.ensures.in_range, length-map slots block_of, ap length content);
@@ -73,7 +73,7 @@ with_words g c is so =
       placed =
           rw (put.1.2, ← content)
           (content_of-put slots c.put_with-number.result.0
-          (record { owner = c.args.owner; place = c.take_room-room.result.place; words = put.0 }));
+          (record { owner = c.args.owner; place = c.take_room-place.result; words = put.0 }));
     })
 
 -- what the writer answered
@@ -82,10 +82,10 @@ told : (g : Over) (c : goal.After-new-id g) → MatchResult c.put_with-number.re
     c.put_with-number.ensures.put.0)
     (λ fault. g.W.Writer.faults c.args.writer.now (map (words_at c.args.self.now.content) c.args.lent.now) fault)
 told g c =
-    let content = c.take_room-room.ensures.content ∙ ap (λ (m : RegionState). m.content) c.self.view_is in
-    let same_lists : map (layout_words_at c.take_room-room.new.blocks.slots) c.args.lent.now
+    let content = c.take_room-place.ensures.content ∙ ap (λ (m : RegionState). m.content) c.self.view_is in
+    let same_lists : map (layout_words_at c.take_room-place.new.blocks.slots) c.args.lent.now
     ≡ map (words_at c.args.self.now.content) c.args.lent.now =
-    (λ i. map (λ n. sym (words_at-content_of c.take_room-room.new.blocks.slots n) i) c.args.lent.now)
+    (λ i. map (λ n. sym (words_at-content_of c.take_room-place.new.blocks.slots n) i) c.args.lent.now)
     ∙ ap (λ (k : Content). map (words_at k) c.args.lent.now) content in
     subst (λ ws. MatchResult c.put_with-number.result.1
     (λ _. g.W.Writer.writes c.args.writer.now ws c.put_with-number.ensures.put.0)
