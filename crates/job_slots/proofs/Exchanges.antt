@@ -1,13 +1,15 @@
 -- A new block in the place of an instruction's operands.
 use Rattle.std.proofs.Common.{◌≡◌, ◌≢◌, ◌∙◌, ◌+◌, ◌<◌, ◌≤◌, ℕ, ℤ, List, [], ◌∷◌, length, refl, sym, ap, subst, inl, inr}
-use Rattle.std.proofs.Common.{arith}
+use Rattle.std.proofs.Common.{arith, zero, suc, get_or}
+use Rattle.std.specs.Prelude.{All}
+use Rattle.std.proofs.lemmas.List.Elements.{All-nil, All-cons, All-weaker}
 use Rattle.std.proofs.lemmas.Bool.{cases_eq}
 use Rattle.std.proofs.lemmas.List.{get_or-set_other, set_comm}
 use Rattle.vcode_base.specs.declared.rule.Rule.{Rule}
 use Rattle.vcode_base.specs.declared.rule.Rule.TheVariants.{First, Second}
 use Rattle.refcounts.specs.Laws.{ReleasesOnlyFree}
 use Rattle.refcounts.specs.SharedState.{Slot, SharedState, empty_slot, slot_at, with_slot, lowered_slot, block_count}
-use Rattle.refcounts.specs.SharedState.{new_slot, occurrences, state_after_release, state_after_releases}
+use Rattle.refcounts.specs.SharedState.{IsLive, AreLive, new_slot, occurrences, state_after_release, state_after_releases}
 use Rattle.job_memory.specs.JobBlocks.{JobBlocks, AreOwn, held_words, with_block, with_memory}
 use Rattle.job_memory.specs.Laws.{ReleasesChangeOnlyTheirJob}
 use Rattle.job_slots.specs.Commits.{IsExchanged, blocks_beside, with_releases}
@@ -130,6 +132,40 @@ released_and_placed laws rule job taken ids id words old new second within empty
     subst (λ (b : JobBlocks). HasExchanged rule job taken id words old b) (sym is)
     (subst (λ (r : Rule). HasExchanged r job taken id words old (with_block (with_releases taken old) job id words))
     (sym second) (by_releasing laws job taken id words old within free own))
+
+-- whatever the rule, an exchange that releases first leaves no more than counts as held, and the words
+pub held_whatever : ReleaseLaws → (rule : Rule) (job : ℕ) (taken : List ℕ) (id : ℕ) (words : List ℤ)
+    (old new : JobBlocks) → AreOwn job old taken → HasExchanged Second job taken id words old new →
+    held_words job new ≤ held_words job (blocks_beside rule taken old) + length words
+held_whatever laws First job taken id words old new own has =
+    omega (arith, has.held, (lower laws job old taken own).held)
+held_whatever laws Second job taken id words old new own has = has.held
+
+-- ---- numbers that are listed
+
+-- a number at some place of a list is listed
+pub named_at : (ids : List ℕ) (place id : ℕ) → place < length ids → id ≡ get_or ids place id → 1 ≤ occurrences id ids
+named_at [] place id within is = absurd (omega arith)
+named_at (first ∷ ids) zero id within is =
+    subst (λ (n : ℕ). 1 ≤ occurrences n (first ∷ ids)) (sym is) (omega (arith, named_here first ids))
+named_at (first ∷ ids) (suc place) id within is =
+    omega (arith, named_at ids place id (omega arith) is, named_more id first ids)
+
+-- each number of a part of a list is listed
+pub listed : (ids rest : List ℕ) → ((id : ℕ) → occurrences id rest ≤ occurrences id ids) →
+    All (λ id. 0 < occurrences id ids) rest
+listed ids [] within = All-nil (λ id. 0 < occurrences id ids)
+listed ids (first ∷ rest) within =
+    All-cons (λ id. 0 < occurrences id ids) first rest (omega (arith, within first, named_here first rest))
+    (listed ids rest (λ id. omega (arith, within id, named_more id first rest)))
+
+-- a job's own blocks are there
+pub own_are_live : (job : ℕ) (blocks : JobBlocks) (ids : List ℕ) → AreOwn job blocks ids → AreLive blocks.memory ids
+own_are_live job blocks ids own =
+    All-weaker (λ id. 0 < occurrences id ids) (λ id. IsLive blocks.memory id)
+    (λ id some. let named : occurrences id ids ≤ (slot_at blocks.memory id).count = own_named job blocks.memory ids own id
+    in omega (arith, named, some)) ids
+    (listed ids ids (λ id. omega arith))
 
 -- ---- placed while the operands are there, whatever the rule
 

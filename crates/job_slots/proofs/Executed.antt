@@ -9,6 +9,7 @@ use Rattle.vcode_base.specs.declared.op.Op.{Op}
 use Rattle.vcode_base.specs.declared.op.Op.TheVariants.{Move, Return}
 use Rattle.vcode_base.specs.declared.op.StackMove.TheVariants.{Copy}
 use Rattle.vcode_base.specs.declared.fault.DataFault.{DataFault}
+use Rattle.vcode_base.specs.declared.rule.Rule.{Rule}
 use Rattle.vcode_base.specs.Instructions.{op_of}
 use Rattle.vcode_base.specs.Kinds.{result_kinds}
 use Rattle.vcode_base.specs.Laws.{ResultsHaveNeededLengths}
@@ -37,7 +38,7 @@ use Rattle.job_slots.specs.Executions.{CanExecute, StepsExecute}
 use Rattle.job_slots.specs.Holdings.{Cell, ids_of, entries_of, AreHeld, HoldStack}
 use Rattle.job_slots.specs.Slots.{IsAfter}
 use Rattle.job_slots.proofs.Commits.{BlockLaws, IsCommitted, can_commit, committed}
-use Rattle.job_slots.proofs.Holding.{named_here, named_more}
+use Rattle.job_slots.proofs.Exchanges.{listed}
 use Rattle.job_slots.proofs.Placed.{AreCommitted, NewCells, new_cells}
 use Rattle.job_slots.proofs.Instructions.{two_results, length_by_kinds, return_leaves, stack_at_return}
 use Rattle.job_slots.proofs.Reversed.{All-reverse}
@@ -60,14 +61,6 @@ All-of_map P f [] all = All-nil (λ x. P (f x))
 All-of_map P f (x ∷ xs) all =
     All-cons (λ y. P (f y)) x xs (All-head P (f x) (map f xs) all)
     (All-of_map P f xs (All-tail P (f x) (map f xs) all))
-
--- each number of a part of a list is listed
-listed : (ids rest : List ℕ) → ((id : ℕ) → occurrences id rest ≤ occurrences id ids) →
-    All (λ id. 0 < occurrences id ids) rest
-listed ids [] within = All-nil (λ id. 0 < occurrences id ids)
-listed ids (first ∷ rest) within =
-    All-cons (λ id. 0 < occurrences id ids) first rest (omega (arith, within first, named_here first rest))
-    (listed ids rest (λ id. omega (arith, within id, named_more id first rest)))
 
 -- ---- what is copied
 
@@ -203,18 +196,19 @@ module _ (laws : Laws) (signatures : List Signature) (task : Task) (verified : I
         can_share = share_room op t.cells old (subst (AreFew old) (sym holds.ids_are) few);
       }
 
-  module _ (ids : List ℕ) (new : JobBlocks) (has : HasSettled task.rule job op first second t.cells ids old new) where
-    made : NewCells task.rule job op t.cells ids s.next (vectors_of (result_kinds op) (first ∷ second ∷ [])) old new
+  module _ (form : Rule) (ids : List ℕ) (new : JobBlocks) (has : HasSettled form job op first second t.cells ids old
+      new) where
+    made : NewCells form job op t.cells ids s.next (vectors_of (result_kinds op) (first ∷ second ∷ [])) old new
     made =
-        new_cells task.rule job op t.cells first second s.next old new (result_kinds op) ids has.given (two_results op)
+        new_cells form job op t.cells first second s.next old new (result_kinds op) ids has.given (two_results op)
         has.settled
 
     commits : IsCommitted job op old new holds.cells made.cells
     commits =
-        committed laws.blocks task.rule job op old new holds.cells made.cells s.next
+        committed laws.blocks form job op old new holds.cells made.cells s.next
         (vectors_of (result_kinds op) (first ∷ second ∷ [])) holds.held tags made.entries_are
         (made.count ∙ has.given)
-        (subst (λ (xs : List ℕ). AreCommitted task.rule job op xs made.cells old new) holds.ids_are made.are_committed)
+        (subst (λ (xs : List ℕ). AreCommitted form job op xs made.cells old new) holds.ids_are made.are_committed)
 
     module _ (u : Trace ℕ)
         (advances : Advances task.verified op flag ids
@@ -268,7 +262,7 @@ module _ (laws : Laws) (signatures : List Signature) (task : Task) (verified : I
     room = omega (arith, can.room, words_are);
     can_settle = can_settle;
     goes_past = goes_past;
-    executes = λ ids new u has advances. executed ids new has u advances next;
+    executes = λ form ids new u has advances. executed form ids new has u advances next;
   }
 
 pub executable : Laws → StepsExecute
@@ -289,10 +283,11 @@ executable laws job old task t op flag first second flying verified tidy answere
 
 -- the instruction is executed if blocks have its results and the track went past it
 pub executed_past : {job : ℕ} {old new : JobBlocks} {task : Task} {t u : Trace ℕ} {op : Op} {flag : Bool}
-    {first second : List ℤ} {ids : List ℕ} {held : ℕ} → CanExecute job old task t op flag first second →
-    HasSettled task.rule job op first second t.cells ids old new →
+    {first second : List ℤ} {form : Rule} {ids : List ℕ} {held : ℕ} → CanExecute job old task t op flag first second →
+    HasSettled form job op first second t.cells ids old new →
     held ≡ held_under task.rule job op t.cells old →
     Advances task.verified op flag ids (held + length first + length second) t u → IsExecuted job old new task t u
-executed_past {job} {old} {new} {task} {t} {u} {op} {flag} {first} {second} {ids} can has held_is advances =
-    can.executes ids new u has
+executed_past {job} {old} {new} {task} {t} {u} {op} {flag} {first} {second} {form} {ids} can has held_is
+    advances =
+    can.executes form ids new u has
     (subst (λ (h : ℕ). Advances task.verified op flag ids (h + length first + length second) t u) held_is advances)

@@ -49,7 +49,9 @@ blocks_beside Second taken blocks = with_releases taken blocks
 abbrev pub held_under : Rule → ℕ → Op → List ℕ → JobBlocks → ℕ
 held_under rule job op ids blocks = held_words job (blocks_beside rule (taken_ids op ids) blocks)
 
--- the blocks with a new one of these words, and a reference less to each of these operands
+-- The blocks with a new one of these words, and a reference less to each of these operands. The releases come after
+-- it, as by the first rule, or before it, as by the second. Which form they have is not for the rule to say: a block
+-- that goes may give its number to the new one under both.
 abbrev pub with_exchange : Rule → ℕ → List ℕ → ℕ → List ℤ → JobBlocks → JobBlocks
 with_exchange First job taken id words blocks = with_releases taken (with_block blocks job id words)
 with_exchange Second job taken id words blocks = with_block (with_releases taken blocks) job id words

@@ -94,8 +94,8 @@ pub record CanExecute (job : ℕ) (old : JobBlocks) (task : Task) (t : Trace ℕ
   pub room : held_under task.rule job op t.cells old + length first + length second ≤ task.limits.words
   pub can_settle : CanSettle job op t.cells old
   pub goes_past : CanGoPast task.verified t op
-  pub executes : (ids : List ℕ) (new : JobBlocks) (u : Trace ℕ) →
-      HasSettled task.rule job op first second t.cells ids old new →
+  pub executes : (form : Rule) (ids : List ℕ) (new : JobBlocks) (u : Trace ℕ) →
+      HasSettled form job op first second t.cells ids old new →
       Advances task.verified op flag ids (held_under task.rule job op t.cells old + length first + length second) t u →
       IsExecuted job old new task t u
 

@@ -1,8 +1,9 @@
 //! What an instruction that is executed does to the cells and the blocks.
 
-ghost use Rattle.std.specs.Prelude.{◌≡◌, ◌+◌, ◌<◌, ◌≤◌, length, reverse, Some};
+ghost use Rattle.std.specs.Prelude.{◌≡◌, ◌+◌, ◌<◌, ◌≤◌, length, reverse, Some, IfSome};
+ghost use Rattle.vcode_base.specs.declared.rule.Rule.{Rule};
 ghost use Rattle.vcode_base.specs.Kinds.{result_kinds};
-ghost use Rattle.refcounts.specs.SharedState.{block_count, empty_slot, slot_at};
+ghost use Rattle.refcounts.specs.SharedState.{AreLive, block_count, empty_slot, occurrences, slot_at};
 ghost use Rattle.job_memory.specs.JobBlocks.{IsJob, HasGrant, AreOwn, ChangesOnlyOf, grant_of, words_of, own_slots};
 ghost use Rattle.job_memory.specs.JobBlocks.{held_words, with_block};
 ghost use Rattle.job_steps.specs.EventLaws.{IsVerified};
@@ -118,8 +119,8 @@ fn settle<A: Allocator>(
     requires room { held_under rule number op track.now.cells blocks.old + length first.now + length second.now
         ≤ words_of (grant_of blocks.old number) }
     requires can { CanSettle number op track.now.cells blocks.old }
-    ensures settled { HasSettled rule number op first.now second.now track.now.cells (ids_in result) blocks.old
-        blocks.new }
+    ensures settled { (form : Rule) × HasSettled form number op first.now second.now track.now.cells (ids_in result)
+        blocks.old blocks.new }
     ensures grants { blocks.new.grants ≡ blocks.old.grants }
 {
     match op.result_kinds() {
@@ -161,7 +162,7 @@ fn take<A: Allocator>(track: &Track<BlockId, A>, number: usize, blocks: &mut Job
 }
 
 /// A new block of the words in the place of the operands, which go after it is placed, or before it under the second
-/// rule.
+/// rule. If one of them is named by nothing else and has as many words, the new block takes its number and its place.
 #[inline(always)]
 fn exchange<A: Allocator>(
     rule: Rule,
@@ -177,7 +178,8 @@ fn exchange<A: Allocator>(
     requires own { AreOwn number blocks.old (taken_ids op track.now.cells) }
     requires room { held_under rule number op track.now.cells blocks.old + length words.now
         ≤ words_of (grant_of blocks.old number) }
-    ensures exchanged { IsExchanged rule number (taken_ids op track.now.cells) result words.now blocks.old blocks.new }
+    ensures exchanged { (form : Rule)
+        × IsExchanged form number (taken_ids op track.now.cells) result words.now blocks.old blocks.new }
     ensures held { held_words number blocks.new
         ≤ held_under rule number op track.now.cells blocks.old + length words.now }
     ensures count { block_count blocks.new.memory ≤ block_count blocks.old.memory + 1 }
@@ -187,6 +189,10 @@ fn exchange<A: Allocator>(
     releases_only_free();
     releases_change_only_their_job();
     let operands = top(track.cells(), op.operand_kinds().len());
+    if let Some(id) = dying(blocks, operands, words.len()) {
+        blocks.exchange_at(number, operands, id, words);
+        return id;
+    }
     match rule {
         Rule::First => {
             let id = place(number, blocks, words);
@@ -195,6 +201,23 @@ fn exchange<A: Allocator>(
         }
         Rule::Second => blocks.exchange(number, operands, words),
     }
+}
+
+/// The first of these blocks that one reference names and that has so many words, if there is one.
+#[tactic(auto, using(crate::proofs::Exchanges::named_at))]
+#[inline(always)]
+fn dying<A: Allocator>(blocks: &JobMemory<A>, ids: &[BlockId], len: usize) -> Option<BlockId>
+    requires { AreLive blocks.now.memory ids.now }
+    ensures listed { IfSome result (λ id. 1 ≤ occurrences id ids.now) }
+    ensures single { IfSome result (λ id. (slot_at blocks.now.memory id).count ≡ 1) }
+    ensures same_length { IfSome result (λ id. len ≡ length (slot_at blocks.now.memory id).words) }
+{
+    for id in ids {
+        if blocks.is_single(*id) && blocks.words(*id).len() == len {
+            return Some(*id);
+        }
+    }
+    None
 }
 
 /// A new block of the job, whose grant has room for it.

@@ -1,14 +1,17 @@
-use Rattle.std.proofs.Common.{◌≡◌, ◌∙◌, ◌+◌, ◌≤◌, ℕ, List, length, reverse, sym, ap, subst, arith}
+use Rattle.std.proofs.Common.{◌≡◌, ◌∙◌, ◌+◌, ◌≤◌, ℕ, List, length, reverse, refl, sym, ap, subst, arith}
 use Rattle.std.proofs.lemmas.List.{reverse-reverse}
 use Rattle.vcode_base.specs.declared.kind.Kind.{Kind}
 use Rattle.vcode_base.specs.declared.rule.Rule.{Rule}
+use Rattle.vcode_base.specs.declared.rule.Rule.TheVariants.{Second}
+use Rattle.refcounts.specs.SharedState.{AreLive}
 use Rattle.job_memory.specs.JobBlocks.{AreOwn, grant_of, held_words, words_of}
 use Rattle.job_steps.specs.Motions.{operand_count, top_entries}
 use Rattle.job_slots.specs.Commits.{held_under, taken_ids, with_releases}
-use Rattle.job_slots.proofs.Exchanges.{HasExchanged, own_still, placed_and_released, released_and_placed}
+use Rattle.job_slots.proofs.Exchanges.{HasExchanged, held_whatever, own_are_live, own_still, placed_and_released}
+use Rattle.job_slots.proofs.Exchanges.{released_and_placed}
 use Rattle.job_slots.proofs.commit.exchange.Given.{Over}
 use Rattle.job_slots.proofs.commit.exchange.Goals as goal
-use Rattle.job_slots.proofs.commit.exchange.Goals.{After-top-operands, After-release_all, After-exchange}
+use Rattle.job_slots.proofs.commit.exchange.Goals.{After-top-operands, After-release_all, After-exchange, After-exchange_at}
 
 operands_are : (g : Over) (c : goal.After-top-operands g) →
     c.top-operands.result.now ≡ taken_ids c.args.op c.args.track.now.cells
@@ -17,6 +20,49 @@ operands_are g c =
     ∙ (ap (λ (ks : List Kind). top_entries (length ks) (reverse c.cells.result.now)) c.operand_kinds.ensures
     ∙ (ap (λ (ids : List ℕ). top_entries (operand_count c.args.op) (reverse ids)) c.cells.ensures
     ∙ ap (λ (ids : List ℕ). top_entries (operand_count c.args.op) ids) (reverse-reverse c.args.track.now.cells)))
+
+-- ---- in the place of an operand that goes
+
+pub dying-requires : goal.dying-requires
+dying-requires g c =
+    let at = goal.at.dying-requires g c in
+    subst (λ (ids : List ℕ). AreLive c.args.blocks.now.memory ids) (sym (operands_are g at.After-top-operands))
+    (own_are_live c.args.number c.args.blocks.now (taken_ids c.args.op c.args.track.now.cells) c.requires.own)
+
+pub exchange_at-requires-clause-own : goal.exchange_at-requires-clause-own
+exchange_at-requires-clause-own g c =
+    subst (λ (ids : List ℕ). AreOwn c.args.number c.args.blocks.now ids)
+    (sym (operands_are g (goal.at.exchange_at-requires-clause-own g c).After-top-operands)) c.requires.own
+
+reused : (g : Over) (c : goal.After-exchange_at g) →
+    HasExchanged Second c.args.number (taken_ids c.args.op c.args.track.now.cells) c.in-Some.id
+    c.args.words.now c.args.blocks.now c.exchange_at.new.self
+reused g c =
+    released_and_placed (record {
+      only_free = c.releases_only_free.ensures;
+      only_their_job = c.releases_change_only_their_job.ensures;
+    }) Second c.args.number (taken_ids c.args.op c.args.track.now.cells) c.top-operands.result.now
+    c.in-Some.id
+    c.args.words.now c.args.blocks.now c.exchange_at.new.self refl c.exchange_at.ensures.fresh.0
+    c.exchange_at.ensures.fresh.1 (operands_are g (goal.at.returns-in-Some-clause-held g c).After-top-operands)
+    c.exchange_at.ensures.exchanged c.requires.own
+
+pub returns-in-Some-clause-exchanged : goal.returns-in-Some-clause-exchanged
+returns-in-Some-clause-exchanged g c = (Second, (reused g c).is)
+
+pub returns-in-Some-clause-held : goal.returns-in-Some-clause-held
+returns-in-Some-clause-held g c =
+    held_whatever (record {
+      only_free = c.releases_only_free.ensures;
+      only_their_job = c.releases_change_only_their_job.ensures;
+    }) c.args.rule c.args.number (taken_ids c.args.op c.args.track.now.cells) c.in-Some.id c.args.words.now
+    c.args.blocks.now c.exchange_at.new.self c.requires.own (reused g c)
+
+pub returns-in-Some-clause-count : goal.returns-in-Some-clause-count
+returns-in-Some-clause-count g c = (reused g c).count
+
+pub returns-in-Some-clause-numbers : goal.returns-in-Some-clause-numbers
+returns-in-Some-clause-numbers g c = (reused g c).numbers
 
 -- ---- placed, then released
 
@@ -51,7 +97,7 @@ first g c =
     (operands_are g (goal.at.returns-in-First-clause-held g c).After-top-operands) c.release_all.ensures c.requires.own
 
 pub returns-in-First-clause-exchanged : goal.returns-in-First-clause-exchanged
-returns-in-First-clause-exchanged g c = (first g c).is
+returns-in-First-clause-exchanged g c = (c.args.rule, (first g c).is)
 
 pub returns-in-First-clause-held : goal.returns-in-First-clause-held
 returns-in-First-clause-held g c = (first g c).held
@@ -91,7 +137,7 @@ second g c =
     c.exchange.ensures.exchanged c.requires.own
 
 pub returns-in-Second-clause-exchanged : goal.returns-in-Second-clause-exchanged
-returns-in-Second-clause-exchanged g c = (second g c).is
+returns-in-Second-clause-exchanged g c = (c.args.rule, (second g c).is)
 
 pub returns-in-Second-clause-held : goal.returns-in-Second-clause-held
 returns-in-Second-clause-held g c = (second g c).held

@@ -53,14 +53,14 @@ pub go_past-requires-clause-can : goal.go_past-requires-clause-can
 go_past-requires-clause-can g c = (can g (goal.at.go_past-requires-clause-can g c).After-used-used).goes_past
 
 pub go_past-requires-clause-given : goal.go_past-requires-clause-given
-go_past-requires-clause-given g c = omega (arith, ap length c.as_slice.ensures, c.settle-results.ensures.settled.given)
+go_past-requires-clause-given g c = omega (arith, ap length c.as_slice.ensures, c.settle-results.ensures.settled.1.given)
 
 -- the instruction is executed
 executed : (g : Over) (c : goal.After-go_past g) →
     IsExecuted c.args.number c.args.blocks.now c.settle-results.new.blocks (ruled c.args.rule c.args.job.now)
     c.args.track.now c.go_past.new.track
 executed g c =
-    executed_past (can g (goal.at.returns-clause-after g c).After-used-used) c.settle-results.ensures.settled
+    executed_past (can g (goal.at.returns-clause-after g c).After-used-used) c.settle-results.ensures.settled.1
     c.held_under.ensures
     (subst (λ (ids : List ℕ). Advances c.args.job.now.verified c.args.op c.args.flag ids
     (c.held_under.result + length c.args.first.now + length c.args.second.now) c.args.track.now c.go_past.new.track)
