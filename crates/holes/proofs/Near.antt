@@ -175,7 +175,7 @@ pub first_summary : (bits : List ℕ) (first : ℕ) →
 first_summary bits first = sym (ap summary (no_bitmaps bits first))
 
 pub next_summary : (bits : List ℕ) (first index : ℕ) (all : Summary) → first ≤ index → index < length bits →
-    64 * length bits < 2 ^ 64 → all ≡ summary (words_between bits first index) →
+    64 * length bits < 2 ^ 32 → all ≡ summary (words_between bits first index) →
     join all (summary (words_of_bits (get_or bits index 0))) ≡ summary (words_between bits first (index + 1))
 next_summary bits first index all from lt small is =
     let before = words_between bits first index in

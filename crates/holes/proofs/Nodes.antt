@@ -444,7 +444,7 @@ joined_beside_leaves nodes first end joined index some parts out = joined index 
 
 -- a tree of which the nodes above the leaves were joined
 pub tree_joined : (bits : List ℕ) (nodes new : List Summary) (height from : ℕ) → length bits ≡ 4 * 2 ^ height →
-    64 * length bits < 2 ^ 64 → length nodes ≡ 2 * 2 ^ height → AreLeaves bits nodes → length new ≡ length nodes →
+    64 * length bits < 2 ^ 32 → length nodes ≡ 2 * 2 ^ height → AreLeaves bits nodes → length new ≡ length nodes →
     from ≤ leaf_count nodes → AreSameFrom nodes new from → AreJoined new → IsTree bits new
 tree_joined bits nodes new height from bitmaps small node_count leaves len low same joined = record {
   height = height;

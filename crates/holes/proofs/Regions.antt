@@ -238,7 +238,7 @@ pub no_words : (leaves word : ℕ) → word_at (replicate leaves 0) word ≡ fal
 no_words leaves word = ap (λ b. eqb b 1) (ap (λ n. bit_at n (word % 64)) (zero_at leaves (word / 64))
     ∙ bit_at-zero (word % 64))
 
-pub tree_of_none : (leaves : ℕ) → IsPowerOfTwo leaves → 256 * leaves < 2 ^ 64 →
+pub tree_of_none : (leaves : ℕ) → IsPowerOfTwo leaves → 256 * leaves < 2 ^ 32 →
     IsTree (replicate (4 * leaves) 0) (replicate (2 * leaves) nothing_free)
 tree_of_none leaves power small =
     let bits : List ℕ = replicate (4 * leaves) 0 in
@@ -259,7 +259,7 @@ tree_of_none leaves power small =
           (none_at (2 * leaves) (2 * index + 1)));
     }
 
-pub holes_of_none : (leaves size most : ℕ) → IsPowerOfTwo leaves → 256 * leaves < 2 ^ 64 → size ≤ 256 * leaves →
+pub holes_of_none : (leaves size most : ℕ) → IsPowerOfTwo leaves → 256 * leaves < 2 ^ 32 → size ≤ 256 * leaves →
     1 ≤ most → IsHoles (replicate (4 * leaves) 0) (replicate (2 * leaves) nothing_free)
     (record { first = 0; end = 0 }) 0 size 0 most
 holes_of_none leaves size most power small within some =

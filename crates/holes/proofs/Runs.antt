@@ -121,13 +121,13 @@ equal_summaries a b e =
     both_true true y h = (refl, h)
     both_true false y h = absurd (false≢true h)
 
-sum_fits : (all : Bool) (n a b : ℕ) → a + b < 2 ^ 64 → n ≡ cond all (a + b) a →
-    n ≡ cond all (min (a + b) (2 ^ 64 - 1)) a
+sum_fits : (all : Bool) (n a b : ℕ) → a + b < 2 ^ 32 → n ≡ cond all (a + b) a →
+    n ≡ cond all (min (a + b) (2 ^ 32 - 1)) a
 sum_fits true n a b small e = omega arith
 sum_fits false n a b small e = e
 
 -- The summary of words and of those after them.
-pub summary-append : (xs ys : List Bool) → length xs + length ys < 2 ^ 64 →
+pub summary-append : (xs ys : List Bool) → length xs + length ys < 2 ^ 32 →
     summary (xs ++ ys) ≡ join (summary xs) (summary ys)
 summary-append xs ys small =
     same_summary (front_run (xs ++ ys)) (join (summary xs) (summary ys)).front (back_run (xs ++ ys))

@@ -32,7 +32,7 @@ nothing_free = record { front = 0; back = 0; longest = 0; whole = false }
 
 -- a sum, or the largest number if the sum is greater
 abbrev pub sum_at_most : ℕ → ℕ → ℕ
-sum_at_most a b = min (a + b) (2 ^ 64 - 1)
+sum_at_most a b = min (a + b) (2 ^ 32 - 1)
 
 -- the summary of words and of those after them
 abbrev pub join : Summary → Summary → Summary
@@ -161,7 +161,7 @@ AreJoinedBesideLeaves nodes first end =
 pub record IsTree (bits : List ℕ) (nodes : List Summary) : Type 0 where
   pub height : ℕ
   pub bitmaps : length bits ≡ 4 * 2 ^ height
-  pub small : 64 * length bits < 2 ^ 64
+  pub small : 64 * length bits < 2 ^ 32
   pub node_count : length nodes ≡ 2 * 2 ^ height
   pub are_leaves : AreLeaves bits nodes
   pub joined : AreJoined nodes
@@ -171,7 +171,7 @@ pub record IsTree (bits : List ℕ) (nodes : List Summary) : Type 0 where
 pub record IsTreeBeside (bits : List ℕ) (nodes : List Summary) (changed : Changed) : Type 0 where
   pub height : ℕ
   pub bitmaps : length bits ≡ 4 * 2 ^ height
-  pub small : 64 * length bits < 2 ^ 64
+  pub small : 64 * length bits < 2 ^ 32
   pub node_count : length nodes ≡ 2 * 2 ^ height
   pub order : changed.first ≤ changed.end
   pub within : changed.end ≤ 2 ^ height

@@ -11,26 +11,26 @@ pub const WORDS: usize = 64;
 
 /// How many words are free in a row from the front of a bitmap on.
 #[inline(always)]
-pub(crate) fn front(bits: u64) -> usize
+pub(crate) fn front(bits: u64) -> u32
     ensures { result ≡ front_run (words_of_bits bits) }
 {
-    bits.trailing_ones() as usize
+    bits.trailing_ones()
 }
 
 /// How many words are free in a row up to the end of a bitmap.
 #[inline(always)]
-pub(crate) fn back(bits: u64) -> usize
+pub(crate) fn back(bits: u64) -> u32
     ensures { result ≡ back_run (words_of_bits bits) }
 {
-    bits.leading_ones() as usize
+    bits.leading_ones()
 }
 
 /// The number of words of the widest hole of a bitmap.
-pub(crate) fn longest(bits: u64) -> usize
+pub(crate) fn longest(bits: u64) -> u32
     ensures { result ≡ widest (words_of_bits bits) }
 {
     if bits == u64::MAX {
-        return WORDS;
+        return WORDS as u32;
     }
     let mut rest = bits;
     let mut longest = 0;
@@ -38,7 +38,7 @@ pub(crate) fn longest(bits: u64) -> usize
         rest >>= rest.trailing_zeros();
         let run = rest.trailing_ones();
         rest >>= run;
-        longest = longest.max(run as usize);
+        longest = longest.max(run);
     }
     longest
 }

@@ -56,8 +56,8 @@ impl<A: Allocator> Model for Holes<A> {
     ghost invariant = { λ a. IsHoles a.bits.items a.nodes.items a.changed a.near a.size a.free a.most };
 }
 
-/// The words of the longest region, a quarter of what an address can count.
-const LONGEST: usize = usize::MAX / 4;
+/// The words of the longest region, a quarter of what a number of a node can count.
+const LONGEST: usize = u32::MAX as usize / 4;
 
 /// The number of leaves for a region of this number of words, a power of two.
 fn leaves_for(size: usize) -> usize
@@ -75,7 +75,7 @@ fn leaves_for(size: usize) -> usize
 impl<A: Allocator> Holes<A> {
     /// A region of `size` words, all free, with room for `most` holes.
     ///
-    /// An error means that the allocator refused the room, or that the region has more words than any memory.
+    /// An error means that the allocator refused the room, or that the region has more than 1,073,741,823 words.
     pub fn new(alloc: A, size: usize, most: usize) -> Result<Self, AllocError>
     where
         A: Clone,
@@ -276,7 +276,7 @@ impl<A: Allocator> Holes<A> {
     pub fn widest(&self) -> usize
         ensures { result ≡ widest self.now.free }
     {
-        tree::summary(&self.bits, 0, self.bits.len()).longest
+        tree::summary(&self.bits, 0, self.bits.len()).longest as usize
     }
 
     /// The number of holes.

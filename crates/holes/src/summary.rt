@@ -7,11 +7,11 @@ ghost use Rattle.holes.specs.Tree.{join, nothing_free};
 #[derive(Clone, Copy, PartialEq, Eq, Debug)]
 pub struct Summary {
     /// How many words are free in a row from the front on.
-    pub front: usize,
+    pub front: u32,
     /// How many words are free in a row up to the end.
-    pub back: usize,
+    pub back: u32,
     /// The number of words of the widest hole.
-    pub longest: usize,
+    pub longest: u32,
     /// Whether every word is free.
     pub whole: bool,
 }

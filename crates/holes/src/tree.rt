@@ -30,19 +30,13 @@ fn write(nodes: &mut [Summary], first: usize, end: usize, node: Summary)
     requires within { end ≤ length nodes.old }
     ensures { IsWritten nodes.old nodes.new first end node }
 {
-    let Summary {
-        front,
-        back,
-        longest,
-        whole,
-    } = node;
-    for index in first..end {
-        nodes[index] = Summary {
-            front,
-            back,
-            longest,
-            whole,
-        };
+    if first == end {
+        return;
+    }
+    nodes[first] = node;
+    // A copy of a node of the list is one store. A copy of the parameter is a store for each field.
+    for index in first + 1..end {
+        nodes[index] = nodes[first];
     }
 }
 
@@ -51,7 +45,7 @@ fn fill_bitmap(bits: &mut [u64], index: usize, from: usize, to: usize, value: bo
     requires some { from < to }
     requires within { to ≤ 64 }
     requires index { index < length bits.old }
-    requires small { 64 * length bits.old < 2 ^ 64 }
+    requires small { 64 * length bits.old < 2 ^ 32 }
     ensures { IsFilled bits.old bits.new (64 * index + from) (to - from) value }
 {
     bits[index] = bitmap::with_range(bits[index], from, to, value);
@@ -61,7 +55,7 @@ fn fill_bitmap(bits: &mut [u64], index: usize, from: usize, to: usize, value: bo
 fn fill_bitmaps(bits: &mut [u64], first: usize, end: usize, value: bool)
     requires order { first ≤ end }
     requires within { end ≤ length bits.old }
-    requires small { 64 * length bits.old < 2 ^ 64 }
+    requires small { 64 * length bits.old < 2 ^ 32 }
     ensures { IsFilled bits.old bits.new (64 * first) (64 * (end - first)) value }
 {
     let bitmaps = &mut bits[first..end];
@@ -76,7 +70,7 @@ fn fill_bitmaps(bits: &mut [u64], first: usize, end: usize, value: bool)
 fn fill_words(bits: &mut [u64], place: usize, len: usize, value: bool)
     requires some { 1 ≤ len }
     requires within { place + len ≤ 64 * length bits.old }
-    requires small { 64 * length bits.old < 2 ^ 64 }
+    requires small { 64 * length bits.old < 2 ^ 32 }
     ensures { IsFilled bits.old bits.new place len value }
 {
     let end = place + len;
@@ -98,7 +92,7 @@ fn fill_words(bits: &mut [u64], place: usize, len: usize, value: bool)
 fn fill_word(bits: &mut [u64], index: usize, word: usize, value: bool)
     requires within { word < 64 }
     requires index { index < length bits.old }
-    requires small { 64 * length bits.old < 2 ^ 64 }
+    requires small { 64 * length bits.old < 2 ^ 32 }
     ensures { IsFilled bits.old bits.new (64 * index + word) 1 value }
 {
     bits[index] = bitmap::with_word(bits[index], word, value);
@@ -108,7 +102,7 @@ fn fill_word(bits: &mut [u64], index: usize, word: usize, value: bool)
 #[inline(always)]
 pub(crate) fn give_word(bits: &mut [u64], place: usize)
     requires within { place < 64 * length bits.old }
-    requires small { 64 * length bits.old < 2 ^ 64 }
+    requires small { 64 * length bits.old < 2 ^ 32 }
     ensures { IsFilled bits.old bits.new place 1 true }
 {
     fill_word(bits, place / WORDS, place % WORDS, true);
@@ -118,7 +112,7 @@ pub(crate) fn give_word(bits: &mut [u64], place: usize)
 #[inline(always)]
 pub(crate) fn take_lowest(bits: &mut [u64], near: usize) -> Option<usize>
     requires index { near < length bits.old }
-    requires small { 64 * length bits.old < 2 ^ 64 }
+    requires small { 64 * length bits.old < 2 ^ 32 }
     requires none_below { NoneBelow bits.old (64 * near) }
     ensures bitmap { IfSome result (λ place. place / 64 ≡ near) }
     ensures free { IfSome result (λ place. 1 ≤ widest (words_of bits.old)) }
@@ -139,7 +133,7 @@ pub(crate) fn take_lowest(bits: &mut [u64], near: usize) -> Option<usize>
 pub(crate) fn summary(bits: &[u64], first: usize, end: usize) -> Summary
     requires order { first ≤ end }
     requires within { end ≤ length bits.now }
-    requires small { 64 * length bits.now < 2 ^ 64 }
+    requires small { 64 * length bits.now < 2 ^ 32 }
     ensures { result ≡ summary (words_between bits.now first end) }
 {
     let mut all = Summary::EMPTY;
@@ -155,9 +149,9 @@ fn alike(value: bool) -> Summary
 {
     if value {
         Summary {
-            front: LEAF_WORDS,
-            back: LEAF_WORDS,
-            longest: LEAF_WORDS,
+            front: LEAF_WORDS as u32,
+            back: LEAF_WORDS as u32,
+            longest: LEAF_WORDS as u32,
             whole: true,
         }
     } else {
@@ -169,7 +163,7 @@ fn alike(value: bool) -> Summary
 fn join_leaves(bits: &[u64], nodes: &mut [Summary], first: usize, end: usize)
     requires within { end ≤ leaf_count nodes.old }
     requires bitmaps { length bits.now ≡ 4 * leaf_count nodes.old }
-    requires small { 64 * length bits.now < 2 ^ 64 }
+    requires small { 64 * length bits.now < 2 ^ 32 }
     requires leaves { AreLeavesBeside bits.now nodes.old first end }
     ensures leaves { AreLeaves bits.now nodes.new }
     ensures beside { AreSameBesideLeaves nodes.old nodes.new first end }
@@ -186,7 +180,7 @@ fn join_long_leaves(bits: &[u64], nodes: &mut [Summary], first: usize, last: usi
     requires order { first < last }
     requires within { last < leaf_count nodes.old }
     requires bitmaps { length bits.now ≡ 4 * leaf_count nodes.old }
-    requires small { 64 * length bits.now < 2 ^ 64 }
+    requires small { 64 * length bits.now < 2 ^ 32 }
     requires between { AreAllBetween bits.now first last value }
     requires leaves { AreLeavesBeside bits.now nodes.old first (last + 1) }
     ensures leaves { AreLeaves bits.now nodes.new }
@@ -377,23 +371,23 @@ fn find_in(bits: &[u64], first: usize, end: usize, len: usize) -> Option<usize>
     requires some { 1 ≤ len }
     requires order { first ≤ end }
     requires within { end ≤ length bits.now }
-    requires small { 64 * length bits.now < 2 ^ 64 }
+    requires small { 64 * length bits.now < 2 ^ 32 }
     ensures none { IsNone result ↔ (widest (words_between bits.now first end) < len) }
     ensures lowest { IfSome result (λ place. place ≡ 64 * first + lowest_fit len (words_between bits.now first end)) }
 {
     let mut run = 0;
     for index in first..end {
         let bitmap = bits[index];
-        if len <= run + bitmap::front(bitmap) {
+        if len <= run + bitmap::front(bitmap) as usize {
             return Some(index * WORDS - run);
         }
-        if len <= bitmap::longest(bitmap) {
+        if len <= bitmap::longest(bitmap) as usize {
             return Some(index * WORDS + bitmap::lowest_fit(bitmap, len));
         }
         run = if bitmap == u64::MAX {
             run + WORDS
         } else {
-            bitmap::back(bitmap)
+            bitmap::back(bitmap) as usize
         };
     }
     None
@@ -404,7 +398,7 @@ fn find_in(bits: &[u64], first: usize, end: usize, len: usize) -> Option<usize>
 pub(crate) fn find_near(bits: &[u64], near: usize, len: usize) -> Option<usize>
     requires some { 1 ≤ len }
     requires index { near < length bits.now }
-    requires small { 64 * length bits.now < 2 ^ 64 }
+    requires small { 64 * length bits.now < 2 ^ 32 }
     requires none_below { NoneBelow bits.now (64 * near) }
     ensures fits { IfSome result (λ place. len ≤ widest (words_of bits.now)) }
     ensures lowest { IfSome result (λ place. place ≡ lowest_fit len (words_of bits.now)) }
@@ -419,7 +413,7 @@ pub(crate) fn find(bits: &[u64], nodes: &[Summary], len: usize) -> Option<usize>
     ensures none { IsNone result ↔ (widest (words_of bits.now) < len) }
     ensures lowest { IfSome result (λ place. place ≡ lowest_fit len (words_of bits.now)) }
 {
-    if nodes[1].longest < len {
+    if (nodes[1].longest as usize) < len {
         return None;
     }
     let leaves = nodes.len() / 2;
@@ -430,10 +424,10 @@ pub(crate) fn find(bits: &[u64], nodes: &[Summary], len: usize) -> Option<usize>
         width /= 2;
         let left = nodes[2 * index];
         let right = nodes[2 * index + 1];
-        if len <= left.longest {
+        if len <= left.longest as usize {
             index = 2 * index;
-        } else if len <= left.back + right.front {
-            return Some(place + (width - left.back));
+        } else if len <= left.back as usize + right.front as usize {
+            return Some(place + (width - left.back as usize));
         } else {
             place += width;
             index = 2 * index + 1;
@@ -475,7 +469,7 @@ pub(crate) fn near_after(bits: &[u64], near: usize, place: usize, len: usize) ->
     requires index { near < length bits.now }
     requires some { 1 ≤ len }
     requires range { place + len ≤ 64 * length bits.now }
-    requires small { 64 * length bits.now < 2 ^ 64 }
+    requires small { 64 * length bits.now < 2 ^ 32 }
     requires none_below { NoneBelow bits.now (64 * near) }
     ensures within { result < length bits.now }
     ensures none_beside { NoneBelowBeside bits.now (64 * result) place len }

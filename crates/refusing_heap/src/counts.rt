@@ -5,7 +5,8 @@ use std::sync::atomic::{AtomicU64, AtomicUsize, Ordering};
 /// How often a thread tries to raise the peak, which another thread may have raised meanwhile.
 const MOST_TRIES: u32 = 1_000;
 
-/// The growths that were asked for, the one that is refused, and the bytes of the blocks. Threads share it.
+/// The growths that were asked for, the one that is refused, and the bytes of the blocks. Threads share it, so that no
+/// contract can name its numbers.
 #[derive(Drop)]
 pub(crate) struct Counts {
     /// The growths that were asked for after the last call of `refuse`.

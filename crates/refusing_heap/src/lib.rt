@@ -2,10 +2,8 @@
 //!
 //! A [`RefusingHeap`] takes its blocks from another allocator. It refuses the growth of one number, which a test
 //! chooses: so a test lets each growth of a run fail in turn, a small one after large ones too, counting upwards until
-//! a
-//! run meets no refusal. Threads share it: a `&RefusingHeap<Global>` is an allocator that is `Copy` and `Clone`, and
-//! that
-//! may be sent.
+//! a run meets no refusal. Threads share it: a `&RefusingHeap<Global>` is an allocator that is `Copy` and `Clone`, and
+//! that may be sent.
 #![tactic(auto)]
 
 mod counts;
@@ -17,6 +15,10 @@ use std::mem::size_of;
 /// An allocator that takes its blocks from `inner`, and refuses the growth of a chosen number.
 ///
 /// A growth is an `allocate` or a `grow`. A block can be freed or made smaller at all times.
+///
+/// What it counts is in atomics, which threads share, and no contract can name the number that an atomic holds: another
+/// thread may change it at any time. So the calls that choose a growth and that read counts have no clauses, and the
+/// tests of `worked_refusals` show what they count. The contract of an allocator says what its blocks are.
 pub struct RefusingHeap<B: Allocator> {
     inner: B,
     counts: Counts,

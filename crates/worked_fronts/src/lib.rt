@@ -21,8 +21,6 @@ mod machines;
 #[cfg(test)]
 mod meeting;
 #[cfg(test)]
-mod memory;
-#[cfg(test)]
 mod reports;
 #[cfg(test)]
 mod runs;

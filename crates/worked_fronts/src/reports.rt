@@ -3,7 +3,7 @@
 ghost use Rattle.std.specs.Prelude.{◌≤◌};
 ghost use Rattle.vcode_base.specs.declared.limits.TheConstants.{MOST_WORKERS};
 
-use crate::batches::{SECOND_RULE, TWO_JOBS, twelve_jobs, twelve_jobs_by};
+use crate::batches::{SECOND_RULE, twelve_jobs_by};
 use crate::calls::Calls;
 use crate::machines::REGION;
 use crate::meeting::Meeting;
@@ -13,22 +13,11 @@ use std::process::Abort;
 use std::sync::Wait;
 use std::test::Fail;
 use std::thread::Threads;
+use test_batches::{REPORT_ON_TWELVE, TWELVE_JOBS, TWO_JOBS};
 use vcode_base::limits::MOST_WORKERS;
 
 const REPORT_ON_TWO: &[u8] = b"JOB 1 one RETURNED\nINT (7)\nUSED 2 instructions 1 words\n\
     JOB 2 two RETURNED\nINT (3)\nUSED 4 instructions 3 words\nEND 2 jobs 0 refused\n";
-
-const REPORT_ON_TWELVE: &[u8] = b"JOB 1 t RETURNED\nINT (6)\nUSED 5 instructions 5 words\n\
-    JOB 2 t MEMORY line 19 M1 WORDS\nUSED 2 instructions 4 words\n\
-    JOB 3 t RETURNED\nUSED 1 instructions 0 words\nJOB 4 t BUDGET\nUSED 0 instructions 0 words\n\
-    JOB 5 t RETURNED\nINT (1 2 3)\nINT (1 2 3)\nINT (1 2 3)\nUSED 4 instructions 3 words\n\
-    JOB 6 t MEMORY line 54 M1 WORDS\nUSED 2 instructions 3 words\n\
-    JOB 7 t RETURNED\nINT (3)\nINT (1)\nINT (2)\nUSED 5 instructions 3 words\n\
-    JOB 8 t MEMORY line 73 M3 CALLS\nUSED 2 instructions 0 words\n\
-    JOB 9 t FAULT line 83 F4 ZERO_DIVISOR\nUSED 2 instructions 2 words\n\
-    JOB 10 t RETURNED\nINT (0 1 0 3 7)\nUSED 5 instructions 13 words\n\
-    JOB 11 t FAULT line 106 F7 INDEX_TWICE\nUSED 4 instructions 6 words\n\
-    JOB 12 t MEMORY line 117 M1 WORDS\nUSED 3 instructions 3 words\nEND 12 jobs 0 refused\n";
 
 const REPORT_BY_THE_SECOND_RULE: &[u8] = b"JOB 1 t RETURNED\nINT (6)\nUSED 5 instructions 4 words\n\
     JOB 2 t RETURNED\nINT (6)\nUSED 5 instructions 4 words\n\
@@ -93,13 +82,18 @@ where
 }
 
 #[test]
-fn each_number_of_workers_gives_the_same_report(rt: HostRuntime) -> Result<(), Fail> {
-    let batch = twelve_jobs(rt.alloc())?;
+fn each_number_of_workers_gives_the_same_report(rt: HostRuntime) {
     for workers in 1..MOST_WORKERS as u32 + 1 {
         let options = options_of(workers);
-        reports(&rt, rt.alloc(), &batch, &options, &NoGate, REPORT_ON_TWELVE);
+        reports(
+            &rt,
+            rt.alloc(),
+            TWELVE_JOBS,
+            &options,
+            &NoGate,
+            REPORT_ON_TWELVE,
+        );
     }
-    Ok(())
 }
 
 #[test]
@@ -127,11 +121,17 @@ fn options_by(alloc: Global, list: &str) -> Result<Options, Fail> {
 
 #[test]
 fn each_schedule_gives_the_same_report(rt: HostRuntime) -> Result<(), Fail> {
-    let batch = twelve_jobs(rt.alloc())?;
     let gate = Calls::new();
     for list in ["1,2,3", "b5,1,f5", "12,11,10"] {
         let options = options_by(rt.alloc(), list)?;
-        reports(&rt, rt.alloc(), &batch, &options, &gate, REPORT_ON_TWELVE);
+        reports(
+            &rt,
+            rt.alloc(),
+            TWELVE_JOBS,
+            &options,
+            &gate,
+            REPORT_ON_TWELVE,
+        );
     }
     // No worker has taken a step.
     assert_eq!(rt; gate.count(), 0);

@@ -4,8 +4,7 @@ ghost use Rattle.std.specs.Prelude.{◌≤◌};
 ghost use Rattle.vcode_base.specs.declared.limits.TheConstants.{MOST_WORKERS};
 
 use crate::batches::{
-    EXECUTED_BY_THE_SECOND_RULE, EXECUTED_BY_TWELVE, EXECUTED_BY_TWO, SECOND_RULE, TWO_JOBS,
-    twelve_jobs_by,
+    EXECUTED_BY_THE_SECOND_RULE, EXECUTED_BY_TWELVE, EXECUTED_BY_TWO, SECOND_RULE, twelve_jobs_by,
 };
 use crate::machines::machine;
 use crate::meeting::Meeting;
@@ -16,6 +15,7 @@ use std::sync::Wait;
 use std::test::Fail;
 use std::thread::Threads;
 use step_scheduler::{Gate, NoGate, Tally, run_workers};
+use test_batches::TWO_JOBS;
 use vcode_base::Rule;
 
 /// The machine that these workers, which pass this gate, hand back.

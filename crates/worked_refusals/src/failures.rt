@@ -17,14 +17,61 @@ enum Way {
 /// All ways.
 const WAYS: [Way; 2] = [Way::Alone, Way::ByWorkers];
 
-/// The answer of a run from this reader to this writer, and the writer.
-fn ending<R>(
-    rt: &R,
-    alloc: Global,
-    way: Way,
-    reader: Reader,
-    writer: Writer,
-) -> (Result<Status, FrontFault>, Writer)
+/// What goes wrong with the devices of a run.
+#[derive(Clone, Copy)]
+struct Trouble {
+    /// How often reads, writes and the flush are interrupted at first.
+    reads: u32,
+    writes: u32,
+    flushes: u32,
+    /// The read that fails, or 0.
+    read_fails: usize,
+    /// How the writer fails.
+    failure: Failure,
+}
+
+impl Trouble {
+    /// Nothing goes wrong.
+    const NONE: Trouble = Trouble {
+        reads: 0,
+        writes: 0,
+        flushes: 0,
+        read_fails: 0,
+        failure: Failure::Never,
+    };
+
+    /// Only this goes wrong with the writer.
+    fn of_writer(failure: Failure) -> Trouble {
+        Trouble {
+            failure,
+            ..Trouble::NONE
+        }
+    }
+
+    fn reader(self) -> Device<Reader> {
+        Device::new(Reader {
+            reads: 0,
+            given: 0,
+            interrupts: self.reads,
+            fails_at: self.read_fails,
+        })
+    }
+
+    fn writer(self, alloc: Global) -> Device<Writer> {
+        Device::new(Writer {
+            taken: Vec::new(alloc),
+            interrupts: self.writes,
+            flush_interrupts: self.flushes,
+            failure: self.failure,
+        })
+    }
+}
+
+/// The answer of a run, and what was written.
+type Ending = (Result<Status, FrontFault>, Vec<u8>);
+
+/// The ending of a run with this trouble.
+fn ending<R>(rt: &R, alloc: Global, way: Way, trouble: Trouble) -> Ending
 where
     R: Threads + Wait + Sync,
 {
@@ -33,125 +80,66 @@ where
         workers: 2,
         schedule: None,
     };
-    let mut reader = Device::new(reader);
-    let mut writer = Device::new(writer);
+    let mut reader = trouble.reader();
+    let mut writer = trouble.writer(alloc);
     let outcome = match way {
         Way::Alone => run_alone(alloc, &mut reader, &mut writer, &options),
         Way::ByWorkers => run(rt, alloc, &mut reader, &mut writer, &options, &NoGate),
     };
-    (outcome, writer.into_inner())
+    let Writer { taken, .. } = writer.into_inner();
+    (outcome, taken)
 }
 
-/// Each run from this reader to this writer ends so, and has written this.
+/// Each way a run with this trouble ends so, and has written this.
 fn ends<R>(
     rt: &R,
     alloc: Global,
-    way: Way,
-    reader: Reader,
-    writer: Writer,
+    trouble: Trouble,
     outcome: Result<Status, FrontFault>,
     report: &[u8],
 )
 where
     R: Abort + Threads + Wait + Sync,
 {
-    let (ended, writer) = ending(rt, alloc, way, reader, writer);
-    assert_eq!(rt; (ended, writer.taken.as_slice()), (outcome, report));
-}
-
-/// A reader that is interrupted so often at first, and fails at this read.
-fn reader_of(interrupts: u32, fails_at: usize) -> Reader {
-    Reader {
-        reads: 0,
-        given: 0,
-        interrupts,
-        fails_at,
-    }
-}
-
-/// A writer whose writes and whose flush are interrupted so often at first, and which then fails so.
-fn writer_of(alloc: Global, interrupts: u32, flush_interrupts: u32, failure: Failure) -> Writer {
-    Writer {
-        taken: Vec::new(alloc),
-        interrupts,
-        flush_interrupts,
-        failure,
+    for way in WAYS {
+        let (ended, written) = ending(rt, alloc, way, trouble);
+        assert_eq!(rt; (ended, written.as_slice()), (outcome, report));
     }
 }
 
 #[test]
 fn each_read_fails(rt: HostRuntime) {
-    for way in WAYS {
-        // The read after the last byte would give the end.
-        for fails_at in 1..ONE_JOB.len() + 2 {
-            let reader = reader_of(0, fails_at);
-            let writer = writer_of(rt.alloc(), 0, 0, Failure::Never);
-            ends(
-                &rt,
-                rt.alloc(),
-                way,
-                reader,
-                writer,
-                Err(FrontFault::Read),
-                b"",
-            );
-        }
+    // The read after the last byte would give the end.
+    for read_fails in 1..ONE_JOB.len() + 2 {
+        let trouble = Trouble {
+            read_fails,
+            ..Trouble::NONE
+        };
+        ends(&rt, rt.alloc(), trouble, Err(FrontFault::Read), b"");
     }
 }
 
 #[test]
-fn each_write_fails(rt: HostRuntime) {
-    for way in WAYS {
-        for taken in 0..REPORT_ON_ONE.len() {
-            let front = &REPORT_ON_ONE[..taken];
-            let writer = writer_of(rt.alloc(), 0, 0, Failure::Fails(taken));
-            ends(
-                &rt,
-                rt.alloc(),
-                way,
-                reader_of(0, 0),
-                writer,
-                Err(FrontFault::Write),
-                front,
-            );
-        }
-    }
-}
-
-#[test]
-fn each_write_takes_nothing(rt: HostRuntime) {
-    for way in WAYS {
-        for taken in 0..REPORT_ON_ONE.len() {
-            let front = &REPORT_ON_ONE[..taken];
-            let writer = writer_of(rt.alloc(), 0, 0, Failure::TakesNone(taken));
-            ends(
-                &rt,
-                rt.alloc(),
-                way,
-                reader_of(0, 0),
-                writer,
-                Err(FrontFault::Write),
-                front,
-            );
+fn each_write_fails_or_takes_nothing(rt: HostRuntime) {
+    for taken in 0..REPORT_ON_ONE.len() {
+        let front = &REPORT_ON_ONE[..taken];
+        for failure in [Failure::Fails(taken), Failure::TakesNone(taken)] {
+            let trouble = Trouble::of_writer(failure);
+            ends(&rt, rt.alloc(), trouble, Err(FrontFault::Write), front);
         }
     }
 }
 
 #[test]
 fn a_flush_fails(rt: HostRuntime) {
-    for way in WAYS {
-        let writer = writer_of(rt.alloc(), 0, 0, Failure::AtFlush);
-        let outcome = Err(FrontFault::Write);
-        ends(
-            &rt,
-            rt.alloc(),
-            way,
-            reader_of(0, 0),
-            writer,
-            outcome,
-            REPORT_ON_ONE,
-        );
-    }
+    let trouble = Trouble::of_writer(Failure::AtFlush);
+    ends(
+        &rt,
+        rt.alloc(),
+        trouble,
+        Err(FrontFault::Write),
+        REPORT_ON_ONE,
+    );
 }
 
 /// How often reads, writes and the flush are interrupted, and the answer of a run then and what it has written.
@@ -174,11 +162,13 @@ const INTERRUPTIONS: [Interruptions; 9] = [
 
 #[test]
 fn interruptions_add_up(rt: HostRuntime) {
-    for way in WAYS {
-        for (reads, writes, flushes, outcome, report) in INTERRUPTIONS {
-            let reader = reader_of(reads, 0);
-            let writer = writer_of(rt.alloc(), writes, flushes, Failure::Never);
-            ends(&rt, rt.alloc(), way, reader, writer, outcome, report);
-        }
+    for (reads, writes, flushes, outcome, report) in INTERRUPTIONS {
+        let trouble = Trouble {
+            reads,
+            writes,
+            flushes,
+            ..Trouble::NONE
+        };
+        ends(&rt, rt.alloc(), trouble, outcome, report);
     }
 }

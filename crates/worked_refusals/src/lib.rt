@@ -27,4 +27,6 @@ mod runs;
 #[cfg(test)]
 mod snapshots;
 #[cfg(test)]
+mod sums;
+#[cfg(test)]
 mod workers;

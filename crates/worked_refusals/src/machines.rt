@@ -38,19 +38,30 @@ fn put_job<'h>(entry: JobEntry<&'h Heap>, jobs: &mut HeapJobs<'h>, most: usize) 
     Ok(())
 }
 
+/// The entries of a batch. What `feed` refuses `end` answers again.
+fn entries<'h>(
+    heap: &'h Heap,
+    batch: &[u8],
+    most: usize,
+) -> Result<Vec<JobEntry<&'h Heap>, &'h Heap>, Fail>
+    requires { most ≤ MOST_WORDS }
+{
+    let mut feed = Feed::new(heap, most)?;
+    let _ = feed.feed(batch);
+    match feed.end()? {
+        Batch::Jobs(_, entries) => Ok(entries.into_vec()),
+        _ => Err(Fail::from("the batch is refused")),
+    }
+}
+
 /// The jobs of a batch, each of at most `most` words.
 pub(crate) fn jobs<'h>(heap: &'h Heap, batch: &[u8], most: usize) -> Result<HeapJobs<'h>, Fail>
     requires { most ≤ MOST_WORDS }
     ensures few { IfOk result (λ jobs. length jobs.items ≤ MOST_JOBS) }
     ensures words { IfOk result (λ jobs. All (λ job. job.limits.words ≤ most) jobs.items) }
 {
-    let mut feed = Feed::new(heap, most)?;
-    let _ = feed.feed(batch);
-    let Batch::Jobs(_, entries) = feed.end()? else {
-        return Err(Fail::from("the batch is refused"));
-    };
     let mut jobs = Vec::new(heap);
-    for entry in entries.into_vec() {
+    for entry in entries(heap, batch, most)? {
         put_job(entry, &mut jobs, most)?;
     }
     Ok(jobs)

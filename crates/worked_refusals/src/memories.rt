@@ -26,12 +26,30 @@ fn is_made<M: VectorMemory + Drop>(
     is_made
 }
 
+/// Regions are made over a heap, counting upwards until none is refused memory.
+fn regions_are_made(rt: &impl Abort, heap: &Heap) -> Result<(), Fail> {
+    for growth in 1..MOST_GROWTHS {
+        heap.refuse(growth);
+        if is_made(rt, heap, RegionMemory::new(heap, REGION, MOST_BLOCKS)) {
+            // Others were refused before.
+            assert!(rt; growth > 1);
+            return Ok(());
+        }
+    }
+    Err(Fail::from("a memory asks for more growths"))
+}
+
 #[test]
 fn each_growth_of_a_region_is_refused(rt: HostRuntime) -> Result<(), Fail> {
     let heap = RefusingHeap::new(rt.alloc());
+    regions_are_made(&rt, &heap)
+}
+
+/// The same of sliding regions.
+fn sliding_regions_are_made(rt: &impl Abort, heap: &Heap) -> Result<(), Fail> {
     for growth in 1..MOST_GROWTHS {
         heap.refuse(growth);
-        if is_made(&rt, &heap, RegionMemory::new(&heap, REGION, MOST_BLOCKS)) {
+        if is_made(rt, heap, SlidingMemory::new(heap, REGION, MOST_BLOCKS)) {
             // Others were refused before.
             assert!(rt; growth > 1);
             return Ok(());
@@ -43,13 +61,5 @@ fn each_growth_of_a_region_is_refused(rt: HostRuntime) -> Result<(), Fail> {
 #[test]
 fn each_growth_of_a_sliding_region_is_refused(rt: HostRuntime) -> Result<(), Fail> {
     let heap = RefusingHeap::new(rt.alloc());
-    for growth in 1..MOST_GROWTHS {
-        heap.refuse(growth);
-        if is_made(&rt, &heap, SlidingMemory::new(&heap, REGION, MOST_BLOCKS)) {
-            // Others were refused before.
-            assert!(rt; growth > 1);
-            return Ok(());
-        }
-    }
-    Err(Fail::from("a memory asks for more growths"))
+    sliding_regions_are_made(&rt, &heap)
 }

@@ -1,6 +1,5 @@
 //! Replays, of which each growth is refused in turn.
 
-use crate::batches::TWO_JOBS;
 use crate::heaps::{Heap, MOST_GROWTHS};
 use crate::machines::{HeapMachine, REGION, machine};
 use crate::snapshots::{Snapshot, both_have_returned, snapshot_of};
@@ -8,6 +7,7 @@ use job_machine::{Begun, Desk, Event, ReplayFault, Status};
 use refusing_heap::RefusingHeap;
 use std::process::Abort;
 use std::test::Fail;
+use test_batches::TWO_JOBS;
 
 /// The events by which both jobs run in turns and are collected. The first is collected while the second is in flight.
 const EVENTS: [Event; 16] = [
@@ -32,51 +32,77 @@ const EVENTS: [Event; 16] = [
 /// The places of the events that collect.
 const COLLECTIONS: [usize; 2] = [9, 15];
 
-/// A machine whose first job has begun a step.
-fn begun_machine<'h>(rt: &impl Abort, heap: &'h Heap) -> Result<HeapMachine<'h>, Fail> {
-    let mut machine = machine(heap, TWO_JOBS)?;
+/// The first job of a machine begins a step on this desk.
+fn begins<'h>(rt: &impl Abort, machine: &mut HeapMachine<'h>, desk: Desk<&'h Heap>) {
     machine.admit();
-    let begun = machine.begin(1, Desk::new(heap, REGION)?);
+    let begun = machine.begin(1, desk);
     assert!(rt; matches!(&begun, Begun::Began(_)));
     assert_eq!(rt; machine.status(1), Some(Status::InFlight));
-    Ok(machine)
 }
 
-/// What a machine shows on which the events before this place were done, and nothing is in flight.
-fn snapshot_before(rt: &impl Abort, heap: &Heap, place: usize) -> Result<Snapshot, Fail> {
+/// What a machine shows on which these events were done, and nothing is in flight.
+fn snapshot_after(rt: &impl Abort, heap: &Heap, events: &[Event]) -> Result<Snapshot, Fail> {
     let mut machine = machine(heap, TWO_JOBS)?;
-    let Some(events) = EVENTS.get(..place) else {
-        return Err(Fail::from("there are fewer events"));
-    };
     assert_eq!(rt; machine.replay(heap, events), Ok(()));
     Ok(snapshot_of(&machine))
 }
 
-/// The memory that a replay is refused, if it is. All is then as it has to be.
-fn refused_replay(rt: &impl Abort, heap: &Heap, growth: u64) -> Result<Option<ReplayFault>, Fail> {
-    let mut machine = begun_machine(rt, heap)?;
-    let before = snapshot_of(&machine);
-    heap.refuse(growth);
-    let replayed = machine.replay(heap, &EVENTS);
-    assert_eq!(rt; replayed.is_err(), heap.has_refused());
-    heap.refuse(0);
-    match replayed {
-        Ok(()) => assert!(rt; both_have_returned(&machine)),
-        Err(ReplayFault::Desks) => assert_eq!(rt; snapshot_of(&machine), before),
-        Err(ReplayFault::Collect(place)) => {
+/// What a machine shows after a replay that was refused memory. None if the replay wasn't.
+fn wanted(
+    rt: &impl Abort,
+    heap: &Heap,
+    before: Snapshot,
+    refused: Option<ReplayFault>,
+) -> Result<Option<Snapshot>, Fail> {
+    match refused {
+        None => Ok(None),
+        Some(ReplayFault::Desks) => Ok(Some(before)),
+        Some(ReplayFault::Collect(place)) => {
             assert!(rt; COLLECTIONS.contains(&place));
-            assert_eq!(rt; snapshot_of(&machine), snapshot_before(rt, heap, place)?);
+            let Some(events) = EVENTS.get(..place) else {
+                return Err(Fail::from("there are fewer events"));
+            };
+            Ok(Some(snapshot_after(rt, heap, events)?))
         }
     }
-    Ok(replayed.err())
 }
 
-#[test]
-fn each_growth_of_a_replay_is_refused(rt: HostRuntime) -> Result<(), Fail> {
-    let heap = RefusingHeap::new(rt.alloc());
+/// The memory that a replay is refused, if it is. All is then as it has to be.
+fn refused_replay<'h>(
+    rt: &impl Abort,
+    heap: &'h Heap,
+    machine: &mut HeapMachine<'h>,
+    growth: u64,
+) -> Result<Option<ReplayFault>, Fail> {
+    let before = snapshot_of(machine);
+    heap.refuse(growth);
+    let refused = machine.replay(heap, &EVENTS).err();
+    assert_eq!(rt; refused.is_some(), heap.has_refused());
+    heap.refuse(0);
+    match wanted(rt, heap, before, refused)? {
+        None => assert!(rt; both_have_returned(machine)),
+        Some(wanted) => assert_eq!(rt; snapshot_of(machine), wanted),
+    }
+    Ok(refused)
+}
+
+/// The same of a machine that is made for it, whose first job has begun a step.
+fn refused_replay_of_new(
+    rt: &impl Abort,
+    heap: &Heap,
+    growth: u64,
+) -> Result<Option<ReplayFault>, Fail> {
+    let desk = Desk::new(heap, REGION)?;
+    let mut machine = machine(heap, TWO_JOBS)?;
+    begins(rt, &mut machine, desk);
+    refused_replay(rt, heap, &mut machine, growth)
+}
+
+/// Machines over a heap replay, counting upwards until none is refused memory.
+fn machines_replay(rt: &impl Abort, heap: &Heap) -> Result<(), Fail> {
     let mut last = None;
     for growth in 1..MOST_GROWTHS {
-        let refused = refused_replay(&rt, &heap, growth)?;
+        let refused = refused_replay_of_new(rt, heap, growth)?;
         if refused.is_none() {
             assert_eq!(rt; last, Some(ReplayFault::Collect(COLLECTIONS[1])));
             return Ok(());
@@ -84,4 +110,10 @@ fn each_growth_of_a_replay_is_refused(rt: HostRuntime) -> Result<(), Fail> {
         last = refused;
     }
     Err(Fail::from("a replay asks for more growths"))
+}
+
+#[test]
+fn each_growth_of_a_replay_is_refused(rt: HostRuntime) -> Result<(), Fail> {
+    let heap = RefusingHeap::new(rt.alloc());
+    machines_replay(&rt, &heap)
 }

@@ -1,6 +1,5 @@
 //! Whole runs of the batch of twelve, of which each growth is refused in turn.
 
-use crate::batches::{REPORT_ON_TWELVE, TWELVE_JOBS};
 use crate::heaps::{Heap, MOST_GROWTHS};
 use batch_front::{Device, FrontFault, NoGate, Options, Status, run, run_alone};
 use refusing_heap::RefusingHeap;
@@ -9,6 +8,7 @@ use std::process::Abort;
 use std::sync::Wait;
 use std::test::Fail;
 use std::thread::Threads;
+use test_batches::{REPORT_ON_TWELVE, TWELVE_JOBS};
 
 /// The answer of a run, and what was written.
 type Ending = (Result<Status, FrontFault>, Vec<u8>);
@@ -24,7 +24,7 @@ fn options() -> Options {
 
 /// A run on the calling thread.
 fn alone(heap: &Heap, alloc: Global) -> Ending {
-    let mut reader = Device::new(TWELVE_JOBS);
+    let mut reader = Device::new(TWELVE_JOBS.as_bytes());
     let mut writer = Device::new(Vec::new(alloc));
     let outcome = run_alone(heap, &mut reader, &mut writer, &options());
     (outcome, writer.into_inner())
@@ -35,7 +35,7 @@ fn by_workers<R>(rt: &R, heap: &Heap, alloc: Global) -> Ending
 where
     R: Threads + Wait + Sync,
 {
-    let mut reader = Device::new(TWELVE_JOBS);
+    let mut reader = Device::new(TWELVE_JOBS.as_bytes());
     let mut writer = Device::new(Vec::new(alloc));
     let outcome = run(rt, heap, &mut reader, &mut writer, &options(), &NoGate);
     (outcome, writer.into_inner())
@@ -52,12 +52,34 @@ fn is_whole_or_nothing(rt: &impl Abort, heap: &Heap, ending: Ending) {
     assert_eq!(rt; heap.live_bytes(), 0);
 }
 
+/// Runs on the calling thread, counting upwards until none is refused memory.
+fn all_run_alone(rt: &impl Abort, heap: &Heap, alloc: Global) -> Result<(), Fail> {
+    for growth in 1..MOST_GROWTHS {
+        heap.refuse(growth);
+        is_whole_or_nothing(rt, heap, alone(heap, alloc));
+        if !heap.has_refused() {
+            // Others were refused before.
+            assert!(rt; growth > 1);
+            return Ok(());
+        }
+    }
+    Err(Fail::from("a run asks for more growths"))
+}
+
 #[test]
 fn each_growth_of_a_run_alone_is_refused(rt: HostRuntime) -> Result<(), Fail> {
     let heap = RefusingHeap::new(rt.alloc());
+    all_run_alone(&rt, &heap, rt.alloc())
+}
+
+/// Runs by two workers, counting upwards until none is refused memory.
+fn all_run_by_workers<R>(rt: &R, heap: &Heap, alloc: Global) -> Result<(), Fail>
+where
+    R: Abort + Threads + Wait + Sync,
+{
     for growth in 1..MOST_GROWTHS {
         heap.refuse(growth);
-        is_whole_or_nothing(&rt, &heap, alone(&heap, rt.alloc()));
+        is_whole_or_nothing(rt, heap, by_workers(rt, heap, alloc));
         if !heap.has_refused() {
             // Others were refused before.
             assert!(rt; growth > 1);
@@ -70,14 +92,5 @@ fn each_growth_of_a_run_alone_is_refused(rt: HostRuntime) -> Result<(), Fail> {
 #[test]
 fn each_growth_of_a_run_by_workers_is_refused(rt: HostRuntime) -> Result<(), Fail> {
     let heap = RefusingHeap::new(rt.alloc());
-    for growth in 1..MOST_GROWTHS {
-        heap.refuse(growth);
-        is_whole_or_nothing(&rt, &heap, by_workers(&rt, &heap, rt.alloc()));
-        if !heap.has_refused() {
-            // Others were refused before.
-            assert!(rt; growth > 1);
-            return Ok(());
-        }
-    }
-    Err(Fail::from("a run asks for more growths"))
+    all_run_by_workers(&rt, &heap, rt.alloc())
 }

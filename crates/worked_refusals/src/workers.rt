@@ -1,8 +1,7 @@
 //! Runs of a machine by a worker, of which each growth is refused in turn.
 
-use crate::batches::TWO_JOBS;
 use crate::heaps::{Heap, MOST_GROWTHS};
-use crate::machines::machine;
+use crate::machines::{HeapMachine, machine};
 use crate::snapshots::both_have_returned;
 use refusing_heap::RefusingHeap;
 use std::process::Abort;
@@ -10,6 +9,7 @@ use std::sync::Wait;
 use std::test::Fail;
 use std::thread::Threads;
 use step_scheduler::{NoGate, RunFault, Tally, run_workers};
+use test_batches::TWO_JOBS;
 
 /// The instructions that the two jobs execute.
 const EXECUTED: u64 = 6;
@@ -23,6 +23,12 @@ fn by_workers(tally: &Tally<&Heap>) -> u64 {
     sum
 }
 
+/// Both jobs have returned, and what was executed is counted once.
+fn have_run(rt: &impl Abort, machine: &HeapMachine<'_>, tally: &Tally<&Heap>) {
+    assert!(rt; both_have_returned(machine));
+    assert_eq!(rt; by_workers(tally).wrapping_add(tally.caller), EXECUTED);
+}
+
 /// How many instructions the calling thread executes beside a worker that runs the two jobs, or None if the run answers
 /// that memory was refused.
 fn by_caller<R>(rt: &R, heap: &Heap, growth: u64) -> Result<Option<u64>, Fail>
@@ -33,8 +39,7 @@ where
     heap.refuse(growth);
     match run_workers(rt, heap, machine, 1, &NoGate) {
         Ok((machine, tally)) => {
-            assert!(rt; both_have_returned(&machine));
-            assert_eq!(rt; by_workers(&tally).wrapping_add(tally.caller), EXECUTED);
+            have_run(rt, &machine, &tally);
             Ok(Some(tally.caller))
         }
         Err(fault) => {
@@ -44,13 +49,15 @@ where
     }
 }
 
-/// A worker that has executed all is refused memory for the last collection. The calling thread tries it once more.
-#[test]
-fn a_refused_collection_is_tried_once_more(rt: HostRuntime) -> Result<(), Fail> {
-    let heap = RefusingHeap::new(rt.alloc());
+/// A worker runs the jobs of machines over a heap, counting upwards until none is refused memory. Once it has executed
+/// all, and is refused memory for the last collection: the calling thread tries it once more.
+fn a_worker_runs<R>(rt: &R, heap: &Heap) -> Result<(), Fail>
+where
+    R: Abort + Threads + Wait + Sync,
+{
     let mut is_tried_again = false;
     for growth in 1..MOST_GROWTHS {
-        let caller = by_caller(&rt, &heap, growth)?;
+        let caller = by_caller(rt, heap, growth)?;
         assert_eq!(rt; heap.live_bytes(), 0);
         if !heap.has_refused() {
             assert!(rt; is_tried_again);
@@ -59,4 +66,10 @@ fn a_refused_collection_is_tried_once_more(rt: HostRuntime) -> Result<(), Fail> 
         is_tried_again |= caller == Some(0);
     }
     Err(Fail::from("a run asks for more growths"))
+}
+
+#[test]
+fn a_refused_collection_is_tried_once_more(rt: HostRuntime) -> Result<(), Fail> {
+    let heap = RefusingHeap::new(rt.alloc());
+    a_worker_runs(&rt, &heap)
 }

@@ -115,7 +115,7 @@ loop-index-preserved c =
       | else-bitmap w ↦ omega (
         arith,
         w.run-is,
-        w.back-run.ensures,
+        w.back.ensures,
         cond-false (all_free words) whole_run (back_run words)
             (sym (all_of bitmap small) ∙ ne_eqb bitmap (2 ^ 64 - 1) w.if-bitmap.false),
       )
