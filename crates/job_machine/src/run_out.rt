@@ -47,8 +47,12 @@ impl<A: Allocator> Machine<A> {
 }
 
 impl<A: Allocator + Clone> Machine<A> {
-    /// Runs a job, which doesn't wait, to its end and collects it.
-    fn run_job(&mut self, job: usize, desk: &mut Desk<A>) -> Result<(), AllocError>
+    /// Runs a job, which doesn't wait, to its end and collects it, if no step of any job has begun.
+    ///
+    /// # Errors
+    ///
+    /// [`AllocError`] if memory for its results was refused. It has ended then, and isn't collected.
+    pub fn run_job(&mut self, job: usize, desk: &mut Desk<A>) -> Result<(), AllocError>
         requires words { All (λ task. task.limits.words ≤ desk.old) self.old.tasks }
         requires no_step { HasNoStep self.old }
         ensures goes_on { GoesOn job self.old self.new }

@@ -1,7 +1,7 @@
 -- How many instructions the jobs have executed, after events.
 use Rattle.std.proofs.Common.{◌≡◌, ℕ, zero, suc, ◌+◌, ◌*◌, ◌≤◌, List, [], ◌∷◌, length, map, set, take}
 use Rattle.std.proofs.Common.{cond, slice_get, All, Option, Some, None, is_some, refl, sym, ◌∙◌, ap, subst, arith}
-use Rattle.std.proofs.Common.{add-one}
+use Rattle.std.proofs.Common.{add-one, false}
 use Rattle.std.specs.Option.{unwrap_or}
 use Rattle.std.proofs.lemmas.Bool.{false≢true}
 use Rattle.std.proofs.lemmas.Option.{none-some, same_Some, get_or_from_slice_get, slice_get_within}
@@ -24,9 +24,10 @@ use Rattle.vcode_reader.specs.Trees.{Item}
 use Rattle.job_slots.specs.declared.answer.Finished.{Finished}
 use Rattle.job_slots.specs.declared.answer.Finished.TheVariants as finished
 use Rattle.job_machine.specs.Machines.{MachineState, queue_of, machine_after, told, told_by}
-use Rattle.job_machine.specs.Machines.{after_finished}
+use Rattle.job_machine.specs.Machines.{after_finished, Leads}
 use Rattle.step_scheduler.specs.Tallies.{executed_sum, IsKept, OthersCountNothing, RaisesByItsJob}
 use Rattle.step_scheduler.specs.Tallies.{FinishesRaise, RecallsCountNothing, EventsKeepCounts, CountsAreWithin}
+use Rattle.step_scheduler.specs.Tallies.{Continues, is_finish}
 
 -- ---- standings
 
@@ -458,3 +459,37 @@ raised_by law job m kept finished.Stale = record { no_fewer = omega arith; sum_i
 pub raises : FinishesRaise → (job : ℕ) (old new : MachineState) → IsKept old → (answer : Finished) →
     new ≡ after_finished answer old (machine_after (Finish job) old) → RaisedBy job old new
 raises law job old new kept answer is = subst (RaisedBy job old) (sym is) (raised_by law job old kept answer)
+
+-- ---- the same jobs
+
+pub continues_none : (m : MachineState) → Continues m m
+continues_none m = record { rule = refl; tasks = refl; no_less = omega arith }
+
+pub continues_on : (old between new : MachineState) → Continues old between → Continues between new →
+    Continues old new
+continues_on old between new first second = record {
+  rule = second.rule ∙ first.rule;
+  tasks = second.tasks ∙ first.tasks;
+  no_less = let before = first.no_less in let after = second.no_less in omega (arith, before, after);
+}
+
+-- after an event that isn't a finish
+pub continues_after : OthersCountNothing → (event : Event) → is_finish event ≡ false → (old new : MachineState) →
+    IsKept old → new ≡ machine_after event old → Continues old new
+continues_after others event other old new kept new_is = record {
+  rule = ap (λ (m : MachineState). m.rule) new_is;
+  tasks = ap (λ (m : MachineState). m.tasks) new_is;
+  no_less = let same = ap executed_sum new_is ∙ others old kept event other in omega (arith, same);
+}
+
+-- after events
+pub continues_by : EventsKeepCounts → (old new : MachineState) → IsKept old → Leads old new → Continues old new
+continues_by keep old new kept leads =
+    record { rule = leads.3; tasks = leads.1; no_less = keep old new kept leads }
+
+-- a desk that serves each job goes on doing so
+pub words_on : (old new : MachineState) (words desk : ℕ) → Continues old new → desk ≡ words →
+    All (λ task. task.limits.words ≤ words) old.tasks → All (λ task. task.limits.words ≤ desk) new.tasks
+words_on old new words desk same desk_is all =
+    subst (λ (k : ℕ). All (λ task. task.limits.words ≤ k) new.tasks) (sym desk_is)
+    (subst (λ (ts : List Task). All (λ task. task.limits.words ≤ words) ts) (sym same.tasks) all)

@@ -1,5 +1,5 @@
 -- Steps of the jobs of one machine.
-use Rattle.std.specs.Prelude.{◌≡◌, ℕ, ℤ, ⊤, List, Some, refl}
+use Rattle.std.specs.Prelude.{◌≡◌, ℤ, ⊤, List, Some, refl}
 use Rattle.std.specs.Coded.{Coded, code_by, coded_ℤ, coded×, coded_list}
 use Rattle.vcode_base.specs.declared.op.Op.{Op}
 use Rattle.job_steps.specs.Questions.{Question}

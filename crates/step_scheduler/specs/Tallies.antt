@@ -51,3 +51,9 @@ EventsKeepCounts = (old new : MachineState) → IsKept old → Leads old new →
 -- each job executes at most the greatest budget
 abbrev pub CountsAreWithin : Type 0
 CountsAreWithin = (m : MachineState) → IsKept m → executed_sum m ≤ length m.tasks * MOST_BUDGET
+
+-- the same jobs by the same rule, which have executed no less
+pub record Continues (old new : MachineState) : Type 0 where
+  pub rule : new.rule ≡ old.rule
+  pub tasks : new.tasks ≡ old.tasks
+  pub no_less : executed_sum old ≤ executed_sum new

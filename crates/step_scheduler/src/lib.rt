@@ -12,6 +12,7 @@
 
 mod counts;
 mod estimate;
+mod first;
 mod gate;
 mod guarded;
 mod own;

@@ -154,6 +154,11 @@ impl<A: Allocator> WorkerPool<A> {
         self.begun >= TO_DECIDE && !self.estimate.pays(self.workers.min(self.runnable()))
     }
 
+    /// How many workers are to be started: no more than there are jobs.
+    pub(crate) fn crew(&self) -> usize {
+        self.workers.min(self.admitted.saturating_add(self.waiting))
+    }
+
     /// How many jobs can run beside one another, as far as is known.
     fn runnable(&self) -> usize {
         if self.full {

@@ -1,11 +1,12 @@
 //! A run of a machine's jobs by workers.
 
-ghost use Rattle.std.specs.Prelude.{◌≡◌, ◌+◌, ◌≤◌, sum, vec_len, All, IfOk, OnOk, IsErrOf};
-ghost use Rattle.vcode_base.specs.declared.limits.TheConstants.{MOST_WORKERS};
+ghost use Rattle.std.specs.Prelude.{◌≡◌, ◌+◌, ◌*◌, ◌≤◌, sum, vec_len, All, IfOk, OnOk, IsErrOf};
+ghost use Rattle.vcode_base.specs.declared.limits.TheConstants.{MOST_BUDGET, MOST_JOBS, MOST_WORKERS};
 ghost use Rattle.job_steps.specs.Standings.{Collected};
 ghost use Rattle.step_scheduler.specs.Tallies.{executed_sum};
 
 use crate::counts::{count_laws, executed_in_all};
+use crate::first::run_first;
 use crate::gate::Gate;
 use crate::guarded::{GuardedMachine, Opening, WorkerShare};
 use crate::pool::WorkerPool;
@@ -23,18 +24,21 @@ use std::thread::Threads;
 
 /// Runs all jobs of a machine on at most so many worker threads, 1 to 16, and collects them.
 ///
-/// Steps that have begun are given up first. A worker that can't be started, or that memory is refused to, is missed.
-/// If after about a thousand steps the calling thread alone would take less time, as for short steps, the workers end.
-/// What the workers leave is run out on the calling thread, without calls of the gate.
+/// Steps that have begun are given up first. The calling thread runs one job after another itself, until two jobs can
+/// run beside one another. Then it starts workers, as many as there are jobs left at most. So it runs all jobs if one
+/// worker is asked for. A worker that can't be started, or that memory is refused to, is missed. If after about a
+/// thousand steps the calling thread alone would take less time, as for short steps, the workers end. What they leave
+/// is run out on the calling thread, without calls of the gate.
 ///
 /// The machine that comes back has the rule and the jobs of the one that was given, in order, all collected. The tally
-/// has a number for each worker; they and the caller's add up to the instructions that the jobs executed by this call.
+/// has a number for each worker, 0 if it wasn't started; they and the caller's add up to the instructions that the jobs
+/// executed by this call.
 ///
 /// # Errors
 ///
-/// [`RunFault::Memory`] if memory was refused for a desk of the calling thread or for the tally, or for the results of
-/// a job both to a worker and to the calling thread. The machine is dropped then. [`RunFault::Mixed`] is never
-/// answered: the machine that the workers leave has the jobs that were given, by its type.
+/// [`RunFault::Memory`] if memory was refused for the desk of the calling thread or for the tally, or for the results
+/// of a job when the calling thread tried last. The machine is dropped then. [`RunFault::Mixed`] is never answered: the
+/// machine that the workers leave has the jobs that were given, by its type.
 pub fn run_workers<A, R, G>(
     rt: &R,
     alloc: A,
@@ -53,58 +57,32 @@ where
     ensures workers { IfOk result (λ ran. vec_len ran.1.workers ≡ workers) }
     ensures counted { IfOk result (λ ran. executed_sum ran.0
         ≡ executed_sum machine + (sum ran.1.workers.items + ran.1.caller)) }
-{
-    let blank = Blank::new(workers as u64 + 1);
-    run_under::<Brand, A, R, G>(rt, alloc, machine, workers, gate, blank)
-}
-
-/// The run, over a ledger with a part for each worker and one for the calling thread.
-fn run_under<L, A, R, G>(
-    rt: &R,
-    alloc: A,
-    machine: Machine<A>,
-    workers: usize,
-    gate: &G,
-    blank: Blank,
-) -> Result<(Machine<A>, Tally<A>), RunFault>
-where
-    L: Opening + Send + Sync,
-    A: Allocator + Copy + Send + Sync,
-    R: Threads + Wait + Sync,
-    G: Gate + Sync,
-    requires workers { workers ≤ MOST_WORKERS }
-    requires name { blank.name ≡ L.name }
-    requires parts { (blank.parts ≡ L.parts) × (blank.parts ≡ workers + 1) }
-    requires before { executed_sum machine ≡ L.executed_before }
-    requires rule { machine.rule ≡ L.given_rule }
-    requires tasks { machine.tasks ≡ L.given_tasks }
-    ensures rule { IfOk result (λ ran. ran.0.rule ≡ machine.rule) }
-    ensures jobs { IfOk result (λ ran. ran.0.tasks ≡ machine.tasks) }
-    ensures collected { IfOk result (λ ran. All (λ standing. standing ≡ Collected) ran.0.standings) }
-    ensures workers { IfOk result (λ ran. vec_len ran.1.workers ≡ workers) }
-    ensures counted { IfOk result (λ ran. executed_sum ran.0
-        ≡ executed_sum machine + (sum ran.1.workers.items + ran.1.caller)) }
     ensures never_mixed { IsErrOf result RunFault.Mixed → ⊥ }
 {
-    let desk = Desk::new(alloc, machine.most_words())?;
-    let (mut machine, workers) = run_threads::<L, A, R, G>(
-        rt, alloc, machine, workers, gate, blank,
+    let mut machine = machine;
+    let mut desk = Desk::new(alloc, machine.most_words())?;
+    let (first, starts) = run_first(&mut machine, &mut desk, workers);
+    let blank = Blank::new(workers as u64 + 1);
+    let (mut machine, workers) = run_threads::<Brand, A, R, G>(
+        rt, alloc, machine, workers, starts, gate, blank,
     )?;
-    let caller = run_out(&mut machine, desk)?;
+    let rest = run_out(&mut machine, desk)?;
+    let caller = first + rest;
     Ok((machine, Tally { workers, caller }))
 }
 
-/// Gives up the steps that have begun, and lets workers run the machine's jobs: the machine that they leave, and how
-/// many instructions each of them has executed.
+/// Gives up the steps that have begun, and lets workers run the machine's jobs, if they are to be started: the machine
+/// that they leave, and how many instructions each of them has executed.
 ///
 /// # Errors
 ///
-/// [`AllocError`] where memory for the pool, for the workers' shares or for their counts was refused.
+/// [`AllocError`] if memory for the pool, for the workers' shares or for their counts was refused.
 fn run_threads<L, A, R, G>(
     rt: &R,
     alloc: A,
     machine: Machine<A>,
     workers: usize,
+    starts: bool,
     gate: &G,
     blank: Blank,
 ) -> Result<(Machine<A>, Vec<u64, A>), AllocError>
@@ -129,10 +107,11 @@ where
     count_laws();
     machine.recall_all();
     let pool = WorkerPool::new(alloc, &machine, workers)?;
+    let crew = if starts { pool.crew() } else { 0 };
     let (book, mut all) = blank.open::<L>();
     let mut shares = split_shares(alloc, &mut all, workers)?;
     let shared = SharedMachine::new(GuardedMachine::new(machine, book), pool, words);
-    start_workers(rt, alloc, &shared, gate, &mut shares);
+    start_workers(rt, alloc, &shared, gate, &mut shares, crew);
     take_back(alloc, shared.into_inner(), all, shares)
 }
 
@@ -161,13 +140,15 @@ fn take_back<L: Opening, A: Allocator>(
     Ok((machine, workers))
 }
 
-/// Starts a worker for each share, and waits until all are done. One that can't be started is missed.
+/// Starts a worker for each of the first `crew` shares, and waits until all are done. One that can't be started is
+/// missed.
 fn start_workers<L, A, R, G>(
     rt: &R,
     alloc: A,
     shared: &SharedMachine<L, A>,
     gate: &G,
     shares: &mut Vec<WorkerShare<L>, A>,
+    crew: usize,
 )
 where
     L: Opening + Send + Sync,
@@ -176,7 +157,8 @@ where
     G: Gate + Sync,
     ensures { vec_len shares.new ≡ vec_len shares.old }
 {
-    let shares = shares.as_mut_slice();
+    let count = crew.min(shares.len());
+    let shares = &mut shares.as_mut_slice()[..count];
     thread::scope(thread::scope_env(), rt, |scope| {
         for mine in shares.iter_mut() {
             let _ = scope.spawn(move || work(rt, alloc, shared, gate, mine));
@@ -195,6 +177,7 @@ fn run_out<A: Allocator + Clone>(machine: &mut Machine<A>, desk: Desk<A>) -> Res
     ensures jobs { machine.new.tasks ≡ machine.old.tasks }
     ensures collected { OnOk result (All (λ standing. standing ≡ Collected) machine.new.standings) }
     ensures counted { IfOk result (λ count. executed_sum machine.new ≡ executed_sum machine.old + count) }
+    ensures within { IfOk result (λ count. count ≤ MOST_JOBS * MOST_BUDGET) }
 {
     count_laws();
     let _jobs = machine.jobs();

@@ -103,6 +103,16 @@ fn by_workers(tally: &Tally<Global>) -> u64 {
     sum
 }
 
+/// What the workers and the calling thread have executed, if this many workers were asked for: the workers have executed
+/// all, but one alone isn't started.
+fn shared(workers: usize, executed: u64) -> (u64, u64) {
+    if workers > 1 {
+        (executed, 0)
+    } else {
+        (0, executed)
+    }
+}
+
 /// These workers execute what the twelve jobs execute.
 fn execute_the_twelve<R>(rt: &R, alloc: Global, workers: usize) -> Result<(), Fail>
 where
@@ -111,10 +121,8 @@ where
 {
     let (machine, tally) = run_of_twelve(rt, alloc, "", workers)?;
     assert!(rt; are_the_twelve(&machine, &EXECUTED_BY_TWELVE));
-    assert_eq!(rt;
-        (tally.workers.len(), by_workers(&tally), tally.caller),
-        (workers, 35, 0)
-    );
+    assert_eq!(rt; tally.workers.len(), workers);
+    assert_eq!(rt; (by_workers(&tally), tally.caller), shared(workers, 35));
     Ok(())
 }
 
@@ -134,7 +142,7 @@ where
     let (machine, tally) = run_of_twelve(rt, alloc, SECOND_RULE, workers)?;
     assert_eq!(rt; machine.rule(), Rule::Second);
     assert!(rt; are_the_twelve(&machine, &EXECUTED_BY_THE_SECOND_RULE));
-    assert_eq!(rt; (by_workers(&tally), tally.caller), (40, 0));
+    assert_eq!(rt; (by_workers(&tally), tally.caller), shared(workers, 40));
     Ok(())
 }
 
@@ -158,8 +166,8 @@ fn first_step(
     }
 }
 
-/// A worker runs the jobs of a machine, the first of which has begun its first step.
-fn a_worker_runs_two<R>(
+/// Workers run the jobs of a machine, the first of which has begun its first step.
+fn workers_run_two<R>(
     rt: &R,
     alloc: Global,
     machine: Machine<Global>,
@@ -167,7 +175,7 @@ fn a_worker_runs_two<R>(
 where
     R: Abort + Threads + Wait + Sync,
 {
-    let (machine, tally) = ran(rt, alloc, machine, 1, &NoGate)?;
+    let (machine, tally) = ran(rt, alloc, machine, 2, &NoGate)?;
     assert_eq!(rt; machine.executed(1), Some(EXECUTED_BY_TWO[0]));
     assert_eq!(rt; (by_workers(&tally), tally.caller), (6, 0));
     Ok(machine)
@@ -177,7 +185,7 @@ where
 fn a_step_that_has_begun_is_given_up(rt: HostRuntime) -> Result<(), Fail> {
     let mut machine = machine(rt.alloc(), TWO_JOBS)?;
     let filled = first_step(&rt, rt.alloc(), &mut machine)?;
-    let mut machine = a_worker_runs_two(&rt, rt.alloc(), machine)?;
+    let mut machine = workers_run_two(&rt, rt.alloc(), machine)?;
     let (finished, _) = machine.finish(filled);
     assert_eq!(rt; finished, Finished::Stale);
     Ok(())

@@ -1,4 +1,4 @@
-//! Runs of a machine by a worker, of which each growth is refused in turn.
+//! Runs of a machine by two workers, of which each growth is refused in turn.
 
 use crate::heaps::{Heap, MOST_GROWTHS};
 use crate::machines::{HeapMachine, machine};
@@ -31,13 +31,15 @@ fn have_run(rt: &impl Abort, machine: &HeapMachine<'_>, tally: &Tally<&Heap>) {
 
 /// How many instructions the calling thread executes beside a worker that runs the two jobs, or None if the run answers
 /// that memory was refused.
+/// How many instructions the calling thread executes beside two workers that run the two jobs, or None if the run
+/// answers that memory was refused.
 fn by_caller<R>(rt: &R, heap: &Heap, growth: u64) -> Result<Option<u64>, Fail>
 where
     R: Abort + Threads + Wait + Sync,
 {
     let machine = machine(heap, TWO_JOBS)?;
     heap.refuse(growth);
-    match run_workers(rt, heap, machine, 1, &NoGate) {
+    match run_workers(rt, heap, machine, 2, &NoGate) {
         Ok((machine, tally)) => {
             have_run(rt, &machine, &tally);
             Ok(Some(tally.caller))
@@ -56,14 +58,24 @@ where
     R: Abort + Threads + Wait + Sync,
 {
     let mut is_tried_again = false;
+/// A worker that has executed all is refused memory for a collection. The calling thread tries it once more.
+///
+/// The calling thread executes nothing either if memory for the desk of one of the workers is refused. So two of the
+/// refusals show nothing.
+#[test]
+fn a_refused_collection_is_tried_once_more(rt: HostRuntime) -> Result<(), Fail> {
+    let heap = RefusingHeap::new(rt.alloc());
+    let mut tried_again = 0u32;
     for growth in 1..MOST_GROWTHS {
         let caller = by_caller(rt, heap, growth)?;
         assert_eq!(rt; heap.live_bytes(), 0);
         if !heap.has_refused() {
-            assert!(rt; is_tried_again);
+            assert!(rt; tried_again > 2);
             return Ok(());
         }
-        is_tried_again |= caller == Some(0);
+        if caller == Some(0) {
+            tried_again = tried_again.wrapping_add(1);
+        }
     }
     Err(Fail::from("a run asks for more growths"))
 }
