@@ -17,6 +17,7 @@ mod LettingGo
 mod Moves
 mod OneGo
 mod Operands
+mod Pictures
 mod Placed
 mod Results
 mod Reversed
