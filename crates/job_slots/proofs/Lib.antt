@@ -18,6 +18,7 @@ mod LettingGo
 mod Moves
 mod OneGo
 mod Operands
+mod Pictures
 mod Placed
 mod Results
 mod Reversed

@@ -1,6 +1,7 @@
 //! Laws of slots. Each function does nothing, and its contract is the law.
 
 ghost use Rattle.job_slots.specs.Laws.{ShownIsAlone, OthersAreShown, NewIsShown, RecalledIsShown};
+ghost use Rattle.job_slots.specs.Laws.{ShownAreLive, ShownAreReached};
 
 use job_steps::laws::{each_ends, reached};
 
@@ -26,4 +27,15 @@ pub fn new_is_shown()
 /// A slot whose step is given up shows its job's standing before the step.
 pub fn recalled_is_shown()
     ensures { RecalledIsShown }
+{}
+
+/// The cells of a slot that shows its job's standing name blocks that are there.
+pub fn shown_are_live()
+    ensures { ShownAreLive }
+{}
+
+/// A slot that shows a live job is at the state that the job reaches alone, by its counts, its calls, and the words of
+/// its entries.
+pub fn shown_are_reached()
+    ensures { ShownAreReached }
 {}

@@ -769,4 +769,11 @@ impl<A: Allocator> Slot<A> {
         let _used = blocks.used();
         self.track.clear();
     }
+
+    /// Its place in its run.
+    pub fn track(&self) -> &Track<BlockId, A>
+        ensures { result.now ≡ self.now.trace }
+    {
+        &self.track
+    }
 }

@@ -10,6 +10,7 @@ mod Happenings
 mod Held
 mod Kept
 mod KindLemmas
+mod LeastLimits
 mod OpLemmas
 mod Passes
 mod Passing

@@ -3,6 +3,7 @@ pub mod EventLaws
 pub mod Events
 pub mod Frames
 pub mod Jobs
+pub mod LeastLimits
 pub mod Motions
 pub mod Piles
 pub mod Questions

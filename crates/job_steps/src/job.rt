@@ -76,4 +76,13 @@ impl<A: Allocator> Job<A> {
     {
         self.limits
     }
+
+    /// The same job within other limits.
+    pub fn with_limits(self, limits: Limits) -> Job<A>
+        ensures { result ≡ record self { limits = limits } }
+    {
+        let mut job = self;
+        job.limits = limits;
+        job
+    }
 }

@@ -2,6 +2,7 @@
 
 ghost use Rattle.std.specs.Prelude.{◌≡◌, ◌↔◌, IsTrue};
 ghost use Rattle.job_steps.specs.Frames.{EachLineRemains};
+ghost use Rattle.job_steps.specs.LeastLimits.{UsedAreLeast};
 ghost use Rattle.job_steps.specs.Reached.{Reaches, NeverStuck, EndsOnce, EachEnds, EndIsOwn};
 ghost use Rattle.job_steps.specs.Reached.{ResultsHaveKinds, ValuesHaveKinds};
 ghost use Rattle.job_steps.specs.RuleLaws.{SecondRuleEndsAlike, SecondRuleGoesAsFar};
@@ -293,3 +294,14 @@ pub fn leads_join()
 pub fn recalls_are_events()
     ensures { RecallsAreEvents }
 {}
+
+/// A verified job that returns does so within other limits exactly if they are at least the most words, entries and
+/// calls that it has and the instructions that it executes. Within such limits its run is the same.
+pub fn used_are_least()
+    ensures { UsedAreLeast }
+{
+    never_stuck();
+    reached();
+    each_ends();
+    end_is_own();
+}

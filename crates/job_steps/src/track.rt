@@ -164,6 +164,13 @@ impl<C: Copy, A: Allocator> Track<C, A> {
     {
         self.cells.clear();
     }
+
+    /// The places at which the active calls go on, that of the innermost last.
+    pub fn frames(&self) -> &[Frame]
+        ensures { result.now ≡ reverse self.now.frames }
+    {
+        self.frames.as_slice()
+    }
 }
 
 /// The entries that an instruction takes go, and its results come in their place.

@@ -1,0 +1,443 @@
+-- A verified job that returns does so within other limits exactly if they are at least what it uses.
+use Rattle.std.proofs.Common.{◌≡◌, ℕ, zero, suc, ◌+◌, ◌-◌, ◌≤◌, max, Bool, true, false, cond, eqb, ltb, List, []}
+use Rattle.std.proofs.Common.{◌∷◌, length, Option, Some, None, refl, sym, ◌∙◌, ap, subst, arith}
+use Rattle.std.specs.Prelude.{◌&&◌}
+use Rattle.std.proofs.Math.Nat.{le-max_left, le-max_right, max-le}
+use Rattle.std.proofs.lemmas.Bool.Decides.{nat_tests}
+use Rattle.vcode_base.specs.declared.instr.Instr.TheVariants.{Const, Elementwise, Segmented, If, Move, Call, Return}
+use Rattle.vcode_base.specs.declared.limits.Limits.{Limits}
+use Rattle.vcode_base.specs.declared.op.Op.{Op}
+use Rattle.vcode_base.specs.declared.outcome.Outcome.{Outcome}
+use Rattle.vcode_base.specs.declared.fault.MemoryFault.TheVariants.{Words, Cells, Calls}
+use Rattle.vcode_base.specs.declared.outcome.Outcome.TheVariants.{Budget}
+use Rattle.vcode_base.specs.Instructions.{op_of}
+use Rattle.vcode_base.specs.Meaning.{value_fault}
+use Rattle.vcode_reader.specs.Trees.{Item, Body, End, Do, Choice}
+use Rattle.verifier.specs.Typed.{TypedProgram}
+use Rattle.job_steps.specs.EventLaws.{IsVerified}
+use Rattle.job_steps.specs.LeastLimits.{cells_in, calls_in, most_until, most_cells, most_calls, AreEnough, with_limits}
+use Rattle.job_steps.specs.LeastLimits.{RunAlike, IsReturn, UsedAreLeast}
+use Rattle.job_steps.specs.Motions.{depth_after}
+use Rattle.job_steps.specs.Reached.{NeverStuck, Reaches, EachEnds, EndIsOwn}
+use Rattle.job_steps.specs.Runs.{progress_from, state_after, whole_run, outcome, executed_count, peak}
+use Rattle.job_steps.specs.States.{Vector, Task, Active, State, Callee, callee_named, calls_with, new_entries}
+use Rattle.job_steps.specs.Steps.{Progress, Running, Over, Stuck, next_item, sources_of, question_of, results_of}
+use Rattle.job_steps.specs.Steps.{flag_of, can_call, can_run, words_at, is_call, memory_fault, early_ending, ending_by}
+use Rattle.job_steps.specs.Steps.{calls_past, calls_after}
+use Rattle.job_steps.specs.Steps.{progress_past, progress_by, progress_unless, progress_in, next_progress}
+use Rattle.job_steps.proofs.Bounds.{Fits, neither}
+use Rattle.job_steps.proofs.Progresses.{item_of, calls_then, Passes, IsNoReturn, Goes, Ends, Idles, Blocks, Executes}
+use Rattle.job_steps.proofs.Progresses.{goes}
+use Rattle.job_steps.proofs.StackLemmas.{deep_of, length-stack_after, length-results}
+
+-- ---- a step that passes
+
+abbrev past : Task → State → Active → List Active → Progress
+past task s call outer = progress_past task.rule (item_of call) s (calls_then task s call outer)
+
+-- an instruction that passes all that is checked is executed
+passes_past : (task : Task) (s : State) (call : Active) (outer : List Active) → Passes task s call outer →
+    next_progress task s ≡ past task s call outer
+unfolding next_progress
+passes_past task s call outer p =
+    let late = value_fault (op_of (item_of call)) (sources_of (item_of call) s.stack) in
+    let next = progress_by task.rule late (next_item call) s (calls_then task s call outer) in
+    ap (λ b. cond b (Over Budget s.executed s.peak) (progress_in task s s.calls)) p.unspent
+    ∙ (ap (progress_in task s) p.calls
+    ∙ (ap (λ b. cond b (progress_unless (early_ending task (next_item call) s) s next) Stuck) p.runs
+    ∙ (ap (λ o. progress_unless o s next) p.early
+    ∙ ap (λ o. progress_by task.rule o (next_item call) s (calls_then task s call outer)) p.late)))
+
+not_less : (limit n : ℕ) → n ≤ limit → ltb limit n ≡ false
+not_less limit n h = grind (arith, nat_tests, h)
+
+and_false : (a b : Bool) → (a ≡ true → b ≡ false) → (a && b) ≡ false
+and_false true b h = h refl
+and_false false b h = refl
+
+-- nothing is refused of what fits
+no_fault : (limits : Limits) (op : Op) (words depth calls : ℕ) → Fits limits op words depth calls →
+    memory_fault limits op words depth calls ≡ None
+unfolding memory_fault
+no_fault limits op words depth calls f =
+    let called = and_false (is_call op) (ltb limits.calls (calls + 1))
+    (λ h. not_less limits.calls (calls + 1) (f.calls_fit h)) in
+    let w = not_less limits.words words f.words_fit in
+    let c = not_less limits.cells depth f.cells_fit in
+    (λ i. cond (w i) (Some Words) (cond (c i) (Some Cells) (cond (called i) (Some Calls) None)))
+
+-- the same instruction passes within other limits, if it fits
+passes_within : (task : Task) (limits : Limits) (s : State) (call : Active) (outer : List Active) →
+    Passes task s call outer → eqb s.executed limits.budget ≡ false →
+    Fits limits (op_of (item_of call)) (words_at task.rule (item_of call) s)
+    (depth_after (op_of (item_of call)) (length s.stack)) (length s.calls) →
+    Passes (with_limits limits task) s call outer
+passes_within task limits s call outer p unspent f =
+    let shaped = (neither (next_item call).number _ _ p.early).0 in
+    let free = no_fault limits _ _ _ _ f in
+    record {
+      calls = p.calls;
+      unspent = unspent;
+      runs = p.runs;
+      early = (λ i. ending_by (next_item call).number (shaped i) (free i));
+      late = p.late;
+    }
+
+-- ---- a job that returns
+
+-- it is verified, and returns
+record Returns (task : Task) : Type 0 where
+  verified : IsVerified task
+  is_return : IsReturn (outcome task)
+
+-- its next instruction is executed
+record Executing (task : Task) (s : State) : Type 0 where
+  call : Active
+  outer : List Active
+  passes : Passes task s call outer
+
+no_return : (ending : Outcome (List Vector)) → IsNoReturn ending → IsReturn ending → ⊥
+no_return ending none (values, is) = subst IsNoReturn is none
+
+executing_by : NeverStuck → EndIsOwn → (task : Task) → Returns task → (n : ℕ) (s : State) →
+    (p : Progress) → state_after task (suc n) ≡ p → Goes task s p → Executing task s
+executing_by stuck own task r n s p next (Ends ending none is) =
+    let same = own task (suc n) ending s.executed s.peak (next ∙ is) in
+    absurd (no_return ending none (subst IsReturn same.0 r.is_return))
+executing_by stuck own task r n s p next (Idles none is) =
+    absurd (stuck r.verified.0 task r.verified.1 (suc n) (next ∙ is))
+executing_by stuck own task r n s p next (Blocks call outer calls blocked is) =
+    absurd (stuck r.verified.0 task r.verified.1 (suc n) (next ∙ is))
+executing_by stuck own task r n s p next (Executes call outer passes is) =
+    record { call = call; outer = outer; passes = passes }
+
+-- at each state in which it runs
+executing : NeverStuck → EndIsOwn → (task : Task) → Returns task → (n : ℕ) (s : State) →
+    state_after task n ≡ Running s → Executing task s
+executing stuck own task r n s e =
+    executing_by stuck own task r n s (next_progress task s) (ap (progress_from task) e) (goes task s)
+
+-- ---- what is used grows
+
+-- at least so many instructions and so many words are counted, unless the job can't go on
+abbrev HasCounted : (least_count least_peak : ℕ) → Progress → Type 0
+HasCounted x m (Running s) = (x ≤ s.executed) × (m ≤ s.peak)
+HasCounted x m (Over ending y p) = (x ≤ y) × (m ≤ p)
+HasCounted x m Stuck = Unit {0}
+
+counted_past : (rule : _) (x m : ℕ) (s : State) (item : Item) (calls : List Active) →
+    x ≤ s.executed + 1 → m ≤ max s.peak (words_at rule item s) → HasCounted x m (progress_past rule item s calls)
+counted_past rule x m s item [] h k = (h, k)
+counted_past rule x m s item (call ∷ outer) h k = (h, k)
+
+more : (a b w : ℕ) → a ≤ b → a ≤ max b w
+more a b w h = omega (arith, h, le-max_left b w)
+
+counted_by : (task : Task) (x m : ℕ) (s : State) (p : Progress) → x ≤ s.executed → m ≤ s.peak → Goes task s p →
+    HasCounted x m p
+counted_by task x m s p h k (Ends ending early is) = subst (HasCounted x m) (sym is) (h, k)
+counted_by task x m s p h k (Idles none is) = subst (HasCounted x m) (sym is) tt
+counted_by task x m s p h k (Blocks call outer calls blocked is) = subst (HasCounted x m) (sym is) tt
+counted_by task x m s p h k (Executes call outer passes is) =
+    subst (HasCounted x m) (sym is)
+    (counted_past task.rule x m s (item_of call) (calls_then task s call outer) (omega arith)
+    (more m s.peak (words_at task.rule (item_of call) s) k))
+
+counted_from : (task : Task) (x m : ℕ) (p : Progress) → HasCounted x m p → HasCounted x m (progress_from task p)
+counted_from task x m (Running s) h = counted_by task x m s (next_progress task s) h.0 h.1 (goes task s)
+counted_from task x m (Over ending y p) h = h
+counted_from task x m Stuck h = tt
+
+counted_later : (task : Task) (x m n : ℕ) → HasCounted x m (state_after task n) → (k : ℕ) →
+    HasCounted x m (state_after task (n + k))
+counted_later task x m n h zero =
+    let same : n ≡ n + 0 = omega arith in subst (λ i. HasCounted x m (state_after task i)) same h
+counted_later task x m n h (suc k) =
+    let same : suc (n + k) ≡ n + suc k = omega arith in
+    subst (λ i. HasCounted x m (state_after task i)) same
+    (counted_from task x m (state_after task (n + k)) (counted_later task x m n h k))
+
+-- the whole run has counted what is counted after n steps
+counted_whole : EachEnds → (task : Task) → IsVerified task → (x m n : ℕ) → n ≤ task.limits.budget + 1 →
+    HasCounted x m (state_after task n) → (x ≤ executed_count task) × (m ≤ peak task)
+unfolding whole_run
+counted_whole ends task v x m n h counted =
+    let same : n + ((task.limits.budget + 1) - n) ≡ task.limits.budget + 1 = omega arith in
+    let whole : HasCounted x m (whole_run task) =
+    subst (λ i. HasCounted x m (state_after task i)) same
+    (counted_later task x m n counted ((task.limits.budget + 1) - n)) in
+    subst (HasCounted x m) (ends v.0 task v.1).over whole
+
+-- ---- the most of a number
+
+most_here : (f : Progress → ℕ) (task : Task) (n : ℕ) → f (state_after task n) ≤ most_until f task n
+most_here f task zero = omega arith
+most_here f task (suc n) = le-max_right (most_until f task n) (f (state_after task (suc n)))
+
+most_later : (f : Progress → ℕ) (task : Task) (n k : ℕ) → f (state_after task n) ≤ most_until f task (n + k)
+most_later f task n zero =
+    let same : n ≡ n + 0 = omega arith in
+    subst (λ i. f (state_after task n) ≤ most_until f task i) same (most_here f task n)
+most_later f task n (suc k) =
+    let same : suc (n + k) ≡ n + suc k = omega arith in
+    subst (λ i. f (state_after task n) ≤ most_until f task i) same
+    (omega (arith, most_later f task n k, le-max_left (most_until f task (n + k)) (f (state_after task (suc (n + k))))))
+
+most_reached : (f : Progress → ℕ) (task : Task) (n last : ℕ) → n ≤ last →
+    f (state_after task n) ≤ most_until f task last
+most_reached f task n last h =
+    let same : n + (last - n) ≡ last = omega arith in
+    subst (λ i. f (state_after task n) ≤ most_until f task i) same (most_later f task n (last - n))
+
+most_within : (f : Progress → ℕ) (task : Task) (limit : ℕ) → ((n : ℕ) → f (state_after task n) ≤ limit) → (n : ℕ) →
+    most_until f task n ≤ limit
+most_within f task limit each zero = each zero
+most_within f task limit each (suc n) = max-le (most_within f task limit each n) (each (suc n))
+
+most_same : (f : Progress → ℕ) (old new : Task) → ((n : ℕ) → state_after new n ≡ state_after old n) → (n : ℕ) →
+    most_until f new n ≡ most_until f old n
+most_same f old new same zero = ap f (same zero)
+most_same f old new same (suc n) = (λ i. max (most_same f old new same n i) (f (same (suc n) i)))
+
+-- ---- an instruction's room is that of the states before and after it
+
+none : {T : Type 0} (x : T) (xs : List T) → x ∷ xs ≡ [] → ⊥
+none x xs e = cc
+
+never_call : (b : Bool) → b ≡ false → b ≡ true → ⊥
+never_call b e h = let g : false ≡ true = sym e ∙ h in cc
+
+called_some : (o : Option Callee) (calls : List Active) → calls_with o calls ≡ [] → calls ≡ []
+called_some None calls e = e
+called_some (Some callee) calls e = absurd (none _ calls e)
+
+-- only a return leaves no call
+flat_past : (verified : TypedProgram) (item : Item) (call : Active) (outer : List Active) (depth : ℕ) →
+    calls_past verified item call outer ≡ [] → depth_after (op_of item) depth ≤ depth
+flat_past verified (Const k list) call outer depth e = absurd (none call outer e)
+flat_past verified (Elementwise x) call outer depth e = absurd (none call outer e)
+flat_past verified (Segmented x) call outer depth e = absurd (none call outer e)
+flat_past verified If call outer depth e = absurd (none call outer e)
+flat_past verified (Move motion lower upper) call outer depth e = absurd (none call outer e)
+flat_past verified (Call name) call outer depth e =
+    absurd (none call outer (called_some (callee_named verified name) (call ∷ outer) e))
+flat_past verified Return call outer depth e = omega arith
+
+flat_after : (verified : TypedProgram) (flag : Bool) (body : Body) (ret : ℕ) (outer : List Active) (depth : ℕ) →
+    calls_after verified flag body ret outer ≡ [] →
+    depth_after (op_of (item_of (record { rest = body; ret = ret }))) depth ≤ depth
+flat_after verified flag End ret outer depth e = omega arith
+flat_after verified flag (Do item line rest) ret outer depth e =
+    flat_past verified item (record { rest = rest; ret = ret }) outer depth e
+flat_after verified flag (Choice line first second end rest) ret outer depth e = absurd (none _ outer e)
+
+cells_past : (task : Task) (s : State) (call : Active) (outer : List Active) → Passes task s call outer →
+    (calls : List Active) → calls_then task s call outer ≡ calls → (most : ℕ) → length s.stack ≤ most →
+    cells_in (progress_past task.rule (item_of call) s calls) ≤ most →
+    depth_after (op_of (item_of call)) (length s.stack) ≤ most
+cells_past task s call outer p [] is most before after =
+    omega (arith, before, flat_after task.verified _ call.rest call.ret outer (length s.stack) is)
+cells_past task s call outer p (last ∷ others) is most before after =
+    let q = question_of (item_of call) s.stack in
+    subst (λ m. m ≤ most)
+    (length-stack_after (op_of (item_of call)) (new_entries s.next (results_of q)) s.stack (length-results s.next q)
+    (deep_of task.verified (item_of call) s.stack p.runs)) after
+
+called_more : (o : Option Callee) (stack : _) (calls : List Active) → can_call o stack ≡ true →
+    length (calls_with o calls) ≡ length calls + 1
+called_more None stack calls runs = absurd (let g : false ≡ true = runs in cc)
+called_more (Some callee) stack calls runs = omega arith
+
+more_past : (verified : TypedProgram) (item : Item) (stack : _) (call : Active) (outer : List Active) →
+    can_run verified item stack ≡ true → is_call (op_of item) ≡ true →
+    length (calls_past verified item call outer) ≡ suc (length outer) + 1
+more_past verified (Const k list) stack call outer runs h = absurd (never_call false refl h)
+more_past verified (Elementwise x) stack call outer runs h = absurd (never_call false refl h)
+more_past verified (Segmented x) stack call outer runs h = absurd (never_call false refl h)
+more_past verified If stack call outer runs h = absurd (never_call false refl h)
+more_past verified (Move motion lower upper) stack call outer runs h = absurd (never_call false refl h)
+more_past verified (Call name) stack call outer runs h =
+    called_more (callee_named verified name) stack (call ∷ outer) runs
+more_past verified Return stack call outer runs h = absurd (never_call false refl h)
+
+more_after : (verified : TypedProgram) (flag : Bool) (body : Body) (ret : ℕ) (stack : _) (outer : List Active) →
+    can_run verified (item_of (record { rest = body; ret = ret })) stack ≡ true →
+    is_call (op_of (item_of (record { rest = body; ret = ret }))) ≡ true →
+    length (calls_after verified flag body ret outer) ≡ suc (length outer) + 1
+more_after verified flag End ret stack outer runs h = absurd (never_call false refl h)
+more_after verified flag (Do item line rest) ret stack outer runs h =
+    more_past verified item stack (record { rest = rest; ret = ret }) outer runs h
+more_after verified flag (Choice line first second end rest) ret stack outer runs h = absurd (never_call false refl h)
+
+calls_of_past : (task : Task) (s : State) (item : Item) (calls : List Active) (n : ℕ) → length calls ≡ n + 1 →
+    calls_in (progress_past task.rule item s calls) ≡ n + 1
+calls_of_past task s item [] n e = absurd (omega (arith, e))
+calls_of_past task s item (last ∷ others) n e = e
+
+calls_then_more : (task : Task) (s : State) (call : Active) (outer : List Active) → Passes task s call outer →
+    is_call (op_of (item_of call)) ≡ true → calls_in (past task s call outer) ≡ length s.calls + 1
+calls_then_more task s call outer p h =
+    let grown = more_after task.verified (flag_of (question_of (item_of call) s.stack)) call.rest call.ret s.stack outer
+    p.runs h in
+    let before : length s.calls ≡ suc (length outer) = ap length p.calls in
+    calls_of_past task s (item_of call) (calls_then task s call outer) (length s.calls) (omega (arith, grown, before))
+
+-- ---- enough limits
+
+module _ (stuck : NeverStuck) (reaches : Reaches) (ends : EachEnds) (own : EndIsOwn) where
+  module _ (task : Task) (r : Returns task) (n : ℕ) (s : State) (e : state_after task n ≡ Running s) (call : Active)
+      (outer : List Active) (p : Passes task s call outer) where
+    next : state_after task (suc n) ≡ past task s call outer
+    next = ap (progress_from task) e ∙ passes_past task s call outer p
+
+    counted : (s.executed + 1 ≤ executed_count task)
+        × (max s.peak (words_at task.rule (item_of call) s) ≤ peak task)
+    counted =
+        let reached = reaches r.verified.0 task r.verified.1 n s e in
+        counted_whole ends task r.verified (s.executed + 1) (max s.peak (words_at task.rule (item_of call) s)) (suc n)
+        (omega (arith, reached.budget))
+        (subst (HasCounted (s.executed + 1) (max s.peak (words_at task.rule (item_of call) s))) (sym next)
+        (counted_past task.rule _ _ s (item_of call) (calls_then task s call outer) (omega arith) (omega arith)))
+
+    within_count : suc n ≤ executed_count task
+    within_count = omega (arith, (reaches r.verified.0 task r.verified.1 n s e).count, counted.0)
+
+    most_before : (f : Progress → ℕ) → f (Running s) ≤ most_until f task (executed_count task)
+    most_before f =
+        subst (λ q. f q ≤ most_until f task (executed_count task)) e
+        (most_reached f task n (executed_count task) (omega (arith, within_count)))
+
+    most_after : (f : Progress → ℕ) → f (past task s call outer) ≤ most_until f task (executed_count task)
+    most_after f =
+        subst (λ q. f q ≤ most_until f task (executed_count task)) next
+        (most_reached f task (suc n) (executed_count task) within_count)
+
+    fits_within : (limits : Limits) → AreEnough task limits →
+        Fits limits (op_of (item_of call)) (words_at task.rule (item_of call) s)
+        (depth_after (op_of (item_of call)) (length s.stack)) (length s.calls)
+    unfolding most_cells most_calls
+    fits_within limits enough = record {
+      words_fit = omega (arith, le-max_right s.peak (words_at task.rule (item_of call) s), counted.1, enough.words);
+      cells_fit = omega (
+        arith,
+        enough.cells,
+        cells_past task s call outer p (calls_then task s call outer) refl
+            (most_until cells_in task (executed_count task)) (most_before cells_in) (most_after cells_in),
+      );
+      calls_fit = λ h. omega (arith, enough.calls, calls_then_more task s call outer p h, most_after calls_in);
+    }
+
+  unspent_within : (count all budget : ℕ) → count + 1 ≤ all → all ≤ budget → eqb count budget ≡ false
+  unspent_within count all budget h k = grind (arith, nat_tests, h, k)
+
+  same_step : (task : Task) → Returns task → (limits : Limits) → AreEnough task limits → (n : ℕ) (s : State) →
+      state_after task n ≡ Running s → next_progress (with_limits limits task) s ≡ next_progress task s
+  same_step task r limits enough n s e =
+      let x = executing stuck own task r n s e in
+      let unspent = unspent_within s.executed (executed_count task) limits.budget
+      (counted task r n s e x.call x.outer x.passes).0 enough.budget in
+      let passes = passes_within task limits s x.call x.outer x.passes unspent
+      (fits_within task r n s e x.call x.outer x.passes limits enough) in
+      passes_past (with_limits limits task) s x.call x.outer passes ∙ sym (passes_past task s x.call x.outer x.passes)
+
+  -- ---- runs that are alike
+
+  same_from : (old new : Task) (p : Progress) →
+      ((s : State) → p ≡ Running s → next_progress new s ≡ next_progress old s) →
+      progress_from new p ≡ progress_from old p
+  same_from old new (Running s) step = step s refl
+  same_from old new (Over ending x m) step = refl
+  same_from old new Stuck step = refl
+
+  same_states : (task : Task) (limits : Limits) →
+      ((n : ℕ) (s : State) → state_after task n ≡ Running s → state_after (with_limits limits task) n ≡ Running s →
+      next_progress (with_limits limits task) s ≡ next_progress task s) →
+      (n : ℕ) → state_after (with_limits limits task) n ≡ state_after task n
+  same_states task limits step zero = refl
+  same_states task limits step (suc n) =
+      let before = same_states task limits step n in
+      ap (progress_from (with_limits limits task)) before
+      ∙ same_from task (with_limits limits task) (state_after task n) (λ s e. step n s e (before ∙ e))
+
+  alike_by : (task : Task) → IsVerified task → (limits : Limits) →
+      ((n : ℕ) → state_after (with_limits limits task) n ≡ state_after task n) →
+      RunAlike task (with_limits limits task)
+  unfolding whole_run most_cells most_calls
+  alike_by task v limits same =
+      let new = with_limits limits task in
+      let last = task.limits.budget + 1 in
+      let is = own new last (outcome task) (executed_count task) (peak task)
+      (same last ∙ (ends v.0 task v.1).over) in
+      record {
+        states = same;
+        outcome_is = is.0;
+        executed_is = is.1;
+        peak_is = is.2;
+        cells_are = ap (most_until cells_in new) is.1 ∙ most_same cells_in task new same (executed_count task);
+        calls_are = ap (most_until calls_in new) is.1 ∙ most_same calls_in task new same (executed_count task);
+      }
+
+  enough_alike : (task : Task) → Returns task → (limits : Limits) → AreEnough task limits →
+      RunAlike task (with_limits limits task)
+  enough_alike task r limits enough =
+      alike_by task r.verified limits
+      (same_states task limits (λ n s e _. same_step task r limits enough n s e))
+
+  -- ---- limits within which the job returns
+
+  abbrev past_in : Task → State → List Active → Progress
+  past_in task s [] = Stuck
+  past_in task s (call ∷ outer) = past task s call outer
+
+  both_step : (task : Task) (limits : Limits) → Returns task → Returns (with_limits limits task) → (n : ℕ) (s : State) →
+      state_after task n ≡ Running s → state_after (with_limits limits task) n ≡ Running s →
+      next_progress (with_limits limits task) s ≡ next_progress task s
+  both_step task limits r w n s e f =
+      let new = with_limits limits task in
+      let x = executing stuck own task r n s e in
+      let y = executing stuck own new w n s f in
+      let same : y.call ∷ y.outer ≡ x.call ∷ x.outer = sym y.passes.calls ∙ x.passes.calls in
+      passes_past new s y.call y.outer y.passes
+      ∙ (ap (past_in task s) same ∙ sym (passes_past task s x.call x.outer x.passes))
+
+  cells_by : (task : Task) → IsVerified task → (n : ℕ) (p : Progress) → state_after task n ≡ p →
+      cells_in p ≤ task.limits.cells
+  cells_by task v n (Running s) e = (reaches v.0 task v.1 n s e).cells
+  cells_by task v n (Over ending x m) e = omega arith
+  cells_by task v n Stuck e = omega arith
+
+  calls_by : (task : Task) → IsVerified task → (n : ℕ) (p : Progress) → state_after task n ≡ p →
+      calls_in p ≤ task.limits.calls
+  calls_by task v n (Running s) e = (reaches v.0 task v.1 n s e).calls
+  calls_by task v n (Over ending x m) e = omega arith
+  calls_by task v n Stuck e = omega arith
+
+  uses_within : (task : Task) → IsVerified task → AreEnough task task.limits
+  unfolding most_cells most_calls
+  uses_within task v = record {
+    words = (ends v.0 task v.1).words;
+    cells = most_within cells_in task task.limits.cells (λ n. cells_by task v n (state_after task n) refl)
+        (executed_count task);
+    calls = most_within calls_in task task.limits.calls (λ n. calls_by task v n (state_after task n) refl)
+        (executed_count task);
+    budget = (ends v.0 task v.1).budget;
+  }
+
+  returning_enough : (task : Task) → Returns task → (limits : Limits) → IsReturn (outcome (with_limits limits task)) →
+      AreEnough task limits
+  returning_enough task r limits back =
+      let new = with_limits limits task in
+      let w : Returns new = record { verified = r.verified; is_return = back } in
+      let alike = alike_by task r.verified limits (same_states task limits (both_step task limits r w)) in
+      let used = uses_within new r.verified in
+      record {
+        words = omega (arith, used.words, alike.peak_is);
+        cells = omega (arith, used.cells, alike.cells_are);
+        calls = omega (arith, used.calls, alike.calls_are);
+        budget = omega (arith, used.budget, alike.executed_is);
+      }
+
+  pub used_are_least : UsedAreLeast
+  used_are_least task v back limits =
+      let r : Returns task = record { verified = v; is_return = back } in
+      (enough_alike task r limits, returning_enough task r limits)
