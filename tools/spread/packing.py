@@ -16,6 +16,7 @@ from .task import SECONDS_TO_KILL, lower
 
 # What vjobs-pack takes of a file. One byte more shows that it is too large.
 MOST_BYTES = 16_777_216
+LEFT_OUT_FILE = "left-out.json"
 
 
 @dataclass(frozen=True)
@@ -33,9 +34,10 @@ def copy_regular(name: bytes, target: Path) -> str:
         source = os.open(name, os.O_RDONLY | os.O_NONBLOCK | os.O_CLOEXEC | os.O_NOCTTY)
     except (OSError, ValueError) as error:
         return getattr(error, "strerror", None) or "no name of a file"
+    if not stat.S_ISREG(os.fstat(source).st_mode):
+        os.close(source)
+        return "not a regular file"
     with open(source, "rb") as file:
-        if not stat.S_ISREG(os.fstat(source).st_mode):
-            return "not a regular file"
         try:
             target.write_bytes(file.read(MOST_BYTES + 1))
         except OSError as error:
@@ -70,7 +72,7 @@ class Packer:
             for number in there:
                 self._group(packed, f"{name}.{number:06}", [number], False)
         kept = {str(number): vars(why) for number, why in left_out.items()}
-        (part / "left-out.json").write_text(json.dumps(kept), "utf-8")
+        (part / LEFT_OUT_FILE).write_text(json.dumps(kept), "utf-8")
         part.rename(packed / name)
 
     def _copied(self, numbers: list[int]) -> dict[int, LeftOut]:
@@ -110,6 +112,14 @@ class Packer:
         raise Stopped(f"vjobs-pack ended with {ran.returncode}: {ran.stderr.decode(errors='replace').strip()}")
 
 
+def add_witness(packed: Path) -> None:
+    """Adds a batch without jobs. If only this one is published, the engine works, and the jobs are what fails."""
+    group = packed / "witness"
+    group.mkdir(exist_ok=True)
+    for name in ("batch-0.vcode", "batch-0.manifest"):
+        (group / name).touch()
+
+
 def reasons_of(said: bytes) -> dict[int, LeftOut]:
     """What vjobs-pack says of the files that it leaves out. Their names are numbers, so each line is one of them."""
     found = {}
@@ -143,7 +153,7 @@ def batches_in(round_folder: Path) -> dict[str, list[int]]:
 def left_out_in(round_folder: Path) -> dict[int, LeftOut]:
     """The files that are in no batch of a round, with the reasons."""
     found = {}
-    for kept in (round_folder / "packed").glob("*/left-out.json"):
+    for kept in (round_folder / "packed").glob("*/" + LEFT_OUT_FILE):
         if not kept.parent.name.startswith("."):
             for number, why in json.loads(kept.read_text("utf-8")).items():
                 found[int(number)] = LeftOut(**why)

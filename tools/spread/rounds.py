@@ -12,7 +12,7 @@ from statistics import median
 from .collecting import ANSWERED, LOST, Collector, Ending, exit_of, published_in
 from .engines import Engine, Sending
 from .folder import Folder, Settings, Stopped, write_whole
-from .packing import Packer, batches_in, left_out_in
+from .packing import Packer, add_witness, batches_in, left_out_in
 from .progress import Progress
 
 # What a lane is to work, in seconds; how long its sample may take, and the most batches of one that is chosen here.
@@ -84,6 +84,8 @@ class Run:
             size = self.settings.batch if number == 1 else 1
             self.progress.say("packing")
             self.packer.groups(part / "packed", self.left(), size, copies=number == 1)
+            if number > 1:
+                add_witness(part / "packed")
             for name in ("lanes", "sent", "trying", "done"):
                 (part / name).mkdir(exist_ok=True)
             part.rename(path)
@@ -156,13 +158,8 @@ class Sender:
             self.slots = self.engine.slots()
             self._send_first()
             self._wait()
-        if self.round.batches and not self.round.useful and not self._is_last_try():
+        if self.round.batches and not self.round.useful:
             raise Stopped("a round published nothing" + self._why())
-
-    def _is_last_try(self) -> bool:
-        """Whether each job of the round ran alone before, and at least one began now."""
-        tries = [self.run_.tries.get(file, 0) for files in self.round.batches.values() for file in files]
-        return min(tries) == MOST_TRIES - 1 and bool(self.round.begun())
 
     def _why(self) -> str:
         errors = self.round.path / "errors"

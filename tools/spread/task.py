@@ -12,6 +12,7 @@ import json
 import os
 import resource
 import shutil
+import signal
 import socket
 import subprocess
 import sys
@@ -56,7 +57,10 @@ class Task:
         return worked > self.settings["lane_seconds"] or not os.path.exists(self.list)
 
     def limit(self):
-        """Sets the limits of a batch, in the process that becomes it."""
+        """Sets the limits of a batch, in the process that becomes it, and lets signals end it."""
+        for number in (signal.SIGTERM, signal.SIGHUP, signal.SIGINT, signal.SIGQUIT):
+            signal.signal(number, signal.SIG_DFL)
+        signal.pthread_sigmask(signal.SIG_SETMASK, [])
         lower(resource.RLIMIT_CORE, 0)
         lower(resource.RLIMIT_AS, self.settings["memory"])
         lower(resource.RLIMIT_FSIZE, self.settings["output"])
