@@ -170,9 +170,9 @@ def killed_and_started_again(trial: Trial) -> None:
     process.communicate()
     before = set(os.listdir(done))
     trial.counts.check("some batches were done and some weren't", 5 <= len(before) < 25, before)
-    other = trial.begin(name, "--engine", "here", "--time", "11")
+    other = trial.begin(name, "--engine", "here", "--time", "7")
     said = trial.end(other, "other limits", 2, 20)
-    trial.counts.check("other limits are refused", "--time 10" in said, said)
+    trial.counts.check("other limits are refused", "begun with --time" in said, said)
     kept = {it: (done / it / "result.json").stat().st_mtime_ns for it in before}
     process = trial.begin(name, "--engine", "here")
     time.sleep(1)
