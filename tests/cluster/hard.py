@@ -20,7 +20,7 @@ from trial import OWN_SLURM, Counts, OwnSlurm, Trial, batch_of, kill, slow_on, t
 
 HOSTS, FILES, SLOW = 3, 1000, 60
 NET, PREFIX = "10.77.0", "vjc"
-SECONDS = 400
+SECONDS = 1500
 SSHD = """Port 2222
 HostKey {folder}/host
 AuthorizedKeysFile {folder}/user.pub
@@ -142,6 +142,8 @@ class Hard:
         self.trial.remove(name)
 
     def _ends(self, run_folder: Path) -> dict[str, int]:
+        if not (run_folder / "table.tsv").exists():
+            return {}
         ends = [line.split("\t")[1] for line in (run_folder / "table.tsv").read_text("utf-8").splitlines()[1:]]
         return {end: ends.count(end) for end in sorted(set(ends))}
 

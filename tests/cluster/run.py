@@ -3,7 +3,7 @@
 
 It installs Slurm and GNU parallel if they are missing and it may, and starts a Slurm of three nodes from nothing as a
 user who isn't root. The programs are those of the folder that VJOBS_PROGRAMS names, or of bin. Whatever happens, it
-ends after four minutes, and stops what it began."""
+ends after four minutes, and stops what it began. VJOBS_SLOWER=N makes it wait N times as long on a slow machine."""
 from __future__ import annotations
 
 import os
@@ -18,7 +18,7 @@ from pathlib import Path
 
 sys.dont_write_bytecode = True
 
-from trial import TOP, Counts, OwnSlurm, Trial, batch_of, slow_on, trying_on, wait_until  # noqa: E402
+from trial import SLOWER, TOP, Counts, OwnSlurm, Trial, batch_of, slow_on, trying_on, wait_until  # noqa: E402
 
 SECONDS = 225
 PACKAGES = ["slurm-wlm", "munge", "parallel"]
@@ -129,7 +129,7 @@ def is_done(run: Path, batch: str) -> bool:
 def faults(slurm: OwnSlurm, trial: Trial, run: Path) -> tuple[str, str]:
     """When n2 and n3 have begun slow batches, cuts n2 off, and kills n3. Returns the two batches, if they were begun."""
     cut_off = killed = ""
-    until = time.monotonic() + 30
+    until = time.monotonic() + 30 * SLOWER
     while time.monotonic() < until and not (cut_off and killed):
         attempt = "" if cut_off else slow_on(trial, run, "n2")
         if attempt:
@@ -271,7 +271,7 @@ def main() -> int:
     if os.geteuid() == 0:
         return as_another_user()
     signal.signal(signal.SIGALRM, too_long)
-    signal.alarm(SECONDS)
+    signal.alarm(int(SECONDS * SLOWER))
     return tests()
 
 

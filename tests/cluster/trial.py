@@ -18,6 +18,8 @@ from strangers import ANSWERED
 TOP = Path(__file__).resolve().parent.parent.parent
 TOOL, OWN_SLURM = TOP / "tools" / "vjobs-spread", TOP / "tools" / "own-slurm"
 LIMITS = ["--time", str(strangers.SECONDS), "--memory", str(strangers.MEMORY), "--output", str(strangers.OUTPUT)]
+# On a machine that is much slower, how many times as long the tests wait for anything.
+SLOWER = float(os.environ.get("VJOBS_SLOWER", "1"))
 sys.path.insert(0, str(TOP / "tools"))
 
 from spread.folder import shown  # noqa: E402
@@ -49,7 +51,7 @@ class Counts:
 
 def wait_until(what, seconds: float):
     """What a function returns as soon as it is something, or what it returns at the end."""
-    until = time.monotonic() + seconds
+    until = time.monotonic() + SLOWER * seconds
     while True:
         found = what()
         if found or time.monotonic() > until:
@@ -122,7 +124,7 @@ class Trial:
     def end(self, process: subprocess.Popen, name: str, wanted: int, seconds: float) -> str:
         """Waits for the tool, and checks how it exits. Returns what it wrote to standard error."""
         try:
-            said, errors = process.communicate(timeout=seconds)
+            said, errors = process.communicate(timeout=SLOWER * seconds)
         except subprocess.TimeoutExpired:
             process.kill()
             said, errors = process.communicate()
@@ -137,6 +139,9 @@ class Trial:
     def compare(self, name: str) -> None:
         """Checks the table, each report byte for byte, and that nothing was written elsewhere."""
         run, counts = self.root / "runs" / name, self.counts
+        if not (run / "table.tsv").exists():
+            counts.check(f"{name}: there is a table", False)
+            return
         lines = (run / "table.tsv").read_text("utf-8").splitlines()[1:]
         counts.check(f"{name}: a line for each file", len(lines) == len(self.found), len(lines))
         reports = set()

@@ -8,11 +8,13 @@ import resource
 import shutil
 import stat
 import subprocess
+from concurrent.futures import ThreadPoolExecutor
 from dataclasses import dataclass
 from pathlib import Path
 
+from .engines import processors
 from .folder import Folder, Settings, Stopped
-from .task import SECONDS_TO_KILL, lower
+from .task import SECONDS_TO_KILL, allowed
 
 # What vjobs-pack takes of a file. One byte more shows that it is too large.
 MOST_BYTES = 16_777_216
@@ -54,9 +56,10 @@ class Packer:
     def groups(self, packed: Path, numbers: list[int], size: int, copies: bool) -> None:
         """Packs files into groups of so many, and copies them before if asked to. What is packed is left as it is."""
         packed.mkdir(parents=True, exist_ok=True)
-        for first in range(0, len(numbers), size):
-            group = numbers[first : first + size]
-            self._group(packed, f"{group[0]:06}", group, copies)
+        groups = [numbers[first : first + size] for first in range(0, len(numbers), size)]
+        with ThreadPoolExecutor(processors()) as pool:
+            for _ in pool.map(lambda group: self._group(packed, f"{group[0]:06}", group, copies), groups):
+                pass
 
     def _group(self, packed: Path, name: str, numbers: list[int], copies: bool) -> None:
         if (packed / name).is_dir():
@@ -83,18 +86,13 @@ class Packer:
         }
         return {number: LeftOut("LEFT_OUT", 1, reason) for number, reason in reasons.items() if reason}
 
-    def _limit(self) -> None:
-        lower(resource.RLIMIT_CORE, 0)
-        lower(resource.RLIMIT_AS, self.settings.memory)
-
     def _packs(self, part: Path, numbers: list[int], left_out: dict[int, LeftOut]) -> bool:
         """Packs files that are there. Returns whether they are packed or left out; else they have to be packed alone."""
-        words = ["timeout", "--foreground", f"--kill-after={SECONDS_TO_KILL}", str(self.settings.time), str(self.pack)]
+        words = ["prlimit", "--core=0", f"--as={allowed(resource.RLIMIT_AS, self.settings.memory)}", "timeout"]
+        words += ["--foreground", f"--kill-after={SECONDS_TO_KILL}", str(self.settings.time), str(self.pack)]
         words += ["--out", os.path.relpath(part, self.folder.inputs), "--files-from", "-"]
         names = b"".join(b"%06d\0" % number for number in numbers)
-        ran = subprocess.run(
-            words, cwd=self.folder.inputs, input=names, capture_output=True, preexec_fn=self._limit, check=False
-        )
+        ran = subprocess.run(words, cwd=self.folder.inputs, input=names, capture_output=True, check=False)
         if ran.returncode in (0, 1):
             in_batch = {number for batch in batches_of(part).values() for number in batch}
             reasons = reasons_of(ran.stderr)

@@ -132,9 +132,10 @@ class Run:
         end = self.collector.ending(it, manifest, files)
         round_.useful += bool(end)
         if end == ANSWERED:
+            # An answer that comes late takes the place of a reason why there was none.
             for file in files:
-                ending = it.ending(ANSWERED)
-                self.endings.setdefault(file, replace(ending, exit=exit_of(self.folder.report(file))))
+                if file not in self.endings or self.endings[file].end != ANSWERED:
+                    self.endings[file] = replace(it.ending(ANSWERED), exit=exit_of(self.folder.report(file)))
         elif end and round_.number > 1:
             self.endings.setdefault(files[0], it.ending(end))
 

@@ -16,6 +16,7 @@ TASK_MEMORY, TASK_SECONDS = 100_000_000, 60
 LOOK_EVERY, PATIENCE = 2.0, 300.0
 # The states of a job that will still do something.
 ALIVE = "PENDING,RUNNING,SUSPENDED,CONFIGURING"
+QUEUE = ["squeue", "--noheader", "--me", f"--states={ALIVE}", "--format=%j"]
 # What Slurm's commands say if its controller can't be reached; it may be started again.
 UNREACHED = re.compile(r"Unable to contact|Connection refused|timed out|Socket|controller|Zero Bytes", re.I)
 
@@ -73,7 +74,7 @@ class Slurm:
         for first in range(0, sending.lanes, self.largest_array):
             self._send_array(sending, first, min(self.largest_array, sending.lanes - first))
         self.there.add(sending.number)
-        self.looked = time.monotonic()
+        self.looked = self.answered = time.monotonic()
 
     def _send_array(self, sending: Sending, first: int, count: int) -> None:
         settings = self.settings
@@ -95,8 +96,7 @@ class Slurm:
 
     def _names(self) -> set[str]:
         """The names of our jobs in the queue that will still do something."""
-        words = ["squeue", "--noheader", "--me", f"--states={ALIVE}", "--format=%j"]
-        return set(self._asked(words).split())
+        return set(self._asked(QUEUE).split())
 
     def _numbers(self, names: set[str]) -> set[int]:
         return {number for number, name in self.sent.items() if any(it.startswith(name + "-") for it in names)}
@@ -104,13 +104,14 @@ class Slurm:
     def adopt(self, sending: Sending) -> bool:
         self.sent[sending.number] = self._name(sending)
         self.there |= self._numbers(self._names()) & {sending.number}
+        self.answered = time.monotonic()
         return sending.number in self.there
 
     def alive(self) -> set[int]:
         """Slurm is asked now and then. While it doesn't answer, what was there is taken to be there."""
         now = time.monotonic()
         if self.there and now - self.looked >= LOOK_EVERY:
-            ran = self._run(["squeue", "--noheader", "--me", f"--states={ALIVE}", "--format=%j"])
+            ran = self._run(QUEUE)
             self.looked = time.monotonic()
             if not ran.returncode:
                 self.answered = self.looked
@@ -120,11 +121,14 @@ class Slurm:
         return set(self.there)
 
     def stop(self) -> None:
-        """Cancels all tasks of this run."""
-        names = [it for it in self._names() if it.startswith(f"vjobs-{self.folder.token}-")]
+        """Cancels all tasks of this run, if Slurm answers."""
+        ran = self._run(QUEUE)
+        names = [it for it in set(ran.stdout.split()) if it.startswith(f"vjobs-{self.folder.token}-")]
         for name in names:
             self._run(["scancel", f"--name={name}"])
-        if names:
+        if ran.returncode:
+            print("vjobs-spread: what waits or runs in Slurm couldn't be cancelled", file=sys.stderr)
+        elif names:
             print("vjobs-spread: what waited or ran in Slurm is cancelled", file=sys.stderr)
 
     def said(self) -> str:

@@ -23,11 +23,15 @@ import traceback
 SECONDS_TO_KILL = 5
 
 
-def lower(kind, value):
-    """Lowers a limit of this process, never above what it may have."""
+def allowed(kind, value):
+    """A limit, or the one that this process has already if that is lower."""
     hard = resource.getrlimit(kind)[1]
-    if hard != resource.RLIM_INFINITY:
-        value = min(value, hard)
+    return value if hard == resource.RLIM_INFINITY else min(value, hard)
+
+
+def lower(kind, value):
+    """Lowers a limit of this process."""
+    value = allowed(kind, value)
     resource.setrlimit(kind, (value, value))
 
 
