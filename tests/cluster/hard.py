@@ -149,11 +149,16 @@ class Hard:
 
     def in_the_middle(self, run_folder: Path, node: str, fault: Callable[[], object]) -> str:
         """Does something when a node has begun a batch, and checks that the batch wasn't published before."""
-        attempt = wait_until(lambda: slow_on(self.trial, run_folder, node), 60)
+        attempt = wait_until(lambda: self.begun(run_folder, node), 60)
         fault()
-        is_middle = bool(attempt) and attempt in trying_on(run_folder, node)
-        self.counts.check(f"{run_folder.name}: in the middle of a batch", is_middle, attempt)
+        self.counts.check(f"{run_folder.name}: in the middle of a batch", attempt in trying_on(run_folder, node), attempt)
+        self.trial.freezer.thaw()
         return f"in the middle of {batch_of(attempt)}" if attempt else "no batch"
+
+    def begun(self, run_folder: Path, node: str) -> str:
+        """An attempt of a node at a slow batch, whose task is stopped in the middle."""
+        attempt = slow_on(self.trial, run_folder, node)
+        return attempt if attempt and self.trial.freezer.freeze(run_folder, node, attempt) else ""
 
     def cut_and_mend(self, run_folder: Path, node: str, number: int) -> str:
         """Cuts a cable in the middle of a batch, and mends it when the next round has begun."""
@@ -246,7 +251,10 @@ def main() -> int:
         (root / "slurm").mkdir()
         hard = Hard(Trial(root, programs_folder(), counts, FILES, SLOW), nets)
         counts.step(f"{FILES} files, and what vjobs prints for each alone")
-        hard.all(sys.argv[1:])
+        try:
+            hard.all(sys.argv[1:])
+        finally:
+            hard.trial.stop()
         print("\nengine    fault                              seconds  rounds   results   ends", *hard.table, sep="\n")
     return counts.end()
 

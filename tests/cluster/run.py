@@ -20,7 +20,7 @@ sys.dont_write_bytecode = True
 
 from trial import SLOWER, TOP, Counts, OwnSlurm, Trial, batch_of, slow_on, trying_on, wait_until  # noqa: E402
 
-SECONDS = 225
+SECONDS, INSTALL_SECONDS = 180, 60
 PACKAGES = ["slurm-wlm", "munge", "parallel"]
 COMMANDS = ["sbatch", "slurmctld", "slurmd", "munged", "parallel"]
 PROGRAMS = ["vjobs", "vjobs-pack", "vjobs-split"]
@@ -44,9 +44,12 @@ def install(packages: list[str], commands: list[str]) -> None:
     if os.geteuid() or not shutil.which("apt-get"):
         skip("Slurm and GNU parallel aren't here, and can't be installed by this user")
     env = {**os.environ, "DEBIAN_FRONTEND": "noninteractive"}
-    for words in (["update"], ["install", "-y", "--no-install-recommends", *packages]):
-        ran = subprocess.run(["apt-get", "-q", *words], env=env, capture_output=True, timeout=150, check=False)
-    if ran.returncode or not all(map(shutil.which, commands)):
+    try:
+        for words in (["update"], ["install", "-y", "--no-install-recommends", *packages]):
+            subprocess.run(["apt-get", "-q", *words], env=env, capture_output=True, timeout=INSTALL_SECONDS, check=False)
+    except subprocess.TimeoutExpired:
+        pass
+    if not all(map(shutil.which, commands)):
         skip("the packages " + ", ".join(packages) + " can't be had")
 
 
@@ -106,7 +109,7 @@ def on_slurm(trial: Trial, folder: Path) -> None:
         wait_until(lambda: (run / "rounds" / "2" / "sent" / "1.json").exists(), 60)
         counts.check("what was cut off wasn't published before the next round", not is_done(run, late))
         second = time.time()
-        slurm.thaw()
+        trial.freezer.thaw()
         wait_until(lambda: is_done(run, late), 20)
         is_late = is_done(run, late) and (run / "rounds/1/done" / late / "result.json").stat().st_mtime >= second
         counts.check("what was cut off was published late", is_late, late)
@@ -117,6 +120,7 @@ def on_slurm(trial: Trial, folder: Path) -> None:
         trial.end(again, "slurm, started again when all is done", 1, 20)
         trial.compare(name)
     finally:
+        trial.freezer.thaw()
         slurm.stop()
     counts.check("nothing of Slurm is left", not slurm.processes(), slurm.processes())
     counts.step("200 files by Slurm")
@@ -128,20 +132,16 @@ def is_done(run: Path, batch: str) -> bool:
 
 def faults(slurm: OwnSlurm, trial: Trial, run: Path) -> tuple[str, str]:
     """When n2 and n3 have begun slow batches, cuts n2 off, and kills n3. Returns the two batches, if they were begun."""
-    cut_off = killed = ""
+    found = {"n2": "", "n3": ""}
     until = time.monotonic() + 30 * SLOWER
-    while time.monotonic() < until and not (cut_off and killed):
-        attempt = "" if cut_off else slow_on(trial, run, "n2")
-        if attempt:
-            slurm.freeze(int(attempt.split("+")[3]))
-            slurm.kill_daemon("n2")
-            cut_off = batch_of(attempt) if attempt in trying_on(run, "n2") else "none"
-        attempt = "" if killed else slow_on(trial, run, "n3")
-        if attempt:
-            slurm.kill_node("n3")
-            killed = batch_of(attempt) if attempt in trying_on(run, "n3") else "none"
-        time.sleep(0.01)
-    return cut_off.removeprefix("none"), killed.removeprefix("none")
+    while time.monotonic() < until and not all(found.values()):
+        for node in [name for name, batch in found.items() if not batch]:
+            attempt = slow_on(trial, run, node)
+            if attempt and trial.freezer.freeze(run, node, attempt):
+                found[node] = batch_of(attempt)
+                (slurm.kill_daemon if node == "n2" else slurm.kill_node)(node)
+        time.sleep(0.02)
+    return found["n2"], found["n3"]
 
 
 def by_parallel(trial: Trial) -> None:
@@ -170,9 +170,9 @@ def killed_and_started_again(trial: Trial) -> None:
     process.communicate()
     before = set(os.listdir(done))
     trial.counts.check("some batches were done and some weren't", 5 <= len(before) < 25, before)
-    other = trial.begin(name, "--engine", "here", "--time", "7")
+    other = trial.begin(name, "--engine", "here", "--output", "6000000")
     said = trial.end(other, "other limits", 2, 20)
-    trial.counts.check("other limits are refused", "begun with --time" in said, said)
+    trial.counts.check("other limits are refused", "begun with --output" in said, said)
     kept = {it: (done / it / "result.json").stat().st_mtime_ns for it in before}
     process = trial.begin(name, "--engine", "here")
     time.sleep(1)
@@ -253,12 +253,17 @@ def tests() -> int:
         root = Path(room)
         trial = Trial(root, programs_folder(), counts, FILES, SLOW)
         counts.step(f"{FILES} files, and what vjobs prints for each alone")
-        command_lines(trial)
-        programs_that_fail(trial)
-        engines_that_fail(trial)
-        by_parallel(trial)
-        killed_and_started_again(trial)
-        on_slurm(trial, root / "slurm")
+        try:
+            command_lines(trial)
+            programs_that_fail(trial)
+            engines_that_fail(trial)
+            by_parallel(trial)
+            killed_and_started_again(trial)
+            on_slurm(trial, root / "slurm")
+        except TimeoutError as error:
+            counts.check("all of it within the time", False, error)
+        finally:
+            trial.stop()
     return counts.end()
 
 

@@ -10,8 +10,10 @@ import sys
 from dataclasses import dataclass
 from pathlib import Path
 
+# On a machine that is much slower, or busy, how many times as long everything may take.
+SLOWER = int(os.environ.get("VJOBS_SLOWER", "1"))
 # The limits that the ends are for.
-SECONDS, MEMORY, OUTPUT = 6, 50_000_000, 5_000_000
+SECONDS, MEMORY, OUTPUT = 6 * SLOWER, 50_000_000, 5_000_000
 ANSWERED, LEFT_OUT, TIME, MEMORY_END, OUTPUT_END = "ANSWERED", "LEFT_OUT", "TIME", "MEMORY", "OUTPUT"
 # A path of each kind that isn't a regular file.
 FIFO, FOLDER, DEVICE, MISSING = "fifo", "folder", "device", "missing"

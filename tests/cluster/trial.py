@@ -13,13 +13,11 @@ from dataclasses import dataclass
 from pathlib import Path
 
 import strangers
-from strangers import ANSWERED
+from strangers import ANSWERED, SLOWER
 
 TOP = Path(__file__).resolve().parent.parent.parent
 TOOL, OWN_SLURM = TOP / "tools" / "vjobs-spread", TOP / "tools" / "own-slurm"
 LIMITS = ["--time", str(strangers.SECONDS), "--memory", str(strangers.MEMORY), "--output", str(strangers.OUTPUT)]
-# On a machine that is much slower, how many times as long the tests wait for anything.
-SLOWER = float(os.environ.get("VJOBS_SLOWER", "1"))
 sys.path.insert(0, str(TOP / "tools"))
 
 from spread.folder import shown  # noqa: E402
@@ -56,7 +54,7 @@ def wait_until(what, seconds: float):
         found = what()
         if found or time.monotonic() > until:
             return found
-        time.sleep(0.02)
+        time.sleep(0.05)
 
 
 def tree(folder: Path, but: set[str]) -> dict[bytes, tuple]:
@@ -94,6 +92,8 @@ class Trial:
         first = {it.content: path for it, path in zip(self.found, self.paths) if it.end == ANSWERED}
         alike = {content: self._alone(path) for content, path in first.items()}
         self.wanted = [Wanted(it.end, *alike[it.content]) if it.end == ANSWERED else Wanted(it.end) for it in self.found]
+        self.begun: list[subprocess.Popen] = []
+        self.freezer = Freezer()
         self.before = self._tree()
 
     def _alone(self, path: bytes) -> tuple[int, bytes]:
@@ -119,7 +119,19 @@ class Trial:
         process.stdin.write(self.list)
         process.stdin.close()
         process.stdin = None
+        self.begun.append(process)
         return process
+
+    def stop(self) -> None:
+        """Ends what was begun and goes on."""
+        self.freezer.thaw()
+        for process in self.begun:
+            if process.poll() is None:
+                process.terminate()
+                try:
+                    process.communicate(timeout=20)
+                except subprocess.TimeoutExpired:
+                    process.kill()
 
     def end(self, process: subprocess.Popen, name: str, wanted: int, seconds: float) -> str:
         """Waits for the tool, and checks how it exits. Returns what it wrote to standard error."""
@@ -167,6 +179,36 @@ class Trial:
 # ---- a Slurm of one's own, and its faults
 
 
+class Freezer:
+    """Stops tasks, which don't notice that they are taken to be dead, and lets them go on."""
+
+    def __init__(self) -> None:
+        self.frozen: list[int] = []
+
+    def freeze(self, run: Path, node: str, attempt: str) -> bool:
+        """Stops a task in the middle of an attempt. Returns whether it hadn't published it before, else lets it go on."""
+        pid = int(attempt.split("+")[3])
+        try:
+            os.kill(pid, signal.SIGSTOP)
+        except ProcessLookupError:
+            return False
+        wait_until(lambda: state_of(pid) in "TtZ", 5)
+        if attempt in trying_on(run, node):
+            self.frozen.append(pid)
+            return True
+        os.kill(pid, signal.SIGCONT)
+        return False
+
+    def thaw(self) -> None:
+        """Lets the frozen processes go on."""
+        for pid in self.frozen:
+            try:
+                os.kill(pid, signal.SIGCONT)
+            except ProcessLookupError:
+                pass
+        self.frozen = []
+
+
 class OwnSlurm:
     """A Slurm of three nodes, started from nothing."""
 
@@ -174,7 +216,6 @@ class OwnSlurm:
         self.folder = folder
         subprocess.run([sys.executable, OWN_SLURM, "start", folder, *options], check=True, stdout=subprocess.DEVNULL)
         self.env = {"SLURM_CONF": f"{folder}/slurm.conf"}
-        self.frozen: list[int] = []
 
     def processes(self, node: str = "") -> list[int]:
         """The processes of jobs of this Slurm, by what is in their environment: of a node, or of all."""
@@ -212,27 +253,8 @@ class OwnSlurm:
         for pid in steps + running:
             kill(pid)
 
-    def task_of(self, node: str) -> int:
-        """The process of a task on a node that has begun a batch."""
-        return next((pid for pid in self.processes(node) if b"slurm_script" in command_of(pid)), 0)
-
-    def freeze(self, pid: int) -> None:
-        """Stops a process, which doesn't notice that it is taken to be dead."""
-        os.kill(pid, signal.SIGSTOP)
-        self.frozen.append(pid)
-
-    def thaw(self) -> None:
-        """Lets the frozen processes go on."""
-        for pid in self.frozen:
-            try:
-                os.kill(pid, signal.SIGCONT)
-            except ProcessLookupError:
-                pass
-        self.frozen = []
-
     def stop(self) -> None:
         """Stops all, and what it ran."""
-        self.thaw()
         left, steps = self.processes(), {parent_of(pid) for pid in self.processes()}
         subprocess.run([sys.executable, OWN_SLURM, "stop", self.folder], check=True)
         for pid in left + [pid for pid in steps if b"slurmstepd" in command_of(pid)]:
@@ -253,6 +275,14 @@ def parent_of(pid: int) -> int:
         return int(Path(f"/proc/{pid}/stat").read_text().rpartition(")")[2].split()[1])
     except OSError:
         return 0
+
+
+def state_of(pid: int) -> str:
+    """The state of a process, as a letter; Z if it has ended."""
+    try:
+        return Path(f"/proc/{pid}/stat").read_text().rpartition(")")[2].split()[0]
+    except OSError:
+        return "Z"
 
 
 def command_of(pid: int) -> bytes:
