@@ -2,10 +2,12 @@
 """Runs vjobs-spread on 1,000 files under hard faults, and prints a table: python3 tests/cluster/hard.py [NAME..]
 
 For root alone. The hosts are network namespaces on this machine: nodes of Slurm, and hosts with sshd. The programs are
-those of the folder that VJOBS_PROGRAMS names, or of bin. A name chooses a row of the table. It isn't a part of the gate."""
+those of the folder that VJOBS_PROGRAMS names, or of bin. A name chooses a row of the table. It isn't a part of the gate.
+VJOBS_FILES=N takes N files, and VJOBS_SLOWER=N lets everything take N times as long."""
 from __future__ import annotations
 
 import os
+import signal
 import subprocess
 import sys
 import tempfile
@@ -18,7 +20,8 @@ sys.dont_write_bytecode = True
 from run import COMMANDS, PACKAGES, install, programs_folder, skip  # noqa: E402
 from trial import OWN_SLURM, Counts, OwnSlurm, Trial, batch_of, kill, slow_on, trying_on, wait_until  # noqa: E402
 
-HOSTS, FILES, SLOW = 3, 1000, 60
+HOSTS, FILES = 3, int(os.environ.get("VJOBS_FILES", "1000"))
+SLOW = FILES // 16
 NET, PREFIX = "10.77.0", "vjc"
 SECONDS = 1500
 SSHD = """Port 2222
@@ -244,6 +247,7 @@ def main() -> int:
     if os.geteuid():
         skip("make cluster-hard is for root, who may make network namespaces")
     install([*PACKAGES, "openssh-server", "iproute2"], [*COMMANDS, "sshd", "ip"])
+    signal.signal(signal.SIGTERM, lambda *_: sys.exit(143))
     counts = Counts()
     with tempfile.TemporaryDirectory(prefix="vjobs-cluster-") as room, Nets() as nets:
         root = Path(room)

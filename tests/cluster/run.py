@@ -275,6 +275,7 @@ def main() -> int:
     install(PACKAGES, COMMANDS)
     if os.geteuid() == 0:
         return as_another_user()
+    signal.signal(signal.SIGTERM, lambda *_: sys.exit(143))
     signal.signal(signal.SIGALRM, too_long)
     signal.alarm(int(SECONDS * SLOWER))
     return tests()

@@ -15,6 +15,8 @@ SLOWER = int(os.environ.get("VJOBS_SLOWER", "1"))
 # The limits that the ends are for.
 SECONDS, MEMORY, OUTPUT = 6 * SLOWER, 50_000_000, 5_000_000
 ANSWERED, LEFT_OUT, TIME, MEMORY_END, OUTPUT_END = "ANSWERED", "LEFT_OUT", "TIME", "MEMORY", "OUTPUT"
+# How many ordinary files differ; the others are copies.
+DIFFERENT = 120
 # A path of each kind that isn't a regular file.
 FIFO, FOLDER, DEVICE, MISSING = "fifo", "folder", "device", "missing"
 
@@ -131,10 +133,11 @@ def ordinary(source: random.Random, at: int) -> str:
 def strangers(count: int, slow: int) -> list[Stranger]:
     """So many files, some of which take about a second."""
     source = random.Random(count)
+    texts = [ordinary(source, at).encode() for at in range(DIFFERENT)]
     found = hostile()
     found += [Stranger(b"slow/%03d" % at, SLOW.encode(), ANSWERED) for at in range(slow)]
     found += [
-        Stranger(b"people/%d/%04d.vcode" % (at % 7, at), ordinary(source, at).encode(), ANSWERED)
+        Stranger(b"people/%d/%04d.vcode" % (at % 7, at), texts[at % len(texts)], ANSWERED)
         for at in range(count - len(found))
     ]
     source.shuffle(found)

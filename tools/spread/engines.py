@@ -168,7 +168,7 @@ class Parallel:
             self.running[sending.number] = subprocess.Popen(
                 words,
                 cwd=self.folder.path,
-                env={**os.environ, "PARALLEL_HOME": str(self.home), "PARALLEL": ""},
+                env={**os.environ, "PARALLEL_HOME": str(self.home), "PARALLEL": "", "TMPDIR": str(self.home)},
                 stdin=subprocess.DEVNULL,
                 stdout=said,
                 stderr=said,

@@ -40,7 +40,7 @@ class Progress:
             return
         self.shown_at = now
         failures = sum(it.end != ANSWERED for it in endings.values())
-        left = self.jobs - done - running
+        left = max(0, self.jobs - done - running)
         gained = done - self.done_before
         togo = clock((self.jobs - done) * (now - self.begun_at) / gained) if gained else "unknown"
         self._write(f"{done} of {self.jobs} jobs done, {running} running, {left} left, {togo} to go; {failures} failures")

@@ -149,6 +149,7 @@ class Sender:
         self.sendings: list[Sending] = []
         self.pool: list[str] = []
         self.sample: Sending | None = None
+        self.sample_sent = 0.0
         self.barren = 0
 
     def run(self) -> None:
@@ -177,7 +178,7 @@ class Sender:
     def _take_up(self) -> None:
         """Goes on with what still runs or waits, and withdraws the lanes of everything else."""
         for sending in self._records():
-            if self.engine.adopt(sending):
+            if self.engine.adopt(sending) and all(self._list(lane).exists() for lane in sending.numbers()):
                 self.sendings.append(sending)
                 for lane in sending.numbers():
                     self.round.lanes[lane] = self._list(lane).read_text("ascii").split()
