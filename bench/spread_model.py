@@ -45,7 +45,7 @@ class Queue:
         return self.free_at
 
 
-def simulate(nodes: int, costs: Costs, lanes_a_slot: int = 20) -> tuple[float, str, float]:
+def simulate(nodes: int, costs: Costs, lanes_a_slot: int = 4) -> tuple[float, str, float]:
     """Jobs an hour, the part that is the bound, and the share of the time in which it was busy."""
     slots = nodes * costs.cores
     each = costs.process + costs.batch * costs.job
@@ -75,15 +75,30 @@ def simulate(nodes: int, costs: Costs, lanes_a_slot: int = 20) -> tuple[float, s
 def main() -> None:
     """Draws the curve."""
     it = argparse.ArgumentParser(description=__doc__, formatter_class=argparse.RawDescriptionHelpFormatter)
-    it.add_argument("--job", type=float, default=0.002, help="seconds of a job")
-    it.add_argument("--process", type=float, default=0.012, help="seconds of a batch besides its jobs: its process and its folder")
-    it.add_argument("--start", type=float, default=0.02, help="seconds that the scheduler takes for a task")
-    it.add_argument("--task", type=float, default=0.7, help="seconds of a slot for a task besides its batches")
-    it.add_argument("--operation", type=float, default=0.0001, help="seconds of an operation of the file system")
-    it.add_argument("--cut", type=float, default=0.006, help="seconds of the tool for a batch")
-    it.add_argument("--cores", type=int, default=32, help="slots of a node")
-    it.add_argument("--batch", type=int, default=16, help="jobs of a batch")
-    it.add_argument("--lane", type=float, default=10.0, help="seconds of work of a lane")
+    it.add_argument("--job", type=float, default=0.1, help="seconds of a job (0.1)")
+    it.add_argument(
+        "--process",
+        type=float,
+        default=0.008,
+        help="seconds of a batch besides its jobs: its process and its folder (0.008)",
+    )
+    it.add_argument(
+        "--start",
+        type=float,
+        default=0.02,
+        help="seconds that the scheduler takes for a task (0.02, not measured)",
+    )
+    it.add_argument("--task", type=float, default=1.0, help="seconds of a slot for a task besides its batches (1)")
+    it.add_argument(
+        "--operation",
+        type=float,
+        default=0.0001,
+        help="seconds of an operation of the file system (0.0001, not measured)",
+    )
+    it.add_argument("--cut", type=float, default=0.024, help="seconds of the tool for a batch (0.024)")
+    it.add_argument("--cores", type=int, default=32, help="slots of a node (32)")
+    it.add_argument("--batch", type=int, default=16, help="jobs of a batch (16)")
+    it.add_argument("--lane", type=float, default=10.0, help="seconds of work of a lane (10)")
     costs = Costs(**vars(it.parse_args()))
     rows = [(nodes, *simulate(nodes, costs)) for nodes in NODES]
     most = max(row[1] for row in rows)

@@ -110,7 +110,8 @@ class Sshds:
         """Starts the sshd of a host."""
         words = ["ip", "netns", "exec", f"{PREFIX}{number}", "unshare", "--uts", "sh", "-c"]
         words += [f'hostname h{number}; exec "$@"', "sh", "/usr/sbin/sshd", "-f", f"{self.folder}/sshd_config"]
-        run(*words, "-o", f"ListenAddress={NET}.{10 + number}", "-o", f"PidFile={self.folder}/h{number}.pid", "-E", f"{self.folder}/h{number}.log")
+        words += ["-o", f"ListenAddress={NET}.{10 + number}", "-o", f"PidFile={self.folder}/h{number}.pid"]
+        run(*words, "-E", f"{self.folder}/h{number}.log")
 
 
 # ---- the rows

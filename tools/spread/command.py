@@ -40,19 +40,65 @@ def parser() -> argparse.ArgumentParser:
         description="Runs many files of one VCODE job each on many machines, and gives each file its report.",
         allow_abbrev=False,
     )
-    it.add_argument("--run", metavar="DIR", type=Path, required=True, help="the folder of the run; all is written here")
+    it.add_argument(
+        "--run",
+        metavar="DIR",
+        type=Path,
+        required=True,
+        help="the folder of the run; all is written here",
+    )
     it.add_argument("--engine", choices=("slurm", "parallel", "here"), default="here", help="what starts the tasks")
     it.add_argument("--hosts", metavar="LIST", default="", help="hosts for parallel: [N/]HOST,..; : is this machine")
     it.add_argument("--time", metavar="S", type=at_least(1, 10**6), default=60, help="seconds of a process (60)")
-    it.add_argument("--memory", metavar="BYTES", type=at_least(10**6), default=10**9, help="address space of a process (1000000000)")
-    it.add_argument("--output", metavar="BYTES", type=at_least(1000), default=10**8, help="the longest report of a process (100000000)")
+    it.add_argument(
+        "--memory",
+        metavar="BYTES",
+        type=at_least(10**6),
+        default=10**9,
+        help="address space of a process (1000000000)",
+    )
+    it.add_argument(
+        "--output",
+        metavar="BYTES",
+        type=at_least(1000),
+        default=10**8,
+        help="the longest report of a process (100000000)",
+    )
     it.add_argument("--batch", metavar="N", type=at_least(1, MOST_BATCH), default=16, help="jobs of a process (16)")
-    it.add_argument("--lane", metavar="N", type=at_least(1), default=0, help="processes of a task, one after another (ten seconds of work)")
-    it.add_argument("--slots", metavar="N", type=at_least(1), default=0, help="tasks at once: in all with Slurm, on each host else (its processors)")
-    it.add_argument("--slurm-option", metavar="OPTION", action="append", default=[], help="handed on to sbatch, as --slurm-option=--account=physics")
-    it.add_argument("--patience", metavar="S", type=at_least(1), default=int(PATIENCE), help=f"seconds that Slurm may be without an answer ({PATIENCE:.0f})")
+    it.add_argument(
+        "--lane",
+        metavar="N",
+        type=at_least(1),
+        default=0,
+        help="processes of a task, one after another (ten seconds of work)",
+    )
+    it.add_argument(
+        "--slots",
+        metavar="N",
+        type=at_least(1),
+        default=0,
+        help="tasks at once: in all with Slurm, on each host else (its processors)",
+    )
+    it.add_argument(
+        "--slurm-option",
+        metavar="OPTION",
+        action="append",
+        default=[],
+        help="handed on to sbatch, as --slurm-option=--account=physics",
+    )
+    it.add_argument(
+        "--patience",
+        metavar="S",
+        type=at_least(1),
+        default=int(PATIENCE),
+        help=f"seconds that Slurm may be without an answer ({PATIENCE:.0f})",
+    )
     it.add_argument("--programs", metavar="DIR", type=Path, help="the folder of vjobs, vjobs-pack and vjobs-split")
-    it.add_argument("--files-from", metavar="LIST", help="a file with names of files, a NUL after each; - is standard input")
+    it.add_argument(
+        "--files-from",
+        metavar="LIST",
+        help="a file with names of files, a NUL after each; - is standard input",
+    )
     it.add_argument("--quiet", action="store_true", help="no line of progress")
     it.add_argument("--version", action="version", version="vjobs-spread 0.1.0")
     it.add_argument("files", metavar="FILE", nargs="*", help="a file of one job")
