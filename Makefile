@@ -2,6 +2,9 @@
 # make         the program, proved, at bin/vjobs: crates that don't use each other are proved side by side
 # make run     runs the example sum_of_two
 # make packing the programs around it, proved: bin/vjobs-pack and bin/vjobs-split
+# make cluster runs job files of strangers by vjobs-spread on a Slurm of three nodes and by GNU parallel, with faults: by the
+#              programs of bin, or of the folder VJOBS_PROGRAMS; as root it installs the packages if they are missing
+# make cluster-hard   does so with 1,000 files, cut cables, dead hosts and killed daemons, as root; not in the gate
 # make test    runs all tests, tables and examples without proving anything
 # make gate    the gate: every proof from nothing, the wrong bodies to be refused, all tests, tables and examples
 # make install PREFIX=..   installs bin/vjobs, which make has built, its man page, the pages and the examples; /usr/local without PREFIX
@@ -14,7 +17,7 @@
 # make hostile MINUTES=60   runs batches that were changed at random for so many minutes, and compares each report with the
 #              second writing, its memory with the sum in docs/OPERATING.md, and its time with its limits; not in the gate
 
-.PHONY: all try run packing test gate install dist names check bench soak hostile models clean
+.PHONY: all try run packing cluster cluster-hard test gate install dist names check bench soak hostile models clean
 
 PREFIX = /usr/local
 MINUTES = 60
@@ -38,6 +41,12 @@ packing:
 	mkdir -p bin
 	cp crates/vjobs_pack/out/vjobs_pack bin/vjobs-pack
 	cp crates/vjobs_split/out/vjobs_split bin/vjobs-split
+
+cluster:
+	.ci/cluster
+
+cluster-hard:
+	python3 -B tests/cluster/hard.py
 
 test:
 	.ci/try
