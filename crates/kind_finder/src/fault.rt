@@ -1,0 +1,92 @@
+//! Why no signatures are found.
+
+use crate::operands::Entry;
+use std::alloc::{AllocError, AllocFailed, Allocator};
+use std::{fmt, str};
+use vcode_reader::CodeFault;
+use verifier::KindFault;
+
+/// What stands in the way of a function's signature.
+#[derive(Clone, Copy, PartialEq, Eq, Debug)]
+pub enum Obstacle {
+    /// What it takes is of one kind at one place, and of another kind at another.
+    TwoKinds,
+    /// No path through it comes to its RET.
+    NeverReturns,
+    /// It takes more operands than a signature may have, as one that asks for more at each of its calls does.
+    ManyOperands,
+    /// It gives more results than a signature may have.
+    ManyResults,
+}
+
+impl Obstacle {
+    /// What a message says of the function.
+    pub fn text(self) -> &'static str {
+        match self {
+            Obstacle::TwoKinds => "is used at two kinds",
+            Obstacle::NeverReturns => "returns on no path",
+            Obstacle::ManyOperands => "asks for more and more operands",
+            Obstacle::ManyResults => "gives too many results",
+        }
+    }
+}
+
+/// Why no signatures are found for a program, over the type of a function's name.
+#[derive(Debug, Drop)]
+pub enum FindFault<N> {
+    /// Memory was refused.
+    Memory,
+    /// The text is no code: it has this fault at this line.
+    Code(CodeFault, u64),
+    /// The function of this name has no signature, as this line shows.
+    Function(Obstacle, N, u64),
+    /// No signatures would help: the program has this fault at this line.
+    Program(KindFault, u64),
+}
+
+/// The number of a line, a colon, and what is wrong there.
+impl<A: Allocator> fmt::Display for FindFault<Vec<u8, A>> {
+    fn fmt<W: fmt::Write>(&self, f: &mut fmt::Formatter<W>) -> fmt::Result {
+        match self {
+            FindFault::Memory => f.write_str("out of memory"),
+            FindFault::Code(fault, line) => write!(f, "{line}: {}", fault.text()),
+            FindFault::Function(obstacle, name, line) => {
+                let name = str::from_utf8(name).unwrap_or("a function");
+                write!(f, "{line}: {name} {}", obstacle.text())
+            }
+            FindFault::Program(fault, line) => write!(f, "{line}: {}", fault.text()),
+        }
+    }
+}
+
+impl<N> From<AllocError> for FindFault<N> {
+    fn from(_: AllocError) -> FindFault<N> {
+        FindFault::Memory
+    }
+}
+
+/// A fault that names a function by its place.
+pub(crate) type PlacedFault = FindFault<usize>;
+
+/// Why a path can't go on.
+#[derive(Drop)]
+pub(crate) enum PathFault {
+    Memory,
+    /// This entry is of another kind than is asked for.
+    OtherKind(Entry),
+    /// The function takes more operands than a signature may have.
+    ManyOperands,
+    Refused(KindFault),
+}
+
+impl From<AllocError> for PathFault {
+    fn from(_: AllocError) -> PathFault {
+        PathFault::Memory
+    }
+}
+
+impl<T: Drop> From<AllocFailed<T>> for PathFault {
+    fn from(_: AllocFailed<T>) -> PathFault {
+        PathFault::Memory
+    }
+}
