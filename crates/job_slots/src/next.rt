@@ -67,9 +67,9 @@ pub(crate) fn read_next<'a, A: Allocator>(
     steps_can_begin::<BlockId>();
     let line = track.line(job.verified().program());
     Next {
-        op: op_of(line),
+        op: op_of(&line),
         line: line.number,
-        operands: operands_of(line, track, blocks),
+        operands: operands_of(&line, track, blocks),
     }
 }
 
@@ -91,7 +91,7 @@ pub(crate) fn line_of_next<A: Allocator>(
 
 /// The instruction of a line of code without its list or name.
 #[inline(always)]
-fn op_of<A: Allocator>(line: &CodeLine<A>) -> Op
+fn op_of(line: &CodeLine<'_>) -> Op
     ensures { result ≡ op_of (instruction_in line.now.item) }
 {
     match &line.item {
@@ -103,7 +103,7 @@ fn op_of<A: Allocator>(line: &CodeLine<A>) -> Op
 /// The operands of a line of code.
 #[inline(always)]
 fn operands_of<'a, A: Allocator>(
-    line: &'a CodeLine<A>,
+    line: &CodeLine<'a>,
     track: &Track<BlockId, A>,
     blocks: &'a JobMemory<A>,
 ) -> Operands<'a>
@@ -121,7 +121,7 @@ fn operands_of<'a, A: Allocator>(
 /// The list of a `CONST`, or the words of the cells at the top that another instruction takes.
 #[inline(always)]
 fn sources<'a, A: Allocator>(
-    instruction: &'a Instruction<A>,
+    instruction: &Instruction<'a>,
     track: &Track<BlockId, A>,
     blocks: &'a JobMemory<A>,
 ) -> Operands<'a>

@@ -14,7 +14,7 @@ returns g c =
     let track = c.args.track.now in
     let run = c.requires.running in
     let can = can_begin c.steps_can_begin.ensures _ job track run c.requires.verified in
-    let line = c.line.result.now in
+    let line = c.line.result in
     line_is job track run.state line run.running can
     (line_of job track c.program.result.now c.verified.result.now line c.program.ensures.same c.verified.ensures.same
     c.line.ensures.item)

@@ -13,10 +13,10 @@ can g c =
     c.requires.verified
 
 is_line : (g : Over) (c : goal.After-line-line g) → IsLineOf (ruled c.args.rule c.args.job.now) c.args.track.now
-    c.line-line.result.now
+    c.line-line.result
 is_line g c =
     line_of (ruled c.args.rule c.args.job.now) c.args.track.now c.program.result.now c.verified.result.now
-    c.line-line.result.now
+    c.line-line.result
     c.program.ensures.same c.verified.ensures.same c.line-line.ensures.item
 
 pub line-line-requires : goal.line-line-requires
@@ -28,7 +28,7 @@ operands_of-requires g c =
     let track = c.args.track.now in
     let run = c.requires.running in
     record {
-      deep = deep_line (ruled c.args.rule c.args.job.now) track run.state c.line-line.result.now
+      deep = deep_line (ruled c.args.rule c.args.job.now) track run.state c.line-line.result
           (can g at.After-program)
           (is_line g at.After-line-line);
       live = (are_there c.args.number c.args.blocks.now.memory track.cells run.state.stack run.holds).live;
@@ -41,7 +41,7 @@ returns g c =
     let run = c.requires.running in
     let there = are_there c.args.number c.args.blocks.now.memory track.cells run.state.stack run.holds in
     let next =
-    is_next (ruled c.args.rule c.args.job.now) track run.state c.line-line.result.now c.op_of.result _ run.running
+    is_next (ruled c.args.rule c.args.job.now) track run.state c.line-line.result c.op_of.result _ run.running
     (can g at.After-program) (is_line g at.After-line-line) c.op_of.ensures
     (c.operands_of.ensures run.state.stack there.lists) in
     record { next = next.next; kinds = next.kinds }
