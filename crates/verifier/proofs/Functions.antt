@@ -1,5 +1,5 @@
 -- The body and the RET among a function's lines, and what the walk over the body says of the function.
-use Rattle.std.proofs.Common.{◌≡◌, ◌∙◌, ℕ, zero, suc, ◌-◌, ◌<◌, ◌≤◌, false, cond, refl, sym, subst, ap, arith}
+use Rattle.std.proofs.Common.{◌≡◌, ◌∙◌, ℕ, zero, suc, add-one, ◌+◌, ◌-◌, ◌<◌, ◌≤◌, false, cond, refl, sym, subst, ap, arith}
 use Rattle.std.proofs.Common.{List, [], ◌∷◌, ◌++◌, length, take, drop, drop-cons, get_or, length-append}
 use Rattle.std.proofs.Common.{Option, Some, Result, Ok}
 use Rattle.std.proofs.Math.Seq.{take-append_seam}
@@ -67,11 +67,12 @@ taken (y ∷ xs) (suc n) (suc place) x lt e = taken xs n place x (omega arith) e
 
 -- the line at a place among the first ones
 pub front_at : {A : Type 0} (xs : List A) (n place : ℕ) (x : A) → place < n → slice_get xs place ≡ Some x
-    → drop place (take n xs) ≡ x ∷ drop (suc place) (take n xs)
+    → drop place (take n xs) ≡ x ∷ drop (place + 1) (take n xs)
 front_at xs n place x lt e =
     let there = taken xs n place x lt e in
-    drop-cons (take n xs) place x (slice_get_within (take n xs) place x there)
-    ∙ ap (λ z. z ∷ drop (suc place) (take n xs)) (get_or_from_slice_get (take n xs) place x x there)
+    let within = slice_get_within (take n xs) place x there in
+    let first = get_or_from_slice_get (take n xs) place x x there in
+    rw (add-one place) (drop-cons (take n xs) place x within ∙ ap (λ z. z ∷ drop (suc place) (take n xs)) first)
 
 pub front_end : (f : Function) (place : ℕ) → length (lines_of f) - 1 ≤ place → drop place (front_of f) ≡ []
 front_end f place past =
