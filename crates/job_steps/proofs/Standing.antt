@@ -5,7 +5,7 @@ use Rattle.std.specs.Prelude.{slice_get, if◌then◌else◌, nat_lt, MatchOptio
 use Rattle.std.proofs.lemmas.Bool.Decides.{nat_tests}
 use Rattle.std.proofs.lemmas.Bool.{false≢true}
 use Rattle.std.proofs.lemmas.List.{drop_all, drop_more}
-use Rattle.std.proofs.lemmas.Option.{same_Some, slice_get_within, get_or_from_slice_get}
+use Rattle.std.proofs.lemmas.Option.{none-some, same_Some, slice_get_within, get_or_from_slice_get}
 use Rattle.vcode_base.specs.declared.instr.Instr.TheVariants.{Return}
 use Rattle.vcode_reader.specs.declared.line.CodeItem.{CodeItem}
 use Rattle.vcode_reader.specs.declared.line.CodeItem.TheVariants as code_item
@@ -300,6 +300,15 @@ parts f p line end first second rest within h stop =
 abbrev pub GoesTo : Function → ℕ → ℕ → Type 0
 GoesTo f p next =
     (p < next) × (p < length (lines_of f)) × (remaining (drop next (lines_of f)) ≡ remaining (drop p (lines_of f)))
+
+past_end : {X : Type 0} (xs : List X) (p : ℕ) → slice_get xs p ≡ None → drop p xs ≡ []
+past_end [] zero e = refl
+past_end [] (suc p) e = refl
+past_end (x ∷ xs) zero e = absurd (none-some x (sym e))
+past_end (x ∷ xs) (suc p) e = past_end xs p e
+
+pub stop_past_end : (f : Function) (p : ℕ) → None ≡ slice_get (lines_of f) p → StopAt (drop p (lines_of f))
+stop_past_end f p e = subst StopAt (sym (past_end (lines_of f) p (sym e))) tt
 
 module _ (f : Function) (p : ℕ) (x : CodeLine) (here : Some x ≡ slice_get (lines_of f) p) where
   pub within_lines : p < length (lines_of f)

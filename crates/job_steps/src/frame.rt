@@ -121,6 +121,7 @@ fn passed<A: Allocator>(function: &Function<A>, place: usize) -> Option<usize>
         × (remaining (drop next (lines_of function.now)) ≡ remaining (drop place (lines_of function.now)))) }
 {
     each_target_is_first();
+    let _count = function.line_count();
     match function.item(place)?.item {
         CodeItem::Do(_) | CodeItem::If => None,
         CodeItem::Else => function.target(place),

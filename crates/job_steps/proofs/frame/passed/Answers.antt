@@ -1,6 +1,6 @@
-use Rattle.std.proofs.Common.{inl, inr, sym, subst}
+use Rattle.std.proofs.Common.{inl, inr, sym, subst, arith}
 use Rattle.job_steps.specs.Frames.{IsStop}
-use Rattle.job_steps.proofs.Standing.{stop_here, else_here, endif_here}
+use Rattle.job_steps.proofs.Standing.{stop_here, stop_past_end, else_here, endif_here, within_lines}
 use Rattle.job_steps.proofs.frame.passed.Goals as goal
 
 pub returns-in-Do : goal.returns-in-Do
@@ -18,3 +18,11 @@ returns-in-Else g c =
 pub returns-in-Endif : goal.returns-in-Endif
 returns-in-Endif g c =
     endif_here c.args.function.now c.args.place c.in_ok-item.field-0 c.in_ok-item.ensures c.in-Endif.is
+
+pub returns-in_err-item : goal.returns-in_err-item
+returns-in_err-item g c =
+    rw c.from_residual.ensures (stop_past_end c.args.function.now c.args.place c.in_err-item.ensures)
+
+pub overflow_add-result : goal.overflow_add-result
+overflow_add-result g c =
+    omega (arith, within_lines c.args.function.now c.args.place c.in_ok-item.field-0 c.in_ok-item.ensures)
