@@ -50,7 +50,7 @@ lines_back (x ∷ xs) p ls q ns l n e f h k =
     let far : l + length (list_of x.item) ≡ length (p ++ list_of x.item) = omega (arith, length-append p (list_of x.item), h) in
     let on : n + length (name_of x.item) ≡ length (q ++ name_of x.item) = omega (arith, length-append q (name_of x.item), k) in
     let rest : List CodeLine = shown_lines ls ns
-        (pooled_lines (l + length (list_of x.item)) (n + length (name_of x.item)) xs) in
+    (pooled_lines (l + length (list_of x.item)) (n + length (name_of x.item)) xs) in
     ap (λ z. line_of z x.number ∷ rest) (item_back x.item p (all_lists xs) ls q (all_names xs) ns l n e f h k)
     ∙ ap (λ z. x ∷ z)
     (lines_back xs (p ++ list_of x.item) ls (q ++ name_of x.item) ns _ _
@@ -107,9 +107,9 @@ lines_more [] x l n k m e f =
     ap (λ z. pooled_line z n x ∷ []) at ∙ ap (λ z. pooled_line k z x ∷ []) on
 lines_more (y ∷ ys) x l n k m e f =
     let at : k ≡ l + length (list_of y.item) + length (all_lists ys) =
-        omega (arith, e, length-append (list_of y.item) (all_lists ys)) in
+    omega (arith, e, length-append (list_of y.item) (all_lists ys)) in
     let on : m ≡ n + length (name_of y.item) + length (all_names ys) =
-        omega (arith, f, length-append (name_of y.item) (all_names ys)) in
+    omega (arith, f, length-append (name_of y.item) (all_names ys)) in
     ap (λ z. pooled_line l n y ∷ z) (lines_more ys x _ _ k m at on)
 
 module _ (ps ps2 : List PooledLine) (ls ls2 : List ℤ) (ns ns2 : List ℕ) (x : CodeLine) (held : ArePooled ps ls ns)
@@ -226,7 +226,7 @@ pub shown_too : (ps : List PooledLine) (ls ms : List ℤ) (ns os : List ℕ) (pl
     let here : CodeLine = line_of i p.number in Some here ≡ slice_get all place
 shown_too ps ls ms ns os place p i all e f is at same =
     let shown : i ≡ shown_item ls ns p.item =
-        is ∙ (ap (λ z. shown_item z os p.item) e ∙ ap (λ z. shown_item ls z p.item) f) in
+    is ∙ (ap (λ z. shown_item z os p.item) e ∙ ap (λ z. shown_item ls z p.item) f) in
     ap (λ (z : CodeItem Item). let here : CodeLine = line_of z p.number in Some here) shown
     ∙ (sym (line_there ps ls ns place p at) ∙ ap (λ z. slice_get z place) same)
 

@@ -138,8 +138,7 @@ impl<A: Allocator + Clone> Parser<A> {
         requires { self.old.slots ≡ [] }
         ensures { OnOk result (self.new ≡ after_slot keyword begun [] self.old) }
     {
-        self.draft
-            .push(keyword.instruction(&self.parts), begun)?;
+        self.draft.push(keyword.instruction(&self.parts), begun)?;
         clear(&mut self.parts);
         self.place = item_place(keyword.takes_int());
         Ok(())
@@ -233,12 +232,7 @@ impl<A: Allocator + Clone> Parser<A> {
     }
 
     /// Takes a good name of the function that is called.
-    fn take_callee(
-        &mut self,
-        keyword: Keyword,
-        begun: u64,
-        word: &[u8],
-    ) -> Result<(), AllocError>
+    fn take_callee(&mut self, keyword: Keyword, begun: u64, word: &[u8]) -> Result<(), AllocError>
         ensures { let parts : ItemParts = record self.old.parts { callee = word.now } in
             OnOk result (self.new ≡ after_slot keyword begun self.old.slots (record self.old { parts = parts })) }
     {
@@ -355,14 +349,7 @@ impl<A: Allocator + Clone> Parser<A> {
         let no_lines = Draft::new(self.alloc.clone()?)?;
         let name = mem::replace(&mut self.name, no_name);
         let draft = mem::replace(&mut self.draft, no_lines);
-        self.functions
-            .push(Function::new(
-                self.alloc.clone()?,
-                name,
-                self.line,
-                draft,
-                line,
-            )?)?;
+        self.functions.push(Function::new(self.alloc.clone()?, name, self.line, draft, line)?)?;
         self.line = 0;
         self.place = Place::Outside;
         Ok(())

@@ -45,7 +45,8 @@ fn answer_of(alloc: Global, function: &Function<Global>) -> Result<Answer, Alloc
     let Some(last) = function.item(operands) else {
         return Ok(Answer::NoCase);
     };
-    let (CodeItem::Do(instr), Some(mut ops)) = (&last.item, lists_of(alloc, function, operands)?) else {
+    let (CodeItem::Do(instr), Some(mut ops)) = (&last.item, lists_of(alloc, function, operands)?)
+    else {
         return Ok(Answer::NoCase);
     };
     if let Instr::Const(_, list) = instr {
