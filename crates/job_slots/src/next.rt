@@ -69,7 +69,8 @@ pub(crate) fn read_next<'a, A: Allocator>(
     ensures kinds { HaveKinds (source_kinds result.op) (contents (take result.operands.count result.operands.lists)) }
 {
     let line = next_line(rule, job, track, number, blocks);
-    next_at(rule, job, track, number, blocks, line, op_of(line))
+    let op = op_of(&line);
+    next_at(rule, job, track, number, blocks, &line, op)
 }
 
 /// The line of the next instruction of a job that runs.
@@ -80,10 +81,10 @@ pub(crate) fn next_line<'a, A: Allocator>(
     track: &Track<BlockId, A>,
     number: usize,
     blocks: &JobMemory<A>,
-) -> &'a CodeLine<A>
+) -> CodeLine<'a>
     requires running { IsRunningSlot (own_slots number blocks.now) (ruled rule job.now) track.now }
     requires verified { IsVerified (ruled rule job.now) }
-    ensures { IsLineOf (ruled rule job.now) track.now result.now }
+    ensures { IsLineOf (ruled rule job.now) track.now result }
 {
     steps_can_begin::<BlockId>();
     track.line(job.verified().program())
@@ -97,7 +98,7 @@ pub(crate) fn next_at<'a, A: Allocator>(
     track: &Track<BlockId, A>,
     number: usize,
     blocks: &'a JobMemory<A>,
-    line: &'a CodeLine<A>,
+    line: &CodeLine<'a>,
     op: Op,
 ) -> Next<'a>
     requires running { IsRunningSlot (own_slots number blocks.now) (ruled rule job.now) track.now }
@@ -137,7 +138,7 @@ pub(crate) fn line_of_next<A: Allocator>(
 
 /// The instruction of a line of code without its list or name.
 #[inline(always)]
-fn op_of<A: Allocator>(line: &CodeLine<A>) -> Op
+fn op_of(line: &CodeLine<'_>) -> Op
     ensures { result ≡ op_of (instruction_in line.now.item) }
 {
     match &line.item {
@@ -149,7 +150,7 @@ fn op_of<A: Allocator>(line: &CodeLine<A>) -> Op
 /// The operands of a line of code of this instruction.
 #[inline(always)]
 fn operands_of<'a, A: Allocator>(
-    line: &'a CodeLine<A>,
+    line: &CodeLine<'a>,
     op: Op,
     track: &Track<BlockId, A>,
     blocks: &'a JobMemory<A>,
@@ -169,7 +170,7 @@ fn operands_of<'a, A: Allocator>(
 /// The list of a `CONST`, or the words of the cells at the top that another instruction takes.
 #[inline(always)]
 fn sources<'a, A: Allocator>(
-    instruction: &'a Instruction<A>,
+    instruction: &Instruction<'a>,
     op: Op,
     track: &Track<BlockId, A>,
     blocks: &'a JobMemory<A>,

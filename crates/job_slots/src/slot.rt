@@ -298,42 +298,42 @@ impl<A: Allocator> Slot<A> {
         let line = next_line(rule, job, &self.track, number, blocks);
         match &line.item {
             CodeItem::Do(Instr::Const(kind, _)) => {
-                self.step_line(rule, job, number, blocks, desk, line, Op::Const(*kind))
+                self.step_line(rule, job, number, blocks, desk, &line, Op::Const(*kind))
             }
             CodeItem::Do(Instr::Elementwise(Elementwise::Arith(op))) => {
                 let op = Op::Elementwise(Elementwise::Arith(*op));
-                self.step_line(rule, job, number, blocks, desk, line, op)
+                self.step_line(rule, job, number, blocks, desk, &line, op)
             }
             CodeItem::Do(Instr::Elementwise(Elementwise::Compare(op))) => {
                 let op = Op::Elementwise(Elementwise::Compare(*op));
-                self.step_line(rule, job, number, blocks, desk, line, op)
+                self.step_line(rule, job, number, blocks, desk, &line, op)
             }
             CodeItem::Do(Instr::Elementwise(op)) => {
-                self.step_long(rule, job, number, blocks, desk, line, Op::Elementwise(*op))
+                self.step_long(rule, job, number, blocks, desk, &line, Op::Elementwise(*op))
             }
             CodeItem::Do(Instr::Segmented(op)) => {
-                self.step_long(rule, job, number, blocks, desk, line, Op::Segmented(*op))
+                self.step_long(rule, job, number, blocks, desk, &line, Op::Segmented(*op))
             }
             CodeItem::Do(Instr::Move(StackMove::Copy, lower, upper)) => {
                 let op = Op::Move(StackMove::Copy, *lower, *upper);
-                self.step_line(rule, job, number, blocks, desk, line, op)
+                self.step_line(rule, job, number, blocks, desk, &line, op)
             }
             CodeItem::Do(Instr::Move(StackMove::Pop, lower, upper)) => {
                 let op = Op::Move(StackMove::Pop, *lower, *upper);
-                self.step_line(rule, job, number, blocks, desk, line, op)
+                self.step_line(rule, job, number, blocks, desk, &line, op)
             }
             CodeItem::Do(Instr::Move(StackMove::MoveToTop, lower, upper)) => {
                 let op = Op::Move(StackMove::MoveToTop, *lower, *upper);
-                self.step_line(rule, job, number, blocks, desk, line, op)
+                self.step_line(rule, job, number, blocks, desk, &line, op)
             }
             CodeItem::Do(Instr::Call(_)) => {
-                self.step_line(rule, job, number, blocks, desk, line, Op::Call)
+                self.step_line(rule, job, number, blocks, desk, &line, Op::Call)
             }
             CodeItem::Do(Instr::Return) => {
-                self.step_line(rule, job, number, blocks, desk, line, Op::Return)
+                self.step_line(rule, job, number, blocks, desk, &line, Op::Return)
             }
             CodeItem::Do(Instr::If) | CodeItem::If | CodeItem::Else | CodeItem::Endif => {
-                self.step_line(rule, job, number, blocks, desk, line, Op::If)
+                self.step_line(rule, job, number, blocks, desk, &line, Op::If)
             }
         }
     }
@@ -348,7 +348,7 @@ impl<A: Allocator> Slot<A> {
         number: usize,
         blocks: &mut JobMemory<A>,
         desk: &mut Desk<A>,
-        line: &CodeLine<A>,
+        line: &CodeLine<'_>,
         op: Op,
     ) -> Stepped
         requires shows { Shows number blocks.old (ruled rule job.now) self.old }
@@ -438,7 +438,7 @@ impl<A: Allocator> Slot<A> {
         number: usize,
         blocks: &mut JobMemory<A>,
         desk: &mut Desk<A>,
-        line: &CodeLine<A>,
+        line: &CodeLine<'_>,
         op: Op,
     ) -> Stepped
         requires shows { Shows number blocks.old (ruled rule job.now) self.old }

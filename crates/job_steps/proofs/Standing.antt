@@ -5,7 +5,7 @@ use Rattle.std.specs.Prelude.{slice_get, if◌then◌else◌, nat_lt, MatchOptio
 use Rattle.std.proofs.lemmas.Bool.Decides.{nat_tests}
 use Rattle.std.proofs.lemmas.Bool.{false≢true}
 use Rattle.std.proofs.lemmas.List.{drop_all, drop_more}
-use Rattle.std.proofs.lemmas.Option.{slice_get_within, get_or_from_slice_get}
+use Rattle.std.proofs.lemmas.Option.{none-some, same_Some, slice_get_within, get_or_from_slice_get}
 use Rattle.vcode_base.specs.declared.instr.Instr.TheVariants.{Return}
 use Rattle.vcode_reader.specs.declared.line.CodeItem.{CodeItem}
 use Rattle.vcode_reader.specs.declared.line.CodeItem.TheVariants as code_item
@@ -168,19 +168,18 @@ module _ (functions gs : List Function) (frame : Frame) (call : Active) (same : 
       subst (λ f. slice_get (lines_of f) frame.place ≡ Some at.line) is_it at.there in
       record { found = found; within = slice_get_within (lines_of g) frame.place at.line there }
 
--- the line that indexing gives
-pub line_at : (functions : List Function) (frame : Frame) (call : Active) (g : Function) (xs : List CodeLine)
-    (x : CodeLine) → slice_get functions frame.function ≡ Some g → Stands functions frame call → xs ≡ lines_of g →
-    x ≡ get_or xs frame.place x → x ≡ next_line call
-line_at functions frame call g xs x found s same is =
+-- the line at the place of a frame
+pub line_at : (functions : List Function) (frame : Frame) (call : Active) (g : Function) (x : CodeLine) →
+    slice_get functions frame.function ≡ Some g → Stands functions frame call →
+    Some x ≡ slice_get (lines_of g) frame.place → x ≡ next_line call
+line_at functions frame call g x found s here =
     let at = stands_at functions frame call s in
     let is_it : at.function ≡ g =
     sym (get_or_from_slice_get functions frame.function at.function g at.found)
     ∙ get_or_from_slice_get functions frame.function g g found in
     let there : slice_get (lines_of g) frame.place ≡ Some at.line =
     subst (λ f. slice_get (lines_of f) frame.place ≡ Some at.line) is_it at.there in
-    is ∙ (ap (λ ys. get_or ys frame.place x) same
-    ∙ (get_or_from_slice_get (lines_of g) frame.place at.line x there ∙ sym at.next))
+    same_Some x at.line (here ∙ there) ∙ sym at.next
 
 -- what remains of a function from a place on
 abbrev pub remaining_from : Function → ℕ → Body
@@ -302,17 +301,21 @@ abbrev pub GoesTo : Function → ℕ → ℕ → Type 0
 GoesTo f p next =
     (p < next) × (p < length (lines_of f)) × (remaining (drop next (lines_of f)) ≡ remaining (drop p (lines_of f)))
 
-module _ (f : Function) (p : ℕ) (xs : List CodeLine) (x : CodeLine) (same : xs ≡ lines_of f)
-    (within : true ≡ nat_lt p (length xs)) (is : x ≡ get_or xs p x) where
+past_end : {X : Type 0} (xs : List X) (p : ℕ) → slice_get xs p ≡ None → drop p xs ≡ []
+past_end [] zero e = refl
+past_end [] (suc p) e = refl
+past_end (x ∷ xs) zero e = absurd (none-some x (sym e))
+past_end (x ∷ xs) (suc p) e = past_end xs p e
+
+pub stop_past_end : (f : Function) (p : ℕ) → None ≡ slice_get (lines_of f) p → StopAt (drop p (lines_of f))
+stop_past_end f p e = subst StopAt (sym (past_end (lines_of f) p (sym e))) tt
+
+module _ (f : Function) (p : ℕ) (x : CodeLine) (here : Some x ≡ slice_get (lines_of f) p) where
   pub within_lines : p < length (lines_of f)
-  within_lines =
-      let lt : p < length xs = grind (arith, nat_tests, within) in
-      omega (arith, lt, ap length same)
+  within_lines = slice_get_within (lines_of f) p x (sym here)
 
   here_is : drop p (lines_of f) ≡ x ∷ drop (p + 1) (lines_of f)
-  here_is =
-      drop_more (lines_of f) p x within_lines
-      ∙ ap (λ y. y ∷ drop (p + 1) (lines_of f)) (sym (is ∙ ap (λ ys. get_or ys p x) same))
+  here_is = at_place (lines_of f) p x (sym here)
 
   pub stop_here : IsStop x.item → StopAt (drop p (lines_of f))
   stop_here h = subst StopAt (sym here_is) h

@@ -57,7 +57,7 @@ fn follow_instruction<A: Allocator>(
     frames: &mut BoundedStack<Frame, A>,
     job: &Job<A>,
     frame: Frame,
-    instruction: &Instruction<A>,
+    instruction: &Instruction<'_>,
 )
     requires frame { slice_get frames.old.entries 0 ≡ Some frame }
     requires line { (call : Active) → Stands (functions_of job.now.verified) frame call

@@ -31,11 +31,11 @@ impl Frame {
 
     /// Its line.
     #[inline(always)]
-    pub(crate) fn line<'a, A: Allocator>(self, program: &'a Program<A>) -> &'a CodeLine<A>
+    pub(crate) fn line<'a, A: Allocator>(self, program: &'a Program<A>) -> CodeLine<'a>
         requires { (call : Active) × Stands program.now.functions self call }
-        ensures { (call : Active) → Stands program.now.functions self call → result.now ≡ next_line call }
+        ensures { (call : Active) → Stands program.now.functions self call → result ≡ next_line call }
     {
-        &self.function(program).lines()[self.place]
+        self.function(program).item(self.place).unwrap()
     }
 
     /// The frame after an instruction that goes on at what follows it.
@@ -86,7 +86,7 @@ fn behind<A: Allocator>(function: &Function<A>, place: usize) -> usize
     requires { place < length (lines_of function.now) }
     ensures { result ≡ place + 1 }
 {
-    let _lines = function.lines();
+    let _count = function.line_count();
     place + 1
 }
 
@@ -130,7 +130,8 @@ fn passed<A: Allocator>(function: &Function<A>, place: usize) -> Option<usize>
         × (remaining (drop next (lines_of function.now)) ≡ remaining (drop place (lines_of function.now)))) }
 {
     each_target_is_first();
-    match function.lines().get(place)?.item {
+    let _count = function.line_count();
+    match function.item(place)?.item {
         CodeItem::Do(_) | CodeItem::If => None,
         CodeItem::Else => function.target(place),
         CodeItem::Endif => Some(place + 1),

@@ -117,13 +117,13 @@ impl<C: Copy, A: Allocator> Track<C, A> {
 
     /// The line of the next instruction in the job's program. Some call has to be active.
     #[inline(always)]
-    pub fn line<'a>(&self, program: &'a Program<A>) -> &'a CodeLine<A>
+    pub fn line<'a>(&self, program: &'a Program<A>) -> CodeLine<'a>
         requires { AreActive program.now.functions self.now.frames }
         ensures line { (call : Active) (outer : List Active)
-            → StandAll program.now.functions self.now.frames (call ∷ outer) → result.now ≡ next_line call }
+            → StandAll program.now.functions self.now.frames (call ∷ outer) → result ≡ next_line call }
         ensures item { (call : Active) (outer : List Active)
             → StandAll program.now.functions self.now.frames (call ∷ outer)
-            → next_item call ≡ instruction_of result.now }
+            → next_item call ≡ instruction_of result }
     {
         self.frames.at(0).line(program)
     }

@@ -1,7 +1,6 @@
 use crate::kind::Scalar;
 use crate::op::{Elementwise, Op, Segmented, StackMove};
-use crate::sequence::Sequence;
-use crate::value::Words;
+use crate::sequence::{Elements, Sequence};
 
 /// An instruction of the code, over the type of its list and the type of the name that it calls:
 /// the code holds an [`Instruction`].
@@ -20,8 +19,8 @@ pub enum Instr<L, N> {
     Return,
 }
 
-/// An instruction that owns its list or its name.
-pub type Instruction<A> = Instr<Words<A>, FunctionName<A>>;
+/// An instruction whose list or name lies elsewhere.
+pub type Instruction<'a> = Instr<Elements<'a, i64>, Elements<'a, u8>>;
 
 impl<L, N> Instr<L, N> {
     ghost use Rattle.std.specs.Prelude.{◌≡◌};

@@ -26,6 +26,6 @@ pub use line_words::{LineWords, Parentheses};
 pub use op::{Arith, Comparison, Elementwise, Fold, Logic, Op, Segmented, StackMove};
 pub use outcome::Outcome;
 pub use rule::Rule;
-pub use sequence::Sequence;
+pub use sequence::{Elements, Sequence};
 pub use shared_words::SharedWords;
 pub use value::{Value, Values, Words};

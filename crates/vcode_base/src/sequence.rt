@@ -90,3 +90,33 @@ impl<T: Eq, A: Allocator> Eq for Sequence<T, A> {
 
     ghost laws = { Prim.search (comparing, rules) };
 }
+
+/// The elements of a list that lies elsewhere, in order.
+#[derive(Debug, Drop)]
+pub struct Elements<'a, T> {
+    elements: &'a [T],
+}
+
+impl<'a, T> Model for Elements<'a, T> {
+    ghost use Rattle.std.specs.Prelude.{List};
+
+    ghost Value = { List T };
+
+    ghost view = { λ s. s.elements.now };
+}
+
+impl<'a, T> Elements<'a, T> {
+    /// The elements of a slice.
+    pub fn new(elements: &'a [T]) -> Elements<'a, T>
+        ensures { result ≡ elements.now }
+    {
+        Elements { elements }
+    }
+
+    /// The elements in order.
+    pub fn as_slice(&self) -> &'a [T]
+        ensures { result.now ≡ self.now }
+    {
+        self.elements
+    }
+}

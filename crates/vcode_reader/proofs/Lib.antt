@@ -12,6 +12,7 @@ pub mod Fresh
 pub mod Good
 pub mod Lines
 pub mod Pieces
+pub mod Pooling
 pub mod Runs
 pub mod Sound
 pub mod Spelling

@@ -10,6 +10,7 @@ pub mod Keywords
 pub mod Numbers
 pub mod ParseCode
 pub mod Parsing
+pub mod Pools
 pub mod Programs
 pub mod Reading
 pub mod Refusals

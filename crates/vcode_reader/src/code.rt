@@ -8,7 +8,8 @@ ghost use Rattle.vcode_reader.specs.Drafts.{takes_else, is_open, innermost_line}
 ghost use Rattle.vcode_reader.specs.Targets.{first_of, others_of, jumps_before, jumps_from, targets_of};
 ghost use Rattle.vcode_reader.specs.Decode.{AreBodyLines};
 
-use crate::line::{CodeItem, CodeLine, Numbered};
+use crate::code_lines::{CodeLines, GrowingLines};
+use crate::line::{CodeItem, Numbered};
 use crate::place::OpenIf;
 use std::alloc::{AllocError, Allocator};
 use std::marker::Model;
@@ -17,7 +18,7 @@ use vcode_base::Instruction;
 /// The lines of a body that is being read, with its open IFs.
 #[derive(Drop)]
 pub struct Draft<A: Allocator> {
-    lines: Vec<CodeLine<A>, A>,
+    lines: GrowingLines<A>,
     ifs: FrontList<OpenIf, A>,
 }
 
@@ -29,9 +30,9 @@ impl<A: Allocator> Model for Draft<A> {
 
     ghost coded = { draft_code (Prim.hlevel codes) (Prim.hlevel codes) };
 
-    ghost view = { λ d. record { lines = d.lines.items; ifs = d.ifs } };
+    ghost view = { λ d. record { lines = d.lines; ifs = d.ifs } };
 
-    ghost invariant = { λ d. IsDraft d.ifs d.lines.items };
+    ghost invariant = { λ d. IsDraft d.ifs d.lines };
 }
 
 impl<A: Allocator + Clone> Draft<A> {
@@ -40,7 +41,7 @@ impl<A: Allocator + Clone> Draft<A> {
         ensures { IfOk result (λ d. d ≡ no_lines) }
     {
         Ok(Draft {
-            lines: Vec::new(alloc.clone()?),
+            lines: GrowingLines::new(alloc.clone()?)?,
             ifs: FrontList::new(alloc),
         })
     }
@@ -48,8 +49,9 @@ impl<A: Allocator + Clone> Draft<A> {
 
 impl<A: Allocator> Draft<A> {
     /// Adds an instruction, which is on this line.
-    pub(crate) fn push(&mut self, instruction: Instruction<A>, line: u64) -> Result<(), AllocError>
-        ensures { OnOk result (self.new ≡ with_item instruction line self.old) }
+    #[inline(always)]
+    pub(crate) fn push(&mut self, instruction: Instruction<'_>, line: u64) -> Result<(), AllocError>
+        ensures { OnOk result (self.new ≡ with_item instruction.entry line self.old) }
     {
         self.lines.push(Numbered {
             item: CodeItem::Do(instruction),
@@ -130,9 +132,9 @@ impl<A: Allocator> Draft<A> {
     }
 
     /// The lines.
-    pub(crate) fn into_vec(self) -> Vec<CodeLine<A>, A>
-        ensures same { result.items ≡ self.lines }
-        ensures body { is_open self.ifs ≡ false → AreBodyLines result.items }
+    pub(crate) fn into_lines(self) -> GrowingLines<A>
+        ensures same { result ≡ self.lines }
+        ensures body { is_open self.ifs ≡ false → AreBodyLines result }
     {
         let Draft { lines, ifs: _ } = self;
         lines
@@ -141,11 +143,11 @@ impl<A: Allocator> Draft<A> {
 
 /// After a refusal of memory: no line and no open IF.
 fn give_up<A: Allocator>(
-    lines: &mut Vec<CodeLine<A>, A>,
+    lines: &mut GrowingLines<A>,
     ifs: &mut FrontList<OpenIf, A>,
 ) -> Result<(), AllocError>
     ensures err { IsErr result }
-    ensures lines { lines.new.items ≡ [] }
+    ensures lines { lines.new ≡ [] }
     ensures ifs { ifs.new ≡ [] }
 {
     lines.clear();
@@ -155,14 +157,14 @@ fn give_up<A: Allocator>(
 
 /// One open IF more, and this item on its line.
 fn add_open<A: Allocator>(
-    lines: &mut Vec<CodeLine<A>, A>,
+    lines: &mut GrowingLines<A>,
     ifs: &mut FrontList<OpenIf, A>,
-    item: CodeItem<Instruction<A>>,
+    item: CodeItem<Instruction<'_>>,
     opened: OpenIf,
 ) -> Result<(), AllocError>
-    ensures lines { OnOk result (lines.new.items ≡ lines.old.items ++ line_of item opened.line ∷ []) }
+    ensures lines { OnOk result (lines.new ≡ lines.old ++ line_of item.entry opened.line ∷ []) }
     ensures ifs { OnOk result (ifs.new ≡ opened ∷ ifs.old) }
-    ensures no_lines { OnErr result (lines.new.items ≡ []) }
+    ensures no_lines { OnErr result (lines.new ≡ []) }
     ensures no_ifs { OnErr result (ifs.new ≡ []) }
 {
     let line = Numbered {
@@ -177,14 +179,14 @@ fn add_open<A: Allocator>(
 
 /// The `ENDIF` of an IF that was taken off, after an `ELSE` if the IF has none.
 fn close<A: Allocator>(
-    lines: &mut Vec<CodeLine<A>, A>,
+    lines: &mut GrowingLines<A>,
     ifs: &mut FrontList<OpenIf, A>,
     opened: OpenIf,
     line: u64,
 ) -> Result<(), AllocError>
-    ensures lines { OnOk result (lines.new.items ≡ lines_after_endif opened line lines.old.items) }
+    ensures lines { OnOk result (lines.new ≡ lines_after_endif opened line lines.old) }
     ensures ifs { OnOk result (ifs.new ≡ ifs.old) }
-    ensures no_lines { OnErr result (lines.new.items ≡ []) }
+    ensures no_lines { OnErr result (lines.new ≡ []) }
     ensures no_ifs { OnErr result (ifs.new ≡ []) }
 {
     let between = Numbered {
@@ -293,9 +295,9 @@ impl<A: Allocator> Model for Finder<A> {
 }
 
 impl<A: Allocator> Finder<A> {
-    fn before(&mut self, item: &CodeItem<Instruction<A>>, place: u32) -> Result<(), AllocError>
+    fn before(&mut self, item: CodeItem<Instruction<'_>>, place: u32) -> Result<(), AllocError>
         requires { place + 1 < 2 ^ 32 }
-        ensures { OnOk result (self.new ≡ jumps_before item.now place self.old) }
+        ensures { OnOk result (self.new ≡ jumps_before item.entry place self.old) }
     {
         match item {
             CodeItem::Do(_) => self.targets.push(None)?,
@@ -317,7 +319,7 @@ impl<A: Allocator> Finder<A> {
     }
 
     #[tactic(auto, unfolding(crate::specs::Targets::jumps_from))]
-    fn find(&mut self, lines: &[CodeLine<A>]) -> Result<(), AllocError>
+    fn find(&mut self, lines: &CodeLines<A>) -> Result<(), AllocError>
         requires { self.old ≡ record { list = []; waits = [] } }
         ensures { OnOk result (self.new ≡ jumps_from 0 lines.now) }
     {
@@ -326,7 +328,8 @@ impl<A: Allocator> Finder<A> {
         };
         while place > 0 {
             place -= 1;
-            self.before(&lines[place as usize].item, place)?;
+            let line = lines.get(place as usize).unwrap();
+            self.before(line.item, place)?;
         }
         Ok(())
     }
@@ -336,7 +339,7 @@ impl<A: Allocator> Finder<A> {
 #[tactic(auto, unfolding(crate::specs::Targets::targets_of))]
 pub(crate) fn targets_of<A: Allocator + Clone>(
     alloc: A,
-    lines: &[CodeLine<A>],
+    lines: &CodeLines<A>,
 ) -> Result<Vec<Option<u32>, A>, AllocError>
     ensures { IfOk result (λ found. found.items ≡ targets_of lines.now) }
 {

@@ -1,16 +1,14 @@
 //! The first words of instructions, and what must follow each.
 
-ghost use Rattle.std.specs.Prelude.{◌≡◌, [], IfOk, OnOk};
+ghost use Rattle.std.specs.Prelude.{◌≡◌, []};
 ghost use Rattle.vcode_reader.specs.Firsts.{TakesOff};
 ghost use Rattle.vcode_reader.specs.Keywords.{fold_of, folding_slots, keyword_slots, takes_int, instruction_of};
-ghost use Rattle.vcode_reader.specs.Keywords.{no_parts};
 
-use crate::parts::{InstructionParts, clear};
-use std::alloc::{AllocError, Allocator};
+use crate::parts::InstructionParts;
+use std::alloc::Allocator;
 use std::marker::Model;
-use std::mem;
 use vcode_base::{
-    Arith, Comparison, Elementwise, Fold, Instr, Instruction, Logic, Scalar, Segmented, Sequence,
+    Arith, Comparison, Elements, Elementwise, Fold, Instr, Instruction, Logic, Scalar, Segmented,
     StackMove,
 };
 
@@ -141,23 +139,15 @@ impl Keyword {
         )
     }
 
-    /// The instruction of this first word and of what the words after it gave. The parts are empty after it.
-    ///
-    /// # Errors
-    ///
-    /// [`AllocError`] if memory is refused.
-    pub(crate) fn instruction<A: Allocator + Clone>(
-        self,
-        alloc: &A,
-        parts: &mut InstructionParts<A>,
-    ) -> Result<Instruction<A>, AllocError>
-        ensures instruction { IfOk result (λ i. i ≡ instruction_of self parts.old) }
-        ensures no_parts { OnOk result (parts.new ≡ no_parts) }
+    /// The instruction of this first word and of what the words after it gave.
+    #[inline(always)]
+    pub(crate) fn instruction<A: Allocator>(self, parts: &InstructionParts<A>) -> Instruction<'_>
+        ensures { result ≡ instruction_of self parts.now }
     {
         let kind = parts.kind;
-        let instruction = match self {
-            Keyword::Const => Instr::Const(kind, take_list(alloc, &mut parts.numbers)?),
-            Keyword::Call => Instr::Call(take_list(alloc, &mut parts.callee)?),
+        match self {
+            Keyword::Const => Instr::Const(kind, Elements::new(parts.numbers.as_slice())),
+            Keyword::Call => Instr::Call(Elements::new(parts.callee.as_slice())),
             Keyword::Move(motion) => Instr::Move(motion, parts.lower, parts.upper),
             Keyword::Arith(op) => Instr::Elementwise(Elementwise::Arith(op)),
             Keyword::Compare(op) => Instr::Elementwise(Elementwise::Compare(op)),
@@ -178,26 +168,8 @@ impl Keyword {
             Keyword::Pack => Instr::Segmented(Segmented::Pack(kind)),
             Keyword::MakeSegdes => Instr::Segmented(Segmented::MakeSegdes),
             Keyword::Lengths => Instr::Segmented(Segmented::Lengths),
-        };
-        clear(parts);
-        Ok(instruction)
+        }
     }
-}
-
-/// Takes a list out, and leaves the empty one.
-///
-/// # Errors
-///
-/// [`AllocError`] if memory is refused.
-fn take_list<T: Drop, A: Allocator + Clone>(
-    alloc: &A,
-    list: &mut Sequence<T, A>,
-) -> Result<Sequence<T, A>, AllocError>
-    ensures list { IfOk result (λ taken. taken ≡ list.old) }
-    ensures none { OnOk result (list.new ≡ []) }
-{
-    let none = Sequence::from_vec(Vec::new(alloc.clone()?));
-    Ok(mem::replace(list, none))
 }
 
 /// What the next words of an instruction must be, in order.

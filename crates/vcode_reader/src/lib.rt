@@ -43,7 +43,7 @@
 //!
 //! **What is read** is a [`Program`]: its functions with their lines. The body of a function holds no `RET`,
 //! which comes only after it, and `IF` only as the begin of a choice. This is a fact of the types of
-//! [`Function::lines`] and [`Program::functions`].
+//! [`Function::item`] and [`Program::functions`].
 //!
 //! `specs/Heads` is the table of words: what each begins, and what must follow it; `specs/Keywords`
 //! the instruction that it gives; `specs/Gram` the grammar as a relation, by cases; `specs/Parsing` the
@@ -53,6 +53,7 @@
 
 mod class;
 mod code;
+mod code_lines;
 mod fault;
 mod head;
 mod keyword;

@@ -18,5 +18,5 @@ pub struct Numbered<I> {
     pub number: u64,
 }
 
-/// A line that owns the list or the name of its instruction.
-pub type CodeLine<A> = Numbered<CodeItem<Instruction<A>>>;
+/// A line whose list or name lies with its function.
+pub type CodeLine<'a> = Numbered<CodeItem<Instruction<'a>>>;

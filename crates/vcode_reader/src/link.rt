@@ -2,8 +2,9 @@
 
 ghost use Rattle.std.specs.Prelude.{◌≡◌, IfOk, map};
 ghost use Rattle.vcode_reader.specs.Callees.{callee_of, callees_of};
+ghost use Rattle.vcode_reader.specs.Trees.{lines_of};
 
-use crate::line::{CodeItem, CodeLine};
+use crate::line::CodeItem;
 use crate::program::Function;
 use std::alloc::{AllocError, Allocator};
 use std::collections::BTreeMap;
@@ -57,8 +58,9 @@ impl<'a, A: Allocator + Clone> Linker<'a, A> {
 
 impl<A: Allocator> Linker<'_, A> {
     /// The place of the function that this item calls, if there is one.
-    fn callee(&self, item: &CodeItem<Instruction<A>>) -> Option<u16>
-        ensures { result ≡ callee_of self.now item.now }
+    #[inline(always)]
+    fn callee(&self, item: CodeItem<Instruction<'_>>) -> Option<u16>
+        ensures { result ≡ callee_of self.now item.entry }
     {
         match item {
             CodeItem::Do(Instr::Call(name)) => self.places.get(name.as_slice()).copied(),
@@ -66,14 +68,16 @@ impl<A: Allocator> Linker<'_, A> {
         }
     }
 
-    /// The same for each of these lines.
-    fn callees(&self, alloc: A, lines: &[CodeLine<A>]) -> Result<Vec<Option<u16>, A>, AllocError>
-        ensures { IfOk result (λ found. found.items ≡ map (λ x. callee_of self.now x.item) lines.now) }
+    /// The same for each line of a function.
+    fn callees(&self, alloc: A, function: &Function<A>) -> Result<Vec<Option<u16>, A>, AllocError>
+        ensures { IfOk result (λ found. found.items ≡ map (λ x. callee_of self.now x.item) (lines_of function.now)) }
     {
-        lines
-            .iter()
-            .map(|line| self.callee(&line.item))
-            .collect(alloc)
+        let mut found = Vec::with_capacity(alloc, function.line_count())?;
+        for place in 0..function.line_count() {
+            let line = function.item(place).unwrap();
+            found.push(self.callee(line.item))?;
+        }
+        Ok(found)
     }
 }
 
@@ -88,7 +92,7 @@ pub(crate) fn callees_of<A: Allocator + Clone>(
     let linker = Linker::new(alloc.clone()?, functions)?;
     let mut found = Vec::with_capacity(alloc.clone()?, functions.len())?;
     for function in functions {
-        let callees = linker.callees(alloc.clone()?, function.lines())?;
+        let callees = linker.callees(alloc.clone()?, function)?;
         found.push(Sequence::from_vec(callees))?;
     }
     Ok(found)

@@ -2,8 +2,10 @@
 
 ghost use Rattle.std.specs.Prelude.{◌≡◌, [], false, OnOk, IfOk};
 ghost use Rattle.vcode_reader.specs.declared.head.Head.TheVariants.{Return, If, Else, Endif};
+ghost use Rattle.vcode_reader.specs.declared.place.Place.TheVariants.{Inside};
 ghost use Rattle.vcode_reader.specs.Drafts.{is_open};
 ghost use Rattle.vcode_reader.specs.Heads.{head_slots};
+ghost use Rattle.vcode_reader.specs.Keywords.{ItemParts};
 ghost use Rattle.vcode_reader.specs.Parsing.{start, with_fault, after_slot, item_place, after_part};
 ghost use Rattle.vcode_reader.specs.Parsing.{with_kind, with_value};
 ghost use Rattle.vcode_reader.specs.Parsing.{with_count, with_callee, in_slot, one_element, in_list, outside, has_name};
@@ -17,7 +19,7 @@ use crate::fault::{CodeFault, ReadFault};
 use crate::head::{Head, head_of};
 use crate::keyword::{Entries, Keyword, Slots, WordSlot};
 use crate::number::value_of;
-use crate::parts::{InstructionParts, no_parts};
+use crate::parts::{InstructionParts, clear, no_parts};
 use crate::place::Place;
 use crate::program::Function;
 use crate::word::{count_in, int_of, is_no_name, kind_of, no_value};
@@ -136,8 +138,8 @@ impl<A: Allocator + Clone> Parser<A> {
         requires { self.old.slots ≡ [] }
         ensures { OnOk result (self.new ≡ after_slot keyword begun [] self.old) }
     {
-        let instruction = keyword.instruction(&self.alloc, &mut self.parts)?;
-        self.draft.push(instruction, begun)?;
+        self.draft.push(keyword.instruction(&self.parts), begun)?;
+        clear(&mut self.parts);
         self.place = item_place(keyword.takes_int());
         Ok(())
     }
@@ -224,9 +226,18 @@ impl<A: Allocator + Clone> Parser<A> {
         } else if word.len() > LONGEST_NAME {
             self.refuse(CodeFault::TooLarge, line);
         } else {
-            self.parts.callee = name_of(self.alloc.clone()?, word)?;
-            self.next_slot(keyword, begun)?;
+            self.take_callee(keyword, begun, word)?;
         }
+        Ok(())
+    }
+
+    /// Takes a good name of the function that is called.
+    fn take_callee(&mut self, keyword: Keyword, begun: u64, word: &[u8]) -> Result<(), AllocError>
+        ensures { let parts : ItemParts = record self.old.parts { callee = word.now } in
+            OnOk result (self.new ≡ after_slot keyword begun self.old.slots (record self.old { parts = parts })) }
+    {
+        self.parts.callee = name_of(self.alloc.clone()?, word)?;
+        self.next_slot(keyword, begun)?;
         Ok(())
     }
 
@@ -316,9 +327,17 @@ impl<A: Allocator + Clone> Parser<A> {
         } else if has_name(word, self.functions.as_slice()) {
             self.refuse(CodeFault::FunctionTwice, line);
         } else {
-            self.name = name_of(self.alloc.clone()?, word)?;
-            self.place = Place::Inside;
+            self.take_name(word)?;
         }
+        Ok(())
+    }
+
+    /// Takes a good name of the function that begins.
+    fn take_name(&mut self, word: &[u8]) -> Result<(), AllocError>
+        ensures { OnOk result (self.new ≡ record self.old { place = Inside; name = word.now }) }
+    {
+        self.name = name_of(self.alloc.clone()?, word)?;
+        self.place = Place::Inside;
         Ok(())
     }
 
@@ -330,8 +349,7 @@ impl<A: Allocator + Clone> Parser<A> {
         let no_lines = Draft::new(self.alloc.clone()?)?;
         let name = mem::replace(&mut self.name, no_name);
         let draft = mem::replace(&mut self.draft, no_lines);
-        self.functions
-            .push(Function::new(name, self.line, draft, line)?)?;
+        self.functions.push(Function::new(self.alloc.clone()?, name, self.line, draft, line)?)?;
         self.line = 0;
         self.place = Place::Outside;
         Ok(())

@@ -1,4 +1,4 @@
-ghost use Rattle.std.specs.Prelude.{◌≡◌, false, IfOk, position, option_copied};
+ghost use Rattle.std.specs.Prelude.{◌≡◌, false, length, IfOk, position};
 ghost use Rattle.std.specs.List.{slice_get};
 ghost use Rattle.std.specs.Str.{bytes_eq};
 ghost use Rattle.vcode_reader.specs.Callees.{callee_at};
@@ -8,6 +8,7 @@ ghost use Rattle.vcode_reader.specs.Decode.{tree_of};
 ghost use Rattle.vcode_reader.specs.Drafts.{is_open};
 
 use crate::code::{Draft, targets_of};
+use crate::code_lines::CodeLines;
 use crate::line::{CodeItem, CodeLine, Numbered};
 use crate::link::callees_of;
 use std::alloc::{AllocError, Allocator};
@@ -21,7 +22,7 @@ use vcode_base::{FunctionName, Instr, Sequence};
 pub struct Function<A: Allocator> {
     name: FunctionName<A>,
     begun: u64,
-    lines: Sequence<CodeLine<A>, A>,
+    lines: CodeLines<A>,
     targets: Sequence<Option<u32>, A>,
 }
 
@@ -53,6 +54,7 @@ impl<A: Allocator> Model for Function<A> {
 impl<A: Allocator> Function<A> {
     /// The function of these lines and a `RET` at line `ret` after them.
     pub(crate) fn new(
+        alloc: A,
         name: FunctionName<A>,
         line: u64,
         draft: Draft<A>,
@@ -63,18 +65,18 @@ impl<A: Allocator> Function<A> {
         requires { is_open draft.ifs ≡ false }
         ensures { IfOk result (λ f. f ≡ record { name = name; line = line; body = tree_of draft.lines; ret = ret }) }
     {
-        let mut lines = draft.into_vec();
+        let mut lines = draft.into_lines();
         lines.push(Numbered {
             item: CodeItem::Do(Instr::Return),
             number: ret,
         })?;
-        lines.shrink_to_fit();
-        let targets = targets_of(lines.allocator().clone()?, lines.as_slice())?;
+        let lines = lines.into_lines();
+        let targets = targets_of(alloc, &lines)?;
         Ok(Function {
             name,
             begun: line,
             targets: Sequence::from_vec(targets),
-            lines: Sequence::from_vec(lines),
+            lines,
         })
     }
 
@@ -92,18 +94,19 @@ impl<A: Allocator> Function<A> {
         self.begun
     }
 
-    /// Its lines in the order of the text, the last of which is its `RET`.
-    pub fn lines(&self) -> &[CodeLine<A>]
-        ensures { result.now ≡ lines_of self.now }
+    /// How many lines it has. The last is its `RET`.
+    pub fn line_count(&self) -> usize
+        ensures { result ≡ length (lines_of self.now) }
     {
-        self.lines.as_slice()
+        self.lines.len()
     }
 
-    /// The line at a place, counted from 0, if there is one.
-    pub fn item(&self, place: usize) -> Option<&CodeLine<A>>
-        ensures { option_copied result ≡ slice_get (lines_of self.now) place }
+    /// The line at a place in the order of the text, counted from 0, if there is one.
+    #[inline(always)]
+    pub fn item(&self, place: usize) -> Option<CodeLine<'_>>
+        ensures { result ≡ slice_get (lines_of self.now) place }
     {
-        self.lines().get(place)
+        self.lines.get(place)
     }
 
     /// The target of the line at a place, if that isn't the next line: an IF without its first part goes on

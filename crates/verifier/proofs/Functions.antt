@@ -1,8 +1,11 @@
 -- The body and the RET among a function's lines, and what the walk over the body says of the function.
-use Rattle.std.proofs.Common.{◌≡◌, ◌∙◌, ℕ, suc, ◌-◌, ◌<◌, ◌≤◌, false, cond, refl, sym, subst, ap, arith}
+use Rattle.std.proofs.Common.{◌≡◌, ◌∙◌, ℕ, zero, suc, add-one, ◌+◌, ◌-◌, ◌<◌, ◌≤◌, false, cond, refl, sym, subst, ap, arith}
 use Rattle.std.proofs.Common.{List, [], ◌∷◌, ◌++◌, length, take, drop, drop-cons, get_or, length-append}
 use Rattle.std.proofs.Common.{Option, Some, Result, Ok}
 use Rattle.std.proofs.Math.Seq.{take-append_seam}
+use Rattle.std.proofs.lemmas.List.{drop_all, length-take}
+use Rattle.std.proofs.lemmas.Option.{none-some, slice_get_within, get_or_from_slice_get}
+use Rattle.std.specs.List.{slice_get}
 use Rattle.vcode_base.specs.declared.fault.TextFault.{TextFault}
 use Rattle.vcode_base.specs.declared.fault.TextFault.TheVariants.{Memory, At}
 use Rattle.vcode_base.specs.declared.kind.Kind.{Kind}
@@ -17,7 +20,7 @@ use Rattle.verifier.specs.First.{stack_after_body, is_main_with_operands, fault_
 use Rattle.verifier.specs.First.{function_fault, functions_fault, FaultIs, Finds}
 use Rattle.verifier.specs.Kinded.{Scope}
 use Rattle.vcode_base.specs.TextAnswers.{Fails}
-use Rattle.verifier.specs.Walk.{State, state_after_lines}
+use Rattle.verifier.specs.Walk.{State, front_of, state_after_lines}
 use Rattle.verifier.proofs.Walks.{walk_over_body, state_with_ok, state_with_err}
 
 -- ---- a function's lines
@@ -27,12 +30,12 @@ behind [] x d = refl
 behind (y ∷ xs) x d = behind xs x d
 
 -- a function's lines are those of its body and its RET
-pub record HasLines (f : Function) (lines : List CodeLine) (d : CodeLine) : Type 0 where
-  pub some : 1 ≤ length lines
-  pub front : take (length lines - 1) lines ≡ body_lines f.body
-  pub last : get_or lines (length lines - 1) d ≡ instruction_line Return f.ret
+record HasLines (f : Function) (d : CodeLine) : Type 0 where
+  pub some : 1 ≤ length (lines_of f)
+  pub front : front_of f ≡ body_lines f.body
+  pub last : get_or (lines_of f) (length (lines_of f) - 1) d ≡ instruction_line Return f.ret
 
-own_lines : (f : Function) (d : CodeLine) → HasLines f (lines_of f) d
+own_lines : (f : Function) (d : CodeLine) → HasLines f d
 own_lines f d =
     let ret = instruction_line Return f.ret in
     let long = length-append (body_lines f.body) (ret ∷ []) in
@@ -43,8 +46,38 @@ own_lines f d =
       last = ap (λ n. get_or (lines_of f) n d) less ∙ behind (body_lines f.body) ret d;
     }
 
-pub has_lines : (f : Function) (lines : List CodeLine) (d : CodeLine) → lines ≡ lines_of f → HasLines f lines d
-has_lines f lines d e = subst (λ ls. HasLines f ls d) (sym e) (own_lines f d)
+pub some_line : (f : Function) → 1 ≤ length (lines_of f)
+some_line f = (own_lines f (instruction_line Return 0)).some
+
+-- the number of the last line
+pub last_number : (f : Function) (n : ℕ) (x : CodeLine) → n ≡ length (lines_of f) → slice_get (lines_of f) (n - 1) ≡ Some x
+    → x.number ≡ f.ret
+last_number f n x e h =
+    let at : length (lines_of f) - 1 ≡ n - 1 = ap (λ z. z - 1) (sym e) in
+    ap (λ (y : CodeLine). y.number)
+    (sym (get_or_from_slice_get (lines_of f) (n - 1) x x h)
+    ∙ (ap (λ z. get_or (lines_of f) z x) (sym at) ∙ (own_lines f x).last))
+
+taken : {A : Type 0} (xs : List A) (n place : ℕ) (x : A) → place < n → slice_get xs place ≡ Some x
+    → slice_get (take n xs) place ≡ Some x
+taken [] n place x lt e = absurd (none-some x e)
+taken (y ∷ xs) zero place x lt e = absurd (omega arith)
+taken (y ∷ xs) (suc n) zero x lt e = e
+taken (y ∷ xs) (suc n) (suc place) x lt e = taken xs n place x (omega arith) e
+
+-- the line at a place among the first ones
+pub front_at : {A : Type 0} (xs : List A) (n place : ℕ) (x : A) → place < n → slice_get xs place ≡ Some x
+    → drop place (take n xs) ≡ x ∷ drop (place + 1) (take n xs)
+front_at xs n place x lt e =
+    let there = taken xs n place x lt e in
+    let within = slice_get_within (take n xs) place x there in
+    let first = get_or_from_slice_get (take n xs) place x x there in
+    rw (add-one place) (drop-cons (take n xs) place x within ∙ ap (λ z. z ∷ drop (suc place) (take n xs)) first)
+
+pub front_end : (f : Function) (place : ℕ) → length (lines_of f) - 1 ≤ place → drop place (front_of f) ≡ []
+front_end f place past =
+    let long : length (front_of f) ≤ place = omega (arith, length-take (length (lines_of f) - 1) (lines_of f)) in
+    drop_all place (front_of f) long
 
 -- ---- the walk over a body
 
@@ -101,26 +134,24 @@ first_fails (At fault line) scope all fs items i f e same lt is k =
     ∙ ap (λ o. or_else o (functions_fault scope (drop (suc i) items))) k)
 
 -- the walk over a function's lines before the last, and the test of the entries at the last
-module _ (scope : Scope) (f : Function) (takes gives : List Kind) (lines : List CodeLine) (start : State)
-    (same : lines ≡ lines_of f) (begins : start ≡ record { kinds = takes; kept = [] }) where
-  pub body_ok : {A : Type 0} (end : State) (entries : List Kind) (d : CodeLine) (r : Result A (TextFault KindFault))
-      → state_after_lines scope (Ok start) (take (length lines - 1) lines) ≡ Ok end → entries ≡ end.kinds
-      → Finds r (fault_at_return gives (get_or lines (length lines - 1) d).number (Ok entries))
+module _ (scope : Scope) (f : Function) (takes gives : List Kind) (start : State)
+    (begins : start ≡ record { kinds = takes; kept = [] }) where
+  front_is : front_of f ≡ body_lines f.body
+  front_is = (own_lines f (instruction_line Return 0)).front
+
+  pub body_ok : {A : Type 0} (end : State) (entries : List Kind) (ret : ℕ) (r : Result A (TextFault KindFault))
+      → state_after_lines scope (Ok start) (front_of f) ≡ Ok end → entries ≡ end.kinds → ret ≡ f.ret
+      → Finds r (fault_at_return gives ret (Ok entries))
       → Finds r (fault_at_return gives f.ret (stack_after_body scope f.body takes))
-  body_ok end entries d r h k found =
-      let ls = has_lines f lines d same in
-      let front : List CodeLine = take (length lines - 1) lines in
-      let body = walk_ok scope f takes front start ls.front begins end h in
+  body_ok end entries ret r h k at found =
+      let body = walk_ok scope f takes (front_of f) start front_is begins end h in
       subst (Finds r)
-      (ap (λ (x : CodeLine). fault_at_return gives x.number (Ok entries)) ls.last
+      (ap (λ l. fault_at_return gives l (Ok entries)) at
       ∙ (ap (λ z. fault_at_return gives f.ret (Ok z)) k ∙ ap (fault_at_return gives f.ret) (sym body)))
       found
 
-  pub body_err : (v : TextFault KindFault) (d : CodeLine)
-      → Fails v (state_after_lines scope (Ok start) (take (length lines - 1) lines))
+  pub body_err : (v : TextFault KindFault) → Fails v (state_after_lines scope (Ok start) (front_of f))
       → FaultIs v (fault_at_return gives f.ret (stack_after_body scope f.body takes))
-  body_err v d h =
-      let ls = has_lines f lines d same in
-      let front : List CodeLine = take (length lines - 1) lines in
+  body_err v h =
       at_return_err v gives f.ret (stack_after_body scope f.body takes)
-      (walk_err scope f takes front start ls.front begins v h)
+      (walk_err scope f takes (front_of f) start front_is begins v h)

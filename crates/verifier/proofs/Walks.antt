@@ -108,3 +108,10 @@ walk_fails Memory scope all xs rest x s e f h = tt
 walk_fails (At fault line) scope all xs rest x s e f h =
     e ∙ (ap (state_after_lines scope (Ok s)) f
     ∙ (ap (λ z. state_after_lines scope z rest) h ∙ fault_stays scope (fault, line) rest))
+
+-- one line more
+pub walk_on : (scope : Scope) (all : Result State Fault) (xs rest : List CodeLine) (x : CodeLine) (s t : State)
+    → all ≡ state_after_lines scope (Ok s) xs → xs ≡ x ∷ rest → state_after_line scope x.item x.number s ≡ Ok t
+    → all ≡ state_after_lines scope (Ok t) rest
+walk_on scope all xs rest x s t e f h =
+    e ∙ (ap (state_after_lines scope (Ok s)) f ∙ ap (λ z. state_after_lines scope z rest) h)

@@ -1,6 +1,6 @@
 -- The lines of a body one after another: the entries of the stack, and for each open IF the list of entries at which
 -- its other part begins, or with which it ended.
-use Rattle.std.specs.Prelude.{◌≡◌, ℕ, Bool, true, List, [], ◌∷◌, ◌++◌, Some, Result, Ok, Err, slice_get}
+use Rattle.std.specs.Prelude.{◌≡◌, ℕ, ◌-◌, Bool, true, List, [], ◌∷◌, length, take, Result, Ok, Err}
 use Rattle.vcode_base.specs.TextAnswers.{Fails}
 use Rattle.vcode_base.specs.declared.fault.TextFault.{TextFault}
 use Rattle.vcode_base.specs.declared.kind.Kind.{Kind}
@@ -56,10 +56,9 @@ abbrev pub state_after_lines : Scope → Result State Fault → List CodeLine �
 state_after_lines scope r [] = r
 state_after_lines scope r (x ∷ xs) = state_after_lines scope (r >>= state_after_line scope x.item x.number) xs
 
--- these are lines of the function at this place, from its first line on
-abbrev pub BeginsWith : List Function → ℕ → List CodeLine → Type 0
-BeginsWith fs place lines =
-    (f : Function) × (rest : List CodeLine) × (slice_get fs place ≡ Some f) × (lines_of f ≡ lines ++ rest)
+-- the lines of a function before its RET
+abbrev pub front_of : Function → List CodeLine
+front_of f = take (length (lines_of f) - 1) (lines_of f)
 
 -- the answer, with the state then, is the one that is wanted, unless there was no memory
 abbrev pub Goes : {A B : Type 0} → Result A (TextFault KindFault) → B → Result B Fault → Type 0

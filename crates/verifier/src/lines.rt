@@ -1,6 +1,6 @@
 //! The kinds of a body, line by line.
 
-ghost use Rattle.std.specs.Prelude.{◌≡◌, ◌+◌, ◌≤◌, Ok, Err, OnOk, MatchResult, [], ◌∷◌, length};
+ghost use Rattle.std.specs.Prelude.{◌≡◌, ◌+◌, ◌≤◌, Ok, Err, Some, OnOk, MatchResult, [], ◌∷◌, length, slice_get};
 ghost use Rattle.vcode_base.specs.declared.instr.Instr.TheVariants.{Call};
 ghost use Rattle.vcode_base.specs.declared.kind.Kind.TheVariants as kind;
 ghost use Rattle.vcode_reader.specs.declared.line.CodeItem.TheVariants.{Do};
@@ -8,14 +8,14 @@ ghost use Rattle.vcode_reader.specs.Callees.{callee_of};
 ghost use Rattle.verifier.specs.First.{stack_after_arrow, stack_after_move, stack_after_call, stack_with_move};
 ghost use Rattle.verifier.specs.First.{arrow_of, stack_after_instruction};
 ghost use Rattle.verifier.specs.Walk.{state_with, state_after_if, state_after_endif};
-ghost use Rattle.verifier.specs.Walk.{state_after_line, state_after_lines, Goes, BeginsWith};
+ghost use Rattle.verifier.specs.Walk.{state_after_line, state_after_lines, front_of, Goes};
 
 use crate::fault::{KindFault, VerifyFault};
 use crate::scope::Scope;
 use crate::stack::{KindStack, are_same_kinds};
 use std::alloc::{AllocError, Allocator};
 use vcode_base::{Instr, Instruction, Kind, StackMove};
-use vcode_reader::{CodeItem, CodeLine};
+use vcode_reader::{CodeItem, CodeLine, Function};
 
 /// An instruction that takes and gives these entries.
 #[tactic(auto, unfolding(crate::specs::First::stack_after_arrow))]
@@ -127,7 +127,7 @@ fn apply<A: Allocator + Clone>(
     stack: &mut KindStack<A>,
     scope: &Scope<A>,
     callee: Option<usize>,
-    instruction: &Instruction<A>,
+    instruction: &Instruction<'_>,
     line: u64,
 ) -> Result<(), VerifyFault>
     requires { callee ≡ callee_of scope.now.functions (Do instruction.now) }
@@ -169,7 +169,7 @@ fn check_line<A: Allocator + Clone>(
     stack: &mut KindStack<A>,
     scope: &Scope<A>,
     callee: Option<usize>,
-    line: &CodeLine<A>,
+    line: &CodeLine<'_>,
 ) -> Result<(), VerifyFault>
     requires { callee ≡ callee_of scope.now.functions line.now.item }
     ensures { Goes result stack.new (state_after_line scope.now line.now.item line.now.number stack.old) }
@@ -185,18 +185,20 @@ fn check_line<A: Allocator + Clone>(
     }
 }
 
-/// The entries after these lines, with which the function at this place of the program begins.
+/// The entries after the lines before the last of the function at this place of the program.
 pub(crate) fn check_lines<A: Allocator + Clone>(
     stack: &mut KindStack<A>,
     scope: &Scope<A>,
-    function: usize,
-    lines: &[CodeLine<A>],
+    number: usize,
+    function: &Function<A>,
 ) -> Result<(), VerifyFault>
-    requires { BeginsWith scope.now.functions function lines.now }
-    ensures { Goes result stack.new (state_after_lines scope.now (Ok stack.old) lines.now) }
+    requires { slice_get scope.now.functions number ≡ Some function.now }
+    ensures { Goes result stack.new (state_after_lines scope.now (Ok stack.old) (front_of function.now)) }
 {
-    for (place, line) in lines.iter().enumerate() {
-        match check_line(stack, scope, scope.callee(function, place), line) {
+    let last = function.line_count() - 1;
+    for place in 0..last {
+        let line = function.item(place).unwrap();
+        match check_line(stack, scope, scope.callee(number, place), &line) {
             Ok(()) => {}
             Err(fault) => return Err(fault),
         }

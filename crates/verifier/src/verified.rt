@@ -218,12 +218,18 @@ fn check_body<A: Allocator + Clone>(
         (fault_at_return gives.now function.now.ret (stack_after_body scope.now function.now.body takes.now)) }
 {
     let mut stack = KindStack::new(alloc, takes)?;
-    let lines = function.lines();
-    let last = lines.len() - 1;
-    match check_lines(&mut stack, scope, place, &lines[..last]) {
-        Ok(()) => check_results(stack.as_slice(), gives, lines[last].number),
+    match check_lines(&mut stack, scope, place, function) {
+        Ok(()) => check_results(stack.as_slice(), gives, return_line(function)),
         Err(fault) => Err(fault),
     }
+}
+
+/// The line of its `RET`.
+fn return_line<A: Allocator>(function: &Function<A>) -> u64
+    ensures { result ≡ function.now.ret }
+{
+    let last = function.line_count() - 1;
+    function.item(last).unwrap().number
 }
 
 /// The entries at the `RET` of this line are those that the signature gives.

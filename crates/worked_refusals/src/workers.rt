@@ -29,8 +29,6 @@ fn have_run(rt: &impl Abort, machine: &HeapMachine<'_>, tally: &Tally<&Heap>) {
     assert_eq!(rt; by_workers(tally).wrapping_add(tally.caller), EXECUTED);
 }
 
-/// How many instructions the calling thread executes beside a worker that runs the two jobs, or None if the run answers
-/// that memory was refused.
 /// How many instructions the calling thread executes beside two workers that run the two jobs, or None if the run
 /// answers that memory was refused.
 fn by_caller<R>(rt: &R, heap: &Heap, growth: u64) -> Result<Option<u64>, Fail>
@@ -51,20 +49,15 @@ where
     }
 }
 
-/// A worker runs the jobs of machines over a heap, counting upwards until none is refused memory. Once it has executed
-/// all, and is refused memory for the last collection: the calling thread tries it once more.
-fn a_worker_runs<R>(rt: &R, heap: &Heap) -> Result<(), Fail>
-where
-    R: Abort + Threads + Wait + Sync,
-{
-    let mut is_tried_again = false;
-/// A worker that has executed all is refused memory for a collection. The calling thread tries it once more.
+/// Two workers run the jobs of machines over a heap. In each run a later growth is refused, until none is. If the last
+/// collection is refused memory, the calling thread tries it once more.
 ///
 /// The calling thread executes nothing either if memory for the desk of one of the workers is refused. So two of the
 /// refusals show nothing.
-#[test]
-fn a_refused_collection_is_tried_once_more(rt: HostRuntime) -> Result<(), Fail> {
-    let heap = RefusingHeap::new(rt.alloc());
+fn workers_run<R>(rt: &R, heap: &Heap) -> Result<(), Fail>
+where
+    R: Abort + Threads + Wait + Sync,
+{
     let mut tried_again = 0u32;
     for growth in 1..MOST_GROWTHS {
         let caller = by_caller(rt, heap, growth)?;
@@ -83,5 +76,5 @@ fn a_refused_collection_is_tried_once_more(rt: HostRuntime) -> Result<(), Fail> 
 #[test]
 fn a_refused_collection_is_tried_once_more(rt: HostRuntime) -> Result<(), Fail> {
     let heap = RefusingHeap::new(rt.alloc());
-    a_worker_runs(&rt, &heap)
+    workers_run(&rt, &heap)
 }

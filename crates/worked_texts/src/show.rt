@@ -32,10 +32,10 @@ fn put_function(
     function: &Function<Global>,
 ) -> Result<(), AllocError> {
     write!(text, "{}@{}:", function.name().as_bstr(), function.line())?;
-    for place in 0..=function.lines().len() {
+    for place in 0..=function.line_count() {
         if let Some(line) = function.item(place) {
             text.push_str(if place > 0 { "; " } else { " " })?;
-            put_line(text, function, place, line)?;
+            put_line(text, function, place, &line)?;
             put_callee(text, program.callee(number, place))?;
         }
     }
@@ -47,7 +47,7 @@ fn put_line(
     text: &mut String,
     function: &Function<Global>,
     place: usize,
-    line: &CodeLine<Global>,
+    line: &CodeLine<'_>,
 ) -> Result<(), AllocError> {
     write!(text, "{} ", line.number)?;
     match &line.item {
@@ -71,7 +71,7 @@ fn put_callee(text: &mut String, callee: Option<usize>) -> Result<(), AllocError
 }
 
 /// Appends an instruction with its list or its name.
-fn put_instruction(text: &mut String, instruction: &Instruction<Global>) -> Result<(), AllocError> {
+fn put_instruction(text: &mut String, instruction: &Instruction<'_>) -> Result<(), AllocError> {
     match instruction {
         Instr::Const(kind, list) => write!(text, "Const({kind:?}, {:?})", list.as_slice()),
         Instr::Call(name) => write!(text, "Call({})", name.as_slice().as_bstr()),

@@ -15,12 +15,19 @@ use std::alloc::{AllocError, Global};
 use std::io;
 use vcode_base::Instr;
 use vcode_base::laws::line_feeds_are_few;
-use vcode_reader::{CodeItem, CodeLine, ReadFault, read};
+use vcode_reader::{CodeItem, Function, ReadFault, read};
 
-/// The lists of these lines. None if one isn't a CONST.
-fn lists_of(alloc: Global, lines: &[CodeLine<Global>]) -> Result<Option<Vec<&[i64]>>, AllocError> {
+/// The lists of the first `count` lines of a function. None if one isn't a CONST.
+fn lists_of<'a>(
+    alloc: Global,
+    function: &'a Function<Global>,
+    count: usize,
+) -> Result<Option<Vec<&'a [i64]>>, AllocError> {
     let mut lists = Vec::new(alloc);
-    for line in lines {
+    for place in 0..count {
+        let Some(line) = function.item(place) else {
+            return Ok(None);
+        };
         let CodeItem::Do(Instr::Const(_, list)) = &line.item else {
             return Ok(None);
         };
@@ -29,12 +36,17 @@ fn lists_of(alloc: Global, lines: &[CodeLine<Global>]) -> Result<Option<Vec<&[i6
     Ok(Some(lists))
 }
 
-/// The answer to the case that these lines are, the last of them the instruction.
-fn answer_of(alloc: Global, lines: &[CodeLine<Global>]) -> Result<Answer, AllocError> {
-    let Some((last, operands)) = lines.split_last() else {
+/// The answer to the case that the lines of a function before its `RET` are, the last of them the instruction.
+fn answer_of(alloc: Global, function: &Function<Global>) -> Result<Answer, AllocError> {
+    if function.line_count() < 2 {
+        return Ok(Answer::NoCase);
+    }
+    let operands = function.line_count() - 2;
+    let Some(last) = function.item(operands) else {
         return Ok(Answer::NoCase);
     };
-    let (CodeItem::Do(instr), Some(mut ops)) = (&last.item, lists_of(alloc, operands)?) else {
+    let (CodeItem::Do(instr), Some(mut ops)) = (&last.item, lists_of(alloc, function, operands)?)
+    else {
         return Ok(Answer::NoCase);
     };
     if let Instr::Const(_, list) = instr {
@@ -55,10 +67,7 @@ fn read_case(alloc: Global, line: &str) -> Result<Answer, AllocError> {
     let [function] = program.functions() else {
         return Ok(Answer::NoCase);
     };
-    match function.lines().split_last() {
-        Some((_, lines)) => answer_of(alloc, lines),
-        None => Ok(Answer::NoCase),
-    }
+    answer_of(alloc, function)
 }
 
 fn main(rt: HostRuntime) -> io::Result<()> {

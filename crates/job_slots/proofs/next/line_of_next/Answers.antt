@@ -8,4 +8,4 @@ returns g c =
     let track = c.args.track.now in
     let run = c.requires.running in
     let can = can_begin c.steps_can_begin.ensures _ job track run c.requires.verified in
-    line_is job track run.state c.next_line.result.now run.running can c.next_line.ensures
+    line_is job track run.state c.next_line.result run.running can c.next_line.ensures

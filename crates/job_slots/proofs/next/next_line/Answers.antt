@@ -11,4 +11,4 @@ line-requires g c =
 pub returns : goal.returns
 returns g c =
     line_of (ruled c.args.rule c.args.job.now) c.args.track.now c.program.result.now c.verified.result.now
-    c.line.result.now c.program.ensures.same c.verified.ensures.same c.line.ensures.item
+    c.line.result c.program.ensures.same c.verified.ensures.same c.line.ensures.item

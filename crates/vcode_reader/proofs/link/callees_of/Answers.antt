@@ -1,4 +1,4 @@
-use Rattle.std.proofs.Common.{◌<◌, ◌∙◌, length, arith}
+use Rattle.std.proofs.Common.{◌<◌, ◌∙◌, length, arith, refl}
 use Rattle.vcode_reader.proofs.Callees.{entry_by, callees_more, callees_all}
 use Rattle.vcode_reader.proofs.link.callees_of.Goals as goal
 
@@ -10,7 +10,7 @@ loop-function-preserved g c =
     let within : i < length fs = omega arith in
     callees_more fs i f c.loop-function.found.items c.push.new.self.items _ within c.function-item.is
     c.loop-function.invariant
-    (c.from_vec.ensures ∙ (c.in_ok-callees.ensures ∙ entry_by _ fs f _ c.in_ok-linker.ensures c.lines.ensures))
+    (c.from_vec.ensures ∙ (c.in_ok-callees.ensures ∙ entry_by _ fs f _ c.in_ok-linker.ensures refl))
     c.in_ok-push.ensures.items
 
 pub returns : goal.returns

@@ -5,12 +5,12 @@ use Rattle.vcode_reader.proofs.code.Draft.begin_else.Goals as goal
 
 pub invariant_of-self : goal.invariant_of-self
 invariant_of-self g c =
-    draft_at c.add_open.new.lines.items _ c.add_open.new.ifs _ c.in_ok-add_open.ensures.lines
+    draft_at c.add_open.new.lines _ c.add_open.new.ifs _ c.in_ok-add_open.ensures.lines
     (c.in_ok-add_open.ensures.ifs ∙ ap (λ z. open_if c.in-Some.opened.line true ∷ z) c.pop.ensures.others)
-    (else_draft c.self.inside.ifs c.self.inside.lines.items c.in-Some.opened c.in-Some.ensures.first
+    (else_draft c.self.inside.ifs c.self.inside.lines c.in-Some.opened c.in-Some.ensures.first
     (ap (λ (d : DraftState). takes_else d.ifs) c.self.view_is ∙ c.requires) c.self.invariant)
 
 pub invariant_of-self-in_err-add_open : goal.invariant_of-self-in_err-add_open
 invariant_of-self-in_err-add_open g c =
     let after = c.add_open.new in
-    empty_draft after.lines.items after.ifs c.in_err-add_open.ensures.no_lines c.in_err-add_open.ensures.no_ifs
+    empty_draft after.lines after.ifs c.in_err-add_open.ensures.no_lines c.in_err-add_open.ensures.no_ifs

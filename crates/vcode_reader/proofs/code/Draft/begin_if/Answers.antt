@@ -4,10 +4,10 @@ use Rattle.vcode_reader.proofs.code.Draft.begin_if.Goals as goal
 pub invariant_of-self : goal.invariant_of-self
 invariant_of-self g c =
     let after = c.add_open.new in
-    empty_draft after.lines.items after.ifs c.in_err-add_open.ensures.no_lines c.in_err-add_open.ensures.no_ifs
+    empty_draft after.lines after.ifs c.in_err-add_open.ensures.no_lines c.in_err-add_open.ensures.no_ifs
 
 pub invariant_of-self-2 : goal.invariant_of-self-2
 invariant_of-self-2 g c =
     let after = c.add_open.new in
-    draft_at after.lines.items _ after.ifs _ c.in_ok-add_open.ensures.lines c.in_ok-add_open.ensures.ifs
-    (if_draft c.self.inside.ifs c.self.inside.lines.items c.args.line c.self.invariant)
+    draft_at after.lines _ after.ifs _ c.in_ok-add_open.ensures.lines c.in_ok-add_open.ensures.ifs
+    (if_draft c.self.inside.ifs c.self.inside.lines c.args.line c.self.invariant)

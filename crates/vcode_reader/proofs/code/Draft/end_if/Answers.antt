@@ -4,11 +4,11 @@ use Rattle.vcode_reader.proofs.code.Draft.end_if.Goals as goal
 
 pub invariant_of-self : goal.invariant_of-self
 invariant_of-self g c =
-    draft_at c.close.new.lines.items _ c.close.new.ifs _ c.in_ok-close.ensures.lines
+    draft_at c.close.new.lines _ c.close.new.ifs _ c.in_ok-close.ensures.lines
     (c.in_ok-close.ensures.ifs ∙ c.pop.ensures.others)
-    (endif_draft c.args.line c.self.inside.ifs c.self.inside.lines.items c.in-Some.opened c.in-Some.ensures.first
+    (endif_draft c.args.line c.self.inside.ifs c.self.inside.lines c.in-Some.opened c.in-Some.ensures.first
     c.self.invariant)
 
 pub invariant_of-self-in_err-close : goal.invariant_of-self-in_err-close
 invariant_of-self-in_err-close g c =
-    empty_draft c.close.new.lines.items c.close.new.ifs c.in_err-close.ensures.no_lines c.in_err-close.ensures.no_ifs
+    empty_draft c.close.new.lines c.close.new.ifs c.in_err-close.ensures.no_lines c.in_err-close.ensures.no_ifs

@@ -5,5 +5,5 @@ use Rattle.vcode_reader.proofs.code.Draft.push.Goals as goal
 
 pub invariant_of-self-2 : goal.invariant_of-self-2
 invariant_of-self-2 g c =
-    subst (IsDraft c.self.inside.ifs) (sym c.in_ok-push.ensures.items)
-    (item_draft c.self.inside.ifs c.self.inside.lines.items c.args.instruction c.args.line c.self.invariant)
+    subst (IsDraft c.self.inside.ifs) (sym c.in_ok-push.ensures.pushed)
+    (item_draft c.self.inside.ifs c.self.inside.lines c.args.instruction c.args.line c.self.invariant)

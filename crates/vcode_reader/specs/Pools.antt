@@ -1,0 +1,117 @@
+-- The lines of a function whose lists and names lie in two pools: where each lies, and the lines that they are.
+use Rattle.std.specs.Prelude.{◌≡◌, ◌≤◌, ℕ, ℤ, ◌+◌, List, [], ◌∷◌, ◌++◌, length, map, take, drop}
+use Rattle.vcode_base.specs.declared.instr.Instr.{Instr}
+use Rattle.vcode_base.specs.declared.instr.Instr.TheVariants as instr
+use Rattle.vcode_reader.specs.declared.code_lines.Span.{Span}
+use Rattle.vcode_reader.specs.declared.line.CodeItem.{CodeItem}
+use Rattle.vcode_reader.specs.declared.line.CodeItem.TheVariants as code_item
+use Rattle.vcode_reader.specs.declared.line.Numbered.{Numbered}
+use Rattle.vcode_reader.specs.Trees.{Item, CodeLine, line_of}
+
+-- an instruction with the place of its list or of its name
+abbrev pub PooledItem : Type 0
+PooledItem = Instr Span Span
+
+abbrev pub PooledLine : Type 0
+PooledLine = Numbered (CodeItem PooledItem)
+
+-- the list, and the name, of an instruction that has one
+abbrev pub list_in : Item → List ℤ
+list_in (instr.Const kind list) = list
+list_in _ = []
+
+abbrev pub name_in : Item → List ℕ
+name_in (instr.Call name) = name
+name_in _ = []
+
+abbrev pub list_of : CodeItem Item → List ℤ
+list_of (code_item.Do i) = list_in i
+list_of _ = []
+
+abbrev pub name_of : CodeItem Item → List ℕ
+name_of (code_item.Do i) = name_in i
+name_of _ = []
+
+-- all lists, and all names, one after another
+unfoldable pub all_lists : List CodeLine → List ℤ
+all_lists [] = []
+all_lists (x ∷ xs) = list_of x.item ++ all_lists xs
+
+unfoldable pub all_names : List CodeLine → List ℕ
+all_names [] = []
+all_names (x ∷ xs) = name_of x.item ++ all_names xs
+
+-- ---- where they lie, if the list begins at one place and the name at another
+
+abbrev pub span_of : {A : Type 0} → ℕ → List A → Span
+span_of start list = record { start = start; len = length list }
+
+abbrev pub pooled_instruction : ℕ → ℕ → Item → PooledItem
+pooled_instruction l n (instr.Const kind list) = instr.Const kind (span_of l list)
+pooled_instruction l n (instr.Elementwise op) = instr.Elementwise op
+pooled_instruction l n (instr.Segmented op) = instr.Segmented op
+pooled_instruction l n instr.If = instr.If
+pooled_instruction l n (instr.Move motion lower upper) = instr.Move motion lower upper
+pooled_instruction l n (instr.Call name) = instr.Call (span_of n name)
+pooled_instruction l n instr.Return = instr.Return
+
+abbrev pub pooled_item : ℕ → ℕ → CodeItem Item → CodeItem PooledItem
+pooled_item l n (code_item.Do i) = code_item.Do (pooled_instruction l n i)
+pooled_item l n code_item.If = code_item.If
+pooled_item l n code_item.Else = code_item.Else
+pooled_item l n code_item.Endif = code_item.Endif
+
+abbrev pub pooled_line : ℕ → ℕ → CodeLine → PooledLine
+pooled_line l n x = line_of (pooled_item l n x.item) x.number
+
+-- lines whose lists and names lie one after another from these places on
+unfoldable pub pooled_lines : ℕ → ℕ → List CodeLine → List PooledLine
+pooled_lines l n [] = []
+pooled_lines l n (x ∷ xs) =
+    pooled_line l n x ∷ pooled_lines (l + length (list_of x.item)) (n + length (name_of x.item)) xs
+
+-- ---- what they are
+
+abbrev pub part_of : {A : Type 0} → List A → Span → List A
+part_of pool span = take span.len (drop span.start pool)
+
+abbrev pub shown_instruction : List ℤ → List ℕ → PooledItem → Item
+shown_instruction ls ns (instr.Const kind span) = instr.Const kind (part_of ls span)
+shown_instruction ls ns (instr.Elementwise op) = instr.Elementwise op
+shown_instruction ls ns (instr.Segmented op) = instr.Segmented op
+shown_instruction ls ns instr.If = instr.If
+shown_instruction ls ns (instr.Move motion lower upper) = instr.Move motion lower upper
+shown_instruction ls ns (instr.Call span) = instr.Call (part_of ns span)
+shown_instruction ls ns instr.Return = instr.Return
+
+abbrev pub shown_item : List ℤ → List ℕ → CodeItem PooledItem → CodeItem Item
+shown_item ls ns (code_item.Do i) = code_item.Do (shown_instruction ls ns i)
+shown_item ls ns code_item.If = code_item.If
+shown_item ls ns code_item.Else = code_item.Else
+shown_item ls ns code_item.Endif = code_item.Endif
+
+abbrev pub shown_line : List ℤ → List ℕ → PooledLine → CodeLine
+shown_line ls ns x = line_of (shown_item ls ns x.item) x.number
+
+-- the lines of these pools
+unfoldable pub shown_lines : List ℤ → List ℕ → List PooledLine → List CodeLine
+shown_lines ls ns xs = map (shown_line ls ns) xs
+
+-- the span lies in the pool
+abbrev pub LiesIn : {A : Type 0} → List A → Span → Type 0
+LiesIn pool span = span.start + span.len ≤ length pool
+
+abbrev pub InstructionLiesIn : List ℤ → List ℕ → PooledItem → Type 0
+InstructionLiesIn ls ns (instr.Const kind span) = LiesIn ls span
+InstructionLiesIn ls ns (instr.Call span) = LiesIn ns span
+InstructionLiesIn ls ns _ = Unit {0}
+
+abbrev pub ItemLiesIn : List ℤ → List ℕ → CodeItem PooledItem → Type 0
+ItemLiesIn ls ns (code_item.Do i) = InstructionLiesIn ls ns i
+ItemLiesIn ls ns _ = Unit {0}
+
+-- the lists and the names are those of the lines, one after another
+pub record ArePooled (pooled : List PooledLine) (ls : List ℤ) (ns : List ℕ) : Type 0 where
+  pub lines : pooled ≡ pooled_lines 0 0 (shown_lines ls ns pooled)
+  pub lists : ls ≡ all_lists (shown_lines ls ns pooled)
+  pub names : ns ≡ all_names (shown_lines ls ns pooled)
