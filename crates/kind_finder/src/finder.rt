@@ -149,10 +149,13 @@ impl<'a, A: Allocator + Copy> Finder<'a, A> {
     fn walk(&mut self, place: usize, function: &Function<A>) -> Result<Finding<A>, PlacedFault> {
         let mut walk = Walk::new(self.alloc, place);
         let mut last = function.line();
-        for (at, line) in function.lines().iter().enumerate() {
+        for at in 0..function.line_count() {
+            let Some(line) = function.item(at) else {
+                break;
+            };
             let callee = self.program.callee(place, at);
             last = line.number;
-            if let Err(fault) = walk.step(&mut self.operands, &self.findings, callee, line) {
+            if let Err(fault) = walk.step(&mut self.operands, &self.findings, callee, &line) {
                 return Err(fault_at(fault, place, callee, last));
             }
         }

@@ -75,7 +75,7 @@ impl<A: Allocator + Copy> Walk<A> {
         operands: &mut Operands<A>,
         findings: &[Finding<A>],
         callee: Option<usize>,
-        line: &CodeLine<A>,
+        line: &CodeLine<'_>,
     ) -> Result<(), PathFault> {
         match &line.item {
             CodeItem::Do(Instr::Call(_)) => self.call(operands, findings, callee),
@@ -90,7 +90,7 @@ impl<A: Allocator + Copy> Walk<A> {
     fn run(
         &mut self,
         operands: &mut Operands<A>,
-        instruction: &Instruction<A>,
+        instruction: &Instruction<'_>,
     ) -> Result<(), PathFault> {
         let Some(stack) = &mut self.path else {
             return Ok(());
