@@ -2,12 +2,13 @@
 # make         the program, proved, at bin/vjobs: crates that don't use each other are proved side by side
 # make run     runs the example sum_of_two
 # make packing the programs around it, proved: bin/vjobs-pack and bin/vjobs-split
+# make kinds   the program that finds signatures, proved: bin/vjobs-kinds
 # make cluster runs job files of strangers by vjobs-spread on a Slurm of three nodes and by GNU parallel, with faults: by the
 #              programs of bin, or of the folder VJOBS_PROGRAMS; as root it installs the packages if they are missing
 # make cluster-hard   does so with 1,000 files, cut cables, dead hosts and killed daemons, as root; not in the gate
 # make test    runs all tests, tables and examples without proving anything
 # make gate    the gate: every proof from nothing, the wrong bodies to be refused, all tests, tables and examples
-# make install PREFIX=..   installs bin/vjobs, which make has built, its man page, the pages and the examples; /usr/local without PREFIX
+# make install PREFIX=..   installs what was built, the man pages, the pages and the examples; /usr/local without PREFIX
 # make dist LOG=FILE   packs the same into bin/vjobs-COMMIT.tar.gz; FILE is the output of make gate on this commit
 # make names   checks that every name exists which a page, a comment or a wrong body uses
 # make check CRATE=name   proves one crate and runs its tests
@@ -17,7 +18,7 @@
 # make hostile MINUTES=60   runs batches that were changed at random for so many minutes, and compares each report with the
 #              second writing, its memory with the sum in docs/OPERATING.md, and its time with its limits; not in the gate
 
-.PHONY: all try run packing cluster cluster-hard test gate install dist names check bench soak hostile models clean
+.PHONY: all try run packing kinds cluster cluster-hard test gate install dist names check bench soak hostile models clean
 
 PREFIX = /usr/local
 MINUTES = 60
@@ -41,6 +42,11 @@ packing:
 	mkdir -p bin
 	cp crates/vjobs_pack/out/vjobs_pack bin/vjobs-pack
 	cp crates/vjobs_split/out/vjobs_split bin/vjobs-split
+
+kinds:
+	.ci/prove vjobs_kinds
+	mkdir -p bin
+	cp crates/vjobs_kinds/out/vjobs_kinds bin/vjobs-kinds
 
 cluster:
 	.ci/cluster
