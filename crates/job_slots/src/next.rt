@@ -9,6 +9,7 @@ ghost use Rattle.vcode_base.specs.Meaning.{operand};
 ghost use Rattle.vcode_base.specs.Operands.{contents};
 ghost use Rattle.refcounts.specs.SharedState.{AreLive, slot_at};
 ghost use Rattle.job_memory.specs.JobBlocks.{own_slots};
+ghost use Rattle.vcode_reader.specs.Pools.{list_in};
 ghost use Rattle.job_steps.specs.declared.operands.TheConstants.{MOST_OPERANDS};
 ghost use Rattle.job_steps.specs.EventLaws.{IsVerified};
 ghost use Rattle.job_steps.specs.Frames.{instruction_in};
@@ -70,7 +71,7 @@ pub(crate) fn read_next<'a, A: Allocator>(
 {
     let line = next_line(rule, job, track, number, blocks);
     let op = op_of(&line);
-    next_at(rule, job, track, number, blocks, &line, op)
+    next_of_list(rule, job, track, number, blocks, &line, list_of(&line), op)
 }
 
 /// The line of the next instruction of a job that runs.
@@ -94,11 +95,11 @@ pub(crate) fn next_line<'a, A: Allocator>(
 #[inline(always)]
 pub(crate) fn next_at<'a, A: Allocator>(
     rule: Rule,
-    job: &Job<A>,
+    job: &'a Job<A>,
     track: &Track<BlockId, A>,
     number: usize,
     blocks: &'a JobMemory<A>,
-    line: &CodeLine<'a>,
+    line: &CodeLine<'_>,
     op: Op,
 ) -> Next<'a>
     requires running { IsRunningSlot (own_slots number blocks.now) (ruled rule job.now) track.now }
@@ -113,10 +114,39 @@ pub(crate) fn next_at<'a, A: Allocator>(
         → contents (take result.operands.count result.operands.lists) ≡ list ∷ [] }
 {
     steps_can_begin::<BlockId>();
+    let own = next_line(rule, job, track, number, blocks);
+    next_of_list(rule, job, track, number, blocks, line, list_of(&own), op)
+}
+
+/// The same, with the list of the line's `CONST`.
+#[inline(always)]
+fn next_of_list<'a, A: Allocator>(
+    rule: Rule,
+    job: &Job<A>,
+    track: &Track<BlockId, A>,
+    number: usize,
+    blocks: &'a JobMemory<A>,
+    line: &CodeLine<'_>,
+    list: &'a [i64],
+    op: Op,
+) -> Next<'a>
+    requires running { IsRunningSlot (own_slots number blocks.now) (ruled rule job.now) track.now }
+    requires verified { IsVerified (ruled rule job.now) }
+    requires line { IsLineOf (ruled rule job.now) track.now line.now }
+    requires list { list.now ≡ list_in (instruction_in line.now.item) }
+    requires op { op ≡ op_of (instruction_in line.now.item) }
+    ensures next { IsNext (ruled rule job.now) track.now.executed result.op result.line
+        (contents (take result.operands.count result.operands.lists)) }
+    ensures kinds { HaveKinds (source_kinds result.op) (contents (take result.operands.count result.operands.lists)) }
+    ensures op { result.op ≡ op }
+    ensures constant { (k : Scalar) (list : List ℤ) → instruction_in line.now.item ≡ instr.Const k list
+        → contents (take result.operands.count result.operands.lists) ≡ list ∷ [] }
+{
+    steps_can_begin::<BlockId>();
     Next {
         op,
         line: line.number,
-        operands: operands_of(line, op, track, blocks),
+        operands: operands_of(line, list, op, track, blocks),
     }
 }
 
@@ -147,14 +177,43 @@ fn op_of(line: &CodeLine<'_>) -> Op
     }
 }
 
+/// The list of a line's `CONST`; no element for another line.
+#[inline(always)]
+fn list_of<'a>(line: &CodeLine<'a>) -> &'a [i64]
+    ensures { result.now ≡ list_in (instruction_in line.now.item) }
+{
+    match &line.item {
+        CodeItem::Do(instruction) => list_of_instruction(instruction),
+        CodeItem::If | CodeItem::Else | CodeItem::Endif => &[],
+    }
+}
+
+/// The list of a `CONST`; no element for another instruction.
+#[inline(always)]
+fn list_of_instruction<'a>(instruction: &Instruction<'a>) -> &'a [i64]
+    ensures { result.now ≡ list_in instruction.now }
+{
+    match instruction {
+        Instr::Const(_, list) => list.as_slice(),
+        Instr::Elementwise(_)
+        | Instr::Segmented(_)
+        | Instr::If
+        | Instr::Move(..)
+        | Instr::Call(_)
+        | Instr::Return => &[],
+    }
+}
+
 /// The operands of a line of code of this instruction.
 #[inline(always)]
 fn operands_of<'a, A: Allocator>(
-    line: &CodeLine<'a>,
+    line: &CodeLine<'_>,
+    list: &'a [i64],
     op: Op,
     track: &Track<BlockId, A>,
     blocks: &'a JobMemory<A>,
 ) -> Operands<'a>
+    requires list { list.now ≡ list_in (instruction_in line.now.item) }
     requires op { op ≡ op_of (instruction_in line.now.item) }
     requires deep { operand_count op ≤ length track.now.cells }
     requires live { AreLive blocks.now.memory track.now.cells }
@@ -162,7 +221,7 @@ fn operands_of<'a, A: Allocator>(
         → contents (take result.count result.lists) ≡ sources_of (instruction_in line.now.item) stack }
 {
     match &line.item {
-        CodeItem::Do(instruction) => sources(instruction, op, track, blocks),
+        CodeItem::Do(instruction) => sources(instruction, list, op, track, blocks),
         CodeItem::If | CodeItem::Else | CodeItem::Endif => top_operands(op, track, blocks),
     }
 }
@@ -170,11 +229,13 @@ fn operands_of<'a, A: Allocator>(
 /// The list of a `CONST`, or the words of the cells at the top that another instruction takes.
 #[inline(always)]
 fn sources<'a, A: Allocator>(
-    instruction: &Instruction<'a>,
+    instruction: &Instruction<'_>,
+    list: &'a [i64],
     op: Op,
     track: &Track<BlockId, A>,
     blocks: &'a JobMemory<A>,
 ) -> Operands<'a>
+    requires list { list.now ≡ list_in instruction.now }
     requires op { op ≡ op_of instruction.now }
     requires deep { operand_count op ≤ length track.now.cells }
     requires live { AreLive blocks.now.memory track.now.cells }
@@ -182,7 +243,7 @@ fn sources<'a, A: Allocator>(
         → contents (take result.count result.lists) ≡ sources_of instruction.now stack }
 {
     match instruction {
-        Instr::Const(_, list) => constant(list.as_slice()),
+        Instr::Const(_, _) => constant(list),
         _ => top_operands(op, track, blocks),
     }
 }
