@@ -48,22 +48,22 @@ impl Trouble {
         }
     }
 
-    fn reader(self) -> Device<Reader> {
-        Device::new(Reader {
+    fn reader(self) -> Reader {
+        Reader {
             reads: 0,
             given: 0,
             interrupts: self.reads,
             fails_at: self.read_fails,
-        })
+        }
     }
 
-    fn writer(self, alloc: Global) -> Device<Writer> {
-        Device::new(Writer {
+    fn writer(self, alloc: Global) -> Writer {
+        Writer {
             taken: Vec::new(alloc),
             interrupts: self.writes,
             flush_interrupts: self.flushes,
             failure: self.failure,
-        })
+        }
     }
 }
 
@@ -80,8 +80,8 @@ where
         workers: 2,
         schedule: None,
     };
-    let mut reader = trouble.reader();
-    let mut writer = trouble.writer(alloc);
+    let mut reader = Device::new(trouble.reader());
+    let mut writer = Device::new(trouble.writer(alloc));
     let outcome = match way {
         Way::Alone => run_alone(alloc, &mut reader, &mut writer, &options),
         Way::ByWorkers => run(rt, alloc, &mut reader, &mut writer, &options, &NoGate),
