@@ -228,7 +228,7 @@ length_without (b ∷ t) = length_at b t (is_separator b) refl (length_without t
 
 -- ---- in order
 
--- without the words of the first line that has any, the lines go on behind it
+-- without the words of the first line that has any, the first line with words is the one after it
 behind_first : ℕ → ℕ → List (List ℕ) → BatchLine → List BatchLine → Type 0
 behind_first number left ts l rest =
     lines_behind_blanks (numbered_lines number left ts) ≡ l ∷ rest → is_second_rule l.heading ≡ true

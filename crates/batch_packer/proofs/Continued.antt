@@ -20,14 +20,14 @@ pub record IsPast (l : BatchLine) : Type 0 where
   pub past : l.is_past ≡ true
   pub other : is_blank l.heading ≡ false
 
--- the same words so many lines further on
+-- the same words, d lines further on
 pub record IsMoved (d : ℕ) (old new : BatchLine) : Type 0 where
   pub number : new.number ≡ old.number + d
   pub heading : new.heading ≡ old.heading
   pub words : batch_words new.text ≡ batch_words old.text
   pub within : new.is_past ≡ false
 
--- the lines of a file so many lines further on, of which only the last may have another end, and more after them
+-- the lines of a file, d lines further on, of which only the last may have another end, and more after them
 abbrev pub IsContinued : ℕ → List BatchLine → List BatchLine → List BatchLine → Type 0
 IsContinued d more [] new = new ≡ more
 IsContinued d more (l ∷ ls) [] = IsPast l
@@ -445,7 +445,7 @@ jobs_first : (room : ℕ) (ls : List BatchLine) (l : BatchLine) (rest : List Bat
 unfolding jobs_in
 jobs_first room ls l rest e = rw e refl
 
--- jobs are found by the lines behind blank ones
+-- the blank lines at the front change no job
 pub jobs_by_behind : (room : ℕ) (ls ks : List BatchLine) → lines_behind_blanks ls ≡ lines_behind_blanks ks
     → jobs_in room ls ≡ jobs_in room ks
 unfolding jobs_in
@@ -549,7 +549,7 @@ job_follows_at d more later room job old new (l ∷ ls) (k ∷ ks) e f (inl past
 job_follows_at d more later room job old new (l ∷ ls) (k ∷ ks) e f (inr h) is =
     first_follows d more later room job new l k ls ks f h.0 h.2 (finds_first later old l ls (job ∷ []) e is)
 
--- where lines are those of one job, and go on with others: that job, and what the others come to
+-- if lines are those of one job, and others follow: that job, and the jobs of the others
 pub job_follows : (d : ℕ) (more : List BatchLine) (later room : ℕ) (job : JobText) (old new : List BatchLine)
     → IsContinued d more old new → jobs_in (suc later) old ≡ Ok (job ∷ [])
     → jobs_in (suc room) new ≡ jobs_after (moved d job) (jobs_in room more)

@@ -47,7 +47,7 @@ feeds_append : (xs ys : List ℕ) → line_feeds (xs ++ ys) ≡ line_feeds xs + 
 feeds_append [] ys = omega arith
 feeds_append (x ∷ xs) ys = omega (arith, feeds_append xs ys)
 
--- the batch as its fields are, before a file of this text, with so many LFs, is joined to it
+-- the fields of a batch before a file of this text is joined to it
 pub record Joins (p : PackState) (f : FileState) (jobs lines count : ℕ) (bytes text : List ℕ) : Type 0 where
   pub jobs_are : p.jobs ≡ jobs
   pub bytes_are : p.bytes ≡ bytes

@@ -59,7 +59,7 @@ joined rule files = rule_line rule ++ texts_of rule files
 
 -- ---- its jobs
 
--- the job so many lines further on
+-- the job, n lines further on
 abbrev pub moved : ℕ → JobText → JobText
 moved n job = record job {
   line = job.line + n;
@@ -67,7 +67,7 @@ moved n job = record job {
   code_line = job.code_line + n;
 }
 
--- the jobs of these files in order, where so many lines are before the first file
+-- the jobs of these files in order, if n lines are before the first file
 abbrev pub jobs_behind_lines : Rule → ℕ → List OneJob → List JobText
 jobs_behind_lines rule n [] = []
 jobs_behind_lines rule n (file ∷ files) =

@@ -17,7 +17,7 @@ pub record FileState : Type 0 where
   pub rule : Rule
   pub text : List ℕ
 
--- these are one job, which may run in a region of so many words
+-- these are one job, which may run in a region of this size
 pub record IsRunnable (region : ℕ) (jobs : List JobText) : Type 0 where
   pub job : JobText
   pub only : jobs ≡ job ∷ []

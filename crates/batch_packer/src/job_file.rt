@@ -44,7 +44,7 @@ impl<A: Allocator> JobFile<A> {
     }
 }
 
-/// The file of these bytes, if it is a batch of exactly one job, which may run in a region of so many words.
+/// The file of these bytes, if it is a batch of exactly one job, which may run in a region of `region` words.
 ///
 /// # Errors
 ///

@@ -59,7 +59,7 @@ fn is_open(text: &[u8]) -> bool
     text[text.len() - 1] != b'\n'
 }
 
-/// Puts these bytes behind a text, with blanks for the first line that has words.
+/// Appends these bytes to a text, with blanks for the first line that has words.
 fn leave_first_words<A: Allocator>(text: &mut Vec<u8, A>, bytes: &[u8]) -> Result<(), AllocError>
     ensures { OnOk result (text.new.items ≡ text.old.items ++ without_first_words bytes.now) }
 {
@@ -73,7 +73,7 @@ fn leave_first_words<A: Allocator>(text: &mut Vec<u8, A>, bytes: &[u8]) -> Resul
     Ok(())
 }
 
-/// Puts these bytes behind a text, with blanks for what comes before the first LF.
+/// Appends these bytes to a text, with blanks for what comes before the first LF.
 fn leave_line<A: Allocator>(text: &mut Vec<u8, A>, bytes: &[u8]) -> Result<(), AllocError>
     ensures { OnOk result (text.new.items ≡ text.old.items ++ blank_to_feed bytes.now) }
 {

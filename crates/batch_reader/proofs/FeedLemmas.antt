@@ -140,7 +140,7 @@ long_rest_has_come f rest before held s none more_none cleared refuses long h =
     )))
     refl cleared refuses (omega (arith, long, length-append f.held rest)) h
 
--- ---- behind what refuses the batch
+-- ---- after what refuses the batch
 
 settled : (region line : ℕ) (fault : BatchFault) (jobs : List JobText) (rule : Rule) (room : ℕ) (standing : BatchStanding)
     → StageShows region (stage.Refused line fault) standing → (ls ms : List BatchLine)
@@ -153,7 +153,7 @@ settled region line fault jobs rule room (InSignatures job) shown ls ms = absurd
 settled region line fault jobs rule room (InCode job) shown ls ms = absurd shown
 settled region line fault jobs rule room (Ended job) shown ls ms = absurd shown
 
--- no line changes what a refused batch comes to
+-- no line changes the answer to a refused batch
 all_the_same : (s : LinesState) (come : ByLines) → IsRefused s → Stands s come → (ls ms : List BatchLine)
     → come ls ≡ come ms
 all_the_same s come refused h ls ms =

@@ -77,14 +77,14 @@ pub record ShowsHead (kept : JobHeader (List ℕ)) (head : JobLine) (job : ℕ) 
   pub limits : kept.limits ≡ head.limits
   pub line : kept.line ≡ job
 
--- the signature lines so far have come to a reader, unless the job's words refuse it
+-- a reader was fed the signature lines so far, unless the job's words refuse it
 abbrev pub ShowsSignatures : ℕ → SignaturesPart → JobText → Type 0
 ShowsSignatures region (Reading r) job =
     (limits_within region job.head.limits job.line ≡ Ok job.head.limits)
     × SignaturesHaveCome r job.signatures_line job.signatures
 ShowsSignatures region (PartRefused line fault) job = limits_within region job.head.limits job.line ≡ Err (fault, line)
 
--- the code so far has come to a reader, if the signatures were read
+-- a reader was fed the code so far, if the signatures were read
 pub record HasRead (region : ℕ) (known : List Signature) (r : CodeState) (job : JobText) : Type 0 where
   pub signatures : signatures_of region job ≡ Ok known
   pub first_line : r.first_line ≡ job.code_line

@@ -44,7 +44,7 @@ pub(crate) fn job_entry<A: Allocator + Copy>(
     }
 }
 
-/// What becomes of a job of these signatures, whose code has come to this reader.
+/// What becomes of a job of these signatures, whose code this reader was fed.
 fn read_fate<A: Allocator + Copy>(
     alloc: A,
     head: &JobHeader<JobName<A>>,

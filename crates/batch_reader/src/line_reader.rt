@@ -96,7 +96,7 @@ impl<A: Allocator + Copy> LineReader<A> {
         matches!(self.stage, Stage::Failed)
     }
 
-    /// Whether the batch is refused, so that no further line changes what it comes to.
+    /// Whether the batch is refused, so that no further line changes the answer.
     pub(crate) fn is_refused(&self) -> bool
         ensures { result ≡ true → IsRefused self.now }
     {

@@ -302,7 +302,7 @@ after_insert words long words' starts starts' spans n owner place new a w bare w
     (record { owner = owner; place = place; len = length new }) new a w written marked refl
     (λ other word from below covers. absurd (bare other word from below covers)) within
 
--- a new block of so many words, whatever they are
+-- a new block of this length, whatever its words are
 pub after_put : (words long words' : List ℤ) (starts starts' : List ℕ) (spans : List (Option Span))
     (n owner place len : ℕ) → AreSpans words starts spans → IsLengthened words long (place + len)
     → IsBare (slots_from words spans) place len → length (take len (drop place words')) ≡ len

@@ -26,7 +26,7 @@ use Rattle.std.specs.Prelude.{slice_index_or}
 use Rattle.std.specs.Borrow.{Bor}
 use Rattle.block_memory.specs.Writing.{contents}
 
--- words behind the block
+-- words after the block
 pub words_behind : (before block behind : List ℤ) (len place count at many : ℕ) → length block ≡ len →
     length before + len ≤ place → at ≡ place - (length before + len) → many ≡ count →
     take many (drop at behind) ≡ take count (drop place (before ++ block ++ behind))

@@ -13,13 +13,13 @@ contents refs = map (λ r. r.now) refs
 abbrev pub words_in : List ℤ → Span → List ℤ
 words_in words span = take span.len (drop span.place words)
 
--- the span has no words, or lies in a region of so many words outside of place..place + len
+-- the span has no words, or lies in a region of this size outside of place..place + len
 abbrev pub IsOutside : ℕ → ℕ → ℕ → Span → Type 0
 IsOutside size place len span =
     (span.place + span.len ≤ size)
     × ((span.len ≡ 0) ⊎ (span.place + span.len ≤ place) ⊎ (place + len ≤ span.place))
 
--- the span lies in a region of so many words, and no word of it is among the others, if there are any
+-- the span lies in a region of this size, and no word of it is among place..place + len, if these are any
 abbrev pub IsApart : ℕ → ℕ → ℕ → Span → Type 0
 IsApart size place len span = (span.place + span.len ≤ size) × (0 < len → IsOutside size place len span)
 
@@ -31,7 +31,7 @@ span_of (Some s) = s
 abbrev pub span_at : List (Option Span) → ℕ → Span
 span_at spans id = span_of (value_at spans id)
 
--- a block of so many words more, of which this is so
+-- one block of this length more, whose words have this property
 abbrev pub IsPutWith : Layout → Layout → (number owner place len : ℕ) → (List ℤ → Type 0) → Type 0
 IsPutWith old new number owner place len is =
     (words : List ℤ)

@@ -78,7 +78,7 @@ impl Packing for WholePacking {
     }
 }
 
-/// Takes the words for a block of so many words from the lowest hole that has them, and answers the place of the first.
+/// Takes the words for a block of `len` words from the lowest hole that has them, and answers the place of the first.
 /// If none has, blocks move first, and what moves is counted.
 #[inline(always)]
 pub(crate) fn take_room<P: Packing, A: Allocator>(

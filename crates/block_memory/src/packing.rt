@@ -18,7 +18,7 @@ pub struct MoveCounts {
 
 /// A way to move the blocks of a region until a hole is wide enough. It is known inside of this crate alone.
 pub trait Packing {
-    /// Moves blocks until a hole has so many words, takes these, counts what moved, and answers the place of the first.
+    /// Moves blocks until a hole has `len` words, takes these, counts what moved, and answers the place of the first.
     /// As many words are free.
     fn make_room<A: Allocator>(
         blocks: &mut Blocks<A>,

@@ -16,7 +16,7 @@ pub trait Writer {
     /// Why there are no words to write.
     type Fault;
 
-    /// A block of so many words can be written from these lists.
+    /// A block of this length can be written from these lists.
     ghost can_write: { Self → List (List ℤ) → ℕ → Type 0 };
 
     /// These words are written from these lists.
@@ -37,8 +37,7 @@ pub trait Writer {
 }
 
 // The words of a span that lies outside of a block, or has none. `before` and `behind` are the words of the region
-// before
-// and after the block.
+// before and after the block.
 fn words_outside<'a>(before: &'a [i64], behind: &'a [i64], len: usize, span: Span) -> &'a [i64]
     requires outside { IsOutside (length before.now + len + length behind.now) (length before.now) len span }
     requires size { length before.now + len + length behind.now < 2 ^ 64 }

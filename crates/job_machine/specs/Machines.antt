@@ -135,7 +135,7 @@ after_finished finished.Done old next = next
 after_finished finished.Ended old next = next
 after_finished finished.Stale old next = old
 
--- what a job asks after so many instructions
+-- what a job asks after n instructions
 abbrev pub asked_of : Option Task → ℕ → Option Question
 asked_of (Some task) n = question_at task n
 asked_of None n = None

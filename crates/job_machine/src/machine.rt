@@ -88,7 +88,7 @@ impl<A: Allocator> Model for Machine<A> {
 }
 
 impl<A: Allocator + Clone> Machine<A> {
-    /// A machine over a region of so many words, whose jobs all wait, and will run by this rule. There are at most 64,
+    /// A machine over a region of `region` words, whose jobs all wait, and will run by this rule. There are at most 64,
     /// and the words of each fit the region.
     ///
     /// Takes the memory for the region, for the cells and calls of all jobs, for their passes, and for the numbers of
@@ -127,7 +127,7 @@ impl<A: Allocator + Clone> Machine<A> {
         })
     }
 
-    /// Stores the outcome of a job that has ended and gives its words back; true where it had.
+    /// Stores the outcome of a job that has ended and gives its words back; true if it had ended.
     ///
     /// # Errors
     ///

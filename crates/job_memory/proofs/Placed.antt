@@ -8,7 +8,7 @@ use Rattle.job_memory.specs.Inside.{IsBooked, blocks_by}
 use Rattle.job_memory.proofs.Grants.{at_place, words_same}
 use Rattle.job_memory.proofs.Views.{book_job}
 
--- memory and book have room for so many words of a job
+-- memory and book have room for len words of a job
 pub record CanPlace (memory : SharedState) (b : book.BookState) (job len : ℕ) : Type 0 where
   pub is : book.IsJob b job
   pub granted : book.words_held_by b job + len ≤ book.words_granted_to b job

@@ -3,7 +3,7 @@ use Rattle.std.specs.Prelude.{◌≡◌, ℕ, ℤ, ◌<◌, List, length}
 use Rattle.refcounts.specs.SharedState.{empty_slot, slot_at}
 use Rattle.job_memory.specs.JobBlocks.{JobBlocks, with_block}
 
--- a number that had no block has one of the job, of so many words, of which this is so
+-- a number that had no block has one of the job and of this length, whose words have this property
 pub record IsPlacedWith (old new : JobBlocks) (job id len : ℕ) (is : List ℤ → Type 0) : Type 0 where
   pub words : List ℤ
   pub in_range : id < length old.memory.slots

@@ -206,7 +206,7 @@ written_apart memory id slot (first ∷ ids) none =
     ap (λ (m : SharedState). state_after_releases m ids) once
     ∙ written_apart (state_after_release memory first) id slot ids (none_after id first ids none)
 
--- what the exchange comes to, and the words that count as held and needed at it
+-- the exchange, and the words that count as held and needed at it
 pub record HasReplaced (rule : Rule) (job : ℕ) (taken : List ℕ) (id : ℕ) (words : List ℤ) (old new : JobBlocks) : Type 0
   where
     pub is : IsExchanged rule job taken id words old new

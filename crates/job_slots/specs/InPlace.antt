@@ -26,7 +26,7 @@ abbrev pub is_constant : Op → Bool
 is_constant (Const k) = true
 is_constant op = false
 
--- the instruction makes one result of so many words of these operands, unless their values have a fault
+-- the instruction makes one result of len words of these operands, unless their values have a fault
 pub record CanCompute (op : Op) (sources : List (List ℤ)) (len : ℕ) : Type 0 where
   pub kinds : HaveKinds (source_kinds op) sources
   pub shaped : shape op sources ≡ None

@@ -203,7 +203,7 @@ fn exchange<A: Allocator>(
     }
 }
 
-/// The first of these blocks that one reference names and that has so many words, if there is one.
+/// The first of these blocks that one reference names and that has `len` words, if there is one.
 #[tactic(auto, using(crate::proofs::Exchanges::named_at))]
 #[inline(always)]
 fn dying<A: Allocator>(blocks: &JobMemory<A>, ids: &[BlockId], len: usize) -> Option<BlockId>

@@ -119,7 +119,7 @@ executing stuck own task r n s e =
 
 -- ---- what is used grows
 
--- at least so many instructions and so many words are counted, unless the job can't go on
+-- the counts of instructions and of most words are at least these, unless the job can't go on
 abbrev HasCounted : (least_count least_peak : ℕ) → Progress → Type 0
 HasCounted x m (Running s) = (x ≤ s.executed) × (m ≤ s.peak)
 HasCounted x m (Over ending y p) = (x ≤ y) × (m ≤ p)

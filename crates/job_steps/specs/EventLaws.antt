@@ -201,7 +201,7 @@ UsedIsGranted =
     (tasks : List Task) → All IsVerified tasks → (standings : List Standing) →
     used_words tasks standings ≤ granted_words tasks standings
 
--- ---- events go on, and come to an end
+-- ---- events go on, and end
 
 -- unless all jobs are collected, some event is open that is no recall
 abbrev pub EventsGoOn : Type 0

@@ -11,7 +11,7 @@ use verifier::KindFault;
 pub enum Obstacle {
     /// What it takes is of one kind at one place, and of another kind at another.
     TwoKinds,
-    /// No path through it comes to its RET.
+    /// No path through it reaches its RET.
     NeverReturns,
     /// It takes more operands than a signature may have, as one that asks for more at each of its calls does.
     ManyOperands,

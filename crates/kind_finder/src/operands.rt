@@ -24,7 +24,7 @@ pub(crate) struct Operands<A: Allocator> {
 }
 
 impl<A: Allocator + Copy> Operands<A> {
-    /// So many functions without operands.
+    /// No operand of any of these functions.
     pub(crate) fn new(alloc: A, functions: usize) -> Result<Operands<A>, AllocError> {
         let mut known = Vec::with_capacity(alloc, functions)?;
         for _ in 0..functions {
@@ -43,7 +43,7 @@ impl<A: Allocator> Operands<A> {
         }
     }
 
-    /// The operand of a function that has so many above it. The function takes it from now on.
+    /// The operand of a function that has `above` others above it. The function takes it from now on.
     pub(crate) fn ask(&mut self, function: usize, above: usize) -> Result<Entry, PathFault>
         ensures { OnOk result (above < MOST_KINDS) }
     {

@@ -8,8 +8,8 @@ use std::alloc::{AllocError, Allocator};
 use vcode_base::StackMove;
 use verifier::KindFault;
 
-/// What a path has on its stack: entries from the bottom up. So many of the function's operands are among them, or were
-/// taken; the others lie below.
+/// What a path has on its stack: entries from the bottom up. The first `operands` of the function's operands are among
+/// them, or were taken; the others lie below.
 #[derive(Drop)]
 pub(crate) struct Stack<A: Allocator> {
     function: usize,
@@ -48,7 +48,7 @@ impl<A: Allocator> Stack<A> {
         Ok(())
     }
 
-    /// Has so many entries, or more.
+    /// Has at least `count` entries.
     fn demand(&mut self, operands: &mut Operands<A>, count: usize) -> Result<(), PathFault>
         ensures { OnOk result (count ≤ vec_len self.new.entries) }
     {
@@ -58,7 +58,7 @@ impl<A: Allocator> Stack<A> {
         Ok(())
     }
 
-    /// Has so many of the function's operands, or more.
+    /// Has at least `count` of the function's operands.
     pub(crate) fn uncover(
         &mut self,
         operands: &mut Operands<A>,

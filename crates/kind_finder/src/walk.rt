@@ -23,7 +23,7 @@ pub(crate) struct Arrow<A: Allocator> {
 pub(crate) enum Finding<A: Allocator> {
     /// It returns, and takes and gives this.
     Returns(Arrow<A>),
-    /// No path comes to its RET, as long as nothing is known of the function at this place.
+    /// No path reaches its RET, as long as nothing is known of the function at this place.
     WaitsFor(usize),
 }
 
@@ -45,7 +45,7 @@ fn entries_of<A: Allocator>(alloc: A, kinds: &[Kind]) -> Result<Vec<Entry, A>, A
     kinds.iter().map(|kind| Entry::Of(*kind)).collect(alloc)
 }
 
-/// The first operands of a function, so many of them, from the bottom up.
+/// The first `count` operands of a function, from the bottom up.
 pub(crate) fn operands_of<A: Allocator>(
     alloc: A,
     function: usize,

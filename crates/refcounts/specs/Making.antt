@@ -6,7 +6,7 @@ use Rattle.refcounts.specs.SharedState.{SharedState, empty_slot, slot_at, with_s
 abbrev pub words_at : SharedState → ℕ → List ℤ
 words_at memory id = (slot_at memory id).words
 
--- a number that had no block has one of an owner, with one reference, of so many words, of which this is so
+-- a number that had no block has one of this owner and length, with one reference, whose words have this property
 pub record IsMadeWith (old new : SharedState) (id owner len : ℕ) (is : List ℤ → Type 0) : Type 0 where
   pub words : List ℤ
   pub in_range : id < length old.slots

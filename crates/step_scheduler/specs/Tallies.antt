@@ -26,9 +26,8 @@ OthersCountNothing =
     (m : MachineState) → IsKept m → (event : Event) → is_finish event ≡ false →
     executed_sum (machine_after event m) ≡ executed_sum m
 
--- The finish of a job that was in flight after so many instructions leaves it with at least as many, and raises the sum
--- by
--- the difference.
+-- The finish of a job that was in flight after `step` instructions leaves it with at least as many, and raises the sum
+-- by the difference.
 pub record RaisesByItsJob (m : MachineState) (job step : ℕ) : Type 0 where
   pub count : ℕ
   pub count_is : told executed_at job (machine_after (Finish job) m) ≡ Some count

@@ -38,8 +38,8 @@ impl Estimate {
         }
     }
 
-    /// Adds a step of so many words of operands, of which the longest has so many; its results are taken to be as long
-    /// as that one.
+    /// Adds a step. Its operands have `words` words together, and the longest has `longest`. Its results are taken to
+    /// be as long as that one.
     pub(crate) fn add(&mut self, op: Op, words: usize, longest: usize) {
         let inside = inside_weight(words as u64, longest as u64);
         let outside = weight(op).saturating_mul(longest as u64);

@@ -20,8 +20,8 @@ use std::alloc::{AllocError, Allocator};
 use std::marker::Brand;
 use std::sync::ledger::{Book, Ledger, Share};
 
-/// A ledger of a run, over a machine that had this rule and these jobs when it opened, and had executed so many
-/// instructions.
+/// A ledger of a run, over a machine that had this rule, these jobs and this count of executed instructions when it
+/// opened.
 pub(crate) trait Opening: Ledger {
     ghost executed_before: { ℕ };
 

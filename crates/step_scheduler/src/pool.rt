@@ -49,7 +49,7 @@ pub(crate) struct WorkerPool<A: Allocator> {
 }
 
 impl<A: Allocator> WorkerPool<A> {
-    /// Without a worker yet, over the jobs of a machine in which no step has begun, for a run by so many workers.
+    /// Without a worker yet, over the jobs of a machine in which no step has begun, for a run by `workers` workers.
     ///
     /// # Errors
     ///

@@ -22,7 +22,7 @@ use std::sync::ledger::{Blank, Ledger, Share};
 use std::thread;
 use std::thread::Threads;
 
-/// Runs all jobs of a machine on at most so many worker threads, 1 to 16, and collects them.
+/// Runs all jobs of a machine on at most `workers` threads, 1 to 16, and collects them.
 ///
 /// Steps that have begun are given up first. The calling thread runs one job after another itself, until two jobs can
 /// run beside one another. Then it starts workers, as many as there are jobs left at most. So it runs all jobs if one

@@ -229,7 +229,7 @@ impl<T: Drop, A: Allocator> FrontList<T, A> {
         }
     }
 
-    /// No element, and room for so many.
+    /// No element, and room for `capacity` elements.
     fn with_capacity(alloc: A, capacity: usize) -> Result<FrontList<T, A>, AllocError>
         ensures { IfOk result (λ list. list ≡ []) }
     {

@@ -22,7 +22,7 @@ abbrev pub AreShared : List Kind → List KeptList → Type 0
 AreShared ks [] = Unit {0}
 AreShared ks (l ∷ ls) = (l.shared ≤ length ks) × AreShared (whole_list ks l) ls
 
--- the first list, if there is one, shares at most so many entries
+-- the first list, if there is one, shares at most `count` entries
 abbrev pub SharesAtMost : ℕ → List KeptList → Type 0
 SharesAtMost count [] = Unit {0}
 SharesAtMost count (l ∷ ls) = l.shared ≤ count

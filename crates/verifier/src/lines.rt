@@ -41,7 +41,7 @@ fn replace<A: Allocator + Clone>(
     Ok(())
 }
 
-/// Moves the entries above the first `below`, of which so many are the lower ones.
+/// Moves the entries above the first `below`, of which the first `lower` are the lower ones.
 fn place<A: Allocator + Clone>(
     stack: &mut KindStack<A>,
     motion: StackMove,

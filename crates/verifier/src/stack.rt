@@ -36,7 +36,7 @@ impl<A: Allocator> Model for KeptList<A> {
 }
 
 impl<A: Allocator> KeptList<A> {
-    /// The list of so many shared entries and of these above them, from the bottom up.
+    /// The list of `shared` shared entries and of these above them, from the bottom up.
     fn new(shared: usize, mut above: Vec<Kind, A>) -> KeptList<A>
         ensures { result ≡ record { shared = shared; above = above.items } }
     {
@@ -194,7 +194,7 @@ fn is_whole_list<A: Allocator>(kinds: &[Kind], list: KeptList<A>) -> bool
     are_same_kinds(above.as_slice(), &kinds[shared..])
 }
 
-/// Takes out so many elements, from this place on.
+/// Takes out `count` elements, from this place on.
 fn remove_range<A: Allocator>(kinds: &mut Vec<Kind, A>, from: usize, count: usize)
     requires { from + count ≤ length kinds.old.items }
     ensures { kinds.new.items ≡ take from kinds.old.items ++ drop (from + count) kinds.old.items }
@@ -261,7 +261,7 @@ impl<A: Allocator + Clone> KindStack<A> {
         Ok(())
     }
 
-    /// Puts so many entries, from this place on, on top once more.
+    /// Puts `count` entries, from this place on, on top once more.
     pub(crate) fn repeat(&mut self, from: usize, count: usize) -> Result<(), AllocError>
         requires { from + count ≤ length self.old.kinds }
         ensures { OnOk result (self.new
@@ -271,7 +271,7 @@ impl<A: Allocator + Clone> KindStack<A> {
         Ok(())
     }
 
-    /// Takes out so many entries, from this place on.
+    /// Takes out `count` entries, from this place on.
     pub(crate) fn remove(&mut self, from: usize, count: usize) -> Result<(), AllocError>
         requires { from + count ≤ length self.old.kinds }
         ensures { OnOk result (self.new

@@ -52,7 +52,7 @@ pub struct Packing<'a> {
 }
 
 impl<'a> Packing<'a> {
-    /// No batch, for a folder and a region of so many words.
+    /// No batch, for a folder and a region of `region` words.
     pub fn new(out: &'a str, region: u32) -> Packing<'a> {
         Packing {
             out,

@@ -10,7 +10,7 @@ pub const MOST_LIST_BYTES: usize = 16_777_216;
 /// The bytes that are read at a time.
 const PIECE: usize = 65_536;
 
-/// The bytes of a reader, or so many and a piece of it if it has more.
+/// All bytes of a reader. If it has more than `most`, the first ones, which are at most a piece more than that.
 fn read_up_to<R: Read>(rt: &HostRuntime, reader: &mut R, most: usize) -> io::Result<Vec<u8>> {
     let mut bytes = Vec::new(rt.alloc());
     let mut piece = vec![in rt.alloc(); 0u8; PIECE]?;
@@ -24,7 +24,8 @@ fn read_up_to<R: Read>(rt: &HostRuntime, reader: &mut R, most: usize) -> io::Res
     Ok(bytes)
 }
 
-/// The bytes of the file of this name, or so many and a few of them if it has more; `-` is standard input.
+/// All bytes of the file of this name; `-` is standard input. If it has more than `most`, the first ones, which are
+/// some more than that.
 pub fn read_at_most(rt: &HostRuntime, name: &str, most: usize) -> io::Result<Vec<u8>> {
     if name == "-" {
         return read_up_to(rt, &mut rt.stdin(), most);

@@ -13,12 +13,12 @@ use std::{env, fs, io};
 /// The bytes that are read at a time.
 const PIECE: usize = 65_536;
 
-/// What a run comes to.
+/// How a run ends.
 #[derive(Clone, Copy, PartialEq, Eq, Debug)]
 enum Ending {
     /// Every owner has a report.
     AllWritten,
-    /// The report breaks off after so many jobs.
+    /// The report breaks off after this number of jobs.
     BrokenOff(usize),
     /// The report is none of this batch.
     OtherBatch,

@@ -48,7 +48,7 @@ fn own_line(line: &str, first_line: u64) -> Option<u64> {
     line.checked_sub(first_line)?.checked_add(1)
 }
 
-/// Puts the JOB line of the owner's own report behind a text; `None` where the line says none.
+/// The JOB line of the owner's own report; `None` if the line is none.
 fn own_head(alloc: Global, words: &str, first_line: u64) -> Result<Option<String>, AllocError> {
     let Some((name, ending)) = words.split_once(' ') else {
         return Ok(None);
@@ -76,7 +76,7 @@ fn is_refused(words: &str) -> bool {
     }
 }
 
-/// Cuts the job after so many others off the front of a report on this many jobs in all.
+/// Cuts the job after `before` others off the front of a report on `all` jobs.
 pub fn cut_job<'a>(
     alloc: Global,
     report: &'a str,

@@ -10,7 +10,7 @@
 //! the lines of the report
 //! ```
 //!
-//! A blank line or the end of the table stands behind the report, and remarks may follow. In a batch and in a report,
+//! A blank line or the end of the table ends the report, and remarks may follow. In a batch and in a report,
 //!
 //! - lines between `=== N times` and `=== once` stand there N times, and `#` in them is the number of the time, from 1;
 //! - a line between `=== N times on one line` and `=== once` stands there N times without an LF;

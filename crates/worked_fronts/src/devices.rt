@@ -27,7 +27,7 @@ fn a_reader_has_no_end(rt: HostRuntime) {
     );
 }
 
-/// A byte that a batch repeats, how often, and what the batch comes to and reports.
+/// A byte that a batch repeats, how often, and the status and the report of the batch.
 type Repeated = (u8, u64, Status, &'static [u8]);
 
 const MOST: u64 = MOST_BATCH_BYTES as u64;

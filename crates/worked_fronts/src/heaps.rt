@@ -37,7 +37,7 @@ fn ending(heap: &LocalHeap, alloc: Global) -> (Result<Status, FrontFault>, Vec<u
     (outcome, writer.into_inner())
 }
 
-/// Whether a run over this heap writes the whole report. If it doesn't, it wants memory and writes nothing.
+/// Whether a run over this heap writes the whole report. If it doesn't, it is out of memory and writes nothing.
 fn is_whole(rt: &impl Abort, alloc: Global, heap: &LocalHeap) -> bool {
     let (outcome, written) = ending(heap, alloc);
     let is_whole = outcome == Ok(Status::SomeNot);

@@ -14,7 +14,7 @@ use verifier::{Verified, verify};
 /// The most that a number of a job or of a ticket may be.
 pub const MOST_NUMBER: usize = 1000;
 
-/// The number that a word is, at most so much.
+/// The number that a word is, if it is at most `most`.
 pub fn number(word: &str, most: usize) -> Result<usize, CaseFault>
     ensures { IfOk result (λ n. n ≤ most) }
 {

@@ -1,15 +1,15 @@
 //! Prints a table of calls on machines with what each answers.
 //!
-//! Each line of standard input is a call, which is printed as it stands, and behind it ` = ` and the answer. Blank lines
-//! and those that begin with `#` are printed alone. A line `machine` makes a machine, on which the calls behind it are
+//! Each line of standard input is a call, which is printed as it is, then ` = ` and the answer. Blank lines
+//! and those that begin with `#` are printed alone. A line `machine` makes a machine, on which the calls after it are
 //! made; jobs, steps and tickets are numbers, tickets from 0 on in the order of their begins.
 //!
 //! | Line | Call |
 //! |---|---|
-//! | `machine REGION JOBS` | a machine of these jobs over a region of so many words |
+//! | `machine REGION JOBS` | a machine of these jobs over a region of REGION words |
 //! | `another REGION JOBS` | the same; the tickets of the machine before can be handed to this one |
 //! | `admit`, `used`, `jobs`, `run_out` | that call; `run_out` on a desk of the region's words |
-//! | `begin JOB WORDS`, `step JOB WORDS` | that call on a new desk of so many words |
+//! | `begin JOB WORDS`, `step JOB WORDS` | that call on a new desk of WORDS words |
 //! | `finish TICKET` | `compute` and `finish` |
 //! | `recall JOB`, `collect JOB`, `status JOB`, `outcome JOB`, `executed JOB`, `peak JOB`, `passed JOB` | that call |
 //! | `replay EVENTS` | that call; an event is `a` (admit), or `b` (begin), `f` (finish), `r` (recall) or `c` (collect) with the number of a job |

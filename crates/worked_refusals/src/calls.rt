@@ -39,7 +39,7 @@ fn each_growth_of_a_machine_is_refused(rt: HostRuntime) -> Result<(), Fail> {
     machines_are_made(&rt, &heap)
 }
 
-/// The events by which the first job of two comes to its end, while a step of the second is in flight.
+/// The events by which the first job of two ends, while a step of the second is in flight.
 const ENDED_AND_IN_FLIGHT: [Event; 6] = [
     Event::Admit,
     Event::Begin(1),
