@@ -86,8 +86,8 @@ pub fn run_alone<A: Allocator + Copy, R: Read, W: Write>(
 ///
 /// # Errors
 ///
-/// As of [`run_alone`]; [`FrontFault::Memory`] is also answered where memory was refused to the calling thread for what
-/// the workers left. [`FrontFault::Mixed`] where the machine that the workers hand back holds other jobs than the
+/// As of [`run_alone`]; [`FrontFault::Memory`] is also answered if memory was refused to the calling thread for what
+/// the workers left. [`FrontFault::Mixed`] if the machine that the workers hand back holds other jobs than the
 /// batch; it comes before the first write too.
 pub fn run<A, H, I, O, G>(
     rt: &H,

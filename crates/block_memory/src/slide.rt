@@ -44,8 +44,8 @@ fn slide_down<A: Allocator>(
 }
 
 /// The blocks after the lowest hole slide down in order of place until the hole before the next one is wide enough. Its
-/// first words are taken. Once more words slid than the region has, all blocks move together: slides make the front dense, so
-/// that each later one has more words to move.
+/// first words are taken. Once more words slid than the region has, all blocks move together: slides make the front
+/// dense, so that each later one has more words to move.
 #[derive(Clone, Copy, Debug)]
 pub struct SlidingPacking;
 

@@ -131,7 +131,7 @@ impl<A: Allocator + Clone> Machine<A> {
     ///
     /// # Errors
     ///
-    /// [`AllocError`] where memory for the results was refused, which comes only at a job that returned. Nothing
+    /// [`AllocError`] if memory for the results was refused, which comes only at a job that returned. Nothing
     /// changes then.
     pub fn collect(&mut self, job: usize) -> Result<bool, AllocError>
         ensures answer { IfOk result (λ yes. yes ≡ is_over (of_job job self.old.standings)) }
@@ -152,7 +152,7 @@ impl<A: Allocator + Clone> Machine<A> {
     /// Gives up all steps that have begun, and then runs and collects all jobs on this thread, on a desk of at least
     /// the words of each.
     ///
-    /// `Err` where the collection of a job that returned was refused memory: what was done until then stands, no step
+    /// `Err` if the collection of a job that returned was refused memory: what was done until then stands, no step
     /// has begun, and the call may be made again.
     pub fn run_out(&mut self, desk: Desk<A>) -> (Result<(), AllocError>, Desk<A>)
         requires { All (λ task. task.limits.words ≤ desk) self.old.tasks }
@@ -175,7 +175,7 @@ impl<A: Allocator> Machine<A> {
     /// before it was passed by [`MOST_PASSES`](vcode_base::limits::MOST_PASSES) times. Each job that waits before it is
     /// passed by once more.
     ///
-    /// `NotNow` exactly where some job waits, and none can be admitted so.
+    /// `NotNow` exactly if some job waits, and none can be admitted so.
     pub fn admit(&mut self) -> Admission
         ensures answer { result ≡ admission_in self.old }
         ensures state { self.new ≡ machine_after Admit self.old }

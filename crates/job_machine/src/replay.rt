@@ -62,7 +62,7 @@ impl<A: Allocator + Clone> Machine<A> {
     ///
     /// # Errors
     ///
-    /// [`ReplayFault::Desks`] where memory for a desk was refused: nothing changed. [`ReplayFault::Collect`] where the
+    /// [`ReplayFault::Desks`] if memory for a desk was refused: nothing changed. [`ReplayFault::Collect`] if the
     /// collection of a job that returned was refused memory: the events before it were done, and no step has begun.
     pub fn replay(&mut self, alloc: A, events: &[Event]) -> Result<(), ReplayFault>
         ensures ok { OnOk result (self.new ≡ recalled (after_all events.now (recalled self.old))) }

@@ -102,7 +102,7 @@ fn is_short(next: &Next<'_>) -> bool {
     }
 }
 
-/// The same, where the instruction may have such a result.
+/// The same, if the instruction may have such a result.
 #[inline(never)]
 fn placement_of_long<A: Allocator>(
     rule: Rule,

@@ -51,8 +51,8 @@ fn finish<L: Opening, A: Allocator, R: Wait>(
     }
 }
 
-/// A hold of the lock, and where it has begun a step its computation and the hold that finishes it. The job with which
-/// the worker goes on, if there is one, or None where nothing is left to do.
+/// A hold of the lock, and if it has begun a step, its computation and the hold that finishes it. Answers the job with
+/// which the worker goes on, if there is one, or None if nothing is left to do.
 fn go_on<L: Opening, A: Allocator + Clone, R: Wait, G: Gate>(
     rt: &R,
     shared: &SharedMachine<L, A>,

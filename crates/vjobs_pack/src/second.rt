@@ -23,7 +23,7 @@ fn kind_of(line: &[u8]) -> Kind {
     }
 }
 
-/// The number of the first line with words after the first `END`, which begins the second job where there are two.
+/// The number of the first line with words after the first `END`, which begins the second job if there are two.
 pub fn second_job_line(bytes: &[u8]) -> u64 {
     let mut number: u64 = 0;
     let mut ended = false;
