@@ -12,13 +12,14 @@
 # make dist LOG=FILE   packs the same into bin/vjobs-COMMIT.tar.gz; FILE is the output of make gate on this commit
 # make names   checks that every name exists which a page, a comment or a wrong body uses
 # make check CRATE=name   proves one crate and runs its tests
+# make fast CRATE=name   builds a program unproved and optimised, at bin/unproved/name, to measure a form before it is proved
 # make bench   times reading, the steps of jobs, workers, the instructions beside plain C, the memory, and the verifier; no test
 # make soak    runs batches on 1 to 16 workers for an hour, and stops at the first report that differs; not in the gate
 # make models  compares the programs with a second writing of the rules, in Python, on random cases; not in the gate
 # make hostile MINUTES=60   runs batches that were changed at random for so many minutes, and compares each report with the
 #              second writing, its memory with the sum in docs/OPERATING.md, and its time with its limits; not in the gate
 
-.PHONY: all try run packing kinds cluster cluster-hard test gate install dist names check bench soak hostile models clean
+.PHONY: all try run packing kinds fast cluster cluster-hard test gate install dist names check bench soak hostile models clean
 
 PREFIX = /usr/local
 MINUTES = 60
@@ -74,6 +75,10 @@ names:
 
 check:
 	.ci/check $(CRATE)
+
+fast:
+	mkdir -p bin/unproved
+	.ci/fast $(CRATE) bin/unproved/$(CRATE)
 
 bench: all
 	python3 bench/reading.py
