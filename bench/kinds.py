@@ -2,9 +2,9 @@
 """Times the verifier on code that copies many entries and drops them again, over stacks of several depths.
 
 Run it at the top of the repository, after `make`. Each code brings the stack to its depth and then does `COPY n 0` and
-`POP n 0` again and again. Its job has a budget of 0, so it is read and verified and does nothing; and where its function
-isn't called `MAIN` it is read alone. The difference is the verifier's time, which should grow with n, and not with the
-depth.
+`POP n 0` again and again. Its job has a budget of 0, so it is read and verified and does nothing; and where its
+function isn't called `MAIN` it is read alone. The difference is the verifier's time, which should grow with n, and not
+with the depth.
 """
 import pathlib
 import subprocess

@@ -1,7 +1,7 @@
 #!/usr/bin/env python3
 """Times the memory of a region: releases and makes of blocks of mixed lengths, in no order, and takes and gives of
-ranges of words beside a plain list of holes in C. It also prints the most memory that `bin/vjobs` takes for results that
-share a vector.
+ranges of words beside a plain list of holes in C. It also prints the most memory that `bin/vjobs` takes for results
+that share a vector.
 
 Run it at the top of the repository, after `make`. It builds crates/bench_memory (proving it and what it stands on,
 unless that was done) and bench/plain_holes.c. The words that packing moves are those of the same load by a plain model

@@ -2,10 +2,10 @@
 """Times the vector and segment instructions beside the same loops in plain C, on this machine in this run.
 
 Run it at the top of the repository. It builds crates/bench_ops (proving it and the crates below, unless that was done)
-and bench/plain_ops.c, lets the two run in turn, and prints nanoseconds an element of each, the least of all rounds, and their
-ratio. Vectors have 1, 100, 1,000 and 30,000 words. Flags and orders of indices are new in each round, so that no
-processor has learned them. A time contains one reading of the clock, some 25 nanoseconds; over one word an instruction is filled
-a thousand times between two readings.
+and bench/plain_ops.c, lets the two run in turn, and prints nanoseconds an element of each, the least of all rounds, and
+their ratio. Vectors have 1, 100, 1,000 and 30,000 words. Flags and orders of indices are new in each round, so that no
+processor has learned them. A time contains one reading of the clock, some 25 nanoseconds; over one word an instruction
+is filled a thousand times between two readings.
 """
 import pathlib
 import subprocess

@@ -3,9 +3,9 @@
 
     python3 bench/processes.py [--rounds N] [--batches FOLDER]
 
-Run it at the top of the repository, after `make`, on a machine with four free cores. The batches are loads of bench/steps.py by four jobs, or
-those of a folder: its files NAME.vcode. For the last column the jobs of a batch are dealt out to four processes of one worker. Printed are the
-least wall seconds of all rounds.
+Run it at the top of the repository, after `make`, on a machine with four free cores. The batches are loads of
+bench/steps.py by four jobs, or those of a folder: its files NAME.vcode. For the last column the jobs of a batch are
+dealt out to four processes of one worker. Printed are the least wall seconds of all rounds.
 """
 import argparse
 import re

@@ -1,8 +1,9 @@
 #!/usr/bin/env python3
 """Times bin/vjobs on one job whose code is nearly as long as a batch may be.
 
-Run it at the top of the repository, after `make`. The code is one function that pushes a long constant and adds it to itself, again and
-again, so that most of the time is reading; a second batch of the same length is refused at its last line.
+Run it at the top of the repository, after `make`. The code is one function that pushes a long constant and adds it to
+itself, again and again, so that most of the time is reading; a second batch of the same length is refused at its last
+line.
 """
 import pathlib
 import subprocess

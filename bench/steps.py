@@ -3,9 +3,10 @@
 
     python3 bench/steps.py [PROGRAM [ARGUMENT ..]]
 
-Run it at the top of the repository, after `make`. The programs take each load in turn, several times, with all rounds and with none. The
-least processor times count, and that of no rounds, which is starting and reading, is taken off. Both programs must print the same on a load
-that they take; where one refuses it, or the option that it comes with, its column has a `-`. A ratio below 1 says that bin/vjobs is faster.
+Run it at the top of the repository, after `make`. The programs take each load in turn, several times, with all rounds
+and with none. The least processor times count, and that of no rounds, which is starting and reading, is taken off. Both
+programs must print the same on a load that they take; where one refuses it, or the option that it comes with, its
+column has a `-`. A ratio below 1 says that bin/vjobs is faster.
 """
 import os
 import subprocess

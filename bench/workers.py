@@ -3,12 +3,13 @@
 
     python3 bench/workers.py [--rounds N] [--scale X] [--batches FOLDER] [--program PROGRAM]
 
-Run it at the top of the repository, after `make`, on a machine with four free cores. The batches have equal jobs that repeat one instruction:
-each combination of instruction, length of the vectors and number of jobs. Or they are those of a folder: its files NAME.vcode, with the
-options in NAME.args where that file is. A run with the schedule `1` has no workers, and is the calling thread alone. In each round each batch is
-run by the calling thread and by each number of workers in turn, so that other work on the machine falls on all of them. Printed are the least
-wall seconds of the calling thread and its least processor seconds, and for each number of workers the ratio of its least times to these. All
-runs of a batch must print the same.
+Run it at the top of the repository, after `make`, on a machine with four free cores. The batches have equal jobs that
+repeat one instruction: each combination of instruction, length of the vectors and number of jobs. Or they are those of
+a folder: its files NAME.vcode, with the options in NAME.args where that file is. A run with the schedule `1` has no
+workers, and is the calling thread alone. In each round each batch is run by the calling thread and by each number of
+workers in turn, so that other work on the machine falls on all of them. Printed are the least wall seconds of the
+calling thread and its least processor seconds, and for each number of workers the ratio of its least times to these.
+All runs of a batch must print the same.
 """
 import argparse
 import os

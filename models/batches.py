@@ -29,8 +29,8 @@ def heading(words):
 
 
 def jobs_of(data):
-    """Whether the second rule holds, and each job's JOB line, name, limits, and its signatures and code, each with the number of its
-    first line."""
+    """Whether the second rule holds, and each job's JOB line, name, limits, and its signatures and code, each with the
+    number of its first line."""
     lines = data.split(b"\n")
     lines = lines if lines[-1] else lines[:-1]
     first = next((place for place, line in enumerate(lines) if words_of(line)), len(lines))

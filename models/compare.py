@@ -3,11 +3,13 @@
 
     python3 models/compare.py [COUNT [SEED [PROGRAM ARGUMENT ..]]]
 
-Run it at the top of the repository, once `make models` has built the programs. The modules of this folder say in plain Python what
-docs/LANGUAGE.md and docs/FORMATS.md say of reading, kinds, vectors, runs and batches, and share nothing with the crates. Each of COUNT texts of code and signatures goes to `worked_texts`, each of COUNT instructions to `worked_vectors`, each of
-a hundredth as many batches, of either rule, to `bin/vjobs`, once on 1, 2 or 16 workers and once with a schedule, COUNT calls on free words
-and memories, one after another, to `worked_regions`, and COUNT calls on machines to `worked_machine`; their answers, reports and exit statuses must be those of the modules, which know of
-no schedule.
+Run it at the top of the repository, once `make models` has built the programs. The modules of this folder say in plain
+Python what docs/LANGUAGE.md and docs/FORMATS.md say of reading, kinds, vectors, runs and batches, and share nothing
+with the crates. Each of COUNT texts of code and signatures goes to `worked_texts`, each of COUNT instructions to
+`worked_vectors`, each of a hundredth as many batches, of either rule, to `bin/vjobs`, once on 1, 2 or 16 workers and
+once with a schedule, COUNT calls on free words and memories, one after another, to `worked_regions`, and COUNT calls on
+machines to `worked_machine`; their answers, reports and exit statuses must be those of the modules, which know of no
+schedule.
 
 Where a PROGRAM of the same behaviour is named, only COUNT batches are compared, with it.
 """

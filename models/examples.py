@@ -1,9 +1,11 @@
 #!/usr/bin/env python3
-"""Compares the report of each example with the one that `models/` give, and its results with those of the example's own program in Python.
+"""Compares the report of each example with the one that `models/` give, and its results with those of the example's own
+program in Python.
 
     python3 models/examples.py
 
-The modules of this folder follow the rules of the language. The program beside an example, as `examples/histogram.py`, doesn't know them.
+The modules of this folder follow the rules of the language. The program beside an example, as `examples/histogram.py`,
+doesn't know them.
 """
 import subprocess
 import sys

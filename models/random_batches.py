@@ -10,7 +10,8 @@ MOST_WORDS, MOST_CELLS, MOST_CALLS, MOST_JOBS = 1_048_576, 4_096, 1_024, 64
 # The instructions that a job is tried on to find its edges. One that goes on has this budget at most.
 MOST_TRIED = 300
 
-# Functions that call themselves or each other: what each takes and gives, the numbers that it is called with, and its code.
+# Functions that call themselves or each other: what each takes and gives, the numbers that it is called with, and its
+# code.
 RECURSIVE = {
     "factorial": ([INT], [INT], "COPY 1 0 CONST INT 1 <= INT IF POP 1 0 CONST INT 1 ELSE"
                   " COPY 1 0 CONST INT 1 - INT CALL factorial * INT ENDIF"),

@@ -5,8 +5,8 @@
 
 writes the table that the gate gives to `worked_regions`, its `stdin`, and what is wanted of it, its `stdout`.
 
-A region is a plain list with one entry a word: what lies there, or None where it is free. A hole is a greatest row of free
-words, and is looked for from the first word on each time.
+A region is a plain list with one entry a word: what lies there, or None where it is free. A hole is a greatest row of
+free words, and is looked for from the first word on each time.
 """
 import pathlib
 import random
@@ -154,8 +154,8 @@ class Sliding(Memory):
         return super().pack()
 
     def make_room(self, length):
-        """The block after the lowest hole slides down to the hole's front, again and again. Once more words slid than the
-        region has, all blocks move together."""
+        """The block after the lowest hole slides down to the hole's front, again and again. Once more words slid than
+        the region has, all blocks move together."""
         if self.slid > len(self.words):
             self.pack()
         while self.lowest_fit(length) is None:
@@ -312,14 +312,15 @@ TAKES = ["holes 10 4", "take 3", "take 4", "take 3", "take 1", "give 0 3", "give
 # What is left of a hole joins the next one.
 JOINS = ["holes 8 3", "take 4", "give 1 1", "take 2", "give 2 4", "take 7"]
 RESETS = ["holes 10 1", "reset 4", "take 6", "reset 10", "take 1", "reset 0", "take 10"]
-# The first of three blocks is freed and another fills its words and the last one; then no word is left, only a block of none.
+# The first of three blocks is freed and another fills its words and the last one; then no word is left, only a block of
+# none.
 FILLS = ["place 1 1 2 3", "place 2 4 5 6 7", "place 1 8 9", "free 0", "place 2 1 1 1 1", "words 1", "words 2", "words 3", "place 1 0", "place 1",
          "words 4", "free 2", "free 4", "pack", "words 1", "words 3"]
 # Of ten blocks of seven words every other is freed, and one block takes the words of all five.
 WIDENS = [*(f"place {number}{7 * f' {number}'}" for number in range(10)), *(f"free {number}" for number in range(0, 10, 2)),
           f"place 10{35 * ' -1'}", *(f"words {number}" for number in [10, 1, 3, 5, 7, 9])]
-# Three times two blocks of a word slide for one of two, which are six words in a region of four. For the next block all others move, and
-# for the one after it one slides again.
+# Three times two blocks of a word slide for one of two, which are six words in a region of four. For the next block all
+# others move, and for the one after it one slides again.
 SLIDES = ["place 1 0", "place 1 1", "place 1 2", "free 0", "place 1 3 3", "free 1", "free 3", "place 1 4", "place 1 5", "free 4", "place 1 6 6",
           "free 2", "free 6", "place 1 7", "place 1 8", "free 7", "place 1 9 9", "free 9", "place 1 10", "place 1 11", "free 5", "free 10",
           "place 1 12 12", "free 12", "place 1 13", "place 1 14", "free 8", "free 13", "place 1 15 15", "words 11", "words 14"]

@@ -1,7 +1,7 @@
 """A job of the whole language that runs alone: how it ends, and what it used.
 
-Each entry of the stack has a tag, which its copies share, and a call is the list of what it has still to do: no block of words
-is shared or moved here, and no place in the code is kept.
+Each entry of the stack has a tag, which its copies share, and a call is the list of what it has still to do: no block
+of words is shared or moved here, and no place in the code is kept.
 """
 from dataclasses import dataclass, field
 
