@@ -96,11 +96,12 @@ def as_another_user() -> int:
         (Path(room) / "bin").mkdir()
         for name in PROGRAMS:
             shutil.copy(programs_folder() / name, Path(room) / "bin")
+        for path in Path(room).rglob("*"):
+            path.chmod(0o755 if path.is_dir() or os.access(path, os.X_OK) else 0o644)
         os.chown(room, nobody.pw_uid, nobody.pw_gid)
-        who = {"user": nobody.pw_uid, "group": nobody.pw_gid, "extra_groups": [], "cwd": room, "check": False}
+        who = {"user": nobody.pw_uid, "group": nobody.pw_gid, "extra_groups": [], "cwd": room}
         words = [python_for(who), "-B", f"{room}/tests/cluster/run.py", *sys.argv[1:]]
         env = {**os.environ, "VJOBS_PROGRAMS": f"{room}/bin", "HOME": room, "TMPDIR": room, MARK: room}
-        del who["check"]
         child = subprocess.Popen(words, env=env, **who)
         try:
             return child.wait(SECONDS + MORE_SECONDS)
@@ -122,7 +123,7 @@ def python_for(who: dict) -> str:
     for folder in [os.path.dirname(sys.executable), *os.get_exec_path()]:
         python = os.path.join(folder, "python3")
         try:
-            if not subprocess.run([python, "-c", ""], stderr=subprocess.DEVNULL, **who).returncode:
+            if not subprocess.run([python, "-c", ""], stderr=subprocess.DEVNULL, check=False, **who).returncode:
                 return python
         except OSError:
             pass
@@ -419,10 +420,10 @@ def too_long(*_: object) -> None:
 
 
 def main() -> int:
+    signal.signal(signal.SIGTERM, lambda *_: sys.exit(143))
     install(PACKAGES, COMMANDS)
     if os.geteuid() == 0:
         return as_another_user()
-    signal.signal(signal.SIGTERM, lambda *_: sys.exit(143))
     signal.signal(signal.SIGALRM, too_long)
     signal.alarm(SECONDS)
     return tests()
