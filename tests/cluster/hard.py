@@ -3,7 +3,7 @@
 
 For root alone. The hosts are network namespaces on this machine: nodes of Slurm, and hosts with sshd. The programs are
 those of the folder that VJOBS_PROGRAMS names, or of bin. A name chooses a row of the table. It isn't a part of the gate.
-VJOBS_FILES=N takes N files, and VJOBS_SLOWER=N lets everything take N times as long."""
+VJOBS_FILES=N takes N files."""
 from __future__ import annotations
 
 import os
@@ -18,12 +18,12 @@ from pathlib import Path
 sys.dont_write_bytecode = True
 
 from run import COMMANDS, PACKAGES, install, programs_folder, skip  # noqa: E402
-from trial import OWN_SLURM, Counts, OwnSlurm, Trial, batch_of, kill, slow_on, trying_on, wait_until  # noqa: E402
+from trial import MARK, OWN_SLURM, Counts, OwnSlurm, Trial, batch_of  # noqa: E402
+from trial import end_all, kill, slow_on, trying_on, wait_until  # noqa: E402
 
 HOSTS, FILES = 3, int(os.environ.get("VJOBS_FILES", "1000"))
 SLOW = FILES // 16
 NET, PREFIX = "10.77.0", "vjc"
-SECONDS = 1500
 SSHD = """Port 2222
 HostKey {folder}/host
 AuthorizedKeysFile {folder}/user.pub
@@ -135,7 +135,7 @@ class Hard:
         self.begin = lambda: self.trial.begin(name, *options, env=env)
         self.process = self.begin()
         what = fault(run_folder)
-        self.trial.end(self.process, name, 1, SECONDS)
+        self.trial.end(self.process, name, 1)
         seconds = time.monotonic() - begun_at
         self.trial.compare(name)
         rounds = len([it for it in (run_folder / "rounds").iterdir() if it.name.isdigit()])
@@ -153,7 +153,7 @@ class Hard:
 
     def in_the_middle(self, run_folder: Path, node: str, fault: Callable[[], object]) -> str:
         """Does something when a node has begun a batch, and checks that the batch wasn't published before."""
-        attempt = wait_until(lambda: self.begun(run_folder, node), 60)
+        attempt = wait_until(lambda: self.begun(run_folder, node))
         fault()
         self.counts.check(f"{run_folder.name}: in the middle of a batch", attempt in trying_on(run_folder, node), attempt)
         self.trial.freezer.thaw()
@@ -167,13 +167,13 @@ class Hard:
     def cut_and_mend(self, run_folder: Path, node: str, number: int) -> str:
         """Cuts a cable in the middle of a batch, and mends it when the next round has begun."""
         what = self.in_the_middle(run_folder, node, lambda: self.nets.cable(number, "down"))
-        wait_until(lambda: (run_folder / "rounds" / "2").exists(), 120)
+        wait_until(lambda: (run_folder / "rounds" / "2").exists())
         self.nets.cable(number, "up")
         return what
 
     def controller(self, run_folder: Path) -> str:
         """The controller dies when some batches are done, and is started again after 15 seconds."""
-        wait_until(lambda: self.done(run_folder) >= 20, 60)
+        wait_until(lambda: self.done(run_folder) >= 20)
         self.slurm.kill_daemon("slurmctld")
         done = self.done(run_folder)
         time.sleep(15)
@@ -189,7 +189,7 @@ class Hard:
         """The tool is killed twice in the middle, and started again."""
         found = []
         for more in (10, 40):
-            wait_until(lambda: self.done(run_folder) >= more, 60)
+            wait_until(lambda: self.done(run_folder) >= more)
             self.process.kill()
             self.process.communicate()
             found.append(str(self.done(run_folder)))
@@ -250,17 +250,21 @@ def main() -> int:
     install([*PACKAGES, "openssh-server", "iproute2"], [*COMMANDS, "sshd", "ip"])
     signal.signal(signal.SIGTERM, lambda *_: sys.exit(143))
     counts = Counts()
-    with tempfile.TemporaryDirectory(prefix="vjobs-cluster-") as room, Nets() as nets:
+    with tempfile.TemporaryDirectory(prefix="vjobs-cluster-") as room:
         root = Path(room)
+        os.environ[MARK] = room
         root.chmod(0o755)  # munged wants that every user can enter.
         (root / "slurm").mkdir()
-        hard = Hard(Trial(root, programs_folder(), counts, FILES, SLOW), nets)
-        counts.step(f"{FILES} files, and what vjobs prints for each alone")
-        try:
-            hard.all(sys.argv[1:])
-        finally:
-            hard.trial.stop()
-        print("\nengine    fault                              seconds  rounds   results   ends", *hard.table, sep="\n")
+        with Nets() as nets:
+            hard = Hard(Trial(root, programs_folder(), counts, FILES, SLOW), nets)
+            counts.step(f"{FILES} files, and what vjobs prints for each alone; a limit of {hard.trial.seconds} s")
+            try:
+                hard.all(sys.argv[1:])
+            finally:
+                hard.trial.stop()
+        left = end_all(room)
+        counts.check("nothing that was begun goes on", not left, left)
+    print("\nengine    fault                              seconds  rounds   results   ends", *hard.table, sep="\n")
     return counts.end()
 
 

@@ -1,6 +1,6 @@
 """Job files of strangers, hostile ones among them: python3 strangers.py FOLDER COUNT writes them.
 
-Each file has the end that vjobs-spread has to give it under the limits of this page. The order is mixed, and always the
+Each file has the end that vjobs-spread has to give it under the limits of this file. The order is mixed, and always the
 same for the same count."""
 from __future__ import annotations
 
@@ -10,10 +10,8 @@ import sys
 from dataclasses import dataclass
 from pathlib import Path
 
-# On a machine that is much slower, or busy, how many times as long everything may take.
-SLOWER = int(os.environ.get("VJOBS_SLOWER", "1"))
-# The limits that the ends are for.
-SECONDS, MEMORY, OUTPUT = 6 * SLOWER, 50_000_000, 5_000_000
+# The limits that the ends are for. No job but those that run for days takes more than a second of a processor.
+MEMORY, OUTPUT = 50_000_000, 5_000_000
 ANSWERED, LEFT_OUT, TIME, MEMORY_END, OUTPUT_END = "ANSWERED", "LEFT_OUT", "TIME", "MEMORY", "OUTPUT"
 # How many ordinary files differ; the others are copies.
 DIFFERENT = 120
@@ -73,6 +71,7 @@ def hostile() -> list[Stranger]:
         (ONE.replace("END\n", ""), LEFT_OUT),
         (ONE.replace("JOB job", "JOB ../../owned"), ANSWERED),
         (ONE.replace("JOB job", "JOB END"), ANSWERED),
+        (ONE.replace("JOB job", "JOB LOST"), ANSWERED),
         (ONE.replace("1000 64", "-1 64"), LEFT_OUT),
         ("", LEFT_OUT),
         ("\n\n  \n", LEFT_OUT),
@@ -111,6 +110,7 @@ NAMES = [
     b"long" * 60,
     "Grüße \u202e".encode(),
     b"batch-1.manifest",
+    b"LOST",
     b"*",
 ]
 

@@ -1,4 +1,4 @@
-"""What the tests of vjobs-spread share: counts, a run of the tool and its checks, a Slurm of one's own, and its faults."""
+"""What the tests of vjobs-spread share: counts, a run of the tool and its checks, a Slurm of one's own, its faults."""
 from __future__ import annotations
 
 import json
@@ -13,11 +13,19 @@ from dataclasses import dataclass
 from pathlib import Path
 
 import strangers
-from strangers import ANSWERED, SLOWER
+from strangers import ANSWERED
 
 TOP = Path(__file__).resolve().parent.parent.parent
 TOOL, OWN_SLURM = TOP / "tools" / "vjobs-spread", TOP / "tools" / "own-slurm"
-LIMITS = ["--time", str(strangers.SECONDS), "--memory", str(strangers.MEMORY), "--output", str(strangers.OUTPUT)]
+LIMITS = ["--memory", str(strangers.MEMORY), "--output", str(strangers.OUTPUT)]
+# How long a state or the end of a run is waited for, in seconds. Only what doesn't come at all takes so long.
+WAIT, WAIT_FOR_RUN = 300, 1500
+# The limit of time is so many times what the slowest job takes alone, within these bounds in seconds.
+TIMES, LEAST_TIME, MOST_TIME = 15, 8, 40
+# How long something that is told to end may take, in seconds.
+SECONDS_TO_END = 30
+# Names the folder of the tests in the environment of everything that they start.
+MARK = "VJOBS_CLUSTER_TEST"
 sys.path.insert(0, str(TOP / "tools"))
 
 from spread.folder import shown  # noqa: E402
@@ -47,9 +55,9 @@ class Counts:
         return 1 if self.failed else 0
 
 
-def wait_until(what, seconds: float):
+def wait_until(what, seconds: float = WAIT):
     """What a function returns as soon as it is something, or what it returns at the end."""
-    until = time.monotonic() + SLOWER * seconds
+    until = time.monotonic() + seconds
     while True:
         found = what()
         if found or time.monotonic() > until:
@@ -89,16 +97,23 @@ class Trial:
         self.found = strangers.strangers(count, slow)
         self.paths = strangers.write(root / "strangers", self.found)
         self.list = b"".join(path + b"\0" for path in self.paths)
-        first = {it.content: path for it, path in zip(self.found, self.paths) if it.end == ANSWERED}
-        alike = {content: self._alone(path) for content, path in first.items()}
+        alike, slowest = {}, 0.0
+        for content in {it.content for it in self.found if it.end == ANSWERED}:
+            begun_at = time.monotonic()
+            alike[content] = self._alone(content)
+            slowest = max(slowest, time.monotonic() - begun_at)
+        self.seconds = int(min(MOST_TIME, max(LEAST_TIME, TIMES * slowest)))
         self.wanted = [Wanted(it.end, *alike[it.content]) if it.end == ANSWERED else Wanted(it.end) for it in self.found]
         self.begun: list[subprocess.Popen] = []
         self.freezer = Freezer()
         self.before = self._tree()
 
-    def _alone(self, path: bytes) -> tuple[int, bytes]:
-        """How vjobs exits for a file alone, and what it prints."""
-        ran = subprocess.run([self.programs / "vjobs", "--workers", "1", path], capture_output=True, check=False)
+    def _alone(self, content: bytes) -> tuple[int, bytes]:
+        """How vjobs exits for a file alone, and what it prints. The file's own name doesn't matter, nor may it."""
+        alone = self.root / "alone"
+        alone.write_bytes(content)
+        ran = subprocess.run([self.programs / "vjobs", "--workers", "1", alone], capture_output=True, check=False)
+        alone.unlink()
         return ran.returncode, ran.stdout
 
     def _tree(self) -> dict[bytes, tuple]:
@@ -107,7 +122,7 @@ class Trial:
     def begin(self, name: str, *options: str, env: dict | None = None, programs: Path | None = None) -> subprocess.Popen:
         """Starts the tool on all files."""
         words = [sys.executable, TOOL, "--run", self.root / "runs" / name, "--programs", programs or self.programs]
-        words += ["--batch", "8", *LIMITS, *options, "--files-from", "-"]
+        words += ["--batch", "8", "--time", str(self.seconds), *LIMITS, *options, "--files-from", "-"]
         process = subprocess.Popen(
             list(map(os.fspath, words)),
             cwd=self.root / "cwd",
@@ -129,14 +144,14 @@ class Trial:
             if process.poll() is None:
                 process.terminate()
                 try:
-                    process.communicate(timeout=20)
+                    process.communicate(timeout=SECONDS_TO_END)
                 except subprocess.TimeoutExpired:
                     process.kill()
 
-    def end(self, process: subprocess.Popen, name: str, wanted: int, seconds: float) -> str:
+    def end(self, process: subprocess.Popen, name: str, wanted: int) -> str:
         """Waits for the tool, and checks how it exits. Returns what it wrote to standard error."""
         try:
-            said, errors = process.communicate(timeout=SLOWER * seconds)
+            said, errors = process.communicate(timeout=WAIT_FOR_RUN)
         except subprocess.TimeoutExpired:
             process.kill()
             said, errors = process.communicate()
@@ -154,8 +169,11 @@ class Trial:
         if not (run / "table.tsv").exists():
             counts.check(f"{name}: there is a table", False)
             return
-        lines = (run / "table.tsv").read_text("utf-8").splitlines()[1:]
+        text = (run / "table.tsv").read_text("utf-8")
+        lines = text.splitlines()[1:]
         counts.check(f"{name}: a line for each file", len(lines) == len(self.found), len(lines))
+        is_plain = text.replace("\n", "").replace("\t", "").isprintable()
+        counts.check(f"{name}: nothing in the table acts on a terminal", is_plain)
         reports = set()
         for it, path, wanted, line in zip(self.found, self.paths, self.wanted, lines):
             cells = line.split("\t")
@@ -214,7 +232,8 @@ class OwnSlurm:
 
     def __init__(self, folder: Path, *options: str):
         self.folder = folder
-        subprocess.run([sys.executable, OWN_SLURM, "start", folder, *options], check=True, stdout=subprocess.DEVNULL)
+        words = [sys.executable, OWN_SLURM, "start", folder, *options]
+        subprocess.run(list(map(str, words)), check=True, stdout=subprocess.DEVNULL)
         self.env = {"SLURM_CONF": f"{folder}/slurm.conf"}
 
     def processes(self, node: str = "") -> list[int]:
@@ -259,6 +278,29 @@ class OwnSlurm:
         subprocess.run([sys.executable, OWN_SLURM, "stop", self.folder], check=True)
         for pid in left + [pid for pid in steps if b"slurmstepd" in command_of(pid)]:
             kill(pid)
+
+
+def started_below(folder: Path | str) -> list[int]:
+    """The processes that tests in a folder started, by the mark in their environment."""
+    found, mark = [], os.fsencode(f"{MARK}={folder}")
+    for process in Path("/proc").glob("[0-9]*"):
+        try:
+            words = (process / "environ").read_bytes().split(b"\0")
+        except OSError:
+            continue
+        if any(word.startswith(mark) for word in words) and state_of(int(process.name)) != "Z":
+            found.append(int(process.name))
+    return found
+
+
+def end_all(folder: Path | str) -> list[bytes]:
+    """Kills what tests in a folder started and what goes on though it was told to end. Returns its command lines."""
+    wait_until(lambda: not started_below(folder), SECONDS_TO_END)
+    left = started_below(folder)
+    said = [command_of(pid) for pid in left]
+    for pid in left:
+        kill(pid)
+    return said
 
 
 def kill(pid: int) -> None:

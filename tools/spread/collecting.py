@@ -46,8 +46,11 @@ class Published:
 
     def errors(self) -> bytes:
         """What vjobs wrote to standard error."""
-        with open(self.folder / "errors", "rb") as file:
-            return file.read(TAIL)
+        try:
+            with open(self.folder / "errors", "rb") as file:
+                return file.read(TAIL)
+        except FileNotFoundError:
+            return b""
 
     def ending(self, end: str) -> Ending:
         """An end by this attempt."""
@@ -69,11 +72,19 @@ def last_line(path: Path) -> bytes:
         return file.read().removesuffix(b"\n").rpartition(b"\n")[2] + b"\n"
 
 
+def is_whole(report: Path, jobs: int) -> bool:
+    """Whether a report is there to its last line, as one of so many jobs. One that a crash of its machine cut isn't."""
+    try:
+        found = re.fullmatch(rb"END (\d+) jobs \d+ refused\n", last_line(report))
+    except FileNotFoundError:
+        return False
+    return found is not None and int(found[1]) == jobs
+
+
 def end_of(it: Published, jobs: int, settings: Settings) -> str:
     """The end that an attempt gives the jobs of its batch, or nothing if it says nothing about them."""
     if it.exit in (0, 1):
-        is_whole = re.fullmatch(rb"END (\d+) jobs \d+ refused\n", last_line(it.report))
-        return ANSWERED if is_whole and int(is_whole[1]) == jobs else ""
+        return ANSWERED if is_whole(it.report, jobs) else ""
     if it.exit == 2:
         raise Stopped(f"vjobs refused a batch, so the packing was wrong: what it wrote is kept in {it.folder}")
     # 124 is from timeout; 137 is too, if the process didn't end at the first signal.
@@ -103,7 +114,7 @@ class Collector:
     def ending(self, it: Published, manifest: Path, files: list[int]) -> str:
         """The end of a batch, with the reports of its files if they are answered."""
         end = end_of(it, len(files), self.settings)
-        if end == ANSWERED and not all(self.folder.report(number).exists() for number in files):
+        if end == ANSWERED and not all(is_whole(self.folder.report(number), 1) for number in files):
             end = ANSWERED if self._cut(it, manifest, files) else ""
         return end
 
@@ -120,6 +131,6 @@ class Collector:
         if ran.returncode:
             raise Stopped(f"vjobs-split ended with {ran.returncode}: {ran.stderr.decode(errors='replace').strip()}")
         for number in files:
-            if not self.folder.report(number).exists():
+            if not is_whole(self.folder.report(number), 1):
                 (room / f"{number:06}.report").rename(self.folder.report(number))
         return True

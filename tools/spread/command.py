@@ -3,9 +3,11 @@ from __future__ import annotations
 
 import argparse
 import os
+import re
 import shutil
 import signal
 import sys
+import traceback
 from pathlib import Path
 
 from .collecting import ANSWERED, Collector
@@ -20,6 +22,10 @@ from .table import summary, write_table
 ALL_ANSWERED, SOME_NOT, REFUSED, STOPPED = 0, 1, 2, 3
 MOST_BATCH = 64
 PROGRAMS = ("vjobs", "vjobs-pack", "vjobs-split")
+SIGNALS = (signal.SIGINT, signal.SIGTERM, signal.SIGHUP)
+# Options of sbatch by which this tool finds its tasks again, and without which they don't run.
+OWN_WORDS = "job-name|array|chdir|parsable|wait|wrap|test-only|help|usage|version"
+OWN_OPTIONS = re.compile(rf"(-[JaDW]|--({OWN_WORDS})(?![a-z-])).*", re.S)
 
 
 def at_least(least: int, most: int = 10**15):
@@ -149,6 +155,9 @@ def check(asked: argparse.Namespace) -> None:
         raise Refused("--hosts belongs to --engine parallel")
     if asked.slurm_option and asked.engine != "slurm":
         raise Refused("--slurm-option belongs to --engine slurm")
+    for option in asked.slurm_option:
+        if not re.match("--?[A-Za-z]", option) or OWN_OPTIONS.fullmatch(option):
+            raise Refused(f"--slurm-option: {option!r} can't be handed on to sbatch")
 
 
 def work(run: Run, asked: argparse.Namespace) -> int:
@@ -158,7 +167,7 @@ def work(run: Run, asked: argparse.Namespace) -> int:
     try:
         run.all_rounds(engine, asked.lane)
         status = ALL_ANSWERED if all(it.end == ANSWERED for it in run.endings.values()) else SOME_NOT
-    except Stopped as error:
+    except (Stopped, OSError) as error:
         run.progress.end()
         print_stopped(error)
     finally:
@@ -171,9 +180,10 @@ def work(run: Run, asked: argparse.Namespace) -> int:
     return status
 
 
-def interrupted(number: int, _frame: object) -> None:
-    """Ends the run at a signal, and what it began."""
-    signal.signal(number, signal.SIG_IGN)
+def interrupted(_number: int, _frame: object) -> None:
+    """Ends the run at a signal, and what it began. No second signal disturbs that."""
+    for number in SIGNALS:
+        signal.signal(number, signal.SIG_IGN)
     raise Stopped("interrupted; started again with the same command it goes on")
 
 
@@ -186,7 +196,7 @@ def main() -> int:
         settings = Settings(asked.time, asked.memory, asked.output, asked.batch)
         folder = Folder(asked.run.resolve())
         folder.open(settings, files, found["vjobs"])
-        for number in (signal.SIGINT, signal.SIGTERM, signal.SIGHUP):
+        for number in SIGNALS:
             signal.signal(number, interrupted)
         packer = Packer(folder, settings, found["vjobs-pack"])
         collector = Collector(folder, settings, found["vjobs-split"])
@@ -199,4 +209,7 @@ def main() -> int:
         return STOPPED
     except OSError as error:
         print(f"vjobs-spread: {error}", file=sys.stderr)
+        return STOPPED
+    except Exception:  # A fault of this tool. Exit 1 would be an answer.
+        traceback.print_exc()
         return STOPPED

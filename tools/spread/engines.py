@@ -130,6 +130,7 @@ class Parallel:
         self.asked = hosts_of(hosts, slots)
         self.hosts = dict.fromkeys(self.asked, slots or processors()) if list(self.asked) == [HERE] else {}
         self.running: dict[int, subprocess.Popen] = {}
+        self.is_looked_at = False
         self.home = folder.path / "parallel"
         self.home.mkdir(exist_ok=True)
 
@@ -138,7 +139,8 @@ class Parallel:
         return sum(self.hosts.values())
 
     def _look(self) -> None:
-        """Asks each host for its processors. Those that don't answer are left out."""
+        """Asks each host for its processors. Those that don't answer are left out until they are asked again."""
+        self.is_looked_at = True
         words = {host: [*SSH, host, "nproc"] if host != HERE else ["nproc"] for host in self.asked}
         asked = {host: subprocess.Popen(it, stdin=subprocess.DEVNULL, **QUIET) for host, it in words.items()}
         self.hosts = {}
@@ -156,6 +158,9 @@ class Parallel:
             raise Stopped("no host answers")
 
     def send(self, sending: Sending) -> None:
+        if not self.is_looked_at:
+            self._look()
+        self.is_looked_at = False
         lanes = self.home / f"lanes-{sending.number}"
         lanes.write_bytes(b"".join(b"%d\0" % lane for lane in sending.numbers()))
         words = ["parallel", "--plain", "--will-cite", "--quote", "--null", "--halt", "never"]

@@ -86,8 +86,10 @@ class Folder:
     def open(self, settings: Settings, files: list[bytes], vjobs: Path) -> None:
         """Begins a run, or goes on with it if the folder has the same one."""
         self.path.mkdir(mode=0o700, parents=True, exist_ok=True)
-        self._hold()
         kept = self.path / "settings.json"
+        if not kept.exists() and not set(os.listdir(self.path)) <= {*OWN, kept.name}:
+            raise Refused("the folder of a new run has to be empty")
+        self._hold()
         if kept.exists():
             self._go_on(settings, files, json.loads(kept.read_text("utf-8")))
         else:
@@ -98,7 +100,7 @@ class Folder:
         self._lock = os.open(self.path / "lock", os.O_RDWR | os.O_CREAT | os.O_CLOEXEC, 0o600)
         try:
             fcntl.flock(self._lock, fcntl.LOCK_EX | fcntl.LOCK_NB)
-        except OSError as error:
+        except BlockingIOError as error:
             raise Refused(f"another vjobs-spread works in {shown(os.fsencode(self.path))}") from error
 
     def _go_on(self, settings: Settings, files: list[bytes], kept: dict) -> None:
@@ -112,9 +114,6 @@ class Folder:
         self.token = kept["token"]
 
     def _begin(self, settings: Settings, files: list[bytes], vjobs: Path, kept: Path) -> None:
-        others = [name for name in os.listdir(self.path) if name not in OWN]
-        if others:
-            raise Refused("the folder of a new run has to be empty")
         for name in ("in", "rounds", "reports", "cut"):
             (self.path / name).mkdir(exist_ok=True)
         shutil.copy(TASK, self.path / "task.py")

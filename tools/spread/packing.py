@@ -1,6 +1,7 @@
 """Files become batches: copies of them by number, and vjobs-pack over these. No name of a stranger gets further."""
 from __future__ import annotations
 
+import errno
 import json
 import os
 import re
@@ -8,6 +9,7 @@ import resource
 import shutil
 import stat
 import subprocess
+import time
 from concurrent.futures import ThreadPoolExecutor
 from dataclasses import dataclass
 from pathlib import Path
@@ -19,6 +21,8 @@ from .task import SECONDS_TO_KILL, allowed
 # What vjobs-pack takes of a file. One byte more shows that it is too large.
 MOST_BYTES = 16_777_216
 LEFT_OUT_FILE = "left-out.json"
+# Faults of this process and its machine, for which no file can do anything.
+OWN_FAULTS = (errno.EMFILE, errno.ENFILE, errno.ENOMEM)
 
 
 @dataclass(frozen=True)
@@ -31,19 +35,19 @@ class LeftOut:
 
 
 def copy_regular(name: bytes, target: Path) -> str:
-    """Copies a file if it is a regular one. Returns why not, or nothing."""
+    """Copies a file if it is a regular one. Returns why not, or nothing. An OSError is a fault of this machine."""
     try:
         source = os.open(name, os.O_RDONLY | os.O_NONBLOCK | os.O_CLOEXEC | os.O_NOCTTY)
-    except (OSError, ValueError) as error:
-        return getattr(error, "strerror", None) or "no name of a file"
-    if not stat.S_ISREG(os.fstat(source).st_mode):
-        os.close(source)
-        return "not a regular file"
-    with open(source, "rb") as file:
-        try:
-            target.write_bytes(file.read(MOST_BYTES + 1))
-        except OSError as error:
-            return error.strerror or "not readable"
+        if not stat.S_ISREG(os.fstat(source).st_mode):
+            os.close(source)
+            return "not a regular file"
+        with open(source, "rb") as file:
+            content = file.read(MOST_BYTES + 1)
+    except OSError as error:
+        if error.errno in OWN_FAULTS:
+            raise
+        return error.strerror or "not readable"
+    target.write_bytes(content)
     return ""
 
 
@@ -92,7 +96,9 @@ class Packer:
         words += ["--foreground", f"--kill-after={SECONDS_TO_KILL}", str(self.settings.time), str(self.pack)]
         words += ["--out", os.path.relpath(part, self.folder.inputs), "--files-from", "-"]
         names = b"".join(b"%06d\0" % number for number in numbers)
+        begun_at = time.monotonic()
         ran = subprocess.run(words, cwd=self.folder.inputs, input=names, capture_output=True, check=False)
+        is_late = time.monotonic() - begun_at >= self.settings.time
         if ran.returncode in (0, 1):
             in_batch = {number for batch in batches_of(part).values() for number in batch}
             reasons = reasons_of(ran.stderr)
@@ -101,10 +107,11 @@ class Packer:
             return True
         if len(numbers) > 1:
             return False
-        if ran.returncode in (124, 137):
+        if ran.returncode == 124 or ran.returncode == 137 and is_late:
             left_out[numbers[0]] = LeftOut("TIME", 1, "checking it takes too long")
             return True
-        if b"out of memory" in ran.stderr or ran.returncode < 0:
+        # 137 before its time: the system killed it, which has less memory than the limit.
+        if b"out of memory" in ran.stderr or ran.returncode == 137:
             left_out[numbers[0]] = LeftOut("MEMORY", 1, "checking it takes too much memory")
             return True
         raise Stopped(f"vjobs-pack ended with {ran.returncode}: {ran.stderr.decode(errors='replace').strip()}")

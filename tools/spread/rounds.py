@@ -11,7 +11,7 @@ from statistics import median
 
 from .collecting import ANSWERED, LOST, Collector, Ending, exit_of, published_in
 from .engines import Engine, Sending
-from .folder import Folder, Settings, Stopped, write_whole
+from .folder import Folder, Settings, Stopped, shown, write_whole
 from .packing import Packer, add_witness, batches_in, left_out_in
 from .progress import Progress
 
@@ -32,6 +32,7 @@ class Round:
         self.taken: set[str] = set()
         self.seconds: list[float] = []
         self.useful = 0
+        self.failure = ""
         self.lanes: dict[int, list[str]] = {}
 
     def done(self) -> list[str]:
@@ -130,14 +131,18 @@ class Run:
         group, _, number = batch.rpartition("-")
         manifest = round_.path / "packed" / group / f"batch-{number}.manifest"
         end = self.collector.ending(it, manifest, files)
-        round_.useful += bool(end)
+        # The witness has no files. It says something only if it is answered.
+        round_.useful += end == ANSWERED or bool(end and files)
+        if not end:
+            round_.failure = f"vjobs ended with {it.exit} on {it.node}: " + shown(it.errors().strip())
         if end == ANSWERED:
             # An answer that comes late takes the place of a reason why there was none.
             for file in files:
                 if file not in self.endings or self.endings[file].end != ANSWERED:
                     self.endings[file] = replace(it.ending(ANSWERED), exit=exit_of(self.folder.report(file)))
         elif end and round_.number > 1:
-            self.endings.setdefault(files[0], it.ending(end))
+            for file in files:
+                self.endings.setdefault(file, it.ending(end))
 
 
 class Sender:
@@ -166,7 +171,7 @@ class Sender:
     def _why(self) -> str:
         errors = self.round.path / "errors"
         task = "\n".join(errors.read_text("utf-8", "replace").splitlines()[-5:]) if errors.exists() else ""
-        said = [text for text in (self.engine.said(), task) if text]
+        said = [text for text in (self.engine.said(), task, self.round.failure) if text]
         return ": " + "\n".join(said) if said else ""
 
     # ---- what an earlier process sent
@@ -291,6 +296,6 @@ class Sender:
         self.run_.progress.show(self.run_.endings, running)
 
 
-def print_stopped(error: Stopped) -> None:
+def print_stopped(error: Exception) -> None:
     """Says why a run can't go on."""
     print(f"vjobs-spread: {error}", file=sys.stderr)

@@ -17,6 +17,7 @@ LOOK_EVERY, PATIENCE = 2.0, 300.0
 # The states of a job that will still do something.
 ALIVE = "PENDING,RUNNING,SUSPENDED,CONFIGURING"
 QUEUE = ["squeue", "--noheader", "--me", f"--states={ALIVE}", "--format=%j"]
+TEXT = {"text": True, "errors": "replace", "check": False}
 # What Slurm's commands say if its controller can't be reached; it may be started again.
 UNREACHED = re.compile(r"Unable to contact|Connection refused|timed out|Socket|controller|Zero Bytes", re.I)
 
@@ -35,7 +36,7 @@ class Slurm:
 
     def _run(self, words: list[str]) -> subprocess.CompletedProcess:
         try:
-            ran = subprocess.run(words, stdin=subprocess.DEVNULL, capture_output=True, text=True, timeout=120, check=False)
+            ran = subprocess.run(words, stdin=subprocess.DEVNULL, capture_output=True, timeout=120, **TEXT)
         except FileNotFoundError as error:
             raise Stopped(f"there is no {words[0]} here") from error
         except subprocess.TimeoutExpired:
