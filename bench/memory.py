@@ -14,6 +14,7 @@ import subprocess
 import tempfile
 
 TOP = pathlib.Path(__file__).resolve().parent.parent
+PROGRAM = str(TOP / "bin" / "vjobs")
 # The words of the region, the live blocks, the words of the longest and the operations, as in crates/bench_memory.
 SHORT = (2_048, 64, 48, 2_000)
 LONG = (1_048_576, 4_096, 495, 200_000)
@@ -152,9 +153,9 @@ def job(results, code):
     return "".join(f"{line}\n" for line in lines).encode()
 
 
-def most_megabytes(batch, workers, *limited):
+def most_megabytes(batch, workers, *limited, program=PROGRAM):
     """The most memory of a run. A small program starts it, since a process begins with the most of what started it."""
-    words = ["time", "-f", "%M", *limited, str(TOP / "bin" / "vjobs"), "--workers", str(workers), "-"]
+    words = ["time", "-f", "%M", *limited, program, "--workers", str(workers), "-"]
     run = subprocess.run(words, input=batch, check=True, stdout=subprocess.DEVNULL, stderr=subprocess.PIPE)
     return int(run.stderr) * 1024 / 1_000_000
 

@@ -1,15 +1,17 @@
 #!/usr/bin/env python3
 """Times batches by workers, beside the calling thread alone: by bin/vjobs.
 
-    python3 bench/workers.py [--rounds N] [--scale X] [--batches FOLDER] [--program PROGRAM]
+    python3 bench/workers.py [--rounds N] [--minutes M] [--workers N ..] [--scale X] [--batches FOLDER ..] [--own]
+                             [--program PROGRAM]
 
 Run it at the top of the repository, after `make`, on a machine with four free cores. The batches have equal jobs that
 repeat one instruction: each combination of instruction, length of the vectors and number of jobs. Or they are those of
-a folder: its files NAME.vcode, with the options in NAME.args where that file is. A run with the schedule `1` has no
-workers, and is the calling thread alone. In each round each batch is run by the calling thread and by each number of
-workers in turn, so that other work on the machine falls on all of them. Printed are the least wall seconds of the
-calling thread and its least processor seconds, and for each number of workers the ratio of its least times to these.
-All runs of a batch must print the same.
+folders: the files NAME.vcode, with the options in NAME.args where that file is; with --own, both. A run with the
+schedule `1` has no workers, and is the calling thread alone. In each round each batch is run by the calling thread and
+by each number of workers in turn, so that other work on the machine falls on all of them. After M minutes no further
+round begins. Printed are the least wall seconds of the calling thread and its least processor seconds, and for each
+number of workers the ratio of its least times to these; below them the greatest ratio of each number of workers, and
+the most memory of one job of 1,048,576 words that executes one RET. All runs of a batch must print the same.
 """
 import argparse
 import os
@@ -20,6 +22,7 @@ import time
 from dataclasses import dataclass, replace
 from pathlib import Path
 
+import memory
 import steps
 
 TOP = Path(__file__).resolve().parent.parent
@@ -75,42 +78,85 @@ def run(words):
         return wall, used.ru_utime + used.ru_stime, (report.read(), running.returncode)
 
 
-def measured(program, rounds, options, path):
-    """The times of the calling thread alone, and of each number of workers."""
-    ways = [["--schedule", "1"], *(["--workers", str(workers)] for workers in WORKERS)]
-    times, answers = [Times() for _ in ways], set()
-    for turn in range(rounds):
+class Measured:
+    """A batch, with its times by the calling thread alone and by each number of workers, and what its runs printed."""
+
+    def __init__(self, name, options, path, ways):
+        self.name, self.options, self.path = name, options, path
+        self.times, self.answers = [Times() for _ in ways], set()
+
+    def run_round(self, program, ways, turn):
+        """Runs the batch once in each way; the first of them is another one in each round."""
         for step in range(len(ways)):
             place = (step + turn) % len(ways)
-            wall, processor, answer = run([program, *options, *ways[place], path])
-            times[place].least(wall, processor)
-            answers.add(answer)
-    if len(answers) > 1:
-        sys.exit(f"the reports on {path} differ")
-    return times
+            wall, processor, answer = run([program, *self.options, *ways[place], self.path])
+            self.times[place].least(wall, processor)
+            self.answers.add(answer)
+        if len(self.answers) > 1:
+            sys.exit(f"the reports on {self.name} differ")
+
+    def ratios(self):
+        alone, *workers = self.times
+        return [(time.wall / alone.wall, time.processor / alone.processor) for time in workers]
+
+    def row(self):
+        cells = "".join(f"{wall:9.2f}{processor:6.2f}" for wall, processor in self.ratios())
+        return f"{self.name:22}{self.times[0].wall:8.3f}{self.times[0].processor:8.3f}{cells}"
 
 
-def row(name, times):
-    alone, *workers = times
-    cells = "".join(f"{time.wall / alone.wall:9.2f}{time.processor / alone.processor:6.2f}" for time in workers)
-    print(f"{name:22}{alone.wall:8.3f}{alone.processor:8.3f}{cells}", flush=True)
+def measure(batches, given, ways):
+    """Runs all batches in each round, and answers how many rounds there were."""
+    end = time.monotonic() + 60 * given.minutes
+    for turn in range(given.rounds):
+        if turn and time.monotonic() > end:
+            return turn
+        for batch in batches:
+            batch.run_round(given.program, ways, turn)
+    return given.rounds
+
+
+def print_table(batches, workers, rounds):
+    print(f"least of {rounds} rounds")
+    print(f"{'batch':22}{'wall':>8}{'cpu':>8}" + "".join(f"{f'wall {count}':>9}{'cpu':>6}" for count in workers))
+    for batch in batches:
+        print(batch.row())
+    for place, count in enumerate(workers):
+        greatest = max(batches, key=lambda batch: batch.ratios()[place])
+        print(f"greatest wall by {count} workers: {greatest.ratios()[place][0]:.2f}, {greatest.name}")
+
+
+def print_memory(program, workers):
+    most = (f"{memory.most_megabytes(memory.job(0, []), count, program=program):.1f} by {count}" for count in workers)
+    print(f"megabytes of one RET: {', '.join(most)} workers")
+
+
+def arguments():
+    parser = argparse.ArgumentParser()
+    parser.add_argument("--rounds", type=int, default=5)
+    parser.add_argument("--minutes", type=float, default=60)
+    parser.add_argument("--workers", type=int, nargs="+", default=WORKERS)
+    parser.add_argument("--scale", type=float, default=1)
+    parser.add_argument("--batches", nargs="+", default=[])
+    parser.add_argument("--own", action="store_true")
+    parser.add_argument("--program", default=str(TOP / "bin" / "vjobs"))
+    return parser.parse_args()
 
 
 def main():
-    parser = argparse.ArgumentParser()
-    parser.add_argument("--rounds", type=int, default=5)
-    parser.add_argument("--scale", type=float, default=1)
-    parser.add_argument("--batches")
-    parser.add_argument("--program", default=str(TOP / "bin" / "vjobs"))
-    given = parser.parse_args()
-    head = "".join(f"{f'wall {workers}':>9}{'cpu':>6}" for workers in WORKERS)
-    name = "batch" if given.batches else f"{'':8} {'length':>7} {'jobs':>5}"
-    print(f"{name:22}{'wall':>8}{'cpu':>8}{head}")
-    for name, options, text in batches_of(given.batches) if given.batches else own_batches(given.scale):
-        with tempfile.NamedTemporaryFile("w", encoding="latin1") as file:
-            file.write(text)
-            file.flush()
-            row(name, measured(given.program, given.rounds, options, file.name))
+    given = arguments()
+    ways = [["--schedule", "1"], *(["--workers", str(count)] for count in given.workers)]
+    found = [batch for folder in given.batches for batch in batches_of(folder)]
+    if given.own or not given.batches:
+        found += own_batches(given.scale)
+    with tempfile.TemporaryDirectory() as folder:
+        batches = []
+        for place, (name, options, text) in enumerate(found):
+            path = Path(folder) / f"{place}.vcode"
+            path.write_text(text, "latin1")
+            batches.append(Measured(name, options, path, ways))
+        rounds = measure(batches, given, ways)
+    print_table(batches, given.workers, rounds)
+    print_memory(given.program, given.workers)
 
 
 if __name__ == "__main__":

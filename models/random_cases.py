@@ -218,15 +218,24 @@ class Random:
         return flags
 
     def elements(self, word, kinds):
-        count = self.pick([0, 1, 2, 3, 6])
+        count = self.pick([0, 1, 2, 3, 6]) if self.chance(0.9) else self.pick([17, 127, 128, 129])
         if word == "MAKE_SEGDES":
             return [[self.pick([0, 1, 2, 5, 2**32 - 1, 2**32 - 2, 2**32, -1, GREATEST, 2**62]) for _ in range(count)]]
         operands = [self.vector(kind, count) for kind in kinds]
+        if word in ("LSHIFT", "RSHIFT") and operands[1] and self.chance(0.3):
+            operands[1] = self.nearly_alike(operands[1])
         if word in ("LSHIFT", "RSHIFT") and self.chance(0.8):
             operands[1] = [shift % 64 for shift in operands[1]]
         if word in ("/", "%") and self.chance(0.8):
             operands[1] = [divisor or 3 for divisor in operands[1]]
         return operands
+
+    def nearly_alike(self, vector):
+        """The first element at all places, at times but for one."""
+        alike = [vector[0]] * len(vector)
+        if self.chance(0.4):
+            alike[self.pick([-1, self.random.randrange(len(alike))])] = vector[-1]
+        return alike
 
     def large(self, s):
         """The descriptor, at times with a segment that is too long to be made."""

@@ -58,7 +58,9 @@ pub(crate) fn fill_pairs<S: PairStep>(left: &[i64], right: &[i64], out: &mut [i6
     fill_many_pairs::<S>(left, right, out);
 }
 
-/// The same for any number of elements.
+/// The same for any number of elements. It is a call of its own, as the other loops over many elements are, so that one
+/// element alone is tested for at once.
+#[inline(never)]
 fn fill_many_pairs<S: PairStep>(left: &[i64], right: &[i64], out: &mut [i64])
     requires same { length right.now ≡ length left.now }
     requires room { length out.old ≡ length left.now }
@@ -129,6 +131,7 @@ pub(crate) fn fill_each<S: ElementStep>(elements: &[i64], out: &mut [i64])
 }
 
 /// The same for any number of elements.
+#[inline(never)]
 fn fill_many<S: ElementStep>(elements: &[i64], out: &mut [i64])
     requires room { length out.old ≡ length elements.now }
     ensures { out.new ≡ map S.gives elements.now }
@@ -150,6 +153,7 @@ fn any<T: ElementTest>(elements: &[i64]) -> bool
 }
 
 /// The same for any number of elements. It goes over all of them, without leaving early.
+#[inline(never)]
 fn any_of_many<T: ElementTest>(elements: &[i64]) -> bool
     ensures { result ≡ list_any T.holds elements.now }
 {
