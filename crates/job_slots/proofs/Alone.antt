@@ -10,7 +10,7 @@ use Rattle.job_steps.specs.Reached.{IsVerifiedTask, Reaches, EachEnds}
 use Rattle.job_steps.specs.Runs.{state_after, outcome, peak_in}
 use Rattle.job_steps.specs.Standings.{held_by, held_in, left_words, executed_at, peak_at, outcome_at}
 use Rattle.job_steps.specs.States.{Vector, Task, StackEntry, held_words}
-use Rattle.job_steps.specs.Tracks.{Trace}
+use Rattle.job_steps.specs.Tracks.{TrackState}
 use Rattle.job_slots.specs.declared.status.Status.{Status}
 use Rattle.job_slots.specs.declared.status.Status.TheVariants.{Waiting, Live, InFlight, Ended, Collected}
 use Rattle.job_slots.specs.Holdings.{Cell, HoldStack}
@@ -19,7 +19,8 @@ use Rattle.job_slots.proofs.Holding.{AreTidy, held_is_stack, few_blocks, words_o
 use Rattle.job_slots.proofs.Endings.{few_results}
 
 -- what a status shows of a job alone
-pub record IsAlone (slots : List Slot) (task : Task) (t : Trace ℕ) (o : Option (Outcome (List Vector))) (s : Status)
+pub record IsAlone (slots : List Slot) (task : Task) (t : TrackState ℕ) (o : Option (Outcome (List Vector)))
+    (s : Status)
     : Type 0 where
   pub stands : StandsOnRun task (standing_by s t.executed)
   pub executed : t.executed ≡ executed_at task (standing_by s t.executed)
@@ -47,13 +48,13 @@ holds_stack slots ids stack tidy h = record {
 }
 
 -- a job that runs alone
-record RunsAlone (slots : List Slot) (task : Task) (t : Trace ℕ) : Type 0 where
+record RunsAlone (slots : List Slot) (task : Task) (t : TrackState ℕ) : Type 0 where
   budget : t.executed ≤ task.limits.budget
   peak_is : t.peak ≡ peak_in (state_after task t.executed)
   held : words_in slots ≡ held_in (state_after task t.executed)
   few : blocks_in slots ≤ task.limits.cells
 
-runs_alone : Reaches → (signatures : List Signature) (slots : List Slot) (task : Task) (t : Trace ℕ) →
+runs_alone : Reaches → (signatures : List Signature) (slots : List Slot) (task : Task) (t : TrackState ℕ) →
     IsVerifiedTask signatures task → AreTidy slots → IsRunningSlot slots task t → RunsAlone slots task t
 runs_alone reached signatures slots task t verified tidy run =
     let is = reached signatures task verified t.executed run.state run.running in
@@ -72,7 +73,7 @@ none_left task (Fault fault line) no_return = refl
 none_left task (Memory fault line) no_return = refl
 none_left task Budget no_return = refl
 
-alone_left : Reaches → EachEnds → (signatures : List Signature) (slots : List Slot) (task : Task) (t : Trace ℕ) →
+alone_left : Reaches → EachEnds → (signatures : List Signature) (slots : List Slot) (task : Task) (t : TrackState ℕ) →
     IsVerifiedTask signatures task → AreTidy slots → (o : Option (Outcome (List Vector))) → Leaves slots task t o →
     (words_in slots ≡ left_words task (outcome task)) × (blocks_in slots ≤ task.limits.cells)
 alone_left reached ends signatures slots task t verified tidy None left =
@@ -84,7 +85,7 @@ alone_left reached ends signatures slots task t verified tidy (Some ending) (is,
   omega (arith, blocks_of_none slots nothing.no_block),
 )
 
-pub alone : Reaches → EachEnds → (signatures : List Signature) (slots : List Slot) (task : Task) (t : Trace ℕ) →
+pub alone : Reaches → EachEnds → (signatures : List Signature) (slots : List Slot) (task : Task) (t : TrackState ℕ) →
     IsVerifiedTask signatures task → AreTidy slots → (o : Option (Outcome (List Vector))) (s : Status) →
     ShowsAs slots task t o s → IsAlone slots task t o s
 alone reached ends signatures slots task t verified tidy o Waiting shown = record {

@@ -15,7 +15,7 @@ use Rattle.job_steps.specs.States.{Task, Active, State}
 use Rattle.job_steps.specs.Steps.{Running, next_item, question_of, sources_of}
 use Rattle.job_steps.specs.StepLaws.{CanBegin, StepsCanBegin}
 use Rattle.job_steps.specs.Tickets.{question_by}
-use Rattle.job_steps.specs.Tracks.{Trace, functions_of}
+use Rattle.job_steps.specs.Tracks.{TrackState, functions_of}
 use Rattle.refcounts.specs.SharedState.{Slot}
 use Rattle.verifier.specs.Typed.{TypedProgram}
 use Rattle.job_slots.specs.Slots.{IsRunningSlot}
@@ -45,12 +45,13 @@ early_end_when task n s runs = ap (early_end_of task) runs
 -- ---- the next instruction
 
 -- a job that runs can begin its next step
-pub can_begin : StepsCanBegin ℕ → (slots : List Slot) (task : Task) (t : Trace ℕ) (run : IsRunningSlot slots task t) →
+pub can_begin : StepsCanBegin ℕ → (slots : List Slot) (task : Task) (t : TrackState ℕ)
+    (run : IsRunningSlot slots task t) →
     IsVerified task → CanBegin task t.executed run.state t
 can_begin law slots task t run verified = law verified.0 task verified.1 t.executed run.state t run.running run.at
 
 -- a line that is read in the task's program
-pub line_of : (task : Task) (t : Trace ℕ) (program : Program) (verified : TypedProgram) (line : CodeLine) →
+pub line_of : (task : Task) (t : TrackState ℕ) (program : Program) (verified : TypedProgram) (line : CodeLine) →
     program ≡ verified.program → verified ≡ task.verified →
     ((call : Active) (outer : List Active) → StandAll program.functions t.frames (call ∷ outer) →
     next_item call ≡ instruction_of line) → IsLineOf task t line
@@ -58,7 +59,7 @@ line_of task t program verified line same of_task read call outer stands =
     read call outer (rw (same, of_task) stands)
 
 -- the operands that the line takes are there
-pub deep_line : (task : Task) (t : Trace ℕ) (s : State) (line : CodeLine) → CanBegin task t.executed s t →
+pub deep_line : (task : Task) (t : TrackState ℕ) (s : State) (line : CodeLine) → CanBegin task t.executed s t →
     IsLineOf task t line → operand_count (op_of (instruction_in line.item)) ≤ length t.cells
 deep_line task t s line can is_line =
     let next : next_item can.call ≡ instruction_of line = is_line can.call can.outer can.stands in
@@ -66,7 +67,8 @@ deep_line task t s line can is_line =
     (deep_enough (op_of (next_item can.call).item) (length t.cells) can.deep)
 
 -- two lines of the next instruction have the same
-pub same_instruction : (task : Task) (t : Trace ℕ) (s : State) (line own : CodeLine) → CanBegin task t.executed s t →
+pub same_instruction : (task : Task) (t : TrackState ℕ) (s : State) (line own : CodeLine) →
+    CanBegin task t.executed s t →
     IsLineOf task t line → IsLineOf task t own → instruction_in own.item ≡ instruction_in line.item
 same_instruction task t s line own can is_line is_own =
     ap (λ (x : Numbered Item). x.item) (sym (is_own can.call can.outer can.stands) ∙ is_line can.call can.outer can.stands)
@@ -76,7 +78,7 @@ pub record IsKindly (task : Task) (n : ℕ) (op : Op) (line : ℕ) (sources : Li
   pub kinds : HaveKinds (source_kinds op) sources
 
 -- with its line and the operands at the top of the stack
-pub is_next : (task : Task) (t : Trace ℕ) (s : State) (line : CodeLine) (op : Op) (sources : List (List ℤ)) →
+pub is_next : (task : Task) (t : TrackState ℕ) (s : State) (line : CodeLine) (op : Op) (sources : List (List ℤ)) →
     state_after task t.executed ≡ Running s → CanBegin task t.executed s t → IsLineOf task t line →
     op ≡ op_of (instruction_in line.item) → sources ≡ sources_of (instruction_in line.item) s.stack →
     IsKindly task t.executed op line.number sources
@@ -97,7 +99,7 @@ is_next task t s line op sources runs can is_line op_is sources_are =
     }
 
 -- the line of the next instruction
-pub line_is : (task : Task) (t : Trace ℕ) (s : State) (line : CodeLine) → state_after task t.executed ≡ Running s →
+pub line_is : (task : Task) (t : TrackState ℕ) (s : State) (line : CodeLine) → state_after task t.executed ≡ Running s →
     CanBegin task t.executed s t → IsLineOf task t line → line_at task t.executed ≡ Some line.number
 line_is task t s line runs can is_line =
     line_when task t.executed s can.call can.outer runs can.calls

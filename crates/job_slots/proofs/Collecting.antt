@@ -4,14 +4,14 @@ use Rattle.vcode_base.specs.declared.outcome.Outcome.{Outcome}
 use Rattle.refcounts.specs.SharedState.{Slot}
 use Rattle.job_memory.specs.JobBlocks.{JobBlocks, own_slots}
 use Rattle.job_steps.specs.States.{Vector, Task}
-use Rattle.job_steps.specs.Tracks.{Trace}
+use Rattle.job_steps.specs.Tracks.{TrackState}
 use Rattle.job_slots.specs.declared.status.Status.{Status}
 use Rattle.job_slots.specs.declared.status.Status.TheVariants.{Ended}
 use Rattle.job_slots.specs.Holdings.{HoldSomeStack}
 use Rattle.job_slots.specs.Slots.{SlotState, Shows, ShowsAs, Leaves, HasEnded}
 use Rattle.job_slots.proofs.Holding.{none_held}
 
-left_holds : (slots : List Slot) (task : Task) (t : Trace ℕ) (o : Option (Outcome (List Vector))) →
+left_holds : (slots : List Slot) (task : Task) (t : TrackState ℕ) (o : Option (Outcome (List Vector))) →
     Leaves slots task t o → HoldSomeStack slots t.cells
 left_holds slots task t None left = (left.stack, left.holds)
 left_holds slots task t (Some ending) (is, none, nothing) = ([], none_held slots t.cells nothing)

@@ -24,7 +24,7 @@ use Rattle.job_steps.specs.States.{Vector, Task, Active, State}
 use Rattle.job_steps.specs.Steps.{Progress, Running, Over, Stuck, next_item, sources_of, question_of, flag_of}
 use Rattle.job_steps.specs.Steps.{calls_after, progress_by}
 use Rattle.job_steps.specs.Tickets.{Asked}
-use Rattle.job_steps.specs.Tracks.{Trace, functions_of}
+use Rattle.job_steps.specs.Tracks.{TrackState, functions_of}
 use Rattle.job_slots.specs.declared.status.Status.{Status}
 use Rattle.job_slots.specs.declared.status.Status.TheVariants as status
 use Rattle.job_slots.specs.Answers.{Fits, IsEnding, question_at, line_at, line_in, line_before}
@@ -60,11 +60,11 @@ line_is task n s call outer line running calls at =
     cc
 
 -- the fault is the job's end
-pub record FaultEnds (task : Task) (t : Trace ℕ) (fault : DataFault) (line : ℕ) : Type 0 where
+pub record FaultEnds (task : Task) (t : TrackState ℕ) (fault : DataFault) (line : ℕ) : Type 0 where
   pub ending : IsEnding task t.executed t.peak (Fault fault line)
   pub standing : standing_after (t.executed + 1) (state_after task (t.executed + 1)) ≡ Ended
 
-pub fault_ends : OthersAreReady → EndIsOwn → (slots : List Slot) (task : Task) (t : Trace ℕ) (question : Question)
+pub fault_ends : OthersAreReady → EndIsOwn → (slots : List Slot) (task : Task) (t : TrackState ℕ) (question : Question)
     (fault : DataFault) (line : ℕ) → IsVerified task → IsFlyingSlot slots task t →
     question_at task t.executed ≡ Some question → value_fault question.op question.sources ≡ Some fault →
     line_at task t.executed ≡ Some line → FaultEnds task t fault line
@@ -103,12 +103,12 @@ no_calls fs frames (call ∷ calls) none stand =
     absurd (subst (λ (xs : List Frame). StandAll fs xs (call ∷ calls)) none stand)
 
 -- the job runs on
-record RunsOn (slots : List Slot) (task : Task) (u : Trace ℕ) (n : ℕ) (p : Progress) : Type 0 where
+record RunsOn (slots : List Slot) (task : Task) (u : TrackState ℕ) (n : ℕ) (p : Progress) : Type 0 where
   running : IsRunningSlot slots task u
   executed : u.executed ≡ n + 1
   standing : standing_after (n + 1) p ≡ Live (n + 1)
 
-runs_on : Reaches → (signatures : List Signature) (slots : List Slot) (task : Task) (u : Trace ℕ) (n : ℕ)
+runs_on : Reaches → (signatures : List Signature) (slots : List Slot) (task : Task) (u : TrackState ℕ) (n : ℕ)
     (p : Progress) →
     IsVerifiedTask signatures task → state_after task (n + 1) ≡ p → IsAfter slots task u p → 0 < length u.frames →
     RunsOn slots task u n p
@@ -129,11 +129,12 @@ runs_on reaches signatures slots task u n (Over ending executed peak) verified e
 runs_on reaches signatures slots task u n Stuck verified e after some = absurd after
 
 -- the job has returned
-record Returns (slots : List Slot) (task : Task) (u : Trace ℕ) (n : ℕ) (p : Progress) : Type 0 where
+record Returns (slots : List Slot) (task : Task) (u : TrackState ℕ) (n : ℕ) (p : Progress) : Type 0 where
   ended : HasEnded slots task u None
   standing : standing_after (n + 1) p ≡ Ended
 
-returned : Reaches → EndIsOwn → (signatures : List Signature) (slots : List Slot) (task : Task) (u : Trace ℕ) (n : ℕ)
+returned : Reaches → EndIsOwn → (signatures : List Signature) (slots : List Slot) (task : Task) (u : TrackState ℕ)
+    (n : ℕ)
     (p : Progress) → IsVerifiedTask signatures task → state_after task (n + 1) ≡ p → IsAfter slots task u p →
     u.frames ≡ [] → Returns slots task u n p
 returned reaches end_is_own signatures slots task u n (Running s) verified e after none =
@@ -173,7 +174,7 @@ pub record IsCommitted (number : ℕ) (task : Task) (old : SlotState) (blocks : 
   pub standing : Some (standing_of new) ≡ next_standing (event.Finish number) task (standing_of old)
 
 -- an instruction was executed
-pub record Executed (number : ℕ) (task : Task) (t u : Trace ℕ) (old new : JobBlocks) : Type 0 where
+pub record Executed (number : ℕ) (task : Task) (t u : TrackState ℕ) (old new : JobBlocks) : Type 0 where
   pub after : IsAfter (own_slots number new) task u (state_after task (t.executed + 1))
   pub limits : u.limits ≡ t.limits
   pub others : ChangesOnlyOf number old new
@@ -256,7 +257,7 @@ pub record FaultCommits (number : ℕ) (task : Task) (slot : SlotState) (fault :
   pub next : next_standing (event.Finish number) task (standing_of slot) ≡ Some Ended
 
 pub fault_commits : OthersAreReady → EndIsOwn → (number : ℕ) (blocks : JobBlocks) (task : Task) (slot : SlotState)
-    (filled : Asked) (inside : Trace ℕ) (fault : DataFault) (line : ℕ) → Shows number blocks task slot →
+    (filled : Asked) (inside : TrackState ℕ) (fault : DataFault) (line : ℕ) → Shows number blocks task slot →
     slot.status ≡ status.InFlight → Fits task (standing_of slot) filled → inside ≡ slot.trace →
     value_fault filled.question.op filled.question.sources ≡ Some fault → line_at task inside.executed ≡ Some line →
     FaultCommits number task slot fault line
@@ -266,7 +267,7 @@ fault_commits others_are_ready end_is_own number blocks task slot filled inside 
     let asked : question_at task slot.trace.executed ≡ Some filled.question = ap (question_at task) step
     ∙ fits.question in
     let here : line_at task slot.trace.executed ≡ Some line =
-    subst (λ (t : Trace ℕ). line_at task t.executed ≡ Some line) same at in
+    subst (λ (t : TrackState ℕ). line_at task t.executed ≡ Some line) same at in
     let ends = fault_ends others_are_ready end_is_own (own_slots number blocks) task slot.trace filled.question fault
     line
     shows.verified (flying_shown number blocks task slot shows flying) asked faulty here in
@@ -285,13 +286,14 @@ ended_standing number task standing new ended next =
     ap (λ s. Some (standing_by s new.trace.executed)) ended ∙ sym next
 
 -- an instruction was executed on the track that the slot has inside
-pub executed_inside : (number : ℕ) (task : Task) (slot : SlotState) (inside u : Trace ℕ) (old new : JobBlocks) →
+pub executed_inside : (number : ℕ) (task : Task) (slot : SlotState) (inside u : TrackState ℕ) (old new : JobBlocks) →
     inside ≡ slot.trace → IsAfter (own_slots number new) task u (state_after task (inside.executed + 1)) →
     u.limits ≡ inside.limits → ChangesOnlyOf number old new → grant_of new number ≡ grant_of old number →
     Executed number task slot.trace u old new
 executed_inside number task slot inside u old new same after limits others same_grant = record {
-  after = subst (λ (t : Trace ℕ). IsAfter (own_slots number new) task u (state_after task (t.executed + 1))) same after;
-  limits = limits ∙ ap (λ (t : Trace ℕ). t.limits) same;
+  after = subst (λ (t : TrackState ℕ). IsAfter (own_slots number new) task u (state_after task (t.executed + 1)))
+      same after;
+  limits = limits ∙ ap (λ (t : TrackState ℕ). t.limits) same;
   others = others;
   same_grant = same_grant;
 }

@@ -29,7 +29,7 @@ use Rattle.job_steps.specs.Steps.{Ending, Running, next_item, question_of, endin
 use Rattle.job_steps.specs.Steps.{held_at, is_call}
 use Rattle.job_steps.specs.StepLaws.{CanBegin, StepsCanBegin, StepsCanAdvance}
 use Rattle.job_steps.specs.Tickets.{CanAnswer, question_by}
-use Rattle.job_steps.specs.Tracks.{Trace, IsAt, functions_of}
+use Rattle.job_steps.specs.Tracks.{TrackState, IsAt, functions_of}
 use Rattle.job_slots.specs.Answers.{early_end_at, IsNext, IsEnding, CanAsk}
 use Rattle.job_slots.specs.Commits.{held_under, taken_ids}
 use Rattle.job_slots.specs.Executions.{IsCounted, HeldIsCounted}
@@ -101,28 +101,30 @@ some_is : {A : Type 0} (x y : A) → Some x ≡ Some y → x ≡ y
 some_is x y e = cc
 
 -- what is read is the next instruction's
-pub same_question : (task : Task) (t : Trace ℕ) (s : State) (op : Op) (line : ℕ) (sources : List (List ℤ)) →
+pub same_question : (task : Task) (t : TrackState ℕ) (s : State) (op : Op) (line : ℕ) (sources : List (List ℤ)) →
     state_after task t.executed ≡ Running s → (can : CanBegin task t.executed s t) →
     IsNext task t.executed op line sources →
     question_of (next_item can.call).item s.stack ≡ question_by op sources
 same_question task t s op line sources runs can next =
     some_is _ _ (sym (question_when task t.executed s can.call can.outer runs can.calls) ∙ next.question)
 
-same_line : (task : Task) (t : Trace ℕ) (s : State) (op : Op) (line : ℕ) (sources : List (List ℤ)) →
+same_line : (task : Task) (t : TrackState ℕ) (s : State) (op : Op) (line : ℕ) (sources : List (List ℤ)) →
     state_after task t.executed ≡ Running s → (can : CanBegin task t.executed s t) →
     IsNext task t.executed op line sources →
     (next_item can.call).number ≡ line
 same_line task t s op line sources runs can next =
     some_is _ _ (sym (line_when task t.executed s can.call can.outer runs can.calls) ∙ next.line_is)
 
-pub budget_end : (task : Task) (t : Trace ℕ) (s : State) → state_after task t.executed ≡ Running s → IsAt task t s →
+pub budget_end : (task : Task) (t : TrackState ℕ) (s : State) → state_after task t.executed ≡ Running s →
+    IsAt task t s →
     t.executed ≡ t.limits.budget → early_end_at task t.executed ≡ Some Budget
 budget_end task t s runs at spent =
     let same : s.executed ≡ task.limits.budget = sym at.executed ∙ (spent ∙ ap (λ (l : Limits). l.budget) at.limits) in
     early_end_when task t.executed s runs
     ∙ ap (λ (b : Bool). cond b (Some Budget) (early_end_in task s s.calls)) (eq-eqb _ _ same)
 
-pub early_end_is : (task : Task) (t : Trace ℕ) (s : State) (op : Op) (line : ℕ) (sources : List (List ℤ)) (held : ℕ) →
+pub early_end_is : (task : Task) (t : TrackState ℕ) (s : State) (op : Op) (line : ℕ) (sources : List (List ℤ))
+    (held : ℕ) →
     state_after task t.executed ≡ Running s → IsAt task t s → (can : CanBegin task t.executed s t) →
     IsNext task t.executed op line sources → held ≡ held_at task.rule (next_item can.call).item s →
     (t.executed ≡ t.limits.budget → ⊥) →
@@ -146,7 +148,8 @@ early_end_is task t s op line sources held runs at can next held_is unspent =
     at.frames))))
 
 -- if the next instruction was read
-module _ (law : StepsCanBegin ℕ) (counted : HeldIsCounted) (number : ℕ) (blocks : JobBlocks) (task : Task) (t : Trace ℕ)
+module _ (law : StepsCanBegin ℕ) (counted : HeldIsCounted) (number : ℕ) (blocks : JobBlocks) (task : Task)
+    (t : TrackState ℕ)
     (run : IsRunningSlot (own_slots number blocks) task t) (verified : IsVerified task) (tidy : IsTidy blocks.memory)
     (op : Op) (line : ℕ) (sources : List (List ℤ)) (next : IsNext task t.executed op line sources) where
   can : CanBegin task t.executed run.state t
@@ -180,7 +183,8 @@ module _ (law : StepsCanBegin ℕ) (counted : HeldIsCounted) (number : ℕ) (blo
 
 -- ---- if nothing ends the job
 
-can_ask : StepsCanAdvance ℕ → (task : Task) (t : Trace ℕ) (s : State) (op : Op) (line : ℕ) (sources : List (List ℤ))
+can_ask : StepsCanAdvance ℕ → (task : Task) (t : TrackState ℕ) (s : State) (op : Op) (line : ℕ)
+    (sources : List (List ℤ))
     (words : ℕ) → IsVerified task → state_after task t.executed ≡ Running s → IsAt task t s →
     CanBegin task t.executed s t → IsNext task t.executed op line sources → early_end_at task t.executed ≡ None →
     task.limits.words ≤ words → CanAsk words op sources
@@ -195,7 +199,7 @@ can_ask law task t s op line sources words verified runs at can next goes_on eno
     }
 
 -- what is read is the next instruction, which can be asked if nothing ends the job before
-pub asks_unless : StepsCanBegin ℕ → StepsCanAdvance ℕ → (slots : List Slot) (task : Task) (t : Trace ℕ)
+pub asks_unless : StepsCanBegin ℕ → StepsCanAdvance ℕ → (slots : List Slot) (task : Task) (t : TrackState ℕ)
     (run : IsRunningSlot slots task t) (op : Op) (line : ℕ) (sources : List (List ℤ)) → IsVerified task →
     IsNext task t.executed op line sources → (early : Option Ending) → early_end_at task t.executed ≡ early →
     IfNone early ((words : ℕ) → task.limits.words ≤ words → CanAsk words op sources)
@@ -229,7 +233,7 @@ no_return task s =
     ]
 
 -- that is the job's end
-pub is_ending : EarlyEndsEnd → (slots : List Slot) (task : Task) (t : Trace ℕ) (run : IsRunningSlot slots task t)
+pub is_ending : EarlyEndsEnd → (slots : List Slot) (task : Task) (t : TrackState ℕ) (run : IsRunningSlot slots task t)
     (ending : Ending) → IsVerified task → early_end_at task t.executed ≡ Some ending →
     IsEnding task t.executed t.peak ending
 is_ending law slots task t run ending verified early =

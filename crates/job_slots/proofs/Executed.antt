@@ -30,7 +30,7 @@ use Rattle.job_steps.specs.StepLaws.{CanAdvance, StepsCanAdvance}
 use Rattle.job_steps.specs.Steps.{Running, next_item, sources_of, question_of, results_of, flag_of}
 use Rattle.job_steps.specs.Steps.{words_at, calls_after, progress_by, progress_past, vectors_of}
 use Rattle.job_steps.specs.Tickets.{AreResults}
-use Rattle.job_steps.specs.Tracks.{Trace, IsAt, IsDeep, IsWhere, Advances, EachTrackFollows}
+use Rattle.job_steps.specs.Tracks.{TrackState, IsAt, IsDeep, IsWhere, Advances, EachTrackFollows}
 use Rattle.job_slots.specs.Answers.{question_at, question_in, question_before}
 use Rattle.job_slots.specs.Commits.{CanTake, held_under, moved_ids}
 use Rattle.job_slots.specs.Executions.{AreFew, CanShare, CanSettle, CanGoPast, HasSettled, IsCounted, IsExecuted}
@@ -102,7 +102,7 @@ share_room op cells blocks few = tt
 -- ---- the state of the job
 
 -- the track and the blocks are at the job's state, if the track is and the cells hold the stack
-is_after : (slots : List Slot) (task : Task) (u : Trace ℕ) (item : Item) (s : State) (calls : List Active) →
+is_after : (slots : List Slot) (task : Task) (u : TrackState ℕ) (item : Item) (s : State) (calls : List Active) →
     state_after task s.executed ≡ Running s → (calls ≡ [] → op_of item ≡ Return) →
     IsWhere task u (progress_past task.rule item s calls) →
     HoldStack slots u.cells (stack_after (op_of item) (new_entries s.next (results_of
@@ -133,7 +133,8 @@ asked_is task n s call outer question running calls asked =
 -- ---- one step in flight
 
 module _ (laws : Laws) (signatures : List Signature) (task : Task) (verified : IsVerifiedTask signatures task) (job : ℕ)
-    (old : JobBlocks) (t : Trace ℕ) (s : State) (running : state_after task t.executed ≡ Running s) (at : IsAt task t s)
+    (old : JobBlocks) (t : TrackState ℕ) (s : State)
+    (running : state_after task t.executed ≡ Running s) (at : IsAt task t s)
     (holds : HoldStack (own_slots job old) t.cells s.stack) (early : early_end task s ≡ None)
     (tidy : IsTidy old.memory) (call : Active) (outer : List Active) (calls : s.calls ≡ call ∷ outer)
     (first second : List ℤ) (results : AreResults (question_of (next_item call).item s.stack) first second) where
@@ -210,7 +211,7 @@ module _ (laws : Laws) (signatures : List Signature) (task : Task) (verified : I
         (made.count ∙ has.given)
         (subst (λ (xs : List ℕ). AreCommitted form job op xs made.cells old new) holds.ids_are made.are_committed)
 
-    module _ (u : Trace ℕ)
+    module _ (u : TrackState ℕ)
         (advances : Advances task.verified op flag ids
         (held_under task.rule job op t.cells old + length first + length second) t u) where
       now_holds : HoldStack (own_slots job new) u.cells
@@ -282,7 +283,7 @@ executable laws job old task t op flag first second flying verified tidy answere
     (subst (λ (f : Bool). CanExecute job old task t (op_of item) f first second) flag_is found)
 
 -- the instruction is executed if blocks have its results and the track went past it
-pub executed_past : {job : ℕ} {old new : JobBlocks} {task : Task} {t u : Trace ℕ} {op : Op} {flag : Bool}
+pub executed_past : {job : ℕ} {old new : JobBlocks} {task : Task} {t u : TrackState ℕ} {op : Op} {flag : Bool}
     {first second : List ℤ} {form : Rule} {ids : List ℕ} {held : ℕ} → CanExecute job old task t op flag first second →
     HasSettled form job op first second t.cells ids old new →
     held ≡ held_under task.rule job op t.cells old →

@@ -19,7 +19,7 @@ use Rattle.job_steps.specs.States.{Task, StackEntry, words_of}
 use Rattle.job_steps.specs.StepLaws.{CanBegin, StepsCanBegin}
 use Rattle.job_steps.specs.Steps.{next_item, question_of, sources_of, flag_of}
 use Rattle.job_steps.specs.Tickets.{question_by}
-use Rattle.job_steps.specs.Tracks.{Trace}
+use Rattle.job_steps.specs.Tracks.{TrackState}
 use Rattle.job_slots.specs.declared.in_place.Placement.{Placement}
 use Rattle.job_slots.specs.Answers.{IsNext, IsAnswered}
 use Rattle.job_slots.specs.InPlace.{CanCompute, IsPlaceable, IsResult, is_constant, operands_in}
@@ -41,7 +41,7 @@ read_on_top (Move motion lower upper) stack reads = refl
 read_on_top (Call name) stack reads = refl
 read_on_top Return stack reads = refl
 
-module _ (law : StepsCanBegin ℕ) (job : ℕ) (blocks : JobBlocks) (task : Task) (t : Trace ℕ)
+module _ (law : StepsCanBegin ℕ) (job : ℕ) (blocks : JobBlocks) (task : Task) (t : TrackState ℕ)
     (run : IsRunningSlot (own_slots job blocks) task t) (verified : IsVerified task) (op : Op) (line : ℕ)
     (sources : List (List ℤ)) (next : IsNext task t.executed op line sources) (reads : is_constant op ≡ false) where
   can : CanBegin task t.executed run.state t
@@ -92,7 +92,7 @@ no_word [] none = refl
 no_word (w ∷ ws) none = absurd (omega (arith, none))
 
 -- one result is all that the instruction answers
-pub answered : ResultsHaveNeededLengths → (task : Task) (job : ℕ) (blocks : JobBlocks) (t : Trace ℕ) (op : Op)
+pub answered : ResultsHaveNeededLengths → (task : Task) (job : ℕ) (blocks : JobBlocks) (t : TrackState ℕ) (op : Op)
     (p : Placement) → IsPlaceable task job blocks t op p → (words : List ℤ) →
     IsResult op (operands_in blocks op t.cells) words → IsAnswered task t.executed op p.flag words []
 answered lengths task job blocks t op p placeable words is =

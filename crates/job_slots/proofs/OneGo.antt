@@ -13,7 +13,7 @@ use Rattle.job_steps.specs.Reached.{EndIsOwn}
 use Rattle.job_steps.specs.Standings.{Standing, Live, InFlight, Ended}
 use Rattle.job_steps.specs.States.{Task}
 use Rattle.job_steps.specs.Steps.{Ending}
-use Rattle.job_steps.specs.Tracks.{Trace}
+use Rattle.job_steps.specs.Tracks.{TrackState}
 use Rattle.job_slots.specs.declared.answer.Stepped.TheVariants as stepped
 use Rattle.job_slots.specs.declared.status.Status.{Status}
 use Rattle.job_slots.specs.declared.status.Status.TheVariants as status
@@ -45,7 +45,7 @@ after_end number task standing first =
 
 -- ---- an end
 
-pub ends_early : EarlyEndsEnd → (slots : List Slot) (number : ℕ) (task : Task) (t : Trace ℕ)
+pub ends_early : EarlyEndsEnd → (slots : List Slot) (number : ℕ) (task : Task) (t : TrackState ℕ)
     (run : IsRunningSlot slots task t) (ending : Ending) → IsVerified task →
     early_end_at task t.executed ≡ Some ending → EndsByStep number task t.executed t.peak ending
 ends_early law slots number task t run ending verified early = record {
@@ -55,7 +55,7 @@ ends_early law slots number task t run ending verified early = record {
       (next_by number task t.executed run.state (Some ending) run.running early);
 }
 
-pub ends_by_fault : OthersAreReady → EndIsOwn → (slots : List Slot) (number : ℕ) (task : Task) (t : Trace ℕ)
+pub ends_by_fault : OthersAreReady → EndIsOwn → (slots : List Slot) (number : ℕ) (task : Task) (t : TrackState ℕ)
     (run : IsRunningSlot slots task t) (question : Question) (fault : DataFault) (line : ℕ) → IsVerified task →
     early_end_at task t.executed ≡ None → question_at task t.executed ≡ Some question →
     value_fault question.op question.sources ≡ Some fault → line_at task t.executed ≡ Some line →

@@ -8,7 +8,7 @@ use Rattle.job_steps.specs.Runs.{state_after}
 use Rattle.job_steps.specs.Standings as standing
 use Rattle.job_steps.specs.States.{Vector, Task, State}
 use Rattle.job_steps.specs.Steps.{Running}
-use Rattle.job_steps.specs.Tracks.{Trace}
+use Rattle.job_steps.specs.Tracks.{TrackState}
 use Rattle.job_slots.specs.declared.status.Status.{Status}
 use Rattle.job_slots.specs.declared.status.Status.TheVariants.{Waiting, Live, InFlight, Ended, Collected}
 use Rattle.job_slots.specs.Holdings.{HoldNothing}
@@ -19,12 +19,12 @@ use Rattle.job_slots.proofs.Held.{are_there}
 nothing_live : (memory : SharedState) (ids : List ℕ) → ids ≡ [] → AreLive memory ids
 nothing_live memory ids none = subst (AreLive memory) (sym none) (All-nil (λ id. IsLive memory id))
 
-live_left : (number : ℕ) (memory : SharedState) (task : Task) (t : Trace ℕ) (o : Option (Outcome (List Vector))) →
+live_left : (number : ℕ) (memory : SharedState) (task : Task) (t : TrackState ℕ) (o : Option (Outcome (List Vector))) →
     Leaves (slots_seen_by number memory) task t o → AreLive memory t.cells
 live_left number memory task t None h = (are_there number memory t.cells h.stack h.holds).live
 live_left number memory task t (Some ending) h = nothing_live memory t.cells (h.2.no_cell)
 
-live_as : (number : ℕ) (memory : SharedState) (task : Task) (t : Trace ℕ) (o : Option (Outcome (List Vector)))
+live_as : (number : ℕ) (memory : SharedState) (task : Task) (t : TrackState ℕ) (o : Option (Outcome (List Vector)))
     (s : Status) → ShowsAs (slots_seen_by number memory) task t o s → AreLive memory t.cells
 live_as number memory task t o Waiting h = nothing_live memory t.cells h.nothing.no_cell
 live_as number memory task t o Live h = (are_there number memory t.cells h.state.stack h.holds).live
@@ -37,11 +37,11 @@ shown_are_live number blocks task slot h = live_as number blocks.memory task slo
 
 -- ---- a live job
 
-record IsRunningFrom (number : ℕ) (memory : SharedState) (task : Task) (t : Trace ℕ) (count : ℕ) : Type 0 where
+record IsRunningFrom (number : ℕ) (memory : SharedState) (task : Task) (t : TrackState ℕ) (count : ℕ) : Type 0 where
   run : IsRunningSlot (slots_seen_by number memory) task t
   executed : t.executed ≡ count
 
-running_as : (number : ℕ) (memory : SharedState) (task : Task) (t : Trace ℕ) (o : Option (Outcome (List Vector)))
+running_as : (number : ℕ) (memory : SharedState) (task : Task) (t : TrackState ℕ) (o : Option (Outcome (List Vector)))
     (s : Status) (count : ℕ) → ShowsAs (slots_seen_by number memory) task t o s →
     standing_by s t.executed ≡ standing.Live count → IsRunningFrom number memory task t count
 running_as number memory task t o Waiting count h e = cc

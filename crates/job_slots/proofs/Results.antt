@@ -17,7 +17,7 @@ use Rattle.job_steps.specs.Reached.{EachEnds, ResultsHaveKinds}
 use Rattle.job_steps.specs.Runs.{outcome, executed_count, peak}
 use Rattle.job_steps.specs.States.{Vector, Task, StackEntry, values_of}
 use Rattle.job_steps.specs.Steps.{Over}
-use Rattle.job_steps.specs.Tracks.{Trace}
+use Rattle.job_steps.specs.Tracks.{TrackState}
 use Rattle.job_slots.specs.Holdings.{Cell, ids_of, entries_of}
 use Rattle.job_slots.specs.Slots.{HasReturned}
 use Rattle.job_slots.proofs.Endings.{over_at}
@@ -69,7 +69,7 @@ record AreResults (task : Task) (ids : List ℕ) (cells : List Cell) : Type 0 wh
   ids_are : reverse ids ≡ map (λ (c : Cell). c.id) (reverse cells)
   values_are : values_in (outcome task) ≡ map (λ (c : Cell). c.entry.value) (reverse cells)
 
-are_results : (slots : List Slot) (task : Task) (t : Trace ℕ) → (returned : HasReturned slots task t) →
+are_results : (slots : List Slot) (task : Task) (t : TrackState ℕ) → (returned : HasReturned slots task t) →
     AreResults task t.cells returned.holds.cells
 are_results slots task t returned =
     let h = returned.holds in
@@ -82,7 +82,7 @@ are_results slots task t returned =
     }
 
 -- there are as many results as cells
-pub length-results : (slots : List Slot) (task : Task) (t : Trace ℕ) → HasReturned slots task t →
+pub length-results : (slots : List Slot) (task : Task) (t : TrackState ℕ) → HasReturned slots task t →
     length (values_in (outcome task)) ≡ length (reverse t.cells)
 length-results slots task t returned =
     let h = returned.holds in
@@ -92,7 +92,7 @@ length-results slots task t returned =
     ∙ sym (ap length is.ids_are ∙ length-map (reverse h.cells) (λ (c : Cell). c.id)))
 
 -- the results are of the kinds that MAIN gives
-pub kinds_are : ResultsHaveKinds → EachEnds → (slots : List Slot) (task : Task) (t : Trace ℕ) → IsVerified task →
+pub kinds_are : ResultsHaveKinds → EachEnds → (slots : List Slot) (task : Task) (t : TrackState ℕ) → IsVerified task →
     HasReturned slots task t → task.verified.results ≡ map (λ (v : Vector). v.kind) (values_in (outcome task))
 kinds_are have ends slots task t verified returned =
     let same : outcome task ≡ Returned (values_in (outcome task)) =
@@ -117,7 +117,7 @@ same_vector x y kinds words =
     ap (λ (k : Kind). let v : Vector = record { kind = k; words = x.words } in v) kinds
     ∙ ap (λ (ws : List ℤ). let v : Vector = record { kind = y.kind; words = ws } in v) words
 
-pub result_at : ResultsHaveKinds → EachEnds → (job : ℕ) (blocks : JobBlocks) (task : Task) (t : Trace ℕ) →
+pub result_at : ResultsHaveKinds → EachEnds → (job : ℕ) (blocks : JobBlocks) (task : Task) (t : TrackState ℕ) →
     IsVerified task → HasReturned (own_slots job blocks) task t → (k id : ℕ) (kind : Kind)
     → k < length (reverse t.cells) →
     id ≡ get_or (reverse t.cells) k 0 → kind ≡ get_or task.verified.results k Int →
@@ -173,11 +173,11 @@ more_results values items more k n value lt so_far is more_is n_is =
 -- ---- the loop over the cells and the kinds
 
 -- the cells and the kinds that go with them
-pub record ArePaired (task : Task) (t : Trace ℕ) (ids : List ℕ) (kinds : List Kind) : Type 0 where
+pub record ArePaired (task : Task) (t : TrackState ℕ) (ids : List ℕ) (kinds : List Kind) : Type 0 where
   pub ids_are : ids ≡ reverse t.cells
   pub kinds_are : kinds ≡ task.verified.results
 
-pub result_of_turn : ResultsHaveKinds → EachEnds → (job : ℕ) (blocks : JobBlocks) (task : Task) (t : Trace ℕ) →
+pub result_of_turn : ResultsHaveKinds → EachEnds → (job : ℕ) (blocks : JobBlocks) (task : Task) (t : TrackState ℕ) →
     IsVerified task → HasReturned (own_slots job blocks) task t → (ids : List ℕ) (kinds : List Kind) →
     ArePaired task t ids kinds → (k id : ℕ) (kind : Kind) → k < length ids → ((d : ℕ) → id ≡ get_or ids k d) →
     ((d : Kind) → kind ≡ get_or kinds k d) → IsResult job blocks.memory (values_in (outcome task)) k id kind
@@ -187,7 +187,7 @@ result_of_turn have ends job blocks task t verified returned ids kinds paired k 
     (kind_is Int ∙ ap (λ (l : List Kind). get_or l k Int) paired.kinds_are)
 
 -- each value is a result, and so all of them are the results
-pub all_results : ResultsHaveKinds → EachEnds → (slots : List Slot) (task : Task) (t : Trace ℕ) → IsVerified task →
+pub all_results : ResultsHaveKinds → EachEnds → (slots : List Slot) (task : Task) (t : TrackState ℕ) → IsVerified task →
     HasReturned slots task t → (ids : List ℕ) (kinds : List Kind) → ArePaired task t ids kinds → (n : ℕ)
     (items : List Vector) → n ≡ min (length ids) (length kinds) → items ≡ take n (values_in (outcome task)) →
     outcome task ≡ Returned items

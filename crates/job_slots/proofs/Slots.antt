@@ -9,7 +9,7 @@ use Rattle.job_memory.specs.JobBlocks.{JobBlocks, grant_of, own_slots, with_gran
 use Rattle.job_steps.specs.Runs.{state_after}
 use Rattle.job_steps.specs.Standings.{Live}
 use Rattle.job_steps.specs.States.{Task, Vector, first_state, ruled}
-use Rattle.job_steps.specs.Tracks.{Trace}
+use Rattle.job_steps.specs.Tracks.{TrackState}
 use Rattle.job_slots.specs.declared.status.Status.{Status}
 use Rattle.job_slots.specs.declared.status.Status.TheVariants as status
 use Rattle.job_slots.specs.declared.status.Status.TheVariants.{Waiting, InFlight, Ended, Collected}
@@ -34,7 +34,7 @@ new_is_shown rule number blocks job slot new is_job no_grant no_block = record {
 
 -- ---- a step that is given up
 
-recalled_shows : (slots : List shared.Slot) (task : Task) (t : Trace ℕ) (o : Option (Outcome (List Vector)))
+recalled_shows : (slots : List shared.Slot) (task : Task) (t : TrackState ℕ) (o : Option (Outcome (List Vector)))
     (s : Status) → ShowsAs slots task t o s → ShowsAs slots task t o (recalled_status s)
 recalled_shows slots task t o Waiting h = h
 recalled_shows slots task t o status.Live h = h
@@ -61,7 +61,7 @@ recalled_is_shown number blocks task slot h = record {
 -- ---- an admission
 
 -- a job that waits is at the begin of its run
-runs_at_first : (slots : List shared.Slot) (task : Task) (t : Trace ℕ) → IsWaitingSlot slots task t →
+runs_at_first : (slots : List shared.Slot) (task : Task) (t : TrackState ℕ) → IsWaitingSlot slots task t →
     IsRunningSlot slots task t
 runs_at_first slots task t h = record {
   state = first_state task.verified;

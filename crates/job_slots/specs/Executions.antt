@@ -13,7 +13,7 @@ use Rattle.job_steps.specs.Motions.{depth_after}
 use Rattle.job_steps.specs.Runs.{state_after}
 use Rattle.job_steps.specs.States.{Task, State}
 use Rattle.job_steps.specs.Steps.{held_at}
-use Rattle.job_steps.specs.Tracks.{Trace, IsDeep, CanFollow, Advances}
+use Rattle.job_steps.specs.Tracks.{TrackState, IsDeep, CanFollow, Advances}
 use Rattle.verifier.specs.Typed.{TypedProgram}
 use Rattle.job_slots.specs.declared.commit.NewBlocks.{NewBlocks}
 use Rattle.verifier.specs.Typed.{TypedProgram}
@@ -75,32 +75,32 @@ pub record HasSettled (rule : Rule) (job : ℕ) (op : Op) (first second : List �
   pub settled : AreSettled rule job op first second cells ids old new
 
 -- the track can go on to what follows the instruction
-pub record CanGoPast (verified : TypedProgram) (t : Trace ℕ) (op : Op) : Type 0 where
+pub record CanGoPast (verified : TypedProgram) (t : TrackState ℕ) (op : Op) : Type 0 where
   pub unspent : t.executed < t.limits.budget
   pub deep : IsDeep op (length t.cells)
   pub cells : depth_after op (length t.cells) ≤ t.limits.cells
   pub follows : CanFollow verified t.frames t.limits.calls
 
 -- track and blocks are at the job's state after one instruction more, and no other job's blocks changed
-pub record IsExecuted (job : ℕ) (old new : JobBlocks) (task : Task) (t u : Trace ℕ) : Type 0 where
+pub record IsExecuted (job : ℕ) (old new : JobBlocks) (task : Task) (t u : TrackState ℕ) : Type 0 where
   pub after : IsAfter (own_slots job new) task u (state_after task (t.executed + 1))
   pub others : ChangesOnlyOf job old new
 
 -- The instruction has at most two results, for which the job's words have room. Its operands can be taken off the
 -- stack, and the track can go past. If blocks have the results, that executes it.
-pub record CanExecute (job : ℕ) (old : JobBlocks) (task : Task) (t : Trace ℕ) (op : Op) (flag : Bool)
+pub record CanExecute (job : ℕ) (old : JobBlocks) (task : Task) (t : TrackState ℕ) (op : Op) (flag : Bool)
     (first second : List ℤ) : Type 0 where
   pub two : length (result_kinds op) ≤ 2
   pub room : held_under task.rule job op t.cells old + length first + length second ≤ task.limits.words
   pub can_settle : CanSettle job op t.cells old
   pub goes_past : CanGoPast task.verified t op
-  pub executes : (form : Rule) (ids : List ℕ) (new : JobBlocks) (u : Trace ℕ) →
+  pub executes : (form : Rule) (ids : List ℕ) (new : JobBlocks) (u : TrackState ℕ) →
       HasSettled form job op first second t.cells ids old new →
       Advances task.verified op flag ids (held_under task.rule job op t.cells old + length first + length second) t u →
       IsExecuted job old new task t u
 
 abbrev pub StepsExecute : Type 0
 StepsExecute =
-    (job : ℕ) (old : JobBlocks) (task : Task) (t : Trace ℕ) (op : Op) (flag : Bool) (first second : List ℤ) →
+    (job : ℕ) (old : JobBlocks) (task : Task) (t : TrackState ℕ) (op : Op) (flag : Bool) (first second : List ℤ) →
     IsFlyingSlot (own_slots job old) task t → IsVerified task → IsTidy old.memory →
     IsAnswered task t.executed op flag first second → CanExecute job old task t op flag first second

@@ -13,7 +13,7 @@ use Rattle.job_steps.specs.Motions.{operand_count}
 use Rattle.job_steps.specs.States.{Task}
 use Rattle.job_steps.specs.Steps.{flag_of}
 use Rattle.job_steps.specs.Tickets.{question_by}
-use Rattle.job_steps.specs.Tracks.{Trace}
+use Rattle.job_steps.specs.Tracks.{TrackState}
 use Rattle.job_steps.specs.declared.event.Event.TheVariants as event
 use Rattle.job_steps.specs.Events.{next_standing}
 use Rattle.job_steps.specs.Standings.{Live, Ended}
@@ -43,7 +43,7 @@ operands_in blocks op cells = map (words_at blocks.memory) (taken_ids op cells)
 
 -- this instruction is the next of the job, its operands are on the stack, and the job has room for its one result of so
 -- many words beside them
-pub record IsPlaceable (task : Task) (job : ℕ) (blocks : JobBlocks) (t : Trace ℕ) (op : Op) (p : Placement)
+pub record IsPlaceable (task : Task) (job : ℕ) (blocks : JobBlocks) (t : TrackState ℕ) (op : Op) (p : Placement)
     : Type 0 where
   pub question : question_at task t.executed ≡ Some (question_by op (operands_in blocks op t.cells))
   pub flag_is : p.flag ≡ flag_of (question_by op (operands_in blocks op t.cells))

@@ -8,7 +8,7 @@ use Rattle.job_steps.specs.Runs.{state_after}
 use Rattle.job_steps.specs.Standings.{Live, held_by, executed_at, peak_at, outcome_at}
 use Rattle.job_steps.specs.States.{JobValue, Task, State, ruled, words_of}
 use Rattle.job_steps.specs.Steps.{Running}
-use Rattle.job_steps.specs.Tracks.{Trace, IsAt}
+use Rattle.job_steps.specs.Tracks.{TrackState, IsAt}
 use Rattle.job_slots.specs.Slots.{SlotState, Shows, IsNewSlot, standing_of, told_outcome, recalled_slot}
 
 -- what a slot shows: it is on its run alone, and its counts and its blocks' words are those of its standing
@@ -46,7 +46,7 @@ ShownAreLive = (number : ℕ) (blocks : JobBlocks) (task : Task) (slot : SlotSta
     → AreLive blocks.memory slot.trace.cells
 
 -- the track is at the state, and its cells name blocks of the words that the entries have
-pub record IsPicture (memory : SharedState) (task : Task) (t : Trace ℕ) (s : State) : Type 0 where
+pub record IsPicture (memory : SharedState) (task : Task) (t : TrackState ℕ) (s : State) : Type 0 where
   pub at : IsAt task t s
   pub words : map (λ id. (slot_at memory id).words) t.cells ≡ words_of s.stack
 

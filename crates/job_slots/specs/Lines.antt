@@ -4,10 +4,10 @@ use Rattle.vcode_reader.specs.Trees.{CodeLine}
 use Rattle.job_steps.specs.Frames.{StandAll, instruction_of}
 use Rattle.job_steps.specs.States.{Task, Active}
 use Rattle.job_steps.specs.Steps.{next_item}
-use Rattle.job_steps.specs.Tracks.{Trace, functions_of}
+use Rattle.job_steps.specs.Tracks.{TrackState, functions_of}
 
 -- the line is that of the next instruction
-abbrev pub IsLineOf : Task → Trace ℕ → CodeLine → Type 0
+abbrev pub IsLineOf : Task → TrackState ℕ → CodeLine → Type 0
 IsLineOf task t line =
     (call : Active) (outer : List Active) → StandAll (functions_of task.verified) t.frames (call ∷ outer) →
     next_item call ≡ instruction_of line

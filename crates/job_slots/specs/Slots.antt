@@ -11,7 +11,7 @@ use Rattle.job_steps.specs.Runs.{state_after, outcome, executed_count, peak}
 use Rattle.job_steps.specs.Standings.{Standing, Waiting, Live, InFlight, Ended, Collected, held_in, left_words}
 use Rattle.job_steps.specs.States.{Vector, JobValue, Task, StackEntry, State, values_of, held_words}
 use Rattle.job_steps.specs.Steps.{Progress, Running, Over, Stuck}
-use Rattle.job_steps.specs.Tracks.{Trace, IsFirst, IsAt, IsThrough}
+use Rattle.job_steps.specs.Tracks.{TrackState, IsFirst, IsAt, IsThrough}
 use Rattle.job_slots.specs.declared.status.Status.{Status}
 use Rattle.job_slots.specs.declared.status.Status.TheVariants as status
 use Rattle.job_slots.specs.Holdings.{HoldStack, HoldNothing}
@@ -19,7 +19,7 @@ use Rattle.job_slots.specs.Holdings.{HoldStack, HoldNothing}
 -- the place of a job in its run, and how it ended, once that is known
 pub record SlotState : Type 0 where
   pub status : Status
-  pub trace : Trace ℕ
+  pub trace : TrackState ℕ
   pub outcome : Option (Outcome (List Vector))
 
 -- the standing of a job of this status after n instructions
@@ -44,19 +44,19 @@ status_of Collected = status.Collected
 -- ---- by its status
 
 -- the job runs, and the cells hold its stack
-pub record IsRunningSlot (slots : List shared.Slot) (task : Task) (t : Trace ℕ) : Type 0 where
+pub record IsRunningSlot (slots : List shared.Slot) (task : Task) (t : TrackState ℕ) : Type 0 where
   pub state : State
   pub running : state_after task t.executed ≡ Running state
   pub at : IsAt task t state
   pub holds : HoldStack slots t.cells state.stack
 
 -- and nothing ends it before the values of its next instruction are looked at
-pub record IsFlyingSlot (slots : List shared.Slot) (task : Task) (t : Trace ℕ) : Type 0 where
+pub record IsFlyingSlot (slots : List shared.Slot) (task : Task) (t : TrackState ℕ) : Type 0 where
   pub run : IsRunningSlot slots task t
   pub goes_on : early_end task run.state ≡ None
 
 -- the job has returned, and the cells hold its results
-pub record HasReturned (slots : List shared.Slot) (task : Task) (t : Trace ℕ) : Type 0 where
+pub record HasReturned (slots : List shared.Slot) (task : Task) (t : TrackState ℕ) : Type 0 where
   pub stack : List StackEntry
   pub outcome_is : outcome task ≡ Returned (reverse (values_of stack))
   pub left : left_words task (outcome task) ≡ held_words stack
@@ -68,29 +68,29 @@ IsReturned (Returned values) = Unit {0}
 IsReturned ending = ⊥
 
 -- what a job that has ended leaves until it is collected: its results, or its ending, which is no return
-abbrev pub Leaves : List shared.Slot → Task → Trace ℕ → Option (Outcome (List Vector)) → Type 0
+abbrev pub Leaves : List shared.Slot → Task → TrackState ℕ → Option (Outcome (List Vector)) → Type 0
 Leaves slots task t None = HasReturned slots task t
 Leaves slots task t (Some ending) =
     (outcome task ≡ ending) × (IsReturned ending → ⊥) × HoldNothing slots t.cells
 
-pub record HasEnded (slots : List shared.Slot) (task : Task) (t : Trace ℕ) (o : Option (Outcome (List Vector)))
+pub record HasEnded (slots : List shared.Slot) (task : Task) (t : TrackState ℕ) (o : Option (Outcome (List Vector)))
     : Type 0 where
   pub executed : t.executed ≡ executed_count task
   pub peak_is : t.peak ≡ peak task
   pub leaves : Leaves slots task t o
 
-pub record IsCollectedSlot (slots : List shared.Slot) (task : Task) (t : Trace ℕ)
+pub record IsCollectedSlot (slots : List shared.Slot) (task : Task) (t : TrackState ℕ)
     (o : Option (Outcome (List Vector))) : Type 0 where
   pub executed : t.executed ≡ executed_count task
   pub peak_is : t.peak ≡ peak task
   pub stored : o ≡ Some (outcome task)
   pub nothing : HoldNothing slots t.cells
 
-pub record IsWaitingSlot (slots : List shared.Slot) (task : Task) (t : Trace ℕ) : Type 0 where
+pub record IsWaitingSlot (slots : List shared.Slot) (task : Task) (t : TrackState ℕ) : Type 0 where
   pub first : IsFirst task.verified task.limits t
   pub nothing : HoldNothing slots t.cells
 
-abbrev pub ShowsAs : List shared.Slot → Task → Trace ℕ → Option (Outcome (List Vector)) → Status → Type 0
+abbrev pub ShowsAs : List shared.Slot → Task → TrackState ℕ → Option (Outcome (List Vector)) → Status → Type 0
 ShowsAs slots task t o status.Waiting = IsWaitingSlot slots task t
 ShowsAs slots task t o status.Live = IsRunningSlot slots task t
 ShowsAs slots task t o status.InFlight = IsFlyingSlot slots task t
@@ -118,7 +118,7 @@ pub record Shows (number : ℕ) (blocks : JobBlocks) (task : Task) (slot : SlotS
 
 -- The track and the blocks are at the job's state: it runs, and the cells hold its stack; or it has returned, and they
 -- hold what was its stack before.
-abbrev pub IsAfter : List shared.Slot → Task → Trace ℕ → Progress → Type 0
+abbrev pub IsAfter : List shared.Slot → Task → TrackState ℕ → Progress → Type 0
 IsAfter slots task t (Running s) = IsAt task t s × HoldStack slots t.cells s.stack
 IsAfter slots task t (Over ending executed peak) =
     IsThrough t executed peak

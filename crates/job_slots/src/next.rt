@@ -168,7 +168,7 @@ pub(crate) fn line_of_next<A: Allocator>(
 
 /// The instruction of a line of code without its list or name.
 #[inline(always)]
-fn op_of(line: &CodeLine<'_>) -> Op
+pub(crate) fn op_of(line: &CodeLine<'_>) -> Op
     ensures { result ≡ op_of (instruction_in line.now.item) }
 {
     match &line.item {

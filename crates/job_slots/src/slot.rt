@@ -31,7 +31,7 @@ use crate::answer::{Begun, Finished, Stepped};
 use crate::collect::results;
 use crate::commit::execute;
 use crate::in_place::{Placement, execute_in_place, placement_of};
-use crate::next::{is_asked, line_of_next, next_at, next_line};
+use crate::next::{is_asked, line_of_next, next_at, next_line, op_of};
 use crate::status::Status;
 use crate::ticket::{Halted, early_end, ticket_of};
 use block_memory::BlockId;
@@ -308,11 +308,8 @@ impl<A: Allocator> Slot<A> {
                 let op = Op::Elementwise(Elementwise::Compare(*op));
                 self.step_line(rule, job, number, blocks, desk, &line, op)
             }
-            CodeItem::Do(Instr::Elementwise(op)) => {
-                self.step_long(rule, job, number, blocks, desk, &line, Op::Elementwise(*op))
-            }
-            CodeItem::Do(Instr::Segmented(op)) => {
-                self.step_long(rule, job, number, blocks, desk, &line, Op::Segmented(*op))
+            CodeItem::Do(Instr::Elementwise(_) | Instr::Segmented(_)) => {
+                self.step_long(rule, job, number, blocks, desk)
             }
             CodeItem::Do(Instr::Move(StackMove::Copy, lower, upper)) => {
                 let op = Op::Move(StackMove::Copy, *lower, *upper);
@@ -429,7 +426,8 @@ impl<A: Allocator> Slot<A> {
         }
     }
 
-    /// The same, in a function of its own.
+    /// Carries out the next instruction of a job that is live, of any kind. It looks at the line itself: a line that is
+    /// lent to a function of its own is written to memory at each step of the caller.
     #[inline(never)]
     fn step_long(
         &mut self,
@@ -438,15 +436,11 @@ impl<A: Allocator> Slot<A> {
         number: usize,
         blocks: &mut JobMemory<A>,
         desk: &mut Desk<A>,
-        line: &CodeLine<'_>,
-        op: Op,
     ) -> Stepped
         requires shows { Shows number blocks.old (ruled rule job.now) self.old }
         requires live { self.old.status ≡ status.Live }
         requires numbers { block_count blocks.old.memory + 2 ≤ length blocks.old.memory.slots }
         requires enough { job.now.limits.words ≤ desk.old }
-        requires line { IsLineOf (ruled rule job.now) self.old.trace line.now }
-        requires op { op ≡ op_of (instruction_in line.now.item) }
         ensures answer { Steps number desk.old (ruled rule job.now) (standing_of self.old) result }
         ensures shows { Shows number blocks.new (ruled rule job.now) self.new }
         ensures others { ChangesOnlyOf number blocks.old blocks.new }
@@ -455,7 +449,9 @@ impl<A: Allocator> Slot<A> {
         ensures desk { desk.new ≡ desk.old }
         ensures steps { IsPassedOver result → ⊥ }
     {
-        self.step_line(rule, job, number, blocks, desk, line, op)
+        let line = next_line(rule, job, &self.track, number, blocks);
+        let op = op_of(&line);
+        self.step_line(rule, job, number, blocks, desk, &line, op)
     }
 
     /// Carries out the next instruction of a job that is live, whose result is computed where it is placed.

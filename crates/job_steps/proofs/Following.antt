@@ -31,7 +31,7 @@ use Rattle.job_steps.specs.States.{first_state, new_entries}
 use Rattle.job_steps.specs.Steps.{next_item, calls_past, calls_after, can_call, can_run, is_call, question_of}
 use Rattle.job_steps.specs.Steps.{results_of}
 use Rattle.job_steps.specs.Steps.{flag_of, words_at, progress_past}
-use Rattle.job_steps.specs.Tracks.{CanCall, CanFollow, Follow, IsCallOf, first_call, functions_of, Trace, IsAt}
+use Rattle.job_steps.specs.Tracks.{CanCall, CanFollow, Follow, IsCallOf, first_call, functions_of, TrackState, IsAt}
 use Rattle.job_steps.specs.Tracks.{IsWhere, IsDeep, Advances, EachTrackFollows}
 use Rattle.job_steps.proofs.Passing.{remaining_of_all}
 use Rattle.job_steps.proofs.StackLemmas.{length-stack_after, length-results}
@@ -407,7 +407,7 @@ no_frames : (fs : List Function) (frames : List Frame) → StandAll fs frames []
 no_frames fs [] s = refl
 no_frames fs (frame ∷ frames) s = absurd s
 
-module _ {C : Type 0} (task : Task) (t u : Trace C) (s : State) (item : Item) (flag : Bool) (results : List C)
+module _ {C : Type 0} (task : Task) (t u : TrackState C) (s : State) (item : Item) (flag : Bool) (results : List C)
     (at : IsAt task t s) (deep : IsDeep (op_of item) (length s.stack))
     (given : length results ≡ length (result_kinds (op_of item)))
     (advanced : Advances task.verified (op_of item) flag results (words_at task.rule item s) t u) where

@@ -24,7 +24,7 @@ use Rattle.job_steps.specs.Reached.{IsVerifiedTask, AreTyped, IsReached, Reaches
 use Rattle.job_steps.specs.StepLaws.{CanBegin, CanAdvance, StepsCanBegin, StepsCanAdvance}
 use Rattle.job_steps.specs.States.{Task, StackEntry, Active, State, stack_kinds, held_words, words_of}
 use Rattle.job_steps.specs.Steps.{Ending, next_item, sources_of, question_of, can_run, early_ending, held_at, words_at}
-use Rattle.job_steps.specs.Tracks.{Trace, IsAt, IsDeep, functions_of}
+use Rattle.job_steps.specs.Tracks.{TrackState, IsAt, IsDeep, functions_of}
 use Rattle.job_steps.proofs.Bounds.{Fits, fits, neither}
 use Rattle.job_steps.proofs.Following.{can_follow, same_length}
 use Rattle.job_steps.proofs.Held.{Has, has_itself, Agree, held_among}
@@ -45,7 +45,7 @@ runs_next signatures task n s v r call outer calls =
 -- ---- a step begins
 
 module _ {C : Type 0} (signatures : List Signature) (task : Task) (v : IsVerifiedTask signatures task) (n : ℕ)
-    (s : State) (t : Trace C) (at : IsAt task t s) (r : IsReached signatures task n s) where
+    (s : State) (t : TrackState C) (at : IsAt task t s) (r : IsReached signatures task n s) where
   begins : ((call : Active) (outer : List Active) → s.calls ≡ call ∷ outer →
       HaveKinds (source_kinds (op_of (next_item call).item)) (sources_of (next_item call).item s.stack)) →
       (calls : List Active) → s.calls ≡ calls → 1 ≤ length calls → CanBegin task n s t
@@ -124,7 +124,7 @@ sources_held Return stack most agree held needed = tops_held 0 stack most agree 
 -- ---- a step is asked, and the track advances
 
 module _ {C : Type 0} (signatures : List Signature) (task : Task) (v : IsVerifiedTask signatures task) (n : ℕ)
-    (s : State) (t : Trace C) (at : IsAt task t s) (r : IsReached signatures task n s) where
+    (s : State) (t : TrackState C) (at : IsAt task t s) (r : IsReached signatures task n s) where
   advances : IsUnspent task.limits.budget s (early_end_in task s s.calls) →
       (call : Active) (outer : List Active) → s.calls ≡ call ∷ outer →
       HaveKinds (source_kinds (op_of (next_item call).item)) (sources_of (next_item call).item s.stack) →

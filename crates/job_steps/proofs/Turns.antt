@@ -1,6 +1,6 @@
 -- Lists that are kept backwards.
 use Rattle.std.proofs.Common.{◌≡◌, ℕ, ◌+◌, ◌-◌, ◌≤◌, List, ◌++◌, length, take, drop, sym, ◌∙◌, ap}
-use Rattle.std.proofs.Common.{arith, append_assoc, length-append, length-drop, length-take-le}
+use Rattle.std.proofs.Common.{arith, append_assoc, drop-drop, length-drop, length-take-le}
 use Rattle.std.specs.Prelude.{reverse}
 use Rattle.std.proofs.lemmas.List.{reverse-append, reverse-reverse, length-reverse, take-append-drop, take_at, drop_at}
 use Rattle.vcode_base.specs.declared.op.StackMove.{StackMove}
@@ -104,15 +104,44 @@ module _ {E : Type 0} (xs : List E) (lower upper : ℕ) (there : lower + upper �
   pub turned : reverse (take below xs ++ (up ++ low)) ≡ stack_after_move MoveToTop lower upper (reverse xs)
   turned = moved_by MoveToTop
 
-  long_kept : length (take below xs ++ up) ≡ length xs - lower
-  long_kept = omega (arith, length-append (take below xs) up, long_up, length-take-le below xs (omega arith))
-
   -- and without them
-  pub popped : reverse (take (length xs - lower) (take below xs ++ (up ++ low)))
-      ≡ stack_after_move Pop lower upper (reverse xs)
-  popped =
-      ap (λ ys. reverse (take (length xs - lower) ys)) (sym (append_assoc (take below xs) up low))
-      ∙ (ap reverse (take_at (take below xs ++ up) low (length xs - lower) long_kept) ∙ moved_by Pop)
+  pub removed : reverse (take below xs ++ up) ≡ stack_after_move Pop lower upper (reverse xs)
+  removed = moved_by Pop
+
+-- the lower ones, copied after all and then taken out, are after the others
+module _ {E : Type 0} (xs : List E) (below lower : ℕ) (there : below + lower ≤ length xs) where
+  abbrev above : List E
+  above = drop below xs
+
+  abbrev front : List E
+  front = take lower above
+
+  long_front : length front ≡ lower
+  long_front = length-take-le lower above (omega (arith, length-drop below xs, there))
+
+  long_below : length (take below xs) ≡ below
+  long_below = length-take-le below xs (omega (arith, there))
+
+  copied_after : xs ++ front ≡ take below xs ++ (above ++ front)
+  copied_after =
+      ap (λ ys. ys ++ front) (sym (take-append-drop below xs)) ∙ append_assoc (take below xs) above front
+
+  parts_above : above ++ front ≡ front ++ (drop lower above ++ front)
+  parts_above =
+      ap (λ ys. ys ++ front) (sym (take-append-drop lower above)) ∙ append_assoc front (drop lower above) front
+
+  same_below : take below (xs ++ front) ≡ take below xs
+  same_below = ap (take below) copied_after ∙ take_at (take below xs) (above ++ front) below long_below
+
+  left_above : drop (below + lower) (xs ++ front) ≡ drop lower above ++ front
+  left_above =
+      sym (drop-drop lower below (xs ++ front))
+      ∙ (ap (drop lower) (ap (drop below) copied_after ∙ drop_at (take below xs) (above ++ front) below long_below)
+      ∙ (ap (drop lower) parts_above ∙ drop_at front (drop lower above ++ front) lower long_front))
+
+  pub turned_by_copy : take below (xs ++ front) ++ drop (below + lower) (xs ++ front)
+      ≡ take below xs ++ (drop lower above ++ front)
+  turned_by_copy = (λ k. same_below k ++ left_above k)
 
 -- ---- what a pile is then
 
@@ -159,15 +188,11 @@ module _ {E : Type 0} (old : PileState E) (xs ys : List E) (room : ℕ) (is : pi
         (ap reverse (h ∙ ap (λ n. take n xs ++ (drop lower (drop n xs) ++ take lower (drop n xs))) at)
         ∙ turned xs lower upper enough)
 
-    pub shifted_pop : (zs : List E) (n : ℕ) →
-        zs ≡ take place xs ++ (drop lower (drop place xs) ++ take lower (drop place xs)) →
-        n ≡ length xs - lower → ys ≡ take n zs →
+    pub shifted_pop : ys ≡ take place xs ++ drop (place + lower) xs →
         pile ys room ≡ record old { entries = stack_after_move Pop lower upper old.entries }
-    shifted_pop zs n h long k =
+    shifted_pop h =
         shifted_by Pop
         (ap reverse
-        (k ∙ (ap (take n) (h ∙ ap (λ m. take m xs ++ (drop lower (drop m xs) ++ take lower (drop m xs))) at)
-        ∙ ap (λ m. take m (take (length xs - (lower + upper)) xs
-        ++ (drop lower (drop (length xs - (lower + upper)) xs) ++ take lower (drop (length xs - (lower + upper)) xs))))
-        long))
-        ∙ popped xs lower upper enough)
+        (h ∙ (ap (λ zs. take place xs ++ zs) (sym (drop-drop lower place xs))
+        ∙ ap (λ n. take n xs ++ drop lower (drop n xs)) at))
+        ∙ removed xs lower upper enough)

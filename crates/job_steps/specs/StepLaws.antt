@@ -14,10 +14,10 @@ use Rattle.job_steps.specs.Runs.{state_after}
 use Rattle.job_steps.specs.States.{Task, Active, State, held_words}
 use Rattle.job_steps.specs.Steps.{Running, next_item, sources_of, words_at}
 use Rattle.job_steps.specs.Tickets.{CanAnswer, question_by}
-use Rattle.job_steps.specs.Tracks.{Trace, IsAt, IsDeep, CanFollow, functions_of}
+use Rattle.job_steps.specs.Tracks.{TrackState, IsAt, IsDeep, CanFollow, functions_of}
 
 -- Some call is active. The operands of its next instruction are there, of their kinds, within what the job may hold.
-pub record CanBegin {C : Type 0} (task : Task) (n : ℕ) (s : State) (t : Trace C) : Type 0 where
+pub record CanBegin {C : Type 0} (task : Task) (n : ℕ) (s : State) (t : TrackState C) : Type 0 where
   pub active : AreActive (functions_of task.verified) t.frames
   pub call : Active
   pub outer : List Active
@@ -34,10 +34,10 @@ pub record CanBegin {C : Type 0} (task : Task) (n : ℕ) (s : State) (t : Trace 
 abbrev pub StepsCanBegin : Type 0 → Type 0
 StepsCanBegin C =
     (signatures : List Signature) (task : Task) → IsVerifiedTask signatures task →
-    (n : ℕ) (s : State) (t : Trace C) → state_after task n ≡ Running s → IsAt task t s → CanBegin task n s t
+    (n : ℕ) (s : State) (t : TrackState C) → state_after task n ≡ Running s → IsAt task t s → CanBegin task n s t
 
 -- This instruction can be executed, and asked of any desk for as many words as the job may hold.
-pub record CanAdvance {C : Type 0} (task : Task) (s : State) (t : Trace C) (item : Item) : Type 0 where
+pub record CanAdvance {C : Type 0} (task : Task) (s : State) (t : TrackState C) (item : Item) : Type 0 where
   pub unspent : t.executed < t.limits.budget
   pub deep : IsDeep (op_of item) (length t.cells)
   pub cells : depth_after (op_of item) (length t.cells) ≤ t.limits.cells
@@ -52,5 +52,5 @@ pub record CanAdvance {C : Type 0} (task : Task) (s : State) (t : Trace C) (item
 abbrev pub StepsCanAdvance : Type 0 → Type 0
 StepsCanAdvance C =
     (signatures : List Signature) (task : Task) → IsVerifiedTask signatures task →
-    (n : ℕ) (s : State) (t : Trace C) → state_after task n ≡ Running s → IsAt task t s → early_end task s ≡ None →
+    (n : ℕ) (s : State) (t : TrackState C) → state_after task n ≡ Running s → IsAt task t s → early_end task s ≡ None →
     (call : Active) (outer : List Active) → s.calls ≡ call ∷ outer → CanAdvance task s t (next_item call).item

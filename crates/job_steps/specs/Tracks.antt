@@ -19,7 +19,7 @@ use Rattle.job_steps.specs.Steps.{words_at, progress_past}
 -- the limits; the cells, of which each names the vector of an entry, the top first; the frames, the innermost first;
 -- and
 -- what was used so far
-pub record Trace (C : Type 0) : Type 0 where
+pub record TrackState (C : Type 0) : Type 0 where
   pub limits : Limits
   pub cells : List C
   pub frames : List Frame
@@ -35,7 +35,7 @@ abbrev pub functions_of : TypedProgram → List Function
 functions_of verified = verified.program.functions
 
 -- nothing is done, within these limits, and the frames are at the first calls of the program
-pub record IsFirst {C : Type 0} (verified : TypedProgram) (within : Limits) (t : Trace C) : Type 0 where
+pub record IsFirst {C : Type 0} (verified : TypedProgram) (within : Limits) (t : TrackState C) : Type 0 where
   pub limits : t.limits ≡ within
   pub cells : t.cells ≡ []
   pub executed : t.executed ≡ 0
@@ -79,7 +79,7 @@ Follow verified flag old new =
 
 -- the instruction is executed, with these results and these words held and needed
 pub record Advances {C : Type 0} (verified : TypedProgram) (op : Op) (flag : Bool) (results : List C) (words : ℕ)
-    (old new : Trace C) : Type 0 where
+    (old new : TrackState C) : Type 0 where
   pub limits : new.limits ≡ old.limits
   pub cells : new.cells ≡ stack_after op results old.cells
   pub frames : Follow verified flag old.frames new.frames
@@ -89,7 +89,7 @@ pub record Advances {C : Type 0} (verified : TypedProgram) (op : Op) (flag : Boo
 -- ---- tracks and states
 
 -- the track is at the state of a running job, but for what its cells name
-pub record IsAt {C : Type 0} (task : Task) (t : Trace C) (s : State) : Type 0 where
+pub record IsAt {C : Type 0} (task : Task) (t : TrackState C) (s : State) : Type 0 where
   pub limits : t.limits ≡ task.limits
   pub cells : length t.cells ≡ length s.stack
   pub frames : StandAll (functions_of task.verified) t.frames s.calls
@@ -97,12 +97,12 @@ pub record IsAt {C : Type 0} (task : Task) (t : Trace C) (s : State) : Type 0 wh
   pub peak : t.peak ≡ s.peak
 
 -- the track is that of a job that has returned, after these instructions and with this peak
-pub record IsThrough {C : Type 0} (t : Trace C) (executed peak : ℕ) : Type 0 where
+pub record IsThrough {C : Type 0} (t : TrackState C) (executed peak : ℕ) : Type 0 where
   pub frames : t.frames ≡ []
   pub executed_is : t.executed ≡ executed
   pub peak_is : t.peak ≡ peak
 
-abbrev pub IsWhere : {C : Type 0} → Task → Trace C → Progress → Type 0
+abbrev pub IsWhere : {C : Type 0} → Task → TrackState C → Progress → Type 0
 IsWhere task t (Running s) = IsAt task t s
 IsWhere task t (Over ending executed peak) = IsThrough t executed peak
 IsWhere task t Stuck = ⊥
@@ -110,7 +110,7 @@ IsWhere task t Stuck = ⊥
 -- A track that is at a job's state, and is advanced by the job's next instruction, is at the job's state after it.
 abbrev pub EachTrackFollows : Type 0 → Type 0
 EachTrackFollows C =
-    (task : Task) (t u : Trace C) (s : State) (call : Active) (outer : List Active) (results : List C) →
+    (task : Task) (t u : TrackState C) (s : State) (call : Active) (outer : List Active) (results : List C) →
     IsAt task t s → s.calls ≡ call ∷ outer →
     IsDeep (op_of (next_item call).item) (length s.stack) →
     length results ≡ length (result_kinds (op_of (next_item call).item)) →

@@ -110,11 +110,7 @@ impl<T: Copy, A: Allocator> BoundedStack<T, A> {
         let below = self.entries.len() - (lower + upper);
         match motion {
             StackMove::Copy => copy_lower(&mut self.entries, below, lower),
-            StackMove::Pop => {
-                turn(&mut self.entries, below, lower);
-                let kept = self.entries.len() - lower;
-                self.entries.truncate(kept);
-            }
+            StackMove::Pop => remove_range(&mut self.entries, below, lower),
             StackMove::MoveToTop => turn(&mut self.entries, below, lower),
         }
     }
@@ -126,6 +122,7 @@ fn copy_lower<T: Copy, A: Allocator>(entries: &mut Vec<T, A>, below: usize, lowe
     requires there { below + lower ≤ vec_len entries.old }
     requires room { vec_len entries.old + lower ≤ vec_capacity entries.old }
     ensures items { entries.new.items ≡ entries.old.items ++ take lower (drop below entries.old.items) }
+    ensures len { vec_len entries.new ≡ vec_len entries.old + lower }
     ensures capacity { vec_capacity entries.old ≤ vec_capacity entries.new }
 {
     if lower == 1 {
@@ -138,20 +135,54 @@ fn copy_lower<T: Copy, A: Allocator>(entries: &mut Vec<T, A>, below: usize, lowe
     };
 }
 
+/// Takes out `count` entries from the place `below` on.
+#[inline(always)]
+fn remove_range<T: Copy, A: Allocator>(entries: &mut Vec<T, A>, below: usize, count: usize)
+    requires { below + count ≤ vec_len entries.old }
+    ensures items { entries.new.items ≡ take below entries.old.items ++ drop (below + count) entries.old.items }
+    ensures len { vec_len entries.new + count ≡ vec_len entries.old }
+    ensures capacity { vec_capacity entries.new ≡ vec_capacity entries.old }
+{
+    let len = entries.len();
+    entries
+        .as_mut_slice()
+        .copy_within(below + count..len, below);
+    entries.truncate(len - count);
+}
+
 /// Moves the first `lower` entries from the place `below` on after the others.
 #[inline(always)]
-fn turn<T, A: Allocator>(entries: &mut Vec<T, A>, below: usize, lower: usize)
+fn turn<T: Copy, A: Allocator>(entries: &mut Vec<T, A>, below: usize, lower: usize)
     requires { below + lower ≤ vec_len entries.old }
     ensures items { entries.new.items
         ≡ take below entries.old.items
         ++ (drop lower (drop below entries.old.items) ++ take lower (drop below entries.old.items)) }
     ensures len { vec_len entries.new ≡ vec_len entries.old }
-    ensures capacity { vec_capacity entries.new ≡ vec_capacity entries.old }
+    ensures capacity { vec_capacity entries.old ≤ vec_capacity entries.new }
 {
     if lower == 1 {
         let entry = entries.remove(below);
         entries.push_reserved(entry);
         return;
     }
+    if lower <= entries.capacity() - entries.len() {
+        turn_by_copy(entries, below, lower);
+        return;
+    }
     entries[below..].rotate_left(lower);
+}
+
+/// The same, through the room after all entries.
+#[inline(always)]
+fn turn_by_copy<T: Copy, A: Allocator>(entries: &mut Vec<T, A>, below: usize, lower: usize)
+    requires there { below + lower ≤ vec_len entries.old }
+    requires room { vec_len entries.old + lower ≤ vec_capacity entries.old }
+    ensures items { entries.new.items
+        ≡ take below entries.old.items
+        ++ (drop lower (drop below entries.old.items) ++ take lower (drop below entries.old.items)) }
+    ensures len { vec_len entries.new ≡ vec_len entries.old }
+    ensures capacity { vec_capacity entries.old ≤ vec_capacity entries.new }
+{
+    copy_lower(entries, below, lower);
+    remove_range(entries, below, lower);
 }

@@ -34,12 +34,17 @@ pub struct Track<C, A: Allocator> {
 }
 
 impl<C, A: Allocator> Model for Track<C, A> {
-    ghost use Rattle.job_steps.specs.Tracks.{Trace, HasLimits};
+    ghost use Rattle.job_steps.specs.Tracks.{TrackState, HasLimits};
 
-    ghost Value = { Trace C };
+    ghost Value = { TrackState C };
 
-    ghost view = { λ t. record
-        { limits = t.limits; cells = t.cells.entries; frames = t.frames.entries; executed = t.executed; peak = t.peak } };
+    ghost view = { λ t. record {
+      limits = t.limits;
+      cells = t.cells.entries;
+      frames = t.frames.entries;
+      executed = t.executed;
+      peak = t.peak;
+    } };
 
     ghost invariant = { λ t. HasLimits t.limits t.cells.room t.frames.room };
 }

@@ -1,7 +1,7 @@
 use Rattle.std.proofs.Common.{◌≡◌, ℕ, Some, sym, ◌∙◌, ap, subst}
 use Rattle.vcode_base.specs.Meaning.{value_fault}
 use Rattle.job_steps.specs.States.{ruled}
-use Rattle.job_steps.specs.Tracks.{Trace}
+use Rattle.job_steps.specs.Tracks.{TrackState}
 use Rattle.job_slots.specs.InPlace.{IsPlaceable, operands_in}
 use Rattle.job_slots.specs.Slots.{SlotState}
 use Rattle.job_slots.proofs.Committed.{IsCommitted, executed_inside, committed}
@@ -42,7 +42,7 @@ returns-in-Ok-clause-shows g c = (carried g (goal.at.returns-in-Ok-clause-shows 
 pub returns-in-Err-clause-unchanged : goal.returns-in-Err-clause-unchanged
 returns-in-Err-clause-unchanged g c =
     let same = c.in-Err.ensures.unchanged in (
-      ap (λ (t : Trace ℕ). let s : SlotState = record {
+      ap (λ (t : TrackState ℕ). let s : SlotState = record {
         status = c.self.inside.status;
         trace = t;
         outcome = c.self.inside.outcome;

@@ -19,11 +19,9 @@ returns-in-Pop g c =
     let xs = i.entries.items in
     let at : c.len.result - (c.args.lower + c.args.upper) ≡ length xs - (c.args.lower + c.args.upper) =
     omega (arith, c.len.ensures) in
-    let kept : c.len-in-Pop.result - c.args.lower ≡ length xs - c.args.lower =
-    omega (arith, c.len-in-Pop.ensures, c.turn.ensures.len) in
-    let whole = shifted_pop c.args.self.now xs c.truncate.new.self.items i.room c.self.view_is
+    let whole = shifted_pop c.args.self.now xs c.remove_range.new.entries.items i.room c.self.view_is
     c.args.lower c.args.upper (c.len.result - (c.args.lower + c.args.upper)) c.requires.there at
-    c.turn.new.entries.items (c.len-in-Pop.result - c.args.lower) c.turn.ensures.items kept c.truncate.ensures.items in
+    c.remove_range.ensures.items in
     rw c.in-Pop.is whole
 
 pub returns-in-MoveToTop : goal.returns-in-MoveToTop
@@ -32,7 +30,7 @@ returns-in-MoveToTop g c =
     let xs = i.entries.items in
     let at : c.len.result - (c.args.lower + c.args.upper) ≡ length xs - (c.args.lower + c.args.upper) =
     omega (arith, c.len.ensures) in
-    let whole = shifted_top c.args.self.now xs c.turn-in-MoveToTop.new.entries.items i.room c.self.view_is
+    let whole = shifted_top c.args.self.now xs c.turn.new.entries.items i.room c.self.view_is
     c.args.lower c.args.upper (c.len.result - (c.args.lower + c.args.upper)) c.requires.there at
-    c.turn-in-MoveToTop.ensures.items in
+    c.turn.ensures.items in
     rw c.in-MoveToTop.is whole

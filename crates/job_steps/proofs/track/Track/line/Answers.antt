@@ -2,7 +2,7 @@ use Rattle.std.proofs.Common.{◌≡◌, ◌∙◌, List, Some, ap, sym}
 use Rattle.std.specs.Prelude.{slice_get}
 use Rattle.job_steps.specs.declared.frame.Frame.{Frame}
 use Rattle.job_steps.specs.Frames.{instruction_of}
-use Rattle.job_steps.specs.Tracks.{Trace}
+use Rattle.job_steps.specs.Tracks.{TrackState}
 use Rattle.job_steps.proofs.Following.{top_frame}
 use Rattle.job_steps.proofs.Standing.{next_item_is}
 use Rattle.job_steps.proofs.track.Track.line.Goals as goal
@@ -10,7 +10,7 @@ use Rattle.job_steps.proofs.track.Track.line.Goals as goal
 pub line-requires : goal.line-requires
 line-requires g c =
     let frames : c.self.inside.frames.entries ≡ c.args.self.now.frames =
-    ap (λ (t : Trace g.row.C.Denot). t.frames) c.self.view_is in
+    ap (λ (t : TrackState g.row.C.Denot). t.frames) c.self.view_is in
     let top : slice_get c.args.self.now.frames 0 ≡ Some c.at.result =
     ap (λ (xs : List Frame). slice_get xs 0) (sym frames) ∙ c.at.ensures in
     let r = c.requires in
@@ -19,7 +19,7 @@ line-requires g c =
 pub returns-clause-line : goal.returns-clause-line
 returns-clause-line g c = λ call outer s.
     let frames : c.self.inside.frames.entries ≡ c.args.self.now.frames =
-    ap (λ (t : Trace g.row.C.Denot). t.frames) c.self.view_is in
+    ap (λ (t : TrackState g.row.C.Denot). t.frames) c.self.view_is in
     let top : slice_get c.args.self.now.frames 0 ≡ Some c.at.result =
     ap (λ (xs : List Frame). slice_get xs 0) (sym frames) ∙ c.at.ensures in
     c.line.ensures call
@@ -28,7 +28,7 @@ returns-clause-line g c = λ call outer s.
 pub returns-clause-item : goal.returns-clause-item
 returns-clause-item g c = λ call outer s.
     let frames : c.self.inside.frames.entries ≡ c.args.self.now.frames =
-    ap (λ (t : Trace g.row.C.Denot). t.frames) c.self.view_is in
+    ap (λ (t : TrackState g.row.C.Denot). t.frames) c.self.view_is in
     let top : slice_get c.args.self.now.frames 0 ≡ Some c.at.result =
     ap (λ (xs : List Frame). slice_get xs 0) (sym frames) ∙ c.at.ensures in
     let line = c.line.ensures call
