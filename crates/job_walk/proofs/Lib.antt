@@ -1,0 +1,3 @@
+pub mod First
+pub mod Turns
+pub mod Shown
