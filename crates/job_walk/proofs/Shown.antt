@@ -1,6 +1,6 @@
 -- What a run keeps, in the words of its job's progress.
-use Rattle.std.proofs.Common.{◌≡◌, ℕ, ℤ, suc, zero, ◌+◌, ◌-◌, ◌<◌, ◌≤◌, Bool, true, false, List, [], ◌∷◌, length, map}
-use Rattle.std.proofs.Common.{Option, Some, None, slice_get, refl, sym, ◌∙◌, ap, subst, arith}
+use Rattle.std.proofs.Common.{◌≡◌, ℕ, ℤ, suc, zero, Bool, true, List, [], ◌∷◌, length, map}
+use Rattle.std.proofs.Common.{Option, Some, slice_get, refl, sym, ◌∙◌, ap, subst, arith}
 use Rattle.std.proofs.lemmas.Bool.{false≢true}
 use Rattle.std.proofs.lemmas.List.Elements.{All-head, All-tail}
 use Rattle.std.proofs.lemmas.Option.{none-some, same_Some}
@@ -9,12 +9,11 @@ use Rattle.refcounts.specs.SharedState.{Slot, slot_at}
 use Rattle.job_memory.specs.JobBlocks.{JobBlocks, own_slots}
 use Rattle.job_steps.specs.Frames.{StandAll, next_line}
 use Rattle.job_steps.specs.LeastLimits.{calls_in}
-use Rattle.job_steps.specs.Runs.{state_after}
 use Rattle.job_steps.specs.Standings as standing
 use Rattle.job_steps.specs.Standings.{Standing, held_in, held_by}
 use Rattle.job_steps.specs.StepLaws.{CanBegin, StepsCanBegin}
-use Rattle.job_steps.specs.States.{Task, Active, StackEntry, State}
-use Rattle.job_steps.specs.Steps.{Ending, Progress, Running, Over}
+use Rattle.job_steps.specs.States.{Task, Active, StackEntry}
+use Rattle.job_steps.specs.Steps.{Ending, Progress, Running}
 use Rattle.job_steps.specs.Tracks.{Trace, functions_of}
 use Rattle.job_steps.specs.declared.frame.Frame.{Frame}
 use Rattle.vcode_reader.specs.Trees.{Function}

@@ -1,9 +1,8 @@
 -- What a step in one go makes of a run.
-use Rattle.std.proofs.Common.{add-one, List, ◌≡◌, ◌≢◌, ℕ, suc, ◌+◌, ◌<◌, ◌≤◌, Bool, true, false, cond, length, Option, Some, None}
+use Rattle.std.proofs.Common.{add-one, List, ◌≡◌, ℕ, ◌+◌, ◌≤◌, Bool, true, false, cond, length, Option, Some, None}
 use Rattle.std.proofs.Common.{is_some, refl, sym, ◌∙◌, ap, subst, arith}
 use Rattle.std.specs.Prelude.{sum_by, nat_lt}
 use Rattle.std.proofs.lemmas.Bool.{false≢true}
-use Rattle.vcode_base.specs.declared.outcome.Outcome.{Outcome}
 use Rattle.refcounts.specs.SharedState.{Slot, block_count, blocks_in, IsTidy}
 use Rattle.job_memory.specs.JobBlocks.{JobBlocks, ChangesOnlyOf, own_slots}
 use Rattle.job_steps.specs.declared.event.Event.TheVariants.{Begin, Finish}
@@ -21,7 +20,7 @@ use Rattle.job_slots.specs.declared.status.Status.{Status}
 use Rattle.job_slots.specs.declared.status.Status.TheVariants.{Waiting, Live, InFlight, Ended, Collected}
 use Rattle.job_slots.specs.Answers.{Steps, is_live, or_same, after_stepped, standing_after_step}
 use Rattle.job_slots.specs.Laws.{ShownIsAlone}
-use Rattle.job_slots.specs.Slots.{SlotState, Shows, ShowsAs, IsRunningSlot, standing_of, standing_by}
+use Rattle.job_slots.specs.Slots.{SlotState, Shows, ShowsAs, standing_of, standing_by}
 use Rattle.job_walk.specs.Sound.{IsSound, IsAdmitted, run_by}
 use Rattle.job_walk.specs.Walks.{RunState, HasCome, goes_on, progress_at, progress_of}
 

@@ -6,9 +6,9 @@ use Rattle.vcode_base.specs.declared.rule.Rule.{Rule}
 use Rattle.vcode_reader.specs.Trees.{CodeLine}
 use Rattle.job_steps.specs.declared.frame.Frame.{Frame}
 use Rattle.job_steps.specs.Frames.{StandAll, next_line}
-use Rattle.job_steps.specs.Runs.{state_after, progress_from, outcome, executed_count, peak}
+use Rattle.job_steps.specs.Runs.{state_after, outcome, executed_count, peak}
 use Rattle.job_steps.specs.Standings.{Standing, Waiting, Live, InFlight, Ended, Collected, outcome_at}
-use Rattle.job_steps.specs.States.{JobValue, Task, Active, StackEntry, State, ruled, words_of}
+use Rattle.job_steps.specs.States.{JobValue, Task, Active, StackEntry, ruled, words_of}
 use Rattle.job_steps.specs.Steps.{Ending, Progress, Running, Over, Stuck}
 use Rattle.job_steps.specs.Tracks.{functions_of}
 

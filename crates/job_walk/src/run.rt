@@ -1,12 +1,10 @@
 //! The run of one job, in one go.
 
-ghost use Rattle.std.specs.Prelude.{◌≡◌, ◌+◌, ◌≤◌, ◌↔◌, length, IsTrue, IfOk, OnOk, OnErr, Some, option_copied};
-ghost use Rattle.std.specs.Prelude.{slice_get};
+ghost use Rattle.std.specs.Prelude.{◌≡◌, ◌↔◌, IsTrue, IfOk, OnOk, OnErr, option_copied, slice_get};
 ghost use Rattle.job_steps.specs.LeastLimits.{cells_in, calls_in};
 ghost use Rattle.job_steps.specs.Runs.{executed_count_in, peak_in, progress_from};
 ghost use Rattle.job_steps.specs.Standings.{held_in};
 ghost use Rattle.job_steps.specs.States.{ruled};
-ghost use Rattle.job_slots.specs.Slots.{Shows};
 ghost use Rattle.job_walk.specs.Walks.{AreSame, HasCome, StandAt, ending_at, ending_of, first_run, goes_on};
 ghost use Rattle.job_walk.specs.Walks.{lists_in, next_line_in, progress_of, tags_in};
 
@@ -14,7 +12,7 @@ use block_memory::BlockId;
 use job_memory::JobMemory;
 use job_slots::laws::{new_is_shown, shown_are_live, shown_are_reached, shown_is_alone};
 use job_slots::{Slot, Status};
-use job_steps::laws::{each_ends, ended_are_over, reached, steps_can_begin};
+use job_steps::laws::{ended_are_over, steps_can_begin};
 use job_steps::{Desk, Frame, Job};
 use std::alloc::{AllocError, Allocator};
 use std::marker::Model;
@@ -106,7 +104,6 @@ impl<A: Allocator> Run<A> {
     {
         shown_is_alone();
         ended_are_over();
-        each_ends();
         let _used = self.blocks.used();
         let _stepped = self.slot.step(
             self.rule,

@@ -1,4 +1,4 @@
-use Rattle.std.proofs.Common.{ℕ, ◌+◌, sym, ◌∙◌, ap, arith}
+use Rattle.std.proofs.Common.{◌+◌, ap, arith}
 use Rattle.vcode_base.specs.declared.limits.Limits.{Limits}
 use Rattle.job_steps.specs.States.{ruled}
 use Rattle.job_walk.proofs.First.{first_shows, first_sound}
