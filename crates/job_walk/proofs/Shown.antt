@@ -14,7 +14,7 @@ use Rattle.job_steps.specs.Standings.{Standing, held_in, held_by}
 use Rattle.job_steps.specs.StepLaws.{CanBegin, StepsCanBegin}
 use Rattle.job_steps.specs.States.{Task, Active, StackEntry}
 use Rattle.job_steps.specs.Steps.{Ending, Progress, Running}
-use Rattle.job_steps.specs.Tracks.{Trace, functions_of}
+use Rattle.job_steps.specs.Tracks.{TrackState, functions_of}
 use Rattle.job_steps.specs.declared.frame.Frame.{Frame}
 use Rattle.vcode_reader.specs.Trees.{Function}
 use Rattle.job_slots.specs.declared.status.Status.{Status}
@@ -27,11 +27,11 @@ use Rattle.job_walk.specs.Walks.{AreSame, RunState, first_next_line, goes_on, li
 use Rattle.job_walk.specs.Walks.{progress_at, progress_of, tags_in, tags_of}
 
 -- the job goes on from a state that the slot shows
-pub record IsRunningAt (slots : List Slot) (task : Task) (t : Trace ℕ) (p : Progress) : Type 0 where
+pub record IsRunningAt (slots : List Slot) (task : Task) (t : TrackState ℕ) (p : Progress) : Type 0 where
   pub run : IsRunningSlot slots task t
   pub progress : p ≡ Running run.state
 
-running_as : (slots : List Slot) (task : Task) (t : Trace ℕ) (o : Option Ending) (s : Status) →
+running_as : (slots : List Slot) (task : Task) (t : TrackState ℕ) (o : Option Ending) (s : Status) →
     ShowsAs slots task t o s → IsAdmitted (standing_by s t.executed) →
     goes_on (progress_at task (standing_by s t.executed)) ≡ true →
     IsRunningAt slots task t (progress_at task (standing_by s t.executed))

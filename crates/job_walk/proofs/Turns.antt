@@ -13,7 +13,7 @@ use Rattle.job_steps.specs.Standings as standing
 use Rattle.job_steps.specs.Standings.{Standing}
 use Rattle.job_steps.specs.States.{Task, State}
 use Rattle.job_steps.specs.Steps.{Ending, Progress, Running, Over}
-use Rattle.job_steps.specs.Tracks.{Trace}
+use Rattle.job_steps.specs.Tracks.{TrackState}
 use Rattle.job_slots.specs.declared.answer.Stepped.{Stepped}
 use Rattle.job_slots.specs.declared.answer.Stepped.TheVariants as stepped
 use Rattle.job_slots.specs.declared.status.Status.{Status}
@@ -98,7 +98,7 @@ idle_as task (standing.InFlight n) a e = absurd a
 idle_as task standing.Ended a e = refl
 idle_as task standing.Collected a e = refl
 
-running_as : (number : ℕ) (slots : List Slot) (task : Task) (t : Trace ℕ) (o : Option Ending) (s : Status) (n : ℕ) →
+running_as : (number : ℕ) (slots : List Slot) (task : Task) (t : TrackState ℕ) (o : Option Ending) (s : Status) (n : ℕ) →
     ShowsAs slots task t o s → standing_by s t.executed ≡ standing.Live n →
     (state : State) × (state_after task n ≡ Running state)
 running_as number slots task t o Waiting n h e = cc
