@@ -98,8 +98,8 @@ idle_as task (standing.InFlight n) a e = absurd a
 idle_as task standing.Ended a e = refl
 idle_as task standing.Collected a e = refl
 
-running_as : (number : ℕ) (slots : List Slot) (task : Task) (t : TrackState ℕ) (o : Option Ending) (s : Status) (n : ℕ) →
-    ShowsAs slots task t o s → standing_by s t.executed ≡ standing.Live n →
+running_as : (number : ℕ) (slots : List Slot) (task : Task) (t : TrackState ℕ) (o : Option Ending) (s : Status)
+    (n : ℕ) → ShowsAs slots task t o s → standing_by s t.executed ≡ standing.Live n →
     (state : State) × (state_after task n ≡ Running state)
 running_as number slots task t o Waiting n h e = cc
 running_as number slots task t o Live n h e =
