@@ -14,7 +14,8 @@
 # make check CRATE=name   proves one crate and runs its tests
 # make bench   times reading, the steps of jobs, workers, the instructions beside plain C, the memory, and the verifier; no test
 # make soak    runs batches on 1 to 16 workers for an hour, and stops at the first report that differs; not in the gate
-# make models  compares the programs with a second writing of the rules, in Python, on random cases; not in the gate
+# make models  compares the programs with a second writing of the rules, in Python, on random cases, and those of make packing
+#              and make kinds on files of strangers and on the codes of all examples; not in the gate
 # make hostile MINUTES=60   runs batches that were changed at random for so many minutes, and compares each report with the
 #              second writing, its memory with the sum in docs/OPERATING.md, and its time with its limits; not in the gate
 
@@ -91,9 +92,11 @@ soak: all
 hostile: all
 	python3 models/hostile.py $(MINUTES)
 
-models: all
+models: all packing kinds
 	.ci/prove worked_texts worked_vectors worked_regions worked_machine
 	python3 models/examples.py
+	python3 models/packing.py bin/vjobs bin/vjobs-pack bin/vjobs-split
+	python3 models/signatures.py bin/vjobs-kinds
 	python3 models/compare.py
 
 clean:
