@@ -3,6 +3,8 @@
 # make run     runs the example sum_of_two
 # make packing the programs around it, proved: bin/vjobs-pack and bin/vjobs-split
 # make kinds   the program that finds signatures, proved: bin/vjobs-kinds
+# make embed   the library for programs in other languages, proved: bin/libvjobs.a and bin/libvjobs.so; and compares what
+#              the programs of embed/, in C, Python and Rust, print for the examples with their reports
 # make cluster runs job files of strangers by vjobs-spread on a Slurm of three nodes and by GNU parallel, with faults: by the
 #              programs of bin, or of the folder VJOBS_PROGRAMS; as root it installs the packages if they are missing
 # make cluster-hard   does so with 1,000 files, cut cables, dead hosts and killed daemons, as root; not in the gate
@@ -15,11 +17,13 @@
 # make fast CRATE=name   builds a program unproved and optimised, at bin/unproved/name, to measure a form before it is proved
 # make bench   times reading, the steps of jobs, workers, the instructions beside plain C, the memory, and the verifier; no test
 # make soak    runs batches on 1 to 16 workers for an hour, and stops at the first report that differs; not in the gate
-# make models  compares the programs with a second writing of the rules, in Python, on random cases; not in the gate
+# make models  compares the programs with a second writing of the rules, in Python, on random cases, and those of make packing
+#              and make kinds on files of strangers and on the codes of all examples; not in the gate
 # make hostile MINUTES=60   runs batches that were changed at random for so many minutes, and compares each report with the
 #              second writing, its memory with the sum in docs/OPERATING.md, and its time with its limits; not in the gate
 
-.PHONY: all try run packing kinds fast cluster cluster-hard test gate install dist names check bench soak hostile models clean
+.PHONY: all try run packing kinds embed fast cluster cluster-hard test gate install dist names check bench soak hostile
+.PHONY: models clean
 
 PREFIX = /usr/local
 MINUTES = 60
@@ -48,6 +52,10 @@ kinds:
 	.ci/prove vjobs_kinds
 	mkdir -p bin
 	cp crates/vjobs_kinds/out/vjobs_kinds bin/vjobs-kinds
+
+embed:
+	.ci/prove vjobs_embed
+	.ci/embed
 
 cluster:
 	.ci/cluster
@@ -96,9 +104,11 @@ soak: all
 hostile: all
 	python3 models/hostile.py $(MINUTES)
 
-models: all
+models: all packing kinds
 	.ci/prove worked_texts worked_vectors worked_regions worked_machine
 	python3 models/examples.py
+	python3 models/packing.py bin/vjobs bin/vjobs-pack bin/vjobs-split
+	python3 models/signatures.py bin/vjobs-kinds
 	python3 models/compare.py
 
 clean:

@@ -2,10 +2,9 @@
 #![tactic(auto)]
 
 mod manifest;
-mod report;
 
 use manifest::{Owner, owners_in};
-use report::{Cut, cut_job};
+use report_splitter::{CutFault, cut_job};
 use std::io::Read;
 use std::process::ExitCode;
 use std::{env, fs, io};
@@ -19,9 +18,11 @@ enum Ending {
     /// Every owner has a report.
     AllWritten,
     /// The report breaks off after this number of jobs.
-    BrokenOff(usize),
+    BrokenOff(u64),
     /// The report is none of this batch.
     OtherBatch,
+    /// Memory was refused.
+    Memory,
 }
 
 /// Everything that standard input has.
@@ -40,22 +41,24 @@ fn read_input(rt: &HostRuntime) -> io::Result<Vec<u8>> {
 }
 
 /// Writes the report of an owner's job.
-fn write_report(rt: &HostRuntime, owner: &Owner<'_>, text: &str) -> io::Result<()> {
+fn write_report(rt: &HostRuntime, owner: &Owner<'_>, report: &[u8]) -> io::Result<()> {
     let path = format!(in rt.alloc(); "{}.report", owner.file)?;
-    fs::write(rt, path.as_str(), text)
+    fs::write(rt, path.as_str(), report)
 }
 
 /// Cuts a report at its jobs and writes each to its owner's file, as far as the report goes.
-fn split(rt: &HostRuntime, owners: &[Owner<'_>], report: &str) -> io::Result<Ending> {
+fn split(rt: &HostRuntime, owners: &[Owner<'_>], report: &[u8]) -> io::Result<Ending> {
+    let jobs = owners.len() as u64;
     let mut rest = report;
-    for (i, owner) in owners.iter().enumerate() {
-        match cut_job(rt.alloc(), rest, i, owners.len(), owner.first_line)? {
-            Cut::Job(text, behind) => {
-                write_report(rt, owner, text.as_str())?;
-                rest = behind;
+    for (before, owner) in (0u64..).zip(owners) {
+        match cut_job(rt.alloc(), rest, before + 1, jobs, owner.first_line) {
+            Ok(cut) => {
+                write_report(rt, owner, &cut.report)?;
+                rest = cut.rest;
             }
-            Cut::BrokenOff => return Ok(Ending::BrokenOff(i)),
-            Cut::Other => return Ok(Ending::OtherBatch),
+            Err(CutFault::BrokenOff) => return Ok(Ending::BrokenOff(before)),
+            Err(CutFault::OtherBatch) => return Ok(Ending::OtherBatch),
+            Err(CutFault::Memory) => return Ok(Ending::Memory),
         }
     }
     Ok(Ending::AllWritten)
@@ -68,12 +71,8 @@ fn run(rt: &HostRuntime, manifest: &str) -> io::Result<u8> {
         eprintln!(rt; "vjobs-split: the manifest is none")?;
         return Ok(2);
     };
-    let input = read_input(rt)?;
-    let Ok(report) = str::from_utf8(&input) else {
-        eprintln!(rt; "vjobs-split: the report is none of this batch")?;
-        return Ok(1);
-    };
-    match split(rt, &owners, report)? {
+    let report = read_input(rt)?;
+    match split(rt, &owners, &report)? {
         Ending::AllWritten => Ok(0),
         Ending::BrokenOff(count) => {
             eprintln!(rt; "vjobs-split: the report breaks off after {count} jobs")?;
@@ -82,6 +81,10 @@ fn run(rt: &HostRuntime, manifest: &str) -> io::Result<u8> {
         Ending::OtherBatch => {
             eprintln!(rt; "vjobs-split: the report is none of this batch")?;
             Ok(1)
+        }
+        Ending::Memory => {
+            eprintln!(rt; "vjobs-split: out of memory")?;
+            Ok(3)
         }
     }
 }

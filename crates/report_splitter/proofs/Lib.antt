@@ -1,0 +1,3 @@
+mod FrontLemmas
+mod EntryLemmas
+mod CutLemmas

@@ -1,0 +1,14 @@
+-- The lines of an entry after what begins its first, and the line after them.
+use Rattle.std.specs.Prelude.{◌≡◌, ◌≢◌, ◌<◌, ℕ, List, ◌∷◌, ◌++◌, All, codes, length, slice_index}
+use Rattle.memchr.specs.Find.{OccursAt}
+
+-- these lines end with an LF, and none after the first begins with this head, which is a part of one line
+pub record IsTail (tail head : List ℕ) : Type 0 where
+  pub one_line : All (λ byte. byte ≢ 10) head
+  pub lines : List ℕ
+  pub last_feed : tail ≡ lines ++ codes "\n"
+  pub no_next : (at : ℕ) → OccursAt tail (10 ∷ head) at → ⊥
+
+-- a text has an LF
+abbrev pub HasFeed : List ℕ → Type 0
+HasFeed text = (at : ℕ) × (at < length text) × (slice_index text at ≡ 10)
