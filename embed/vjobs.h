@@ -23,7 +23,7 @@ enum vjobs_answer {
 /* The most words of a region. */
 #define VJOBS_MOST_WORDS 1048576
 
-/* Runs a batch of len bytes over a region of so many words, and writes its report to the front of out.
+/* Runs a batch of len bytes over a region of `region` words, and writes its report to the front of out.
 
    The answer is one of enum vjobs_answer. *needed becomes the length of the report, and 0 if there is none. At 0, 1 and
    2 the first *needed bytes of out are the report, which has no NUL after it. The other bytes of out are as before; at

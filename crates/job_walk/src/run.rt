@@ -25,7 +25,7 @@ const ONLY_JOB: usize = 1;
 /// The run of a job alone, as far as it has come.
 ///
 /// In a contract it is the job and its standing, from which its progress follows as `job_steps` defines it. A run is a
-/// function of its job: a run that is made anew comes to the same states.
+/// function of its job: a run that is made anew goes through the same states.
 #[derive(Drop)]
 pub struct Run<A: Allocator> {
     rule: Rule,

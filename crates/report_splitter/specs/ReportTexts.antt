@@ -38,14 +38,14 @@ entry_text place entry = head_text place ++ tail_text entry
 
 -- ---- reports
 
--- what begins the last line of a report on so many jobs
+-- what begins the last line of a report on this number of jobs
 unfoldable pub last_head : ℕ → List ℕ
 last_head jobs = codes "END " ++ (decimal jobs ++ codes " jobs ")
 
 abbrev pub last_line : ℕ → ℕ → List ℕ
 last_line jobs refused = last_head jobs ++ (decimal refused ++ codes " refused\n")
 
--- a report on so many jobs from the entry at this place on
+-- a report on this number of jobs, from the entry at this place on
 abbrev pub report_from : ℕ → ℕ → ℕ → List EntryText → List ℕ
 report_from place jobs refused [] = last_line jobs refused
 report_from place jobs refused (entry ∷ entries) =

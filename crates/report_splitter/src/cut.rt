@@ -102,8 +102,8 @@ fn cut_of<'a, A: Allocator>(
     }
 }
 
-/// Cuts the entry of the job at this place off the front of a batch's report on so many jobs, and makes it the report
-/// of the job's own file, which begins at this line of the batch.
+/// Cuts the entry of the job at this place off the front of a batch's report on `jobs` jobs, and makes it the report of
+/// the job's own file, which begins at this line of the batch.
 ///
 /// Places and lines are counted from 1. The entry is found by its place; the name in it decides nothing.
 ///

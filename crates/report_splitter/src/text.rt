@@ -39,7 +39,7 @@ pub(crate) fn put_end<A: Allocator>(
     put_number(text, end.line)
 }
 
-/// Puts what begins the last line of a report on so many jobs.
+/// Puts what begins the last line of a report on `jobs` jobs.
 #[tactic(auto, unfolding(crate::specs::ReportTexts::last_head))]
 fn put_last_head<A: Allocator>(text: &mut Vec<u8, A>, jobs: u64) -> Result<(), AllocError>
     ensures { OnOk result (text.new.items ≡ text.old.items ++ last_head jobs) }

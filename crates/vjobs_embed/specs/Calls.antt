@@ -5,7 +5,7 @@ use Rattle.batch_front.specs.declared.status.Status.{Status}
 use Rattle.batch_front.specs.Exits.{exit_of}
 use Rattle.vjobs_embed.specs.declared.TheConstants.{TOO_SMALL}
 
--- a region can have so many words
+-- a region can have this number of words
 abbrev pub IsRegion : ℕ → Type 0
 IsRegion region = (1 ≤ region) × (region ≤ MOST_WORDS)
 

@@ -22,10 +22,10 @@ const NO_MEMORY: u32 = 3;
 /// The answer if the report is longer than the buffer.
 const TOO_SMALL: u32 = 4;
 
-/// The answer if a region can't have so many words.
+/// The answer if a region can't have this number of words.
 const BAD_REGION: u32 = 5;
 
-/// Runs a batch over a region of so many words, on the calling thread, and writes its report to the front of a buffer.
+/// Runs a batch over a region of `region` words, on the calling thread, and writes its report to the front of a buffer.
 ///
 /// `needed` becomes the length of the report, and 0 if there is none. The answer is
 ///
