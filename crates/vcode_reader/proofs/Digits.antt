@@ -20,9 +20,10 @@ use Rattle.std.proofs.Common.{
   Some,
 }
 use Rattle.std.proofs.Common.{None, cond, length, refl, arith, ap, ◌∙◌}
-use Rattle.std.specs.Prelude.{nat_le, nat_lt}
+use Rattle.std.specs.Prelude.{Ok, nat_le, nat_lt}
 use Rattle.std.proofs.lemmas.Bool.Decides.{nat_tests}
-use Rattle.vcode_reader.specs.Numbers.{digits_from, decimal, below}
+use Rattle.vcode_reader.specs.Numbers.{digits_from, decimal, below, natural_of, number_of}
+use Rattle.vcode_reader.specs.Parsing.{count_in}
 
 pub decimal_is : (s : List ℕ) → 0 < length s → decimal s ≡ digits_from 0 s
 decimal_is [] h = absurd (omega arith)
@@ -96,3 +97,10 @@ with_digit n c d s rest e low high same =
     let is_low : nat_le 48 c ≡ true = grind (arith, nat_tests) in
     let is_high : nat_lt c 58 ≡ true = grind (arith, nat_tests) in
     ap (digits_from n) e ∙ rw (is_low, is_high, same) refl
+
+-- ---- a digit as a count
+
+-- one digit is a count, of its value
+pub count_digit : (d : ℕ) → 48 ≤ d → d ≤ 57 → count_in (natural_of (d ∷ [])) (d ∷ []) ≡ Ok (d - 48)
+unfolding natural_of number_of
+count_digit d low high = grind (arith, nat_tests)

@@ -1,11 +1,12 @@
 -- Words that lie whole in a piece.
-use Rattle.std.proofs.Common.{◌≡◌, ◌∙◌, ℕ, suc, ◌+◌, ◌==◌, ◌<◌, ◌≤◌, true, false, List, [], ◌∷◌, ◌++◌, Some, None, refl}
-use Rattle.std.proofs.Common.{arith, ap, sym, length, take, drop, get_or, append_assoc}
-use Rattle.std.specs.Prelude.{if◌then◌else◌, Option, is_some}
+use Rattle.std.proofs.Common.{◌≡◌, ◌∙◌, ℕ, zero, suc, ◌+◌, ◌==◌, ◌<◌, ◌≤◌, true, false, List, [], ◌∷◌, ◌++◌, Some, None}
+use Rattle.std.proofs.Common.{refl, arith, ap, sym, length, take, drop, get_or, append_assoc}
+use Rattle.std.specs.Prelude.{if◌then◌else◌, Option, codes, is_some}
 use Rattle.std.proofs.lemmas.Bool.Decides.{nat_tests}
 use Rattle.vcode_reader.specs.declared.class.Class.{Class}
 use Rattle.vcode_reader.specs.declared.class.Class.TheVariants.{LineFeed, Blank, OpenBrace, CloseBrace, Parenthesis}
 use Rattle.vcode_reader.specs.declared.class.Class.TheVariants.{Plain, Refused}
+use Rattle.vcode_reader.specs.Ahead.{HasWord}
 use Rattle.vcode_reader.specs.Classes.{class_of, is_plain, plain_length}
 use Rattle.vcode_reader.specs.Scan.{Scan, Emit, end_word, ends_word, lone_word, by_comment, scan_byte, scan_all}
 use Rattle.vcode_reader.proofs.Lines.{drop_next}
@@ -194,3 +195,71 @@ some_bytes (b ∷ bs) h = omega arith
 pub no_bytes : (t : List ℕ) → (length t == 0) ≡ true → t ≡ []
 no_bytes [] h = refl
 no_bytes (b ∷ bs) h = grind (arith, nat_tests)
+
+-- ---- a word after a blank
+
+-- a byte that separates words is part of none
+separates : (b : ℕ) → b ≤ 32 → is_plain (class_of b) ≡ false
+unfolding class_of
+separates b low = grind (arith, nat_tests)
+
+pub digit_word : (t : List ℕ) → 3 ≤ length t → get_or t 0 0 ≡ 32 → 48 ≤ get_or t 1 0 → get_or t 1 0 ≤ 57 →
+    get_or t 2 0 ≤ 32 → HasWord t (get_or t 1 0 ∷ [])
+digit_word [] long blank low high next = absurd (omega arith)
+digit_word (a ∷ []) long blank low high next = absurd (omega arith)
+digit_word (a ∷ b ∷ []) long blank low high next = absurd (omega arith)
+digit_word (a ∷ b ∷ c ∷ t) long blank low high next =
+    record {
+      some = omega arith;
+      more = omega arith;
+      blank = blank;
+      plain = rw (plain_range b (omega arith) (omega arith), separates c next) refl;
+      word = refl;
+    }
+
+int_plain : (e : ℕ) (t : List ℕ) → e ≤ 32 → plain_length (73 ∷ 78 ∷ 84 ∷ e ∷ t) ≡ 3
+int_plain e t next =
+    rw (
+      plain_range 73 (omega arith) (omega arith),
+      plain_range 78 (omega arith) (omega arith),
+      plain_range 84 (omega arith) (omega arith),
+      separates e next,
+    ) refl
+
+int_before : (e : ℕ) (t : List ℕ) → e ≤ 32 → HasWord (32 ∷ 73 ∷ 78 ∷ 84 ∷ e ∷ t) (codes "INT")
+int_before e t next =
+    record {
+      some = omega arith;
+      more = omega arith;
+      blank = refl;
+      plain = int_plain e t next;
+      word = refl;
+    }
+
+pub int_word : (t : List ℕ) → 5 ≤ length t → get_or t 0 0 ≡ 32 → get_or t 1 0 ≡ 73 → get_or t 2 0 ≡ 78 →
+    get_or t 3 0 ≡ 84 → get_or t 4 0 ≤ 32 → HasWord t (codes "INT")
+int_word [] long blank i n t next = absurd (omega arith)
+int_word (a ∷ []) long blank i n t next = absurd (omega arith)
+int_word (a ∷ b ∷ []) long blank i n t next = absurd (omega arith)
+int_word (a ∷ b ∷ c ∷ []) long blank i n t next = absurd (omega arith)
+int_word (a ∷ b ∷ c ∷ d ∷ []) long blank i n t next = absurd (omega arith)
+int_word (a ∷ b ∷ c ∷ d ∷ e ∷ rest) long blank i n t next = rw (blank, i, n, t) (int_before e rest next)
+
+rest_after : (n : ℕ) (t : List ℕ) → drop n (drop 1 t) ≡ drop (suc n) t
+rest_after zero [] = refl
+rest_after (suc n) [] = refl
+rest_after n (b ∷ t) = refl
+
+dropped : (n : ℕ) (t : List ℕ) → n < length t → 1 ≤ length (drop n t)
+dropped zero t more = omega arith
+dropped (suc n) [] more = absurd (omega arith)
+dropped (suc n) (b ∷ t) more = dropped n t (omega arith)
+
+-- a blank and the word after it are passed over
+pub passes_word : {P : Type 0} (emit : Emit P) (s : Scan P) (t w rest : List ℕ) → s.comment ≡ None → s.word ≡ [] →
+    HasWord t w → rest ≡ drop (suc (length w)) t →
+    scan_all emit s t ≡ scan_all emit (record s { found = emit w s.line s.found }) rest
+passes_word emit s t w rest none empty h e =
+    passes_blank emit s t (drop 1 t) none empty (omega (arith, h.more)) h.blank refl
+    ∙ whole_word emit (drop 1 t) w rest s none empty (rw h.plain h.word)
+    (rw h.plain (e ∙ sym (rest_after (length w) t))) h.some (rw e (dropped (suc (length w)) t h.more))

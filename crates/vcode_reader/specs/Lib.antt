@@ -1,3 +1,4 @@
+pub mod Ahead
 pub mod Callees
 pub mod Classes
 pub mod Decode

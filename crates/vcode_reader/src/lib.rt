@@ -51,6 +51,7 @@
 //! [`read`] say that each text is read so. [`CodeReader`] reads a text that comes in pieces.
 #![tactic(auto)]
 
+mod ahead;
 mod class;
 mod code;
 mod code_lines;

@@ -1,13 +1,14 @@
 //! A text, word by word.
 
-ghost use Rattle.std.specs.Prelude.{◌≡◌, [], false, OnOk, IfOk};
+ghost use Rattle.std.specs.Prelude.{◌≡◌, [], ◌∷◌, false, codes, OnOk, IfOk};
 ghost use Rattle.vcode_reader.specs.declared.head.Head.TheVariants.{Return, If, Else, Endif};
 ghost use Rattle.vcode_reader.specs.declared.place.Place.TheVariants.{Inside};
+ghost use Rattle.vcode_reader.specs.Ahead.{IsDigit, awaits_part};
 ghost use Rattle.vcode_reader.specs.Drafts.{is_open};
 ghost use Rattle.vcode_reader.specs.Heads.{head_slots};
-ghost use Rattle.vcode_reader.specs.Keywords.{ItemParts};
+ghost use Rattle.vcode_reader.specs.Keywords.{ItemParts, keyword_slots};
 ghost use Rattle.vcode_reader.specs.Parsing.{start, with_fault, after_slot, item_place, after_part};
-ghost use Rattle.vcode_reader.specs.Parsing.{with_kind, with_value};
+ghost use Rattle.vcode_reader.specs.Parsing.{with_kind, with_value, counted_parts};
 ghost use Rattle.vcode_reader.specs.Parsing.{with_count, with_callee, in_slot, one_element, in_list, outside, has_name};
 ghost use Rattle.vcode_reader.specs.Parsing.{after_name, after_return, inside, take};
 ghost use Rattle.vcode_reader.specs.Parsing.{is_no_name, no_value, int_of, kind_of, count_in};
@@ -200,15 +201,28 @@ impl<A: Allocator + Clone> Parser<A> {
     {
         match count_in(word) {
             Err(fault) => self.refuse(fault, line),
-            Ok(count) => {
-                match entries {
-                    Entries::Lower => self.parts.lower = count,
-                    Entries::Upper => self.parts.upper = count,
-                }
-                self.next_slot(keyword, begun)?;
-            }
+            Ok(count) => self.take_count(entries, count, keyword, begun)?,
         }
         Ok(())
+    }
+
+    /// Takes a good count of a motion of the stack.
+    #[inline(always)]
+    fn take_count(
+        &mut self,
+        entries: Entries,
+        count: u16,
+        keyword: Keyword,
+        begun: u64,
+    ) -> Result<(), AllocError>
+        ensures { let parts = counted_parts entries count self.old.parts in
+            OnOk result (self.new ≡ after_slot keyword begun self.old.slots (record self.old { parts = parts })) }
+    {
+        match entries {
+            Entries::Lower => self.parts.lower = count,
+            Entries::Upper => self.parts.upper = count,
+        }
+        self.next_slot(keyword, begun)
     }
 
     /// Takes the name of the function that is called.
@@ -401,7 +415,28 @@ impl<A: Allocator + Clone> Parser<A> {
         Ok(())
     }
 
+    #[inline(always)]
     fn inside(&mut self, head: Head, line: u64) -> Result<(), AllocError>
+        ensures { OnOk result (self.new ≡ inside head (head_slots head) line self.old) }
+    {
+        match head {
+            Head::Start(keyword) => self.begin_instruction(keyword, line),
+            _ => self.inside_otherwise(head, line),
+        }
+    }
+
+    /// Takes the first word of an instruction.
+    #[inline(always)]
+    fn begin_instruction(&mut self, keyword: Keyword, line: u64) -> Result<(), AllocError>
+        ensures { OnOk result (self.new ≡ after_slot keyword line (keyword_slots keyword) self.old) }
+    {
+        self.slots = keyword.slots();
+        self.next_slot(keyword, line)
+    }
+
+    /// Takes a word as `inside` does, out of line: most words there begin an instruction.
+    #[inline(never)]
+    fn inside_otherwise(&mut self, head: Head, line: u64) -> Result<(), AllocError>
         ensures { OnOk result (self.new ≡ inside head (head_slots head) line self.old) }
     {
         match head {
@@ -409,10 +444,7 @@ impl<A: Allocator + Clone> Parser<A> {
             Head::If => self.at_if(line)?,
             Head::Else => self.at_else(line)?,
             Head::Endif => self.at_endif(line)?,
-            Head::Start(keyword) => {
-                self.slots = keyword.slots();
-                self.next_slot(keyword, line)?;
-            }
+            Head::Start(keyword) => self.begin_instruction(keyword, line)?,
             Head::Other => self.refuse(CodeFault::BadWord, line),
             Head::Func => self.refuse(CodeFault::Misplaced, line),
         }
@@ -427,8 +459,24 @@ impl<A: Allocator + Clone> Parser<A> {
     }
 
     /// Takes the next word, which is on this line.
+    #[inline(always)]
     #[tactic(auto, unfolding(crate::specs::Parsing::take), using(crate::proofs::Spelling::slots_by_head))]
     pub(crate) fn take(&mut self, word: &[u8], line: u64) -> Result<(), AllocError>
+        ensures { OnOk result (self.new ≡ take word.now line self.old) }
+    {
+        if self.fault.is_some() {
+            return Ok(());
+        }
+        match self.place {
+            Place::Inside => self.inside(head_of(word), line),
+            _ => self.take_anywhere(word, line),
+        }
+    }
+
+    /// Takes a word as `take` does, out of line: it knows what to do at each place.
+    #[inline(never)]
+    #[tactic(auto, unfolding(crate::specs::Parsing::take), using(crate::proofs::Spelling::slots_by_head))]
+    fn take_anywhere(&mut self, word: &[u8], line: u64) -> Result<(), AllocError>
         ensures { OnOk result (self.new ≡ take word.now line self.old) }
     {
         if self.fault.is_some() {
@@ -451,6 +499,53 @@ impl<A: Allocator + Clone> Parser<A> {
             Place::Elements(keyword, begun, _) => self.in_list(keyword, begun, word, line)?,
         }
         Ok(())
+    }
+
+    /// Whether the next word is one that belongs to a keyword, as a kind or a count.
+    #[inline(always)]
+    pub(crate) fn awaits_part(&self) -> bool
+        ensures { result ≡ awaits_part self.now.place }
+    {
+        matches!(self.place, Place::Words(..))
+    }
+
+    /// Takes the next word, which is `INT` on this line.
+    #[inline(always)]
+    #[tactic(auto, unfolding(crate::specs::Parsing::take))]
+    pub(crate) fn take_int(&mut self, line: u64) -> Result<(), AllocError>
+        ensures { OnOk result (self.new ≡ take (codes "INT") line self.old) }
+    {
+        if self.fault.is_some() {
+            return Ok(());
+        }
+        match self.place {
+            Place::Words(keyword, WordSlot::Int, begun) => {
+                self.kind(Some(Scalar::Int), keyword, begun, line)
+            }
+            Place::Words(keyword, WordSlot::Kind, begun) => {
+                self.kind(Some(Scalar::Int), keyword, begun, line)
+            }
+            _ => self.take_anywhere(b"INT", line),
+        }
+    }
+
+    /// Takes the next word, which is this digit on this line.
+    #[inline(always)]
+    #[tactic(auto, unfolding(crate::specs::Parsing::take), using(crate::proofs::Digits::count_digit))]
+    pub(crate) fn take_digit(&mut self, digit: u8, line: u64) -> Result<(), AllocError>
+        requires { IsDigit digit }
+        ensures { OnOk result (self.new ≡ take (digit ∷ []) line self.old) }
+    {
+        if self.fault.is_some() {
+            return Ok(());
+        }
+        match self.place {
+            Place::Words(keyword, WordSlot::Count(entries), begun) => {
+                let count = u16::from(digit - b'0');
+                self.take_count(entries, count, keyword, begun)
+            }
+            _ => self.take_anywhere(&[digit], line),
+        }
     }
 
     /// The refusal if the text ends here: in a comment that begins at this line, or in none.

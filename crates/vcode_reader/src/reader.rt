@@ -13,6 +13,7 @@ ghost use Rattle.vcode_reader.specs.Reading.{outcome, reading, Gives, HasCome};
 ghost use Rattle.vcode_reader.specs.Refusals.{Fault};
 ghost use Rattle.vcode_reader.specs.Scan.{beginning, end_word, lone_word, in_text, in_comment, scan_byte, scan_all};
 
+use crate::ahead::{digit_ahead, is_int_ahead};
 use crate::class::{Class, class_of, is_plain, plain_length};
 use crate::fault::{CodeFault, ReadFault};
 use crate::parser::Parser;
@@ -140,6 +141,65 @@ impl<A: Allocator + Clone> Scanner<A> {
         Ok(rest)
     }
 
+    /// Takes short words that belong to a keyword, at the front of a text and each after a blank, and the separator
+    /// after them, and answers what is after it.
+    #[inline(always)]
+    fn short_words<'p>(&mut self, text: &'p [u8]) -> Result<&'p [u8], AllocError>
+        requires { self.old.line + line_feeds text.now < 2 ^ 64 }
+        ensures same { IfOk result (λ rest. scan_all take self.old text.now ≡ scan_all take self.new rest.now) }
+        ensures within { IfOk result (λ rest. length rest.now ≤ length text.now) }
+    {
+        if !self.parser.awaits_part() {
+            return Ok(self.pass_separator(text));
+        }
+        let first = self.int_word(text)?;
+        let second = self.digit_word(first)?;
+        let third = self.digit_word(second)?;
+        Ok(self.pass_separator(third))
+    }
+
+    /// Takes a blank and the word `INT` at the front of a text, if they are there and no word and no comment is open,
+    /// and answers what is after them.
+    #[inline(always)]
+    fn int_word<'p>(&mut self, text: &'p [u8]) -> Result<&'p [u8], AllocError>
+        ensures same { IfOk result (λ rest. scan_all take self.old text.now ≡ scan_all take self.new rest.now) }
+        ensures within { IfOk result (λ rest. length rest.now ≤ length text.now) }
+    {
+        if self.comment.is_some() {
+            return Ok(text);
+        }
+        if !self.word.is_empty() {
+            return Ok(text);
+        }
+        if !is_int_ahead(text) {
+            return Ok(text);
+        }
+        let (_, rest) = text.split_at(4);
+        self.parser.take_int(self.line)?;
+        Ok(rest)
+    }
+
+    /// Takes a blank and a word of one digit at the front of a text, if they are there and no word and no comment is
+    /// open, and answers what is after them.
+    #[inline(always)]
+    fn digit_word<'p>(&mut self, text: &'p [u8]) -> Result<&'p [u8], AllocError>
+        ensures same { IfOk result (λ rest. scan_all take self.old text.now ≡ scan_all take self.new rest.now) }
+        ensures within { IfOk result (λ rest. length rest.now ≤ length text.now) }
+    {
+        if self.comment.is_some() {
+            return Ok(text);
+        }
+        if !self.word.is_empty() {
+            return Ok(text);
+        }
+        let Some(digit) = digit_ahead(text) else {
+            return Ok(text);
+        };
+        let (_, rest) = text.split_at(2);
+        self.parser.take_digit(digit, self.line)?;
+        Ok(rest)
+    }
+
     /// Passes over one blank or LF at the front of a text, if no word and no comment is open, and answers what is after
     /// it.
     #[inline(always)]
@@ -181,7 +241,7 @@ impl<A: Allocator + Clone> Scanner<A> {
         let byte = text[0];
         if self.comment.is_none() && is_plain(byte) {
             let rest = self.plain_bytes(text)?;
-            return Ok(self.pass_separator(rest));
+            return self.short_words(rest);
         }
         let (_, rest) = text.split_at(1);
         self.byte(byte)?;
