@@ -1,7 +1,8 @@
 mod Admissions
 mod Admitting
 mod FirstSlots
-mod FreshWorkbench
+mod FreshHands
+mod HandLemmas
 mod Places
 mod Replaying
 mod Rules
@@ -11,4 +12,3 @@ mod Stepping
 mod TurnLemmas
 mod Turns
 mod WordLemmas
-mod WorkbenchLemmas
