@@ -1,5 +1,6 @@
 -- A batch whose jobs wait, and the same batch once they have run out.
 use Rattle.std.proofs.Common.{◌≡◌, ℕ, ◌≤◌, List, length, ap, refl, subst, sym}
+use Rattle.job_steps.specs.Standings.{first_standings}
 use Rattle.job_steps.specs.States.{Task}
 use Rattle.job_machine.specs.Machines.{MachineState}
 use Rattle.batch_reader.specs.declared.fault.BatchFault.{BatchFault}
@@ -20,6 +21,12 @@ jobs_of_same before after reported same h = record {
   there = subst (λ (ts : List Task). AreAmong ts reported) (sym same) h.there;
   fewer = subst (λ (ts : List Task). length ts ≤ length reported) (sym same) h.fewer;
 }
+
+-- its jobs wait on their machine
+pub jobs_wait : (batch : LoadedBatch) (machine : MachineState) (reported : List ReportedJob)
+    → batch ≡ Jobs machine reported → IsWaiting batch → machine.standings ≡ first_standings machine.tasks
+jobs_wait batch machine reported is waiting =
+    let jobs : IsWaiting (Jobs machine reported) = subst (λ (b : LoadedBatch). IsWaiting b) is waiting in jobs.0
 
 -- its jobs ran on their machine
 pub jobs_out : (batch : LoadedBatch) (before after : MachineState) (reported : List ReportedJob)

@@ -49,6 +49,7 @@ use Rattle.batch_front.specs.declared.fault.FrontFault.TheVariants.{Write}
 use Rattle.batch_front.specs.declared.page.Page.{Page}
 use Rattle.batch_front.specs.Devices.{inner_of, interrupts_of, is_flushed, is_flushing, HasWorked, IsAtFault, IsFresh}
 use Rattle.batch_front.proofs.Bytes.{take_whole}
+use Rattle.batch_front.proofs.FeedLemmas.{fault_in}
 use Rattle.batch_front.specs.Pages.{Ends, HasSent, IsSaid, IsWritten, Puts, Sends}
 
 -- ---- bytes
@@ -252,11 +253,6 @@ on_ok : {P : Type 0} (result : Result (Unit {0}) FrontFault) → P → OnOk resu
 on_ok (Ok done) p = p
 on_ok (Err fault) p = tt
 
--- the fault of a result, and another one if it has none
-abbrev fault_of : {T : Type 0} → FrontFault → Result T FrontFault → FrontFault
-fault_of other (Ok v) = other
-fault_of other (Err fault) = fault
-
 on_err : {P : Type 0} (result : Result (Unit {0}) FrontFault) → P → OnErr result P
 on_err (Ok done) p = tt
 on_err (Err fault) p = p
@@ -364,7 +360,7 @@ pub written_not : {D T : Type 0} (contents : D → Option (List ℕ)) (spent : �
     → IsWritten contents spent start said writer done → IsWritten {T = T} contents spent start said writer (Err fault)
 written_not contents spent start said writer (Ok done) fault e h = cc
 written_not contents spent start said writer (Err other) fault e h =
-    let same : fault ≡ Write = ap (fault_of Write) (sym e ∙ h.write_alone) in
+    let same : fault ≡ Write = ap (fault_in Write) (sym e ∙ h.write_alone) in
     record {
       all_written = tt;
       flushed = tt;

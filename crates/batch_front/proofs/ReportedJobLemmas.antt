@@ -74,9 +74,14 @@ fate_kept xs ys (Ready number) (Ready task) h = number_kept xs ys number task h
 fate_kept xs ys (Ready number) (Refused line fault) h = h
 fate_kept xs ys (Refused line fault) fate h = h
 
-reported_job_kept : {T : Type 0} (xs ys : List T) (reported_job : ReportedJob) (entry : EntryOf T) → IsReportedOf xs reported_job entry
+reported_job_kept : {T : Type 0} (xs ys : List T) (reported_job : ReportedJob) (entry : EntryOf T) →
+    IsReportedOf xs reported_job entry
     → IsReportedOf (xs ++ ys) reported_job entry
-reported_job_kept xs ys reported_job entry h = record { name = h.name; fate = fate_kept xs ys reported_job.fate entry.fate h.fate }
+reported_job_kept xs ys reported_job entry h = record {
+  name = h.name;
+  fate =
+      fate_kept xs ys reported_job.fate entry.fate h.fate;
+}
 
 reported_kept : {T : Type 0} (xs ys : List T) (reported : List ReportedJob) (entries : List (EntryOf T))
     → AreReportedOf xs reported entries
@@ -87,17 +92,20 @@ reported_kept xs ys (reported_job ∷ reported) [] h = h
 reported_kept xs ys (reported_job ∷ reported) (entry ∷ entries) h =
     (reported_job_kept xs ys reported_job entry h.0, reported_kept xs ys reported entries h.1)
 
-reported_with : {T : Type 0} (tasks : List T) (reported : List ReportedJob) (entries : List (EntryOf T)) (reported_job : ReportedJob)
+reported_with : {T : Type 0} (tasks : List T) (reported : List ReportedJob) (entries : List (EntryOf T))
+    (reported_job : ReportedJob)
     (entry : EntryOf T)
     → AreReportedOf tasks reported entries → IsReportedOf tasks reported_job entry
     → AreReportedOf tasks (reported ++ reported_job ∷ []) (entries ++ entry ∷ [])
 reported_with tasks [] [] reported_job entry h last = (last, tt)
 reported_with tasks [] (e ∷ es) reported_job entry h last = absurd h
 reported_with tasks (s ∷ ss) [] reported_job entry h last = absurd h
-reported_with tasks (s ∷ ss) (e ∷ es) reported_job entry h last = (h.0, reported_with tasks ss es reported_job entry h.1 last)
+reported_with tasks (s ∷ ss) (e ∷ es) reported_job entry h last =
+    (h.0, reported_with tasks ss es reported_job entry h.1 last)
 
 -- one job more
-pub reported_pushed : {T : Type 0} (old new more : List T) (reported : List ReportedJob) (entries : List (EntryOf T)) (reported_job : ReportedJob)
+pub reported_pushed : {T : Type 0} (old new more : List T) (reported : List ReportedJob) (entries : List
+    (EntryOf T)) (reported_job : ReportedJob)
     (entry : EntryOf T)
     → new ≡ old ++ more → AreReportedOf old reported entries → IsReportedOf new reported_job entry
     → AreReportedOf new (reported ++ reported_job ∷ []) (entries ++ entry ∷ [])
@@ -184,17 +192,20 @@ batch_fits region bytes (Jobs rule entries) h = entries_fit region h.0 entries h
 
 -- ---- what is reported of them
 
-fate_among : (tasks : List Task) (reported_job : Fate ℕ) (fate : Fate Task) → IsFateOn tasks reported_job fate → IsAmong tasks reported_job
+fate_among : (tasks : List Task) (reported_job : Fate ℕ) (fate : Fate Task) → IsFateOn tasks reported_job fate →
+    IsAmong tasks reported_job
 fate_among tasks (Ready number) (Ready task) h = rw h tt
 fate_among tasks (Ready number) (Refused line fault) h = absurd h
 fate_among tasks (Refused line fault) fate h = tt
 
-among : (tasks : List Task) (reported : List ReportedJob) (entries : List TaskEntry) → AreReportedOf tasks reported entries
+among : (tasks : List Task) (reported : List ReportedJob) (entries : List TaskEntry) →
+    AreReportedOf tasks reported entries
     → AreAmong tasks reported
 among tasks [] entries h = All-nil (λ (reported_job : ReportedJob). IsAmong tasks reported_job.fate)
 among tasks (s ∷ ss) [] h = absurd h
 among tasks (s ∷ ss) (e ∷ es) h =
-    All-cons (λ (reported_job : ReportedJob). IsAmong tasks reported_job.fate) s ss (fate_among tasks s.fate e.fate h.0.fate)
+    All-cons (λ (reported_job : ReportedJob). IsAmong tasks reported_job.fate) s ss
+    (fate_among tasks s.fate e.fate h.0.fate)
     (among tasks ss es h.1)
 
 fate_told : (tasks : List Task) (reported_job : Fate ℕ) (fate : Fate Task) → IsFateOn tasks reported_job fate
@@ -216,9 +227,11 @@ reported_told tasks number (s ∷ ss) (e ∷ es) h =
     ∙ ap (λ t. entry_text number e ++ t) (reported_told tasks (number + 1) ss es h.1)
 
 -- the lines of one job more
-pub one_told_more : (tasks : List Task) (number : ℕ) (reported : List ReportedJob) (place : ℕ) (any : ReportedJob) → place < length reported
+pub one_told_more : (tasks : List Task) (number : ℕ) (reported : List ReportedJob) (place : ℕ) (any : ReportedJob) →
+    place < length reported
     → reported_jobs_text tasks number (take (place + 1) reported)
-    ≡ reported_jobs_text tasks number (take place reported) ++ reported_job_text tasks (number + place) (get_or reported place any)
+    ≡ reported_jobs_text tasks number (take place reported) ++ reported_job_text tasks (number + place)
+    (get_or reported place any)
 one_told_more tasks number [] place any h = absurd (omega (arith, h))
 one_told_more tasks number (s ∷ ss) zero any h =
     let same : number ≡ number + 0 = omega arith in
@@ -227,23 +240,28 @@ one_told_more tasks number (s ∷ ss) (suc place) any h =
     let later = one_told_more tasks (number + 1) ss place any (omega (arith, h)) in
     let same : (number + 1) + place ≡ number + suc place = omega arith in
     let count : suc place + 1 ≡ suc (place + 1) = omega arith in
-    ap (λ n. reported_jobs_text tasks number (take n (s ∷ ss))) count ∙ ap (λ t. reported_job_text tasks number s ++ t) later
+    ap (λ n. reported_jobs_text tasks number (take n (s ∷ ss))) count
+    ∙ ap (λ t. reported_job_text tasks number s ++ t) later
     ∙ sym (append_assoc (reported_job_text tasks number s) (reported_jobs_text tasks (number + 1) (take place ss))
     (reported_job_text tasks ((number + 1) + place) (get_or ss place any)))
     ∙ ap (λ n. (reported_job_text tasks number s ++ reported_jobs_text tasks (number + 1) (take place ss))
     ++ reported_job_text tasks n (get_or ss place any)) same
 
-pub reported_with_one : (tasks : List Task) (reported : List ReportedJob) (place : ℕ) (reported_job : ReportedJob) → place < length reported
+pub reported_with_one : (tasks : List Task) (reported : List ReportedJob) (place : ℕ) (reported_job : ReportedJob) →
+    place < length reported
     → reported_job ≡ get_or reported place reported_job
-    → reported_jobs_text tasks 1 (take place reported) ++ reported_job_text tasks (place + 1) reported_job ≡ reported_jobs_text tasks 1 (take
+    → reported_jobs_text tasks 1 (take place reported) ++ reported_job_text tasks
+    (place + 1) reported_job ≡ reported_jobs_text tasks 1 (take
     (place + 1) reported)
 reported_with_one tasks reported place reported_job l e =
     let number : place + 1 ≡ 1 + place = omega arith in
     ap (λ n. reported_jobs_text tasks 1 (take place reported) ++ reported_job_text tasks n reported_job) number
-    ∙ ap (λ (s : ReportedJob). reported_jobs_text tasks 1 (take place reported) ++ reported_job_text tasks (1 + place) s) e
+    ∙ ap (λ (s : ReportedJob). reported_jobs_text tasks 1 (take place reported) ++ reported_job_text tasks
+    (1 + place) s) e
     ∙ sym (one_told_more tasks 1 reported place reported_job l)
 
-same_count : (tasks : List Task) (reported : List ReportedJob) (entries : List TaskEntry) → AreReportedOf tasks reported entries
+same_count : (tasks : List Task) (reported : List ReportedJob) (entries : List TaskEntry) →
+    AreReportedOf tasks reported entries
     → length reported ≡ length entries
 same_count tasks [] [] h = refl
 same_count tasks [] (e ∷ es) h = absurd h
@@ -256,7 +274,8 @@ fate_returned tasks (Ready number) (Ready task) h = ap told_return h
 fate_returned tasks (Ready number) (Refused line fault) h = absurd h
 fate_returned tasks (Refused line fault) fate h = ap has_returned (sym h)
 
-have_returned : (tasks : List Task) (reported : List ReportedJob) (entries : List TaskEntry) → AreReportedOf tasks reported entries
+have_returned : (tasks : List Task) (reported : List ReportedJob) (entries : List TaskEntry) →
+    AreReportedOf tasks reported entries
     → have_returned_on tasks reported ≡ list_all (λ (entry : TaskEntry). has_returned entry.fate) entries
 have_returned tasks [] [] h = refl
 have_returned tasks [] (e ∷ es) h = absurd h
@@ -272,7 +291,8 @@ pub record IsTold (tasks : List Task) (reported : List ReportedJob) (entries : L
   pub report : report_text tasks reported ≡ jobs_text entries
   pub status : reported_status tasks reported ≡ jobs_status entries
 
-told : (tasks : List Task) (reported : List ReportedJob) (entries : List TaskEntry) → AreReportedOf tasks reported entries
+told : (tasks : List Task) (reported : List ReportedJob) (entries : List TaskEntry) →
+    AreReportedOf tasks reported entries
     → tasks ≡ tasks_of entries → IsTold tasks reported entries
 told tasks reported entries h e =
     let count = same_count tasks reported entries h in
@@ -282,13 +302,15 @@ told tasks reported entries h e =
     record {
       among = among tasks reported entries h;
       fewer = omega (arith, count, ran, all);
-      report = ap (λ t. t ++ end_text (length reported) (length reported - length tasks)) (reported_told tasks 1 reported entries h)
+      report = ap (λ t. t ++ end_text (length reported) (length reported - length tasks))
+          (reported_told tasks 1 reported entries h)
           ∙ ap (λ n. entries_text 1 entries ++ end_text n (length reported - length tasks)) count
           ∙ ap (λ n. entries_text 1 entries ++ end_text (length entries) n) refused;
       status = ap (λ b. if b then AllReturned else SomeNot) (have_returned tasks reported entries h);
     }
 
-pub told_of : (tasks : List Task) (reported : List ReportedJob) (entries : List TaskEntry) → AreLoaded tasks reported entries
+pub told_of : (tasks : List Task) (reported : List ReportedJob) (entries : List TaskEntry) →
+    AreLoaded tasks reported entries
     → IsTold tasks reported entries
 told_of tasks reported entries h = told tasks reported entries h.reported_are h.tasks_are
 
@@ -310,7 +332,8 @@ number_ruled rule [] place job e = absurd (none-some job e)
 number_ruled rule (j ∷ jobs) zero job e = ap (λ k. Some (ruled rule k)) (same_Some j job e)
 number_ruled rule (j ∷ jobs) (suc place) job e = number_ruled rule jobs place job e
 
-fate_ruled : (rule : Rule) (jobs : List JobValue) (reported_job : Fate ℕ) (fate : Fate JobValue) → IsFateOn jobs reported_job fate
+fate_ruled : (rule : Rule) (jobs : List JobValue) (reported_job : Fate ℕ) (fate : Fate JobValue) →
+    IsFateOn jobs reported_job fate
     → IsFateOn (map (ruled rule) jobs) reported_job (ruled_fate rule fate)
 fate_ruled rule jobs (Ready zero) (Ready job) h = absurd (none-some job h)
 fate_ruled rule jobs (Ready (suc place)) (Ready job) h = number_ruled rule jobs place job h
@@ -351,10 +374,3 @@ loaded_by rule tasks jobs reported all entries e f h k =
       tasks_are = e ∙ ap (map (ruled rule)) k ∙ tasks_ruled rule all;
       reported_are = rw e (reported_ruled rule jobs reported all h);
     })
-
--- the same of a machine with the same jobs
-pub loaded_after : (tasks jobs : List Task) (shown reported : List ReportedJob) (entries : List TaskEntry) → tasks ≡ jobs
-    → shown ≡ reported → AreLoaded jobs reported entries → AreLoaded tasks shown entries
-loaded_after tasks jobs shown reported entries e f h =
-    subst (λ (ts : List Task). AreLoaded ts shown entries) (sym e)
-    (subst (λ (ss : List ReportedJob). AreLoaded jobs ss entries) (sym f) h)

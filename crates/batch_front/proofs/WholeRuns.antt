@@ -1,8 +1,8 @@
 -- What a whole run does, from what its parts do.
-use Rattle.std.proofs.Common.{◌≡◌, ◌∙◌, ℕ, ◌+◌, false, List, Bool, Option, Some, None, true, ap, sym, refl, subst, arith, inl}
+use Rattle.std.proofs.Common.{◌≡◌, ◌∙◌, ℕ, ◌+◌, false, List, Option, Some, None, ap, sym, refl, subst, arith, inl}
 use Rattle.std.proofs.lemmas.Bool.{false≢true}
 use Rattle.std.proofs.lemmas.Result.{on_ok_weaker}
-use Rattle.std.specs.Prelude.{Result, Ok, Err, IfOk}
+use Rattle.std.specs.Prelude.{Result, Ok, Err, IfOk, IsErrOf}
 use Rattle.batch_reader.specs.declared.entry.Batch.{Batch}
 use Rattle.batch_reader.specs.Fates.{JobEntry}
 use Rattle.batch_front.specs.declared.device.Device.{Device}
@@ -16,8 +16,8 @@ use Rattle.batch_front.specs.Pages.{IsWritten}
 use Rattle.batch_front.specs.Reports.{report_of, status_of}
 use Rattle.batch_front.specs.Runs.{Runs}
 use Rattle.std.specs.Io.KnownBytes.{Keeps}
-use Rattle.batch_front.proofs.FeedLemmas.{fault_at_write, fault_in, front_told, is_write, only_at_write, report_told}
-use Rattle.batch_front.proofs.FeedLemmas.{whole_told}
+use Rattle.batch_front.proofs.FeedLemmas.{IsTold, fault_at_write, fault_in, front_told, is_write, only_at_write}
+use Rattle.batch_front.proofs.FeedLemmas.{report_told, whole_told}
 
 -- what is known of the reader once a batch was read
 pub record IsRead {R : Type 0} (remaining : R → Option (List ℕ)) (region : ℕ) (reader new_reader : Device R)
@@ -38,7 +38,7 @@ pub run_told : {R W : Type 0} (remaining : R → Option (List ℕ)) (contents : 
     → Runs remaining contents region reader new_reader writer new_writer result
 run_told remaining contents region reader new_reader writer new_writer batch loaded out spent result read report status
     ran same is written =
-    let told = record {
+    let told : IsTold region (remaining (inner_of reader)) (loaded_text out) (loaded_status out) = record {
       batch = batch;
       comes = read.comes;
       report = ran.report ∙ report;
@@ -63,16 +63,20 @@ keeps_all : (a : Option (List ℕ)) → Keeps a a
 keeps_all None = tt
 keeps_all (Some bytes) = refl
 
-no_write : {P : Type 0} (fault : FrontFault) → is_write fault ≡ false → Err {Status} fault ≡ Err Write → P
-no_write fault isnt e = absurd (false≢true (sym isnt ∙ ap is_write (ap (fault_in Write) e)))
+no_write : {P : Type 0} (result : Result Status FrontFault) (fault : FrontFault) → result ≡ Err fault
+    → is_write fault ≡ false → IsErrOf result Write → P
+no_write result fault is isnt e =
+    absurd (false≢true (sym isnt ∙ ap is_write (ap (fault_in Write) (sym is ∙ e))))
 
 -- a run that ends with a fault before anything is written
 pub run_ended : {R W : Type 0} (remaining : R → Option (List ℕ)) (contents : W → Option (List ℕ)) (region : ℕ)
-    (reader new_reader : Device R) (writer : Device W) (fault : FrontFault) → is_write fault ≡ false → IsFresh writer
+    (reader new_reader : Device R) (writer : Device W) (result : Result Status FrontFault) (fault : FrontFault)
+    → result ≡ Err fault → is_write fault ≡ false → IsFresh writer
     → ReadsNoFurther (remaining (inner_of reader)) (remaining (inner_of new_reader))
     → (fault ≡ Read → IsAtFault new_reader (interrupts_of new_reader))
-    → Runs remaining contents region reader new_reader writer writer (Err fault)
-run_ended remaining contents region reader new_reader writer fault isnt fresh no_further at_fault =
+    → Runs remaining contents region reader new_reader writer writer result
+run_ended remaining contents region reader new_reader writer (Ok status) fault is isnt fresh no_further at_fault = cc
+run_ended remaining contents region reader new_reader writer (Err other) fault is isnt fresh no_further at_fault =
     let none : interrupts_of writer ≡ 0 = fresh.not_interrupted in
     let same : interrupts_of new_reader ≡ interrupts_of new_reader + interrupts_of writer = omega (arith, none) in
     record {
@@ -81,11 +85,11 @@ run_ended remaining contents region reader new_reader writer fault isnt fresh no
       reader_worked = tt;
       writer_worked = tt;
       read_to_the_end = tt;
-      read_before_written = no_write fault isnt;
+      read_before_written = no_write (Err other) fault is isnt;
       read_no_further = no_further;
-      front_written = no_write fault isnt;
-      whole_written = λ e. no_write fault isnt e;
+      front_written = no_write (Err other) fault is isnt;
+      whole_written = λ e. no_write (Err other) fault is isnt e;
       nothing_written = λ _. keeps_all (contents (inner_of writer));
-      read_fault = λ e. subst (λ n. IsAtFault new_reader n) same (at_fault (ap (fault_in Read) e));
-      write_fault = no_write fault isnt;
+      read_fault = λ e. subst (λ n. IsAtFault new_reader n) same (at_fault (ap (fault_in Read) (sym is ∙ e)));
+      write_fault = no_write (Err other) fault is isnt;
     }

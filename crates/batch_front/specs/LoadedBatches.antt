@@ -42,7 +42,7 @@ IsRunOut (Refused line fault) = Unit {0}
 IsRunOut (Jobs machine reported) = HasRunOut machine × AreJobsOf machine reported
 
 -- a batch whose jobs have run out is the one in which they waited
-pub record RanOut (waiting out : LoadedBatch) : Type 0 where
-  pub out : IsRunOut out
-  pub report : loaded_text out ≡ loaded_text waiting
-  pub status : loaded_status out ≡ loaded_status waiting
+pub record RanOut (before after : LoadedBatch) : Type 0 where
+  pub out : IsRunOut after
+  pub report : loaded_text after ≡ loaded_text before
+  pub status : loaded_status after ≡ loaded_status before

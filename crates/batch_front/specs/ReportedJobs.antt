@@ -52,7 +52,8 @@ IsFateOn tasks (Ready number) (Ready task) = of_job number tasks ≡ Some task
 IsFateOn tasks (Refused line fault) fate = fate ≡ Refused line fault
 IsFateOn tasks (Ready number) (Refused line fault) = ⊥
 
-pub record IsReportedOf {T : Type 0} (tasks : List T) (reported_job : ReportedJob) (entry : Entry (List ℕ) (Fate T)) : Type 0 where
+pub record IsReportedOf {T : Type 0} (tasks : List T) (reported_job : ReportedJob) (entry : Entry (List ℕ)
+    (Fate T)) : Type 0 where
   pub name : reported_job.name ≡ entry.name
   pub fate : IsFateOn tasks reported_job.fate entry.fate
 
@@ -61,7 +62,8 @@ abbrev pub AreReportedOf : {T : Type 0} → List T → List ReportedJob → List
 AreReportedOf tasks [] [] = Unit {0}
 AreReportedOf tasks [] (entry ∷ entries) = ⊥
 AreReportedOf tasks (reported_job ∷ reported) [] = ⊥
-AreReportedOf tasks (reported_job ∷ reported) (entry ∷ entries) = IsReportedOf tasks reported_job entry × AreReportedOf tasks reported entries
+AreReportedOf tasks (reported_job ∷ reported) (entry ∷ entries) =
+    IsReportedOf tasks reported_job entry × AreReportedOf tasks reported entries
 
 -- these are the tasks that may run, and all jobs are reported by their numbers
 pub record AreLoaded (tasks : List Task) (reported : List ReportedJob) (entries : List TaskEntry) : Type 0 where
@@ -100,7 +102,8 @@ reported_job_text tasks number reported_job = job_text number reported_job.name 
 
 abbrev pub reported_jobs_text : List Task → ℕ → List ReportedJob → List ℕ
 reported_jobs_text tasks number [] = []
-reported_jobs_text tasks number (reported_job ∷ reported) = reported_job_text tasks number reported_job ++ reported_jobs_text tasks (number + 1) reported
+reported_jobs_text tasks number (reported_job ∷ reported) =
+    reported_job_text tasks number reported_job ++ reported_jobs_text tasks (number + 1) reported
 
 abbrev pub told_return : Option Task → Bool
 told_return None = false
@@ -111,11 +114,13 @@ has_returned_on tasks (Ready number) = told_return (of_job number tasks)
 has_returned_on tasks (Refused line fault) = false
 
 abbrev pub have_returned_on : List Task → List ReportedJob → Bool
-have_returned_on tasks reported = list_all (λ (reported_job : ReportedJob). has_returned_on tasks reported_job.fate) reported
+have_returned_on tasks reported =
+    list_all (λ (reported_job : ReportedJob). has_returned_on tasks reported_job.fate) reported
 
 -- the report on jobs, of which those on the machine ran and the others are refused
 abbrev pub report_text : List Task → List ReportedJob → List ℕ
-report_text tasks reported = reported_jobs_text tasks 1 reported ++ end_text (length reported) (length reported - length tasks)
+report_text tasks reported =
+    reported_jobs_text tasks 1 reported ++ end_text (length reported) (length reported - length tasks)
 
 abbrev pub reported_status : List Task → List ReportedJob → Status
 reported_status tasks reported = if have_returned_on tasks reported then AllReturned else SomeNot

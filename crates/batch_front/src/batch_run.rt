@@ -44,9 +44,9 @@ pub fn run_alone<A: Allocator + Copy, R: Read, W: Write>(
     ensures never_mixed { IsErrOf result FrontFault.Mixed → ⊥ }
 {
     let batch = read_batch(alloc, reader, options.region)?;
-    let batch = load(alloc, batch, options.region)?;
-    let batch = run_on_caller(alloc, batch, options)?;
-    write_report(writer, &batch, reader.interrupts())
+    let loaded = load(alloc, batch, options.region)?;
+    let ran = run_on_caller(alloc, loaded, options)?;
+    write_report(writer, &ran, reader.interrupts())
 }
 
 /// The same as [`run_alone`] if a schedule is given. Else the jobs are run by at most as many worker threads as
@@ -85,7 +85,7 @@ where
         return run_alone(alloc, reader, writer, options);
     }
     let batch = read_batch(alloc, reader, options.region)?;
-    let batch = load(alloc, batch, options.region)?;
-    let batch = run_on_workers(rt, alloc, batch, options, gate)?;
-    write_report(writer, &batch, reader.interrupts())
+    let loaded = load(alloc, batch, options.region)?;
+    let ran = run_on_workers(rt, alloc, loaded, options, gate)?;
+    write_report(writer, &ran, reader.interrupts())
 }

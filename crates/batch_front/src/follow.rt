@@ -9,7 +9,7 @@ ghost use Rattle.batch_front.specs.Turns.{after_item, after_schedule, after_turn
 
 use crate::reported_jobs::{ReportedJob, number_of};
 use crate::schedule::Item;
-use job_machine::{Event, Machine, Status, Hands};
+use job_machine::{Event, Hands, Machine, Status};
 use job_steps::laws::{
     admitted_have_room, closed_change_nothing, events_change_their_job, others_stay,
 };

@@ -3,7 +3,8 @@
 ghost use Rattle.std.specs.Prelude.{◌≡◌, ◌++◌, [], IfOk, OnOk};
 ghost use Rattle.job_steps.specs.Standings.{of_job};
 ghost use Rattle.batch_front.specs.Pages.{Puts};
-ghost use Rattle.batch_front.specs.ReportedJobs.{AreAmong, AreReportedOf, HasRunOut, IsAmong, IsFateOn, IsReportedOf, IsTask};
+ghost use Rattle.batch_front.specs.ReportedJobs.{AreAmong, AreReportedOf, HasRunOut, IsAmong, IsFateOn};
+ghost use Rattle.batch_front.specs.ReportedJobs.{IsReportedOf, IsTask};
 ghost use Rattle.batch_front.specs.ReportedJobs.{fate_tasks, fate_text_on, has_returned_on, have_returned_on};
 ghost use Rattle.batch_front.specs.ReportedJobs.{reported_job_text, reported_jobs_text, tasks_of, told_text};
 ghost use Rattle.batch_front.specs.Turns.{number_of};
@@ -125,7 +126,8 @@ fn put_reported_job<A: Allocator, W: Write>(
 )
     requires out { HasRunOut machine.now }
     requires there { IsAmong machine.now.tasks reported_job.now.fate }
-    ensures { Puts W.contents page.old writer.old page.new writer.new (reported_job_text machine.now.tasks number reported_job.now) }
+    ensures { Puts W.contents page.old writer.old page.new writer.new
+        (reported_job_text machine.now.tasks number reported_job.now) }
 {
     put_job(page, writer, number, reported_job.name.as_slice());
     put_fate(page, writer, machine, &reported_job.fate);
@@ -140,7 +142,8 @@ pub(crate) fn put_reported_jobs<A: Allocator, W: Write>(
 )
     requires out { HasRunOut machine.now }
     requires there { AreAmong machine.now.tasks reported.now }
-    ensures { Puts W.contents page.old writer.old page.new writer.new (reported_jobs_text machine.now.tasks 1 reported.now) }
+    ensures { Puts W.contents page.old writer.old page.new writer.new
+        (reported_jobs_text machine.now.tasks 1 reported.now) }
 {
     for (place, reported_job) in reported.iter().enumerate() {
         put_reported_job(page, writer, machine, place as u64 + 1, reported_job);

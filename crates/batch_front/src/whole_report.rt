@@ -66,7 +66,8 @@ pub(crate) fn write_report<A: Allocator, W: Write>(
     requires fresh { IsFresh writer.old }
     requires spent { spent ≤ MOST_INTERRUPTIONS }
     ensures status { IfOk result (λ status. status ≡ loaded_status batch.now) }
-    ensures written { IsWritten W.contents spent (W.contents (inner_of writer.old)) (loaded_text batch.now) writer.new result }
+    ensures written { IsWritten W.contents spent (W.contents (inner_of writer.old)) (loaded_text batch.now)
+        writer.new result }
 {
     let mut page = Page::new(spent);
     put_batch(&mut page, writer, batch);

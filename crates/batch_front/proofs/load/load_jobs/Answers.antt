@@ -6,7 +6,8 @@ use Rattle.batch_front.proofs.load.load_jobs.Goals as goal
 
 pub new-requires-clause-jobs : goal.new-requires-clause-jobs
 new-requires-clause-jobs g c =
-    tasks_few c.args.entries c.reported.new.jobs.items _ (c.in_ok-reported.ensures.jobs ∙ ap tasks_of c.into_vec.ensures)
+    tasks_few c.args.entries c.reported.new.jobs.items _ (c.in_ok-reported.ensures.jobs
+    ∙ ap tasks_of c.into_vec.ensures)
     c.requires.few
 
 pub new-requires-clause-words : goal.new-requires-clause-words

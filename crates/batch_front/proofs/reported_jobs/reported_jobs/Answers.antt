@@ -12,8 +12,10 @@ loop-entry-preserved g c =
     let more = fate_tasks entry.fate in
     record {
       reported = rw c.in_ok-push.ensures.items
-          (reported_pushed c.loop-entry.jobs.items c.reported_job.new.jobs.items more c.loop-entry.reported.items c.loop-entry.yielded
-          c.in_ok-reported_job.reported_job entry c.in_ok-reported_job.ensures.jobs inv.reported c.in_ok-reported_job.ensures.reported_job);
+          (reported_pushed c.loop-entry.jobs.items c.reported_job.new.jobs.items more c.loop-entry.reported.items
+          c.loop-entry.yielded
+          c.in_ok-reported_job.reported_job entry c.in_ok-reported_job.ensures.jobs inv.reported
+          c.in_ok-reported_job.ensures.reported_job);
       jobs = c.in_ok-reported_job.ensures.jobs ∙ ap (λ ts. ts ++ more) inv.jobs
           ∙ sym (tasks_pushed c.loop-entry.yielded entry);
     }
