@@ -8,8 +8,8 @@ use Rattle.job_steps.specs.declared.event.Event.TheVariants as event
 use Rattle.job_steps.specs.Events.{recalled_standings}
 use Rattle.job_steps.specs.Standings.{Waiting, first_standings, first_queue}
 use Rattle.job_steps.specs.States.{Task}
-use Rattle.job_machine.specs.declared.hands.Hand.{Hand}
-use Rattle.job_machine.specs.Hands.{HandsFit}
+use Rattle.job_machine.specs.declared.workbench.Workplace.{Workplace}
+use Rattle.job_machine.specs.Workbench.{WorkbenchFits}
 use Rattle.job_machine.specs.Machines.{MachineState, HasNoStep, Leads, machine_after, recalled, with_queue}
 use Rattle.batch_front.specs.declared.schedule.Item.{Item}
 use Rattle.batch_front.specs.ReportedJobs.{ReportedJob}
@@ -36,10 +36,11 @@ no_step_first : (m : MachineState) → m.standings ≡ first_standings m.tasks �
 no_step_first m e = ap recalled_standings e ∙ waiting m.tasks ∙ sym e
 
 -- if no step has begun, none is given up
-pub hands_fit : {A : Type 0} (m : MachineState) (hands : List (Hand A)) → m.standings ≡ first_standings m.tasks
-    → HandsFit (recalled m) hands → HandsFit m hands
-hands_fit m hands wait h =
-    subst (λ standings. HandsFit (with_queue m (record { standings = standings; passes = m.passes })) hands)
+pub workbench_fits : {A : Type 0} (m : MachineState) (workbench : List (Workplace A))
+    → m.standings ≡ first_standings m.tasks
+    → WorkbenchFits (recalled m) workbench → WorkbenchFits m workbench
+workbench_fits m workbench wait h =
+    subst (λ standings. WorkbenchFits (with_queue m (record { standings = standings; passes = m.passes })) workbench)
     (no_step_first m wait) h
 
 -- what leads from a machine leads from the same one, if it is known

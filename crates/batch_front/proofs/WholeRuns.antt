@@ -1,14 +1,17 @@
 -- What a whole run does, from what its parts do.
-use Rattle.std.proofs.Common.{◌≡◌, ◌∙◌, ℕ, ◌+◌, false, List, Option, Some, None, ap, sym, refl, subst, arith, inl}
+use Rattle.std.proofs.Common.{◌≡◌, ◌∙◌, ℕ, ◌+◌, false, List, Option, Some, None, ap, sym, refl, subst, arith, inl, inr}
 use Rattle.std.proofs.lemmas.Bool.{false≢true}
-use Rattle.std.proofs.lemmas.Result.{on_ok_weaker}
-use Rattle.std.specs.Prelude.{Result, Ok, Err, IfOk, IsErrOf}
+use Rattle.std.proofs.lemmas.Result.{err_from_is_err_and, on_ok_weaker}
+use Rattle.std.specs.Prelude.{Bool, ◌⊎◌, Result, Ok, Err, IfOk, IsErrAnd, IsErrOf, true}
 use Rattle.batch_reader.specs.declared.entry.Batch.{Batch}
 use Rattle.batch_reader.specs.Fates.{JobEntry}
 use Rattle.batch_front.specs.declared.device.Device.{Device}
 use Rattle.batch_front.specs.declared.fault.FrontFault.{FrontFault}
-use Rattle.batch_front.specs.declared.fault.FrontFault.TheVariants.{Read, Write}
+use Rattle.batch_front.specs.declared.fault.FrontFault.TheVariants.{Memory, Read, Write}
 use Rattle.batch_front.specs.declared.status.Status.{Status}
+use Rattle.step_scheduler.specs.declared.tally.RunFault.{RunFault}
+use Rattle.step_scheduler.specs.declared.tally.RunFault.TheVariants as run
+use Rattle.batch_front.specs.Exits.{front_fault_of}
 use Rattle.batch_front.specs.Devices.{inner_of, interrupts_of, HasWorked, IsAtFault, IsFresh}
 use Rattle.batch_front.specs.Inputs.{IsBatchIn, ReadsFirstBytes, ReadsNoFurther}
 use Rattle.batch_front.specs.LoadedBatches.{LoadedBatch, RanOut, loaded_status, loaded_text}
@@ -93,3 +96,53 @@ run_ended remaining contents region reader new_reader writer (Err other) fault i
       read_fault = λ e. subst (λ n. IsAtFault new_reader n) same (at_fault (ap (fault_in Read) (sym is ∙ e)));
       write_fault = no_write (Err other) fault is isnt;
     }
+
+unread_alone : {B : Type 0} (fault : FrontFault)
+    → IsErrOf {T = B} (Err fault) Read ⊎ IsErrOf {T = B} (Err fault) Memory → is_write fault ≡ false
+unread_alone {B = B} fault (inl e) = ap (λ (r : Result B FrontFault). is_write (fault_in Read r)) e
+unread_alone {B = B} fault (inr e) = ap (λ (r : Result B FrontFault). is_write (fault_in Read r)) e
+
+-- a run in which no batch was read
+pub run_unread : {R W B : Type 0} (remaining : R → Option (List ℕ)) (contents : W → Option (List ℕ)) (region : ℕ)
+    (reader new_reader : Device R) (writer : Device W) (result : Result Status FrontFault) (fault : FrontFault)
+    → result ≡ Err fault → IsErrOf {T = B} (Err fault) Read ⊎ IsErrOf {T = B} (Err fault) Memory
+    → (IsErrOf {T = B} (Err fault) Read → IsAtFault new_reader (interrupts_of new_reader)) → IsFresh writer
+    → ReadsNoFurther (remaining (inner_of reader)) (remaining (inner_of new_reader))
+    → Runs remaining contents region reader new_reader writer writer result
+run_unread remaining contents region reader new_reader writer result fault same alone at_fault fresh no_further =
+    run_ended remaining contents region reader new_reader writer result fault same (unread_alone fault alone) fresh
+    no_further (λ e. at_fault (ap (λ f. Err f) e))
+
+abbrev is_read : FrontFault → Bool
+is_read Read = true
+is_read fault = false
+
+no_read : {P : Type 0} (fault : FrontFault) → is_read fault ≡ false → fault ≡ Read → P
+no_read fault isnt e = absurd (false≢true (sym isnt ∙ ap is_read e))
+
+-- a run whose jobs were refused memory
+pub run_refused : {R W : Type 0} (remaining : R → Option (List ℕ)) (contents : W → Option (List ℕ)) (region : ℕ)
+    (reader new_reader : Device R) (writer : Device W) (result : Result Status FrontFault)
+    → IsErrAnd result (λ fault. fault ≡ Memory) → IsFresh writer
+    → ReadsNoFurther (remaining (inner_of reader)) (remaining (inner_of new_reader))
+    → Runs remaining contents region reader new_reader writer writer result
+run_refused remaining contents region reader new_reader writer result refused fresh no_further =
+    let p = err_from_is_err_and result refused in
+    run_ended remaining contents region reader new_reader writer result Memory (p.1 ∙ ap (λ f. Err f) p.2) refl fresh
+    no_further (no_read Memory refl)
+
+no_device : (fault : RunFault) → (is_write (front_fault_of fault) ≡ false) × (is_read (front_fault_of fault) ≡ false)
+no_device run.Memory = (refl, refl)
+no_device run.Mixed = (refl, refl)
+
+-- a run whose workers gave up
+pub run_given_up : {R W : Type 0} (remaining : R → Option (List ℕ)) (contents : W → Option (List ℕ)) (region : ℕ)
+    (reader new_reader : Device R) (writer : Device W) (result : Result Status FrontFault) (given_up : RunFault)
+    → IsErrAnd result (λ fault. fault ≡ front_fault_of given_up) → IsFresh writer
+    → ReadsNoFurther (remaining (inner_of reader)) (remaining (inner_of new_reader))
+    → Runs remaining contents region reader new_reader writer writer result
+run_given_up remaining contents region reader new_reader writer result given_up gave fresh no_further =
+    let p = err_from_is_err_and result gave in
+    let none = no_device given_up in
+    run_ended remaining contents region reader new_reader writer result (front_fault_of given_up)
+    (p.1 ∙ ap (λ f. Err f) p.2) none.0 fresh no_further (no_read (front_fault_of given_up) none.1)

@@ -44,7 +44,7 @@ pub fn run_alone<A: Allocator + Copy, R: Read, W: Write>(
     ensures never_mixed { IsErrOf result FrontFault.Mixed → ⊥ }
 {
     let batch = read_batch(alloc, reader, options.region)?;
-    let loaded = load(alloc, batch, options.region)?;
+    let loaded = load(alloc, batch, options)?;
     let ran = run_on_caller(alloc, loaded, options)?;
     write_report(writer, &ran, reader.interrupts())
 }
@@ -85,7 +85,7 @@ where
         return run_alone(alloc, reader, writer, options);
     }
     let batch = read_batch(alloc, reader, options.region)?;
-    let loaded = load(alloc, batch, options.region)?;
+    let loaded = load(alloc, batch, options)?;
     let ran = run_on_workers(rt, alloc, loaded, options, gate)?;
     write_report(writer, &ran, reader.interrupts())
 }

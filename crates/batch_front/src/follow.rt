@@ -2,14 +2,14 @@
 
 ghost use Rattle.std.specs.Prelude.{◌≡◌, OnOk};
 ghost use Rattle.job_steps.specs.Standings.{first_standings, of_job};
-ghost use Rattle.job_machine.specs.Hands.{HandsFit};
+ghost use Rattle.job_machine.specs.Workbench.{WorkbenchFits};
 ghost use Rattle.job_machine.specs.Machines.{is_over};
 ghost use Rattle.batch_front.specs.Turns.{NoneEnded, IsSettled, IsSettledBut};
 ghost use Rattle.batch_front.specs.Turns.{after_item, after_schedule, after_turn, number_of, settled};
 
 use crate::reported_jobs::{ReportedJob, number_of};
 use crate::schedule::Item;
-use job_machine::{Event, Hands, Machine, Status};
+use job_machine::{Event, Machine, Status, Workbench};
 use job_steps::laws::{
     admitted_have_room, closed_change_nothing, events_change_their_job, others_stay,
 };
@@ -18,21 +18,21 @@ use std::alloc::{AllocError, Allocator};
 /// Admits one job after another, as many as can be admitted, if none has ended.
 fn admit_all<A: Allocator + Clone>(
     machine: &mut Machine<A>,
-    hands: &mut Hands<A>,
+    workbench: &mut Workbench<A>,
 ) -> Result<(), AllocError>
-    requires fit { HandsFit machine.old hands.old }
+    requires fit { WorkbenchFits machine.old workbench.old }
     requires none_ended { NoneEnded machine.old }
     ensures state { OnOk result (machine.new ≡ settled machine.old) }
     ensures settled { OnOk result (IsSettled machine.new) }
     ensures tasks { OnOk result (machine.new.tasks ≡ machine.old.tasks) }
-    ensures fit { OnOk result (HandsFit machine.new hands.new) }
+    ensures fit { OnOk result (WorkbenchFits machine.new workbench.new) }
 {
     admitted_have_room();
     closed_change_nothing();
     events_change_their_job();
     let jobs = machine.jobs();
     for _ in 0..jobs {
-        machine.play(Event::Admit, hands)?;
+        machine.play(Event::Admit, workbench)?;
     }
     Ok(())
 }
@@ -50,15 +50,15 @@ fn has_ended<A: Allocator>(machine: &Machine<A>, job: usize) -> bool
 /// Collects the job of this number, if it has ended, and admits as many as can be admitted then.
 fn settle<A: Allocator + Clone>(
     machine: &mut Machine<A>,
-    hands: &mut Hands<A>,
+    workbench: &mut Workbench<A>,
     job: usize,
 ) -> Result<(), AllocError>
-    requires fit { HandsFit machine.old hands.old }
+    requires fit { WorkbenchFits machine.old workbench.old }
     requires others_settled { IsSettledBut job machine.old }
     ensures state { OnOk result (machine.new ≡ settled machine.old) }
     ensures settled { OnOk result (IsSettled machine.new) }
     ensures tasks { OnOk result (machine.new.tasks ≡ machine.old.tasks) }
-    ensures fit { OnOk result (HandsFit machine.new hands.new) }
+    ensures fit { OnOk result (WorkbenchFits machine.new workbench.new) }
 {
     closed_change_nothing();
     events_change_their_job();
@@ -67,33 +67,33 @@ fn settle<A: Allocator + Clone>(
     if !has_ended(machine, job) {
         return Ok(());
     }
-    machine.play(Event::Collect(job), hands)?;
-    admit_all(machine, hands)?;
+    machine.play(Event::Collect(job), workbench)?;
+    admit_all(machine, workbench)?;
     Ok(())
 }
 
 /// Lets the job of this number take its turn.
 fn take_turn<A: Allocator + Clone>(
     machine: &mut Machine<A>,
-    hands: &mut Hands<A>,
+    workbench: &mut Workbench<A>,
     job: usize,
     item: Item,
 ) -> Result<(), AllocError>
-    requires fit { HandsFit machine.old hands.old }
+    requires fit { WorkbenchFits machine.old workbench.old }
     requires settled { IsSettled machine.old }
     ensures state { OnOk result (machine.new ≡ after_turn item job machine.old) }
     ensures others_settled { OnOk result (IsSettledBut job machine.new) }
     ensures tasks { OnOk result (machine.new.tasks ≡ machine.old.tasks) }
-    ensures fit { OnOk result (HandsFit machine.new hands.new) }
+    ensures fit { OnOk result (WorkbenchFits machine.new workbench.new) }
 {
     others_stay();
     match item {
         Item::Step(_) => {
-            machine.play_step(job, hands);
+            machine.play_step(job, workbench);
             Ok(())
         }
-        Item::Begin(_) => machine.play(Event::Begin(job), hands),
-        Item::Finish(_) => machine.play(Event::Finish(job), hands),
+        Item::Begin(_) => machine.play(Event::Begin(job), workbench),
+        Item::Finish(_) => machine.play(Event::Finish(job), workbench),
     }
 }
 
@@ -101,23 +101,23 @@ fn take_turn<A: Allocator + Clone>(
 /// settle.
 fn follow_item<A: Allocator + Clone>(
     machine: &mut Machine<A>,
-    hands: &mut Hands<A>,
+    workbench: &mut Workbench<A>,
     reported: &[ReportedJob<A>],
     item: Item,
 ) -> Result<(), AllocError>
-    requires fit { HandsFit machine.old hands.old }
+    requires fit { WorkbenchFits machine.old workbench.old }
     requires settled { IsSettled machine.old }
     ensures state { OnOk result (machine.new ≡ after_item reported.now item machine.old) }
     ensures settled { OnOk result (IsSettled machine.new) }
     ensures tasks { OnOk result (machine.new.tasks ≡ machine.old.tasks) }
-    ensures fit { OnOk result (HandsFit machine.new hands.new) }
+    ensures fit { OnOk result (WorkbenchFits machine.new workbench.new) }
 {
     closed_change_nothing();
     let Some(job) = number_of(reported, item.place()) else {
         return Ok(());
     };
-    take_turn(machine, hands, job, item)?;
-    settle(machine, hands, job)
+    take_turn(machine, workbench, job, item)?;
+    settle(machine, workbench, job)
 }
 
 /// Lets the jobs of a batch, which all wait, take their turns by a schedule. What has begun at its end isn't finished.
@@ -131,10 +131,10 @@ pub(crate) fn follow<A: Allocator + Clone>(
     ensures state { OnOk result (machine.new ≡ after_schedule reported.now schedule.now machine.old) }
     ensures tasks { OnOk result (machine.new.tasks ≡ machine.old.tasks) }
 {
-    let mut hands = Hands::new(alloc, machine)?;
-    admit_all(machine, &mut hands)?;
+    let mut workbench = Workbench::new(alloc, machine)?;
+    admit_all(machine, &mut workbench)?;
     for item in schedule {
-        follow_item(machine, &mut hands, reported, *item)?;
+        follow_item(machine, &mut workbench, reported, *item)?;
     }
     Ok(())
 }

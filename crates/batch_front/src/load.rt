@@ -8,6 +8,7 @@ ghost use Rattle.batch_front.specs.LoadedBatches.{IsWaiting, loaded_status, load
 ghost use Rattle.batch_front.specs.Reports.{report_of, ruled_entries, status_of};
 ghost use Rattle.batch_front.specs.ReportedJobs.{AreLoaded, BatchFits, EntriesFit};
 
+use crate::options::Options;
 use crate::reported_jobs::{ReportedJob, reported_jobs};
 use batch_reader::{Batch, BatchFault, JobEntries};
 use job_machine::Machine;
@@ -31,16 +32,16 @@ fn load_jobs<A: Allocator + Copy>(
     alloc: A,
     rule: Rule,
     entries: JobEntries<A>,
-    region: u32,
+    options: &Options,
 ) -> Result<(Machine<A>, Vec<ReportedJob<A>, A>), AllocError>
     requires few { length entries ≤ MOST_JOBS }
-    requires fits { EntriesFit region entries }
+    requires fits { EntriesFit options.now.region entries }
     ensures loaded { IfOk result (λ loaded. AreLoaded loaded.0.tasks loaded.1.items (ruled_entries rule entries)) }
     ensures all_wait { IfOk result (λ loaded. loaded.0.standings ≡ first_standings loaded.0.tasks) }
 {
     let mut jobs = Vec::new(alloc);
     let reported = reported_jobs(alloc, entries.into_vec(), &mut jobs)?;
-    let machine = Machine::new(alloc, region as usize, jobs, rule)?;
+    let machine = Machine::new(alloc, options.region as usize, jobs, rule)?;
     Ok((machine, reported))
 }
 
@@ -49,10 +50,10 @@ fn load_jobs<A: Allocator + Copy>(
 pub(crate) fn load<A: Allocator + Copy>(
     alloc: A,
     batch: Batch<JobEntries<A>>,
-    region: u32,
+    options: &Options,
 ) -> Result<LoadedBatch<A>, AllocError>
     requires few { HasFewJobs batch }
-    requires fits { BatchFits region batch }
+    requires fits { BatchFits options.now.region batch }
     ensures waiting { IfOk result IsWaiting }
     ensures report { IfOk result (λ loaded. loaded_text loaded ≡ report_of batch) }
     ensures status { IfOk result (λ loaded. loaded_status loaded ≡ status_of batch) }
@@ -60,7 +61,7 @@ pub(crate) fn load<A: Allocator + Copy>(
     match batch {
         Batch::Refused(line, fault) => Ok(Loaded::Refused(line, fault)),
         Batch::Jobs(rule, entries) => {
-            let (machine, reported) = load_jobs(alloc, rule, entries, region)?;
+            let (machine, reported) = load_jobs(alloc, rule, entries, options)?;
             Ok(Loaded::Jobs(machine, Sequence::from_vec(reported)))
         }
     }

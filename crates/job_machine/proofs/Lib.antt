@@ -1,8 +1,7 @@
 mod Admissions
 mod Admitting
 mod FirstSlots
-mod FreshHands
-mod HandLemmas
+mod FreshWorkbench
 mod Places
 mod Replaying
 mod Rules
@@ -12,3 +11,4 @@ mod Stepping
 mod TurnLemmas
 mod Turns
 mod WordLemmas
+mod WorkbenchLemmas

@@ -5,17 +5,17 @@
 //! `job_steps`. So every job goes where it goes alone, whatever the others do.
 //!
 //! [`Machine::replay`] does a list of events. A caller to which events come one by one, as those of a schedule, does
-//! each by [`Machine::play`], with the [`Hands`] that hold the jobs' desks and computed steps.
+//! each by [`Machine::play`], with the [`Workbench`] that holds the jobs' desks and computed steps.
 #![tactic(auto)]
 
-mod hands;
 mod machine;
 mod replay;
 mod run_out;
 mod setting;
+mod workbench;
 
-pub use hands::Hands;
 pub use job_slots::{Begun, Finished, Status, Stepped};
 pub use job_steps::{Desk, Event, Filled, Job, JobName, Ticket, compute};
 pub use machine::{Admission, Machine};
 pub use replay::ReplayFault;
+pub use workbench::Workbench;

@@ -3,11 +3,11 @@
 ghost use Rattle.std.specs.Prelude.{◌≡◌, take, OnOk, OnErr, IfErr};
 ghost use Rattle.job_steps.specs.declared.event.Event.TheVariants.{Begin, Finish, Recall};
 ghost use Rattle.job_machine.specs.Machines.{machine_after, after_all, after_step, recalled, Leads};
-ghost use Rattle.job_machine.specs.Hands.{HandsFit};
+ghost use Rattle.job_machine.specs.Workbench.{WorkbenchFits};
 ghost use Rattle.job_machine.specs.Replays.{IsRefusable, IsRefusedAt, StopsWith};
 
-use crate::hands::{Hand, Hands};
 use crate::machine::Machine;
+use crate::workbench::{Workbench, Workplace};
 use job_steps::Event;
 use job_steps::laws::others_stay;
 use std::alloc::{AllocError, Allocator};
@@ -25,19 +25,19 @@ pub enum ReplayFault {
 impl<A: Allocator + Clone> Machine<A> {
     /// Does an event; an event that isn't open changes nothing.
     ///
-    /// A step is begun on the desk in the job's hand and computed at once; the hand holds it until it is finished or
-    /// given up, and has the desk again then. So the hands have to fit the machine, as they do after
-    /// [`Hands::new`] if no step has begun, and they still do after each event.
+    /// A step is begun on the desk in the job's workplace and computed at once; the workplace holds it until it is finished or
+    /// given up, and has the desk again then. So the workbench has to fit the machine, as it does after
+    /// [`Workbench::new`] if no step has begun, and it still does after each event.
     ///
     /// # Errors
     ///
     /// [`AllocError`] if the collection of a job that returned was refused memory. Nothing changed then.
-    pub fn play(&mut self, event: Event, hands: &mut Hands<A>) -> Result<(), AllocError>
-        requires { HandsFit self.old hands.old }
+    pub fn play(&mut self, event: Event, workbench: &mut Workbench<A>) -> Result<(), AllocError>
+        requires { WorkbenchFits self.old workbench.old }
         ensures ok { OnOk result (self.new ≡ machine_after event self.old) }
         ensures unchanged { OnErr result (self.new ≡ self.old) }
         ensures refused { OnErr result (IsRefusable event self.old) }
-        ensures fit { HandsFit self.new hands.new }
+        ensures fit { WorkbenchFits self.new workbench.new }
         ensures leads { Leads self.old self.new }
     {
         others_stay();
@@ -45,9 +45,9 @@ impl<A: Allocator + Clone> Machine<A> {
             Event::Admit => {
                 self.admit();
             }
-            Event::Begin(job) => self.play_begin(job, hands),
-            Event::Finish(job) => self.play_finish(job, hands),
-            Event::Recall(job) => self.play_recall(job, hands),
+            Event::Begin(job) => self.play_begin(job, workbench),
+            Event::Finish(job) => self.play_finish(job, workbench),
+            Event::Recall(job) => self.play_recall(job, workbench),
             Event::Collect(job) => {
                 self.collect(job)?;
             }
@@ -68,24 +68,24 @@ impl<A: Allocator + Clone> Machine<A> {
         ensures ok { OnOk result (self.new ≡ recalled (after_all events.now (recalled self.old))) }
         ensures fault { IfErr result (StopsWith events.now self.old self.new) }
     {
-        let Ok(mut hands) = Hands::new(alloc, self) else {
+        let Ok(mut workbench) = Workbench::new(alloc, self) else {
             return Err(ReplayFault::Desks);
         };
         self.recall_all();
-        let played = self.play_all(events, &mut hands);
+        let played = self.play_all(events, &mut workbench);
         self.recall_all();
         played.map_err(ReplayFault::Collect)
     }
 
     /// Does events in order; the error has the place of the event that was refused memory.
-    fn play_all(&mut self, events: &[Event], hands: &mut Hands<A>) -> Result<(), usize>
-        requires { HandsFit self.old hands.old }
+    fn play_all(&mut self, events: &[Event], workbench: &mut Workbench<A>) -> Result<(), usize>
+        requires { WorkbenchFits self.old workbench.old }
         ensures ok { OnOk result (self.new ≡ after_all events.now self.old) }
         ensures refused { IfErr result
             (λ place. IsRefusedAt events.now self.old place × (self.new ≡ after_all (take place events.now) self.old)) }
     {
         for place in 0..events.len() {
-            if self.play(events[place], hands).is_err() {
+            if self.play(events[place], workbench).is_err() {
                 return Err(place);
             }
         }
@@ -96,59 +96,59 @@ impl<A: Allocator + Clone> Machine<A> {
 impl<A: Allocator> Machine<A> {
     /// Does a begin of a job and then a finish, each of which is passed over if it isn't open.
     ///
-    /// The step is taken in one go, on the desk in the job's hand. If a step of the job has begun already, it is
-    /// finished. Takes no memory. The hands have to fit the machine, and still do afterwards.
-    pub fn play_step(&mut self, job: usize, hands: &mut Hands<A>)
-        requires { HandsFit self.old hands.old }
+    /// The step is taken in one go, on the desk in the job's workplace. If a step of the job has begun already, it is
+    /// finished. Takes no memory. The workbench has to fit the machine, and still does afterwards.
+    pub fn play_step(&mut self, job: usize, workbench: &mut Workbench<A>)
+        requires { WorkbenchFits self.old workbench.old }
         ensures state { self.new ≡ after_step job self.old }
-        ensures fit { HandsFit self.new hands.new }
+        ensures fit { WorkbenchFits self.new workbench.new }
     {
         others_stay();
-        let Some(mut desk) = hands.take_desk(job) else {
-            return self.play_finish(job, hands);
+        let Some(mut desk) = workbench.take_desk(job) else {
+            return self.play_finish(job, workbench);
         };
         self.step(job, &mut desk);
-        hands.exchange(job, Hand::Free(desk));
+        workbench.exchange(job, Workplace::Free(desk));
     }
 
-    /// Begins the next step of a job on the desk in its hand, and computes it if it began.
-    fn play_begin(&mut self, job: usize, hands: &mut Hands<A>)
-        requires { HandsFit self.old hands.old }
+    /// Begins the next step of a job on the desk in its workplace, and computes it if it began.
+    fn play_begin(&mut self, job: usize, workbench: &mut Workbench<A>)
+        requires { WorkbenchFits self.old workbench.old }
         ensures state { self.new ≡ machine_after (Begin job) self.old }
-        ensures fit { HandsFit self.new hands.new }
+        ensures fit { WorkbenchFits self.new workbench.new }
     {
         others_stay();
-        let Some(desk) = hands.take_desk(job) else {
+        let Some(desk) = workbench.take_desk(job) else {
             return;
         };
         let begun = self.begin(job, desk);
-        hands.exchange(job, Hand::after(begun));
+        workbench.exchange(job, Workplace::after(begun));
     }
 
-    /// Finishes the step that the hand of a job holds.
-    fn play_finish(&mut self, job: usize, hands: &mut Hands<A>)
-        requires { HandsFit self.old hands.old }
+    /// Finishes the step that the workplace of a job holds.
+    fn play_finish(&mut self, job: usize, workbench: &mut Workbench<A>)
+        requires { WorkbenchFits self.old workbench.old }
         ensures state { self.new ≡ machine_after (Finish job) self.old }
-        ensures fit { HandsFit self.new hands.new }
+        ensures fit { WorkbenchFits self.new workbench.new }
     {
         others_stay();
-        let Some(filled) = hands.take_filled(job) else {
+        let Some(filled) = workbench.take_filled(job) else {
             return;
         };
         let (_, desk) = self.finish(filled);
-        hands.exchange(job, Hand::Free(desk));
+        workbench.exchange(job, Workplace::Free(desk));
     }
 
-    /// Gives up the step that the hand of a job holds.
-    fn play_recall(&mut self, job: usize, hands: &mut Hands<A>)
-        requires { HandsFit self.old hands.old }
+    /// Gives up the step that the workplace of a job holds.
+    fn play_recall(&mut self, job: usize, workbench: &mut Workbench<A>)
+        requires { WorkbenchFits self.old workbench.old }
         ensures state { self.new ≡ machine_after (Recall job) self.old }
-        ensures fit { HandsFit self.new hands.new }
+        ensures fit { WorkbenchFits self.new workbench.new }
     {
         others_stay();
         self.recall(job);
-        if let Some(filled) = hands.take_filled(job) {
-            hands.exchange(job, Hand::Free(filled.into_desk()));
+        if let Some(filled) = workbench.take_filled(job) {
+            workbench.exchange(job, Workplace::Free(filled.into_desk()));
         }
     }
 }

@@ -1,5 +1,5 @@
 use Rattle.std.proofs.Common.{◌≡◌}
-use Rattle.job_machine.specs.Hands.{HandsFit}
+use Rattle.job_machine.specs.Workbench.{WorkbenchFits}
 use Rattle.batch_front.specs.Turns.{after_admissions}
 use Rattle.batch_front.proofs.follow.admit_all.Given as goal
 
@@ -7,5 +7,5 @@ abbrev pub invariant-loop : goal.invariant-loop
 invariant-loop g l = record {
   state : l.machine ≡ after_admissions l.counter l.fn.machine;
   tasks : l.machine.tasks ≡ l.fn.machine.tasks;
-  fit : HandsFit l.machine l.hands;
+  fit : WorkbenchFits l.machine l.workbench;
 }

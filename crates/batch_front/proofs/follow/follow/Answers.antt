@@ -3,11 +3,11 @@ use Rattle.std.proofs.lemmas.Grind.{common_steps}
 use Rattle.std.proofs.lemmas.List.{take_all}
 use Rattle.batch_front.specs.Turns.{after_items, settled}
 use Rattle.batch_front.proofs.Settling.{none_ended_first}
-use Rattle.batch_front.proofs.TurnLemmas.{hands_fit, items_with}
+use Rattle.batch_front.proofs.TurnLemmas.{workbench_fits, items_with}
 use Rattle.batch_front.proofs.follow.follow.Goals as goal
 
 pub admit_all-requires-clause-fit : goal.admit_all-requires-clause-fit
-admit_all-requires-clause-fit g c = hands_fit c.args.machine.now c.in_ok-hands.hands c.requires c.in_ok-hands.ensures
+admit_all-requires-clause-fit g c = workbench_fits c.args.machine.now c.in_ok-workbench.workbench c.requires c.in_ok-workbench.ensures
 
 pub admit_all-requires-clause-none_ended : goal.admit_all-requires-clause-none_ended
 admit_all-requires-clause-none_ended g c = none_ended_first c.args.machine.now c.requires

@@ -1,5 +1,5 @@
 use Rattle.std.proofs.Common.{◌≡◌, take}
-use Rattle.job_machine.specs.Hands.{HandsFit}
+use Rattle.job_machine.specs.Workbench.{WorkbenchFits}
 use Rattle.batch_front.specs.Turns.{IsSettled, after_items, settled}
 use Rattle.batch_front.proofs.follow.follow.Given as goal
 
@@ -8,5 +8,5 @@ invariant-loop-item g l = record {
   state : l.machine ≡ after_items l.reported (take l.item-index l.schedule) (settled l.fn.machine);
   settled : IsSettled l.machine;
   tasks : l.machine.tasks ≡ l.fn.machine.tasks;
-  fit : HandsFit l.machine l.hands;
+  fit : WorkbenchFits l.machine l.workbench;
 }

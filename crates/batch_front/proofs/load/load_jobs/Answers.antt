@@ -6,18 +6,18 @@ use Rattle.batch_front.proofs.load.load_jobs.Goals as goal
 
 pub new-requires-clause-jobs : goal.new-requires-clause-jobs
 new-requires-clause-jobs g c =
-    tasks_few c.args.entries c.reported.new.jobs.items _ (c.in_ok-reported.ensures.jobs
+    tasks_few c.args.entries c.reported_jobs.new.jobs.items _ (c.in_ok-reported.ensures.jobs
     ∙ ap tasks_of c.into_vec.ensures)
     c.requires.few
 
 pub new-requires-clause-words : goal.new-requires-clause-words
 new-requires-clause-words g c =
     rw (c.in_ok-reported.ensures.jobs ∙ ap tasks_of c.into_vec.ensures)
-    (tasks_fit c.args.region c.args.entries c.requires.fits)
+    (tasks_fit c.args.options.now.region c.args.entries c.requires.fits)
 
 pub returns-clause-loaded : goal.returns-clause-loaded
 returns-clause-loaded g c =
-    loaded_by c.args.rule c.in_ok-machine.machine.tasks c.reported.new.jobs.items c.in_ok-reported.reported.items _
+    loaded_by c.args.rule c.in_ok-machine.machine.tasks c.reported_jobs.new.jobs.items c.in_ok-reported.reported.items _
     c.args.entries
     (ap (λ m. m.tasks) c.in_ok-machine.ensures) c.into_vec.ensures c.in_ok-reported.ensures.reported
     c.in_ok-reported.ensures.jobs

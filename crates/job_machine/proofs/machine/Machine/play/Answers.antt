@@ -1,11 +1,11 @@
 use Rattle.job_steps.specs.declared.event.Event.TheVariants.{Admit, Begin, Finish, Recall, Collect}
-use Rattle.job_machine.proofs.HandLemmas.{fit_admitted, fit_collected}
+use Rattle.job_machine.proofs.WorkbenchLemmas.{fit_admitted, fit_collected}
 use Rattle.job_machine.proofs.Replaying.{leads_by}
 use Rattle.job_machine.proofs.machine.Machine.play.Goals as goal
 
 pub returns-in-Admit-clause-fit : goal.returns-in-Admit-clause-fit
 returns-in-Admit-clause-fit g c =
-    fit_admitted c.others_stay.ensures c.args.self.now c.admit.new.self c.args.hands.now c.requires
+    fit_admitted c.others_stay.ensures c.args.self.now c.admit.new.self c.args.workbench.now c.requires
     c.admit.ensures.state
 
 pub returns-in-Admit-clause-leads : goal.returns-in-Admit-clause-leads
@@ -25,7 +25,7 @@ returns-in-Recall-clause-leads g c =
 
 pub returns-in_ok-collect-in-Collect-clause-fit : goal.returns-in_ok-collect-in-Collect-clause-fit
 returns-in_ok-collect-in-Collect-clause-fit g c =
-    fit_collected c.others_stay.ensures c.args.self.now c.collect.new.self c.args.hands.now c.in-Collect.job c.requires
+    fit_collected c.others_stay.ensures c.args.self.now c.collect.new.self c.args.workbench.now c.in-Collect.job c.requires
     c.in_ok-collect-in-Collect.ensures.state
 
 pub returns-in_ok-collect-in-Collect-clause-leads : goal.returns-in_ok-collect-in-Collect-clause-leads

@@ -1,7 +1,7 @@
 use Rattle.std.proofs.Common.{◌∙◌, ap}
 use Rattle.job_steps.specs.declared.event.Event.TheVariants.{Begin, Finish}
 use Rattle.job_machine.specs.Machines.{machine_after}
-use Rattle.job_machine.proofs.HandLemmas.{Played, plays_step, plays_no_begin}
+use Rattle.job_machine.proofs.WorkbenchLemmas.{Played, plays_step, plays_no_begin}
 use Rattle.job_machine.proofs.machine.Machine.play_step.Given.{Over}
 use Rattle.job_machine.proofs.machine.Machine.play_step.Goals as goal
 use Rattle.job_machine.proofs.machine.Machine.play_step.Goals.{In_default}
@@ -11,7 +11,7 @@ use Rattle.job_machine.proofs.machine.Machine.play_step.Goals.{In_default}
 not_begun : (g : Over) (c : goal.In_default g) →
     Played (Begin c.args.job) c.args.self.now c.args.self.now c.take_desk.new.self
 not_begun g c =
-    plays_no_begin c.args.self.now c.args.hands.now c.take_desk.new.self c.args.job c.requires c.in_default.ensures
+    plays_no_begin c.args.self.now c.args.workbench.now c.take_desk.new.self c.args.job c.requires c.in_default.ensures
 
 pub play_finish-requires : goal.play_finish-requires
 play_finish-requires g c = (not_begun g (goal.at.play_finish-requires g c).In_default).fit
@@ -27,7 +27,7 @@ returns-in_default-clause-state g c =
 stepped : (g : Over) (c : goal.Joined-exchange g) →
     Played (Finish c.args.job) (machine_after (Begin c.args.job) c.args.self.now) c.step.new.self c.exchange.new.self
 stepped g c =
-    plays_step c.others_stay.ensures c.args.self.now c.step.new.self c.args.hands.now c.take_desk.new.self
+    plays_step c.others_stay.ensures c.args.self.now c.step.new.self c.args.workbench.now c.take_desk.new.self
     c.exchange.new.self c.args.job c.in-Some.desk c.step.new.desk c.step.result c.requires c.in-Some.ensures
     c.step.ensures.answer c.step.ensures.state c.step.ensures.desk c.exchange.ensures.state
 

@@ -1,20 +1,20 @@
 use Rattle.std.proofs.Common.{◌+◌, ◌∙◌, ap, arith}
 use Rattle.std.proofs.lemmas.List.{take_all}
-use Rattle.job_machine.proofs.FreshHands.{fresh, fresh_jobs, fresh-ruled, fresh_more, fresh_fit}
-use Rattle.job_machine.proofs.hands.Hands.new.Goals as goal
+use Rattle.job_machine.proofs.FreshWorkbench.{fresh, fresh_jobs, fresh-ruled, fresh_more, fresh_fit}
+use Rattle.job_machine.proofs.workbench.Workbench.new.Goals as goal
 
 pub loop-job-init : goal.loop-job-init
-loop-job-init g c = c.in_ok-hands.ensures.items
+loop-job-init g c = c.in_ok-workplaces.ensures.items
 
 pub loop-job-preserved : goal.loop-job-preserved
 loop-job-preserved g c =
-    fresh_more c.in_order-jobs.result.now c.loop-job.hands.items c.push.new.self.items c.loop-job.job-index
+    fresh_more c.in_order-jobs.result.now c.loop-job.workplaces.items c.push.new.self.items c.loop-job.job-index
     (c.loop-job.job-index + 1) c.in_ok-desk.desk c.job-item.result (omega arith) c.loop-job-test.true c.job-item.is
     c.loop-job.invariant (c.in_ok-desk.ensures ∙ ap (λ l. l.words) c.limits.ensures) c.in_ok-push.ensures.items
 
 pub returns : goal.returns
 returns g c =
-    fresh_fit c.args.machine.now c.loop-job.hands.items c.jobs-count.ensures.kept.same_length
+    fresh_fit c.args.machine.now c.loop-job.workplaces.items c.jobs-count.ensures.kept.same_length
     (c.loop-job.invariant
     ∙ (ap fresh_jobs (take_all _ _ c.loop-job-test.false)
     ∙ (fresh-ruled c.args.machine.now.rule c.in_order-jobs.result.now ∙ ap fresh c.in_order-jobs.ensures)))

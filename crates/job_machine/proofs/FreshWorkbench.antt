@@ -10,35 +10,35 @@ use Rattle.job_steps.specs.Events.{recalled_standing}
 use Rattle.job_steps.specs.Standings.{Standing, Waiting, Live, InFlight, Ended, Collected, of_job}
 use Rattle.job_steps.specs.States.{JobValue, Task, ruled}
 use Rattle.job_slots.specs.Answers.{is_in_flight}
-use Rattle.job_machine.specs.declared.hands.Hand.{Hand}
-use Rattle.job_machine.specs.declared.hands.Hand.TheVariants as hand
+use Rattle.job_machine.specs.declared.workbench.Workplace.{Workplace}
+use Rattle.job_machine.specs.declared.workbench.Workplace.TheVariants as workplace
 use Rattle.job_machine.specs.Machines.{MachineState, recalled}
-use Rattle.job_machine.specs.Hands.{HandFits, FitsIn, HandsFit}
+use Rattle.job_machine.specs.Workbench.{WorkplaceFits, FitsIn, WorkbenchFits}
 use Rattle.job_machine.proofs.RunningOut.{beside_at}
 
 -- a desk for each job, of its words
-abbrev pub fresh : {A : Type 0} → List Task → List (Hand A)
-fresh tasks = map (λ task. hand.Free task.limits.words) tasks
+abbrev pub fresh : {A : Type 0} → List Task → List (Workplace A)
+fresh tasks = map (λ task. workplace.Free task.limits.words) tasks
 
 -- the same, as the jobs tell it
-abbrev pub fresh_jobs : {A : Type 0} → List JobValue → List (Hand A)
-fresh_jobs jobs = map (λ job. hand.Free job.limits.words) jobs
+abbrev pub fresh_jobs : {A : Type 0} → List JobValue → List (Workplace A)
+fresh_jobs jobs = map (λ job. workplace.Free job.limits.words) jobs
 
 pub fresh-ruled : {A : Type 0} (rule : Rule) (jobs : List JobValue) →
     fresh_jobs {A = A} jobs ≡ fresh (map (ruled rule) jobs)
-fresh-ruled rule jobs = sym (map-map (λ (task : Task). hand.Free task.limits.words) (ruled rule) jobs)
+fresh-ruled rule jobs = sym (map-map (λ (task : Task). workplace.Free task.limits.words) (ruled rule) jobs)
 
 -- one desk more
-pub fresh_more : {A : Type 0} (jobs : List JobValue) (hands after : List (Hand A)) (place next desk : ℕ)
+pub fresh_more : {A : Type 0} (jobs : List JobValue) (workbench after : List (Workplace A)) (place next desk : ℕ)
     (job : JobValue) → next ≡ suc place → place < length jobs → job ≡ get_or jobs place job →
-    hands ≡ fresh_jobs (take place jobs) → desk ≡ job.limits.words → after ≡ hands ++ hand.Free desk ∷ [] →
+    workbench ≡ fresh_jobs (take place jobs) → desk ≡ job.limits.words → after ≡ workbench ++ workplace.Free desk ∷ [] →
     after ≡ fresh_jobs (take next jobs)
-fresh_more {A} jobs hands after place next desk job next_is within job_is hands_are desk_is after_is =
-    let words_of : JobValue → Hand A = λ job. hand.Free job.limits.words in
-    let own : hand.Free desk ≡ words_of (get_or jobs place job) =
-    ap (λ words. hand.Free words) desk_is ∙ ap words_of job_is in
+fresh_more {A} jobs workbench after place next desk job next_is within job_is workbench_is desk_is after_is =
+    let words_of : JobValue → Workplace A = λ job. workplace.Free job.limits.words in
+    let own : workplace.Free desk ≡ words_of (get_or jobs place job) =
+    ap (λ words. workplace.Free words) desk_is ∙ ap words_of job_is in
     after_is
-    ∙ ((λ i. hands_are i ++ own i ∷ [])
+    ∙ ((λ i. workbench_is i ++ own i ∷ [])
     ∙ (sym (map-append words_of (take place jobs) (get_or jobs place job ∷ []))
     ∙ ap fresh_jobs (sym (ap (λ k. take k jobs) next_is ∙ take-suc jobs place job within))))
 
@@ -49,13 +49,13 @@ rests (InFlight n) = refl
 rests Ended = refl
 rests Collected = refl
 
-fresh_at : {A : Type 0} (tasks : List Task) (i : ℕ) (h : Hand A) → slice_get (fresh tasks) i ≡ Some h →
-    (task : Task) × (slice_get tasks i ≡ Some task) × (hand.Free task.limits.words ≡ h)
+fresh_at : {A : Type 0} (tasks : List Task) (i : ℕ) (h : Workplace A) → slice_get (fresh tasks) i ≡ Some h →
+    (task : Task) × (slice_get tasks i ≡ Some task) × (workplace.Free task.limits.words ≡ h)
 fresh_at [] i h is = absurd (none-some h is)
-fresh_at (task ∷ tasks) zero h is = (task, refl, same_Some (hand.Free task.limits.words) h is)
+fresh_at (task ∷ tasks) zero h is = (task, refl, same_Some (workplace.Free task.limits.words) h is)
 fresh_at (task ∷ tasks) (suc i) h is = fresh_at tasks i h is
 
-fresh_fits : {A : Type 0} (m : MachineState) → length m.standings ≡ length m.tasks → (job : ℕ) (h : Hand A) →
+fresh_fits : {A : Type 0} (m : MachineState) → length m.standings ≡ length m.tasks → (job : ℕ) (h : Workplace A) →
     of_job job (fresh m.tasks) ≡ Some h → FitsIn (recalled m) job h
 fresh_fits m same zero h is = absurd (none-some h is)
 fresh_fits m same (suc i) h is =
@@ -66,14 +66,14 @@ fresh_fits m same (suc i) h is =
       standing = recalled_standing s.0;
       task_is = t.1;
       standing_is = slice_get-map recalled_standing m.standings i ∙ ap (option_map recalled_standing) s.1;
-      fits = subst (HandFits (suc i) t.0 (recalled_standing s.0)) t.2 (refl, rests s.0);
+      fits = subst (WorkplaceFits (suc i) t.0 (recalled_standing s.0)) t.2 (refl, rests s.0);
     }
 
-pub fresh_fit : {A : Type 0} (m : MachineState) (hands : List (Hand A)) → length m.standings ≡ length m.tasks →
-    hands ≡ fresh m.tasks → HandsFit (recalled m) hands
-fresh_fit {A} m hands same hands_are =
-    let all : HandsFit {A = A} (recalled m) (fresh m.tasks) = record {
-      count = length-map m.tasks (λ task. hand.Free task.limits.words);
+pub fresh_fit : {A : Type 0} (m : MachineState) (workbench : List (Workplace A)) → length m.standings ≡ length m.tasks →
+    workbench ≡ fresh m.tasks → WorkbenchFits (recalled m) workbench
+fresh_fit {A} m workbench same workbench_is =
+    let all : WorkbenchFits {A = A} (recalled m) (fresh m.tasks) = record {
+      count = length-map m.tasks (λ task. workplace.Free task.limits.words);
       each = fresh_fits m same;
     } in
-    subst (HandsFit (recalled m)) (sym hands_are) all
+    subst (WorkbenchFits (recalled m)) (sym workbench_is) all
