@@ -5,7 +5,7 @@ use Rattle.job_steps.specs.States.{Task}
 use Rattle.job_machine.specs.Machines.{MachineState}
 use Rattle.batch_reader.specs.declared.fault.BatchFault.{BatchFault}
 use Rattle.batch_front.specs.declared.load.Loaded.TheVariants.{Refused, Jobs}
-use Rattle.batch_front.specs.LoadedBatches.{AreJobsOf, IsRunOut, IsWaiting, LoadedBatch, RanOut}
+use Rattle.batch_front.specs.LoadedBatches.{AreJobsOf, IsWaiting, LoadedBatch, RanOut}
 use Rattle.batch_front.specs.ReportedJobs.{AreAmong, HasRunOut, ReportedJob, report_text, reported_status}
 
 -- no job was to run

@@ -25,16 +25,7 @@ use Rattle.batch_front.specs.Reports.{TaskEntry, ruled_entries, ruled_fate}
 use Rattle.batch_front.specs.Reports.{end_text, entries_text, entry_text, fate_text, has_returned, is_refused}
 use Rattle.batch_front.specs.Reports.{job_text, jobs_status, jobs_text, refused_count}
 use Rattle.batch_front.specs.LoadedBatches.{AreJobsOf}
-use Rattle.batch_front.specs.ReportedJobs.{
-  AreAmong,
-  AreLoaded,
-  AreReportedOf,
-  BatchFits,
-  EntriesFit,
-  FateFits,
-  HasRunOut,
-  IsAmong,
-}
+use Rattle.batch_front.specs.ReportedJobs.{AreAmong, AreLoaded, AreReportedOf, BatchFits, EntriesFit, FateFits, IsAmong}
 use Rattle.batch_front.specs.ReportedJobs.{IsFateOn, IsReportedOf, ReportedJob}
 use Rattle.batch_front.specs.ReportedJobs.{fate_tasks, fate_text_on, has_returned_on, have_returned_on, report_text}
 use Rattle.batch_front.specs.ReportedJobs.{reported_job_text, reported_status}

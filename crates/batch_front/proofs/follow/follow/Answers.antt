@@ -7,7 +7,8 @@ use Rattle.batch_front.proofs.TurnLemmas.{workbench_fits, items_with}
 use Rattle.batch_front.proofs.follow.follow.Goals as goal
 
 pub admit_all-requires-clause-fit : goal.admit_all-requires-clause-fit
-admit_all-requires-clause-fit g c = workbench_fits c.args.machine.now c.in_ok-workbench.workbench c.requires c.in_ok-workbench.ensures
+admit_all-requires-clause-fit g c =
+    workbench_fits c.args.machine.now c.in_ok-workbench.workbench c.requires c.in_ok-workbench.ensures
 
 pub admit_all-requires-clause-none_ended : goal.admit_all-requires-clause-none_ended
 admit_all-requires-clause-none_ended g c = none_ended_first c.args.machine.now c.requires

@@ -1,4 +1,3 @@
-use Rattle.std.proofs.Common.{rules}
 use Rattle.batch_front.specs.ReportedJobs.{HasRunOut}
 use Rattle.batch_front.proofs.LoadedLemmas.{jobs_out, refused_out}
 use Rattle.batch_front.proofs.machine_run.run_on_workers.Goals as goal
