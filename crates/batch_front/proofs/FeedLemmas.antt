@@ -187,7 +187,7 @@ batch_in region old feed batch h f = record { bytes = h.0; first = h.2; comes = 
 
 -- ---- a fault of the writer
 
-abbrev is_write : FrontFault → Bool
+abbrev pub is_write : FrontFault → Bool
 is_write Write = true
 is_write fault = false
 

@@ -1,10 +1,12 @@
 pub mod Bytes
 pub mod FeedLemmas
 pub mod LineLemmas
+pub mod LoadedLemmas
 pub mod PageLemmas
 pub mod ReportLemmas
+pub mod ReportedJobLemmas
 pub mod RunLemmas
 pub mod ScheduleLemmas
-pub mod SeatLemmas
 pub mod Settling
 pub mod TurnLemmas
+pub mod WholeRuns

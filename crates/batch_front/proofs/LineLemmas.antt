@@ -23,10 +23,10 @@ use Rattle.std.proofs.lemmas.Option.{none-some, same_Some}
 use Rattle.vcode_base.specs.declared.rule.Rule.{Rule}
 use Rattle.job_steps.specs.Standings.{of_job}
 use Rattle.batch_reader.specs.declared.entry.Batch.TheVariants.{Jobs}
-use Rattle.batch_reader.specs.Batches.{JobText, Refusal, RuledJobs, jobs_of}
+use Rattle.batch_reader.specs.Batches.{JobText, Refusal, RuledJobs}
 use Rattle.batch_reader.specs.Fates.{JobEntry, AreEntries, IsBatch, IsEntry}
 use Rattle.batch_reader.specs.Laws.{OneEntry}
-use Rattle.batch_front.specs.Laws.{HasJobAt, OwnLines, OwnLinesInBatches, lines_at}
+use Rattle.batch_front.specs.Laws.{HasJobAt, OwnLines, OwnLinesInBatches}
 use Rattle.batch_front.specs.Reports.{entry_text, ruled_entry}
 
 pub own_lines : OneEntry → OwnLines

@@ -49,6 +49,7 @@ use Rattle.batch_front.specs.declared.fault.FrontFault.TheVariants.{Write}
 use Rattle.batch_front.specs.declared.page.Page.{Page}
 use Rattle.batch_front.specs.Devices.{inner_of, interrupts_of, is_flushed, is_flushing, HasWorked, IsAtFault, IsFresh}
 use Rattle.batch_front.proofs.Bytes.{take_whole}
+use Rattle.batch_front.proofs.FeedLemmas.{fault_in}
 use Rattle.batch_front.specs.Pages.{Ends, HasSent, IsSaid, IsWritten, Puts, Sends}
 
 -- ---- bytes
@@ -265,7 +266,7 @@ ends_at_fault contents page new old writer puts none start said h =
     (puts.said start said h))
   where
     ended : IsSaid contents page.spent start said new.bytes.items writer
-        → IsWritten contents page.spent start said writer (Err Write)
+        → IsWritten {T = Unit {0}} contents page.spent start said writer (Err Write)
     ended (inl (worked, h)) =
         absurd (none (subst (λ (s : ℕ). HasWorked writer (interrupts_of writer + s)) (sym puts.spent) worked))
     ended (inr (fault, h)) = record {
@@ -336,3 +337,36 @@ writes contents spent page new old put writer text result none same fresh few pu
     let said = subst (λ (s : ℕ). IsSaid contents s start text new.bytes.items put) (sym puts.spent)
     (puts.said start [] first) in
     subst (λ (s : ℕ). IsWritten contents s start text writer result) (puts.spent ∙ same) (ends start text said)
+
+-- what is written with a value in place of nothing
+pub written_with : {D T : Type 0} (contents : D → Option (List ℕ)) (spent : ℕ) (start : Option (List ℕ))
+    (said : List ℕ) (writer : Device D) (done : Result (Unit {0}) FrontFault) (value : T) (unit : Unit {0})
+    → done ≡ Ok unit → IsWritten contents spent start said writer done
+    → IsWritten contents spent start said writer (Ok value)
+written_with contents spent start said writer (Ok done) value unit e h = record {
+  all_written = h.all_written;
+  flushed = h.flushed;
+  worked = h.worked;
+  front_written = h.front_written;
+  before_flush = tt;
+  fault = tt;
+  write_alone = tt;
+}
+written_with contents spent start said writer (Err fault) value unit e h = cc
+
+-- a fault of the writer in place of another type's
+pub written_not : {D T : Type 0} (contents : D → Option (List ℕ)) (spent : ℕ) (start : Option (List ℕ)) (said : List ℕ)
+    (writer : Device D) (done : Result (Unit {0}) FrontFault) (fault : FrontFault) → done ≡ Err fault
+    → IsWritten contents spent start said writer done → IsWritten {T = T} contents spent start said writer (Err fault)
+written_not contents spent start said writer (Ok done) fault e h = cc
+written_not contents spent start said writer (Err other) fault e h =
+    let same : fault ≡ Write = ap (fault_in Write) (sym e ∙ h.write_alone) in
+    record {
+      all_written = tt;
+      flushed = tt;
+      worked = tt;
+      front_written = h.front_written;
+      before_flush = h.before_flush;
+      fault = h.fault;
+      write_alone = ap (λ f. Err f) same;
+    }

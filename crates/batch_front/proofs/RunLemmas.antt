@@ -10,7 +10,7 @@ use Rattle.job_steps.specs.Standings.{Standing, Collected, of_job, executed_at, 
 use Rattle.job_steps.specs.States.{Task, Vector}
 use Rattle.job_machine.specs.Machines.{MachineState, told, told_by, outcome_by, outcome_in}
 use Rattle.batch_front.specs.Reports.{outcome_text, used_text}
-use Rattle.batch_front.specs.Seats.{HasRunOut, IsTask, told_text}
+use Rattle.batch_front.specs.ReportedJobs.{HasRunOut, IsTask, told_text}
 
 -- a job that there is has its standing
 told_out : {T : Type 0} (of : Task → Standing → T) (tasks : List Task) (standings : List Standing) (place : ℕ)

@@ -12,7 +12,7 @@ use Rattle.job_machine.specs.declared.workbench.Workplace.{Workplace}
 use Rattle.job_machine.specs.Workbench.{WorkbenchFits}
 use Rattle.job_machine.specs.Machines.{MachineState, HasNoStep, Leads, machine_after, recalled, with_queue}
 use Rattle.batch_front.specs.declared.schedule.Item.{Item}
-use Rattle.batch_front.specs.Seats.{Seat}
+use Rattle.batch_front.specs.ReportedJobs.{ReportedJob}
 use Rattle.batch_front.specs.Turns.{after_admissions, after_item, after_items}
 
 -- ---- a machine that was just made
@@ -36,7 +36,8 @@ no_step_first : (m : MachineState) → m.standings ≡ first_standings m.tasks �
 no_step_first m e = ap recalled_standings e ∙ waiting m.tasks ∙ sym e
 
 -- if no step has begun, none is given up
-pub workbench_fits : {A : Type 0} (m : MachineState) (workbench : List (Workplace A)) → m.standings ≡ first_standings m.tasks
+pub workbench_fits : {A : Type 0} (m : MachineState) (workbench : List (Workplace A))
+    → m.standings ≡ first_standings m.tasks
     → WorkbenchFits (recalled m) workbench → WorkbenchFits m workbench
 workbench_fits m workbench wait h =
     subst (λ standings. WorkbenchFits (with_queue m (record { standings = standings; passes = m.passes })) workbench)
@@ -55,16 +56,16 @@ pub admissions_with : (n next : ℕ) (m now new : MachineState) → next ≡ n +
 admissions_with n next m now new one e f =
     let same : next ≡ suc n = omega (arith, one) in rw same (f ∙ ap (machine_after event.Admit) e)
 
-after_more : (seats : List Seat) (items : List Item) (last : Item) (m : MachineState)
-    → after_items seats (items ++ last ∷ []) m ≡ after_item seats last (after_items seats items m)
-after_more seats [] last m = refl
-after_more seats (item ∷ items) last m = after_more seats items last (after_item seats item m)
+after_more : (reported : List ReportedJob) (items : List Item) (last : Item) (m : MachineState)
+    → after_items reported (items ++ last ∷ []) m ≡ after_item reported last (after_items reported items m)
+after_more reported [] last m = refl
+after_more reported (item ∷ items) last m = after_more reported items last (after_item reported item m)
 
-pub items_with : (seats : List Seat) (items : List Item) (n next : ℕ) (any : Item) (m now new : MachineState)
-    → next ≡ n + 1 → n < length items → now ≡ after_items seats (take n items) m
-    → new ≡ after_item seats (get_or items n any) now → new ≡ after_items seats (take next items) m
-items_with seats items n next any m now new one l e f =
+pub items_with : (reported : List ReportedJob) (items : List Item) (n next : ℕ) (any : Item) (m now new : MachineState)
+    → next ≡ n + 1 → n < length items → now ≡ after_items reported (take n items) m
+    → new ≡ after_item reported (get_or items n any) now → new ≡ after_items reported (take next items) m
+items_with reported items n next any m now new one l e f =
     let item = get_or items n any in
     let front : take next items ≡ take n items ++ item ∷ [] = ap (λ k. take k items) one ∙ take_more items n any l in
-    f ∙ ap (after_item seats item) e ∙ sym (after_more seats (take n items) item m)
-    ∙ ap (λ is. after_items seats is m) (sym front)
+    f ∙ ap (after_item reported item) e ∙ sym (after_more reported (take n items) item m)
+    ∙ ap (λ is. after_items reported is m) (sym front)

@@ -1,11 +1,11 @@
-pub mod Answers
 pub mod Devices
 pub mod Exits
 pub mod Inputs
 pub mod Laws
+pub mod LoadedBatches
 pub mod Pages
+pub mod ReportedJobs
 pub mod Reports
 pub mod Runs
 pub mod Schedules
-pub mod Seats
 pub mod Turns

@@ -41,8 +41,8 @@ pub record Puts {D : Type 0} (contents : D → Option (List ℕ)) (page : Page) 
       IsSaid contents page.spent start (said ++ text) new_page.bytes.items new_writer
 
 -- a report is written and flushed, or the writer is at fault and has a front of it: all of it, if the flush failed
-pub record IsWritten {D : Type 0} (contents : D → Option (List ℕ)) (spent : ℕ) (start : Option (List ℕ)) (said : List ℕ)
-    (writer : Device D) (result : Result (Unit {0}) FrontFault) : Type 0 where
+pub record IsWritten {D T : Type 0} (contents : D → Option (List ℕ)) (spent : ℕ) (start : Option (List ℕ))
+    (said : List ℕ) (writer : Device D) (result : Result T FrontFault) : Type 0 where
   pub all_written : OnOk result (Appends start (contents (inner_of writer)) said)
   pub flushed : OnOk result (is_flushed writer ≡ true)
   pub worked : OnOk result (HasWorked writer (interrupts_of writer + spent))

@@ -8,7 +8,7 @@ use Rattle.batch_reader.specs.declared.entry.Fate.TheVariants.{Ready, Refused}
 use Rattle.batch_front.specs.declared.schedule.Item.{Item}
 use Rattle.batch_front.specs.declared.schedule.Item.TheVariants.{Step, Begin, Finish}
 use Rattle.batch_front.specs.Schedules.{place_of}
-use Rattle.batch_front.specs.Seats.{Seat}
+use Rattle.batch_front.specs.ReportedJobs.{ReportedJob}
 
 -- ---- between two turns
 
@@ -46,13 +46,13 @@ abbrev pub fate_number : Fate ℕ → Option ℕ
 fate_number (Ready number) = Some number
 fate_number (Refused line fault) = None
 
-abbrev pub seat_number : Option Seat → Option ℕ
-seat_number None = None
-seat_number (Some seat) = fate_number seat.fate
+abbrev pub reported_number : Option ReportedJob → Option ℕ
+reported_number None = None
+reported_number (Some reported_job) = fate_number reported_job.fate
 
 -- the number on a machine of the job at this place of the batch, if there is one that may run
-abbrev pub number_of : List Seat → ℕ → Option ℕ
-number_of seats place = seat_number (of_job place seats)
+abbrev pub number_of : List ReportedJob → ℕ → Option ℕ
+number_of reported place = reported_number (of_job place reported)
 
 -- the machine after a turn of the job of this number
 abbrev pub after_turn : Item → ℕ → MachineState → MachineState
@@ -66,14 +66,14 @@ after_turn_of item None m = m
 after_turn_of item (Some job) m = after_turn item job m
 
 -- the machine after an item of a schedule, when it has settled
-abbrev pub after_item : List Seat → Item → MachineState → MachineState
-after_item seats item m = settled (after_turn_of item (number_of seats (place_of item)) m)
+abbrev pub after_item : List ReportedJob → Item → MachineState → MachineState
+after_item reported item m = settled (after_turn_of item (number_of reported (place_of item)) m)
 
 -- after these items, one after another
-abbrev pub after_items : List Seat → List Item → MachineState → MachineState
-after_items seats [] m = m
-after_items seats (item ∷ items) m = after_items seats items (after_item seats item m)
+abbrev pub after_items : List ReportedJob → List Item → MachineState → MachineState
+after_items reported [] m = m
+after_items reported (item ∷ items) m = after_items reported items (after_item reported item m)
 
 -- the machine after a schedule
-abbrev pub after_schedule : List Seat → List Item → MachineState → MachineState
-after_schedule seats items m = after_items seats items (settled m)
+abbrev pub after_schedule : List ReportedJob → List Item → MachineState → MachineState
+after_schedule reported items m = after_items reported items (settled m)

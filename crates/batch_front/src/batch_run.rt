@@ -1,17 +1,17 @@
 //! A whole run, from a batch's bytes to its report's.
 
-ghost use Rattle.std.specs.Prelude.{◌≡◌, ◌⊎◌, ◌+◌, true, IfOk, OnOk, IsErrOf, IsSome};
-ghost use Rattle.std.specs.Io.KnownBytes.{Keeps};
-ghost use Rattle.batch_front.specs.Devices.{inner_of, interrupts_of, is_flushed, is_flushing, IsFresh, HasWorked, IsAtFault};
-ghost use Rattle.batch_front.specs.Inputs.{ReadsFirstBytes, ReadsNoFurther};
-ghost use Rattle.batch_front.specs.Runs.{WritesReport, WritesFront, WritesWhole};
+ghost use Rattle.std.specs.Prelude.{◌≡◌, IsErrOf, IsSome};
+ghost use Rattle.batch_front.specs.Devices.{IsFresh};
+ghost use Rattle.batch_front.specs.Runs.{Runs};
 
-use crate::answer::{answer_of_caller, answer_of_workers, write_answer};
 use crate::device::{Device, MOST_INTERRUPTIONS};
 use crate::fault::FrontFault;
+use crate::load::load;
+use crate::machine_run::{run_on_caller, run_on_workers};
 use crate::options::Options;
 use crate::status::Status;
 use crate::transfer::read_batch;
+use crate::whole_report::write_report;
 use std::alloc::Allocator;
 use std::io::{Read, Write};
 use std::sync::Wait;
@@ -40,41 +40,13 @@ pub fn run_alone<A: Allocator + Copy, R: Read, W: Write>(
 ) -> Result<Status, FrontFault>
     requires reader { IsFresh reader.old }
     requires writer { IsFresh writer.old }
-
-    // The report is written and nothing else, and the status is the batch's.
-    ensures report { IfOk result (WritesReport options.now.region (R.remaining (inner_of reader.old))
-        (W.contents (inner_of writer.old)) (W.contents (inner_of writer.new))) }
-    ensures flushed { OnOk result (is_flushed writer.new ≡ true) }
-    // No fault of a device is passed over, nor one interruption too many.
-    ensures reader_worked { OnOk result (HasWorked reader.new (interrupts_of reader.new + interrupts_of writer.new)) }
-    ensures writer_worked { OnOk result (HasWorked writer.new (interrupts_of reader.new + interrupts_of writer.new)) }
-
-    // The input is read to its end, or exactly one byte further than a batch may have, before anything is written.
-    ensures read_to_the_end { OnOk result (ReadsFirstBytes (R.remaining (inner_of reader.old)) (R.remaining (inner_of reader.new))) }
-    ensures read_before_written { IsErrOf result FrontFault.Write →
-        ReadsFirstBytes (R.remaining (inner_of reader.old)) (R.remaining (inner_of reader.new)) }
-    // It is never read any further.
-    ensures read_no_further { ReadsNoFurther (R.remaining (inner_of reader.old)) (R.remaining (inner_of reader.new)) }
-
-    // A part of the report from its front was written.
-    ensures front_written { IsErrOf result FrontFault.Write → WritesFront options.now.region (R.remaining (inner_of reader.old))
-        (W.contents (inner_of writer.old)) (W.contents (inner_of writer.new)) }
-    // All of the report was written, if the fault was at the flush.
-    ensures whole_written { IsErrOf result FrontFault.Write → is_flushing writer.new ≡ true → WritesWhole options.now.region
-        (R.remaining (inner_of reader.old)) (W.contents (inner_of writer.old)) (W.contents (inner_of writer.new)) }
-    ensures nothing_written { IsErrOf result FrontFault.Read ⊎ IsErrOf result FrontFault.Memory →
-        Keeps (W.contents (inner_of writer.old)) (W.contents (inner_of writer.new)) }
+    ensures runs { Runs R.remaining W.contents options.now.region reader.old reader.new writer.old writer.new result }
     ensures never_mixed { IsErrOf result FrontFault.Mixed → ⊥ }
-
-    // The side that failed, or the first interruption of the run that is too many.
-    ensures read_fault { IsErrOf result FrontFault.Read
-        → IsAtFault reader.new (interrupts_of reader.new + interrupts_of writer.new) }
-    ensures write_fault { IsErrOf result FrontFault.Write
-        → IsAtFault writer.new (interrupts_of reader.new + interrupts_of writer.new) }
 {
     let batch = read_batch(alloc, reader, options.region)?;
-    let answer = answer_of_caller(alloc, batch, options)?;
-    write_answer(writer, &answer, reader.interrupts())
+    let loaded = load(alloc, batch, options)?;
+    let ran = run_on_caller(alloc, loaded, options)?;
+    write_report(writer, &ran, reader.interrupts())
 }
 
 /// The same as [`run_alone`] if a schedule is given. Else the jobs are run by at most as many worker threads as
@@ -105,43 +77,15 @@ where
     G: Gate + Sync,
     requires reader { IsFresh reader.old }
     requires writer { IsFresh writer.old }
-
-    // The report is written and nothing else, and the status is the batch's.
-    ensures report { IfOk result (WritesReport options.now.region (I.remaining (inner_of reader.old))
-        (O.contents (inner_of writer.old)) (O.contents (inner_of writer.new))) }
-    ensures flushed { OnOk result (is_flushed writer.new ≡ true) }
-    // No fault of a device is passed over, nor one interruption too many.
-    ensures reader_worked { OnOk result (HasWorked reader.new (interrupts_of reader.new + interrupts_of writer.new)) }
-    ensures writer_worked { OnOk result (HasWorked writer.new (interrupts_of reader.new + interrupts_of writer.new)) }
-
-    // The input is read to its end, or exactly one byte further than a batch may have, before anything is written.
-    ensures read_to_the_end { OnOk result (ReadsFirstBytes (I.remaining (inner_of reader.old)) (I.remaining (inner_of reader.new))) }
-    ensures read_before_written { IsErrOf result FrontFault.Write →
-        ReadsFirstBytes (I.remaining (inner_of reader.old)) (I.remaining (inner_of reader.new)) }
-    // It is never read any further.
-    ensures read_no_further { ReadsNoFurther (I.remaining (inner_of reader.old)) (I.remaining (inner_of reader.new)) }
-
-    // A part of the report from its front was written.
-    ensures front_written { IsErrOf result FrontFault.Write → WritesFront options.now.region (I.remaining (inner_of reader.old))
-        (O.contents (inner_of writer.old)) (O.contents (inner_of writer.new)) }
-    // All of the report was written, if the fault was at the flush.
-    ensures whole_written { IsErrOf result FrontFault.Write → is_flushing writer.new ≡ true → WritesWhole options.now.region
-        (I.remaining (inner_of reader.old)) (O.contents (inner_of writer.old)) (O.contents (inner_of writer.new)) }
-    ensures nothing_written { IsErrOf result FrontFault.Read ⊎ IsErrOf result FrontFault.Memory ⊎ IsErrOf result FrontFault.Mixed →
-        Keeps (O.contents (inner_of writer.old)) (O.contents (inner_of writer.new)) }
+    ensures runs { Runs I.remaining O.contents options.now.region reader.old reader.new writer.old writer.new result }
     // Only workers can hand back other jobs, and none is started beside a schedule.
     ensures never_mixed { IsSome options.now.schedule → IsErrOf result FrontFault.Mixed → ⊥ }
-
-    // The side that failed, or the first interruption of the run that is too many.
-    ensures read_fault { IsErrOf result FrontFault.Read
-        → IsAtFault reader.new (interrupts_of reader.new + interrupts_of writer.new) }
-    ensures write_fault { IsErrOf result FrontFault.Write
-        → IsAtFault writer.new (interrupts_of reader.new + interrupts_of writer.new) }
 {
     if options.schedule.is_some() {
         return run_alone(alloc, reader, writer, options);
     }
     let batch = read_batch(alloc, reader, options.region)?;
-    let answer = answer_of_workers(rt, alloc, batch, options, gate)?;
-    write_answer(writer, &answer, reader.interrupts())
+    let loaded = load(alloc, batch, options)?;
+    let ran = run_on_workers(rt, alloc, loaded, options, gate)?;
+    write_report(writer, &ran, reader.interrupts())
 }

@@ -7,8 +7,8 @@ ghost use Rattle.job_machine.specs.Machines.{is_over};
 ghost use Rattle.batch_front.specs.Turns.{NoneEnded, IsSettled, IsSettledBut};
 ghost use Rattle.batch_front.specs.Turns.{after_item, after_schedule, after_turn, number_of, settled};
 
+use crate::reported_jobs::{ReportedJob, number_of};
 use crate::schedule::Item;
-use crate::seats::{Seat, number_of};
 use job_machine::{Event, Machine, Status, Workbench};
 use job_steps::laws::{
     admitted_have_room, closed_change_nothing, events_change_their_job, others_stay,
@@ -102,18 +102,18 @@ fn take_turn<A: Allocator + Clone>(
 fn follow_item<A: Allocator + Clone>(
     machine: &mut Machine<A>,
     workbench: &mut Workbench<A>,
-    seats: &[Seat<A>],
+    reported: &[ReportedJob<A>],
     item: Item,
 ) -> Result<(), AllocError>
     requires fit { WorkbenchFits machine.old workbench.old }
     requires settled { IsSettled machine.old }
-    ensures state { OnOk result (machine.new ≡ after_item seats.now item machine.old) }
+    ensures state { OnOk result (machine.new ≡ after_item reported.now item machine.old) }
     ensures settled { OnOk result (IsSettled machine.new) }
     ensures tasks { OnOk result (machine.new.tasks ≡ machine.old.tasks) }
     ensures fit { OnOk result (WorkbenchFits machine.new workbench.new) }
 {
     closed_change_nothing();
-    let Some(job) = number_of(seats, item.place()) else {
+    let Some(job) = number_of(reported, item.place()) else {
         return Ok(());
     };
     take_turn(machine, workbench, job, item)?;
@@ -124,17 +124,17 @@ fn follow_item<A: Allocator + Clone>(
 pub(crate) fn follow<A: Allocator + Clone>(
     alloc: A,
     machine: &mut Machine<A>,
-    seats: &[Seat<A>],
+    reported: &[ReportedJob<A>],
     schedule: &[Item],
 ) -> Result<(), AllocError>
     requires { machine.old.standings ≡ first_standings machine.old.tasks }
-    ensures state { OnOk result (machine.new ≡ after_schedule seats.now schedule.now machine.old) }
+    ensures state { OnOk result (machine.new ≡ after_schedule reported.now schedule.now machine.old) }
     ensures tasks { OnOk result (machine.new.tasks ≡ machine.old.tasks) }
 {
     let mut workbench = Workbench::new(alloc, machine)?;
     admit_all(machine, &mut workbench)?;
     for item in schedule {
-        follow_item(machine, &mut workbench, seats, *item)?;
+        follow_item(machine, &mut workbench, reported, *item)?;
     }
     Ok(())
 }

@@ -4,25 +4,26 @@
 //! run the jobs. [`parse_schedule`] reads in which order the jobs are to take their turns on the calling thread; their
 //! ends depend neither on it nor on the workers. `batch_reader`, below, defines the answer to a batch, which is one for
 //! each text and region; `Reports` in `specs/` says what is printed of it, and the status. [`laws`] says what a job's
-//! lines of the report depend on. `Seats` has the jobs of a batch as they stand on a machine, `Schedules` the items
-//! that a text has.
+//! lines of the report depend on. `ReportedJobs` has the jobs of a batch by their numbers on a machine, `Schedules` the
+//! items that a text has.
 #![tactic(auto)]
 
-mod answer;
 mod batch_run;
 mod device;
 mod exit;
 mod fault;
 mod follow;
 pub mod laws;
+mod load;
 mod machine_run;
 mod options;
 mod page;
 mod report;
+mod reported_jobs;
 mod schedule;
-mod seats;
 mod status;
 mod transfer;
+mod whole_report;
 
 pub use batch_reader::{Batch, BatchFault, Entry, Fate, Feed, JobEntries, JobEntry, JobFault};
 pub use batch_run::{run, run_alone};

@@ -1,14 +1,16 @@
-//! A machine's jobs, run to their ends.
+//! A batch's jobs, run to their ends.
 
 ghost use Rattle.std.specs.Prelude.{◌≡◌, ◌≤◌, All, IfOk, IfSome, IfNone, OnOk};
 ghost use Rattle.job_steps.specs.Standings.{first_standings};
 ghost use Rattle.job_machine.specs.Machines.{Leads};
-ghost use Rattle.batch_front.specs.Seats.{HasRunOut};
+ghost use Rattle.batch_front.specs.LoadedBatches.{IsWaiting, RanOut};
+ghost use Rattle.batch_front.specs.ReportedJobs.{HasRunOut};
 ghost use Rattle.batch_front.specs.Turns.{after_schedule};
 
 use crate::follow::follow;
+use crate::load::{Loaded, LoadedBatch};
 use crate::options::Options;
-use crate::seats::Seat;
+use crate::reported_jobs::ReportedJob;
 use job_machine::{Desk, Machine};
 use std::alloc::{AllocError, Allocator};
 use std::sync::Wait;
@@ -19,17 +21,17 @@ use step_scheduler::{Gate, RunFault, run_workers};
 fn follow_schedule<A: Allocator + Copy>(
     alloc: A,
     machine: &mut Machine<A>,
-    seats: &[Seat<A>],
+    reported: &[ReportedJob<A>],
     options: &Options,
 ) -> Result<(), AllocError>
     requires { machine.old.standings ≡ first_standings machine.old.tasks }
     ensures followed { OnOk result (IfSome options.now.schedule
-        (λ schedule. machine.new ≡ after_schedule seats.now schedule.items machine.old)) }
+        (λ schedule. machine.new ≡ after_schedule reported.now schedule.items machine.old)) }
     ensures unchanged { OnOk result (IfNone options.now.schedule (machine.new ≡ machine.old)) }
     ensures tasks { OnOk result (machine.new.tasks ≡ machine.old.tasks) }
 {
     match &options.schedule {
-        Some(schedule) => follow(alloc, machine, seats, schedule),
+        Some(schedule) => follow(alloc, machine, reported, schedule),
         None => Ok(()),
     }
 }
@@ -49,12 +51,11 @@ fn run_on_desk<A: Allocator + Clone>(
     done
 }
 
-/// Runs the jobs of a machine, which all wait, to their ends on the calling thread, first by the schedule, if there is
-/// one.
-pub(crate) fn run_on_caller<A: Allocator + Copy>(
+/// Runs the jobs of a machine, which all wait, to their ends, first by the schedule, if there is one.
+fn run_by_turns<A: Allocator + Copy>(
     alloc: A,
     machine: &mut Machine<A>,
-    seats: &[Seat<A>],
+    reported: &[ReportedJob<A>],
     options: &Options,
 ) -> Result<(), AllocError>
     requires { machine.old.standings ≡ first_standings machine.old.tasks }
@@ -62,30 +63,55 @@ pub(crate) fn run_on_caller<A: Allocator + Copy>(
     ensures out { OnOk result (HasRunOut machine.new) }
     // Events lead to it from the standings in which the schedule has left the jobs.
     ensures followed { OnOk result (IfSome options.now.schedule
-        (λ schedule. Leads (after_schedule seats.now schedule.items machine.old) machine.new)) }
+        (λ schedule. Leads (after_schedule reported.now schedule.items machine.old) machine.new)) }
 {
-    follow_schedule(alloc, machine, seats, options)?;
+    follow_schedule(alloc, machine, reported, options)?;
     let desk = Desk::new(alloc, machine.most_words())?;
     run_on_desk(machine, desk)
 }
 
-/// Runs the jobs of a machine to their ends on worker threads, which pass the gate in the middle of each step.
+/// Runs the jobs of a batch, which all wait, to their ends on the calling thread, first by the schedule, if there is
+/// one.
+pub(crate) fn run_on_caller<A: Allocator + Copy>(
+    alloc: A,
+    batch: LoadedBatch<A>,
+    options: &Options,
+) -> Result<LoadedBatch<A>, AllocError>
+    requires { IsWaiting batch }
+    ensures { IfOk result (RanOut batch) }
+{
+    match batch {
+        Loaded::Refused(line, fault) => Ok(Loaded::Refused(line, fault)),
+        Loaded::Jobs(mut machine, reported) => {
+            run_by_turns(alloc, &mut machine, reported.as_slice(), options)?;
+            Ok(Loaded::Jobs(machine, reported))
+        }
+    }
+}
+
+/// Runs the jobs of a batch, which all wait, to their ends on worker threads, which pass the gate in the middle of each
+/// step.
 pub(crate) fn run_on_workers<A, H, G>(
     rt: &H,
     alloc: A,
-    machine: Machine<A>,
+    batch: LoadedBatch<A>,
     options: &Options,
     gate: &G,
-) -> Result<Machine<A>, RunFault>
+) -> Result<LoadedBatch<A>, RunFault>
 where
     A: Allocator + Copy + Send + Sync,
     H: Threads + Wait + Sync,
     G: Gate + Sync,
-    ensures tasks { IfOk result (λ m. m.tasks ≡ machine.tasks) }
-    ensures out { IfOk result HasRunOut }
+    requires { IsWaiting batch }
+    ensures { IfOk result (RanOut batch) }
 {
-    let workers = options.workers as usize;
-    let (machine, _) = run_workers(rt, alloc, machine, workers, gate)?;
-    let _jobs = machine.jobs();
-    Ok(machine)
+    match batch {
+        Loaded::Refused(line, fault) => Ok(Loaded::Refused(line, fault)),
+        Loaded::Jobs(machine, reported) => {
+            let workers = options.workers as usize;
+            let (machine, _) = run_workers(rt, alloc, machine, workers, gate)?;
+            let _jobs = machine.jobs();
+            Ok(Loaded::Jobs(machine, reported))
+        }
+    }
 }

@@ -5,7 +5,7 @@ ghost use Rattle.std.specs.Io.KnownBytes.{Appends, Keeps};
 ghost use Rattle.batch_front.specs.declared.device.TheConstants.{MOST_INTERRUPTIONS};
 ghost use Rattle.batch_front.specs.Devices.{inner_of, has_failed, interrupts_of, is_flushed, is_flushing, IsFresh, HasWorked, IsAtFault};
 ghost use Rattle.batch_reader.specs.Feeds.{HasCome, HasFewJobs};
-ghost use Rattle.batch_front.specs.Seats.{BatchFits};
+ghost use Rattle.batch_front.specs.ReportedJobs.{BatchFits};
 ghost use Rattle.batch_front.specs.Inputs.{AreFirstBytes, IsBatchIn, ReadsFirstBytes, ReadsNoFurther};
 
 use crate::device::{Device, MOST_INTERRUPTIONS, Trouble};

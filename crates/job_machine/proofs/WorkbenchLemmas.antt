@@ -30,16 +30,19 @@ use Rattle.job_machine.proofs.Stepping.{after_open, after_both, finished_by}
 
 -- ---- lists of workplaces
 
-count_with : {A : Type 0} (job : ℕ) (h : Workplace A) (workbench : List (Workplace A)) → length (with_workplace job h workbench) ≡ length workbench
+count_with : {A : Type 0} (job : ℕ) (h : Workplace A) (workbench : List (Workplace A)) →
+    length (with_workplace job h workbench) ≡ length workbench
 count_with zero h workbench = refl
 count_with (suc i) h workbench = length-set workbench i h
 
-of_with_workplace : {A : Type 0} (job : ℕ) (workbench : List (Workplace A)) (own h : Workplace A) → of_job job workbench ≡ Some own →
+of_with_workplace : {A : Type 0} (job : ℕ) (workbench : List (Workplace A)) (own h : Workplace A) →
+    of_job job workbench ≡ Some own →
     of_job job (with_workplace job h workbench) ≡ Some h
 of_with_workplace zero workbench own h e = absurd (none-some own e)
 of_with_workplace (suc i) workbench own h e = get-set_same workbench i own h e
 
-other_with_workplace : {A : Type 0} (job other : ℕ) (workbench : List (Workplace A)) (h : Workplace A) → (other ≡ job → ⊥) →
+other_with_workplace : {A : Type 0} (job other : ℕ) (workbench : List (Workplace A)) (h : Workplace A) →
+    (other ≡ job → ⊥) →
     of_job other (with_workplace job h workbench) ≡ of_job other workbench
 other_with_workplace zero other workbench h ne = refl
 other_with_workplace (suc i) zero workbench h ne = refl
@@ -50,7 +53,8 @@ workplace_twice : {A : Type 0} (job : ℕ) (one other : Workplace A) (workbench 
 workplace_twice zero one other workbench = refl
 workplace_twice (suc i) one other workbench = set-set workbench i one other
 
-workplace_back : {A : Type 0} (job : ℕ) (own : Workplace A) (workbench : List (Workplace A)) → of_job job workbench ≡ Some own →
+workplace_back : {A : Type 0} (job : ℕ) (own : Workplace A) (workbench : List (Workplace A)) →
+    of_job job workbench ≡ Some own →
     with_workplace job own workbench ≡ workbench
 workplace_back zero own workbench e = refl
 workplace_back (suc i) own workbench e = set_back workbench i own e
@@ -76,8 +80,10 @@ takes_none of job old new result none new_is result_is =
     ((λ taken is. none-some (of taken) (none ∙ is)), new_is ∙ no_workplace job workplace.Empty old (sym none))
 
 -- the workplace is otherwise, and is put back
-pub takes_other : {A T : Type 0} (of : T → Workplace A) (job : ℕ) (old between new : List (Workplace A)) (own : Workplace A) →
-    Some own ≡ of_job job old → between ≡ with_workplace job workplace.Empty old → new ≡ with_workplace job own between →
+pub takes_other : {A T : Type 0} (of : T → Workplace A)
+    (job : ℕ) (old between new : List (Workplace A)) (own : Workplace A) →
+    Some own ≡ of_job job old → between ≡ with_workplace job workplace.Empty old →
+    new ≡ with_workplace job own between →
     ((taken : T) → own ≡ of taken → ⊥) → Takes of job old new None
 takes_other of job old between new own own_is between_is new_is otherwise = (
   (λ taken is. otherwise taken (same_Some own (of taken) (own_is ∙ is))),
@@ -105,7 +111,8 @@ is_apart : (region : ℕ) (tasks : List Task) (event : Event) (queue : Queue) (j
 is_apart region tasks event queue job other job_is ne other_is =
     ne (same_Some other job (sym other_is ∙ job_is))
 
-workplace_by : {A : Type 0} (m after : MachineState) (workbench : List (Workplace A)) (job : ℕ) (own new : Workplace A) →
+workplace_by : {A : Type 0} (m after : MachineState) (workbench : List (Workplace A)) (job : ℕ)
+    (own new : Workplace A) →
     WorkbenchFits m workbench → of_job job workbench ≡ Some own → after.tasks ≡ m.tasks → OthersStand job m after →
     FitsIn after job new → (other : ℕ) → (h : Workplace A) → of_job other (with_workplace job new workbench) ≡ Some h →
     (other ≡ job) ⊎ (other ≡ job → ⊥) → FitsIn after other h
@@ -119,12 +126,14 @@ workplace_by m after workbench job own new fit own_is tasks others f other h h_i
     (fit.each other h (sym (other_with_workplace job other workbench new apart) ∙ h_is))
 
 -- events of a job, whose workplace changes so that it fits
-workbench_with : {A : Type 0} (m after : MachineState) (workbench : List (Workplace A)) (job : ℕ) (own new : Workplace A) →
+workbench_with : {A : Type 0} (m after : MachineState) (workbench : List (Workplace A)) (job : ℕ)
+    (own new : Workplace A) →
     WorkbenchFits m workbench → of_job job workbench ≡ Some own → after.tasks ≡ m.tasks → OthersStand job m after →
     FitsIn after job new → WorkbenchFits after (with_workplace job new workbench)
 workbench_with m after workbench job own new fit own_is tasks others f = record {
   count = count_with job new workbench ∙ (fit.count ∙ sym (ap length tasks));
-  each = λ other h h_is. workplace_by m after workbench job own new fit own_is tasks others f other h h_is (cases_eq other job);
+  each = λ other h h_is. workplace_by m after workbench job own new fit own_is tasks others f other h h_is
+      (cases_eq other job);
 }
 
 others_stand : (stay : OthersStay) (event : Event) (m : MachineState) (job : ℕ) →
@@ -134,12 +143,14 @@ others_stand stay event m job job_is other apart =
     (is_apart m.region m.tasks event (queue_of m) job other job_is apart)
 
 -- an event of a job, whose workplace changes so that it fits
-pub workbench_after : {A : Type 0} (stay : OthersStay) (event : Event) (m : MachineState) (workbench : List (Workplace A)) (job : ℕ)
+pub workbench_after : {A : Type 0} (stay : OthersStay) (event : Event) (m : MachineState)
+    (workbench : List (Workplace A)) (job : ℕ)
     (own new : Workplace A) → WorkbenchFits m workbench → of_job job workbench ≡ Some own →
     job_of m.region m.tasks event (queue_of m) ≡ Some job → FitsIn (machine_after event m) job new →
     WorkbenchFits (machine_after event m) (with_workplace job new workbench)
 workbench_after stay event m workbench job own new fit own_is job_is f =
-    workbench_with m (machine_after event m) workbench job own new fit own_is refl (others_stand stay event m job job_is) f
+    workbench_with m (machine_after event m) workbench job own new fit own_is refl
+    (others_stand stay event m job job_is) f
 
 -- ---- an event that isn't open
 
@@ -182,7 +193,8 @@ opened_workplace event m job task old new h job_is task_is old_is next fits = re
 
 -- ---- a job without a workplace
 
-missing_at : {A : Type 0} (workbench : List (Workplace A)) (tasks : List Task) → length workbench ≡ length tasks → (i : ℕ) →
+missing_at : {A : Type 0} (workbench : List (Workplace A)) (tasks : List Task) → length workbench ≡ length tasks →
+    (i : ℕ) →
     slice_get workbench i ≡ None → slice_get tasks i ≡ None
 missing_at [] [] same i none = refl
 missing_at [] (t ∷ tasks) same i none = absurd (omega (arith, same))
@@ -211,7 +223,8 @@ pub record Played {A : Type 0} (event : Event) (m new : MachineState) (after : L
   pub fit : WorkbenchFits new after
 
 turned : {A : Type 0} (event : Event) (m new : MachineState) (workbench after : List (Workplace A)) →
-    new ≡ machine_after event m → WorkbenchFits (machine_after event m) workbench → after ≡ workbench → Played event m new after
+    new ≡ machine_after event m → WorkbenchFits (machine_after event m) workbench → after ≡ workbench →
+    Played event m new after
 turned {A} event m new workbench after state fit same = record {
   state = state;
   fit = subst (λ (k : MachineState). WorkbenchFits k after) (sym state)
@@ -242,11 +255,13 @@ record IsBegunBy {A : Type 0} (m : MachineState) (job : ℕ) (answer : Begun A) 
   state : after_begun answer m (machine_after (Begin job) m) ≡ machine_after (Begin job) m
   fits : FitsIn (machine_after (Begin job) m) job (workplace_after answer)
 
-begins : {A : Type 0} (m : MachineState) (job desk : ℕ) (f : FitsIn {A = A} m job (workplace.Free desk)) (answer : Begun A) →
+begins : {A : Type 0} (m : MachineState) (job desk : ℕ)
+    (f : FitsIn {A = A} m job (workplace.Free desk)) (answer : Begun A) →
     Begins job desk f.task f.standing answer → IsBegunBy m job answer
 begins m job desk f (begun.Began ticket) is = record {
   state = refl;
-  fits = opened_workplace (Begin job) m job f.task f.standing (InFlight ticket.step) (workplace.Holds ticket) refl f.task_is
+  fits = opened_workplace (Begin job) m job f.task f.standing (InFlight ticket.step)
+      (workplace.Holds ticket) refl f.task_is
       f.standing_is is.next
       (is.job_is, is.words_are ∙ f.fits.0, record { flying = refl; question = is.question });
 }
@@ -272,9 +287,11 @@ begins m job desk f (begun.SmallDesk d) is =
     let small = is.1 in let words = f.fits.0 in absurd (omega (arith, small, words))
 
 pub plays_begin : {A : Type 0} (stay : OthersStay) (m new : MachineState) (workbench between after : List (Workplace A))
-    (job desk : ℕ) (answer : Begun A) → WorkbenchFits m workbench → Takes workplace.Free job workbench between (Some desk) →
+    (job desk : ℕ) (answer : Begun A) → WorkbenchFits m workbench →
+    Takes workplace.Free job workbench between (Some desk) →
     BeginsIn job desk (of_job job m.tasks) (of_job job m.standings) answer →
-    new ≡ after_begun answer m (machine_after (Begin job) m) → after ≡ with_workplace job (workplace_after answer) between →
+    new ≡ after_begun answer m (machine_after (Begin job) m) →
+    after ≡ with_workplace job (workplace_after answer) between →
     Played (Begin job) m new after
 plays_begin {A} stay m new workbench between after job desk answer fit taken answers new_is after_is =
     let f = fit.each job (workplace.Free desk) taken.0 in
@@ -283,11 +300,15 @@ plays_begin {A} stay m new workbench between after job desk answer fit taken ans
     (subst (λ (t : Option Task). BeginsIn job desk t (of_job job m.standings) answer) f.task_is answers) in
     let b = begins m job desk f answer here in
     turned (Begin job) m new (with_workplace job (workplace_after answer) workbench) after (new_is ∙ b.state)
-    (workbench_after stay (Begin job) m workbench job (workplace.Free desk) (workplace_after answer) fit taken.0 refl b.fits)
-    (after_is ∙ (ap (with_workplace job (workplace_after answer)) taken.1 ∙ workplace_twice job workplace.Empty (workplace_after answer) workbench))
+    (workbench_after stay (Begin job) m workbench job (workplace.Free desk)
+    (workplace_after answer) fit taken.0 refl b.fits)
+    (after_is ∙ (ap (with_workplace job (workplace_after answer)) taken.1
+    ∙ workplace_twice job workplace.Empty (workplace_after answer) workbench))
 
-begin_closed : {A : Type 0} (m : MachineState) (workbench : List (Workplace A)) → WorkbenchFits m workbench → (job : ℕ) →
-    ((desk : ℕ) → of_job job workbench ≡ Some (workplace.Free desk) → ⊥) → (h : Option (Workplace A)) → of_job job workbench ≡ h →
+begin_closed : {A : Type 0} (m : MachineState) (workbench : List (Workplace A)) → WorkbenchFits m workbench →
+    (job : ℕ) →
+    ((desk : ℕ) → of_job job workbench ≡ Some (workplace.Free desk) → ⊥) → (h : Option (Workplace A)) →
+    of_job job workbench ≡ h →
     next_standing_in (Begin job) (of_job job m.tasks) (of_job job m.standings) ≡ None
 begin_closed m workbench fit job none None is =
     no_task (Begin job) (of_job job m.tasks) (of_job job m.standings) (missing m workbench fit job is)
@@ -298,7 +319,8 @@ begin_closed m workbench fit job none (Some (workplace.Holds filled)) is =
 begin_closed m workbench fit job none (Some workplace.Empty) is = absurd (fit.each job workplace.Empty is).fits
 
 -- no desk is there, since a step has begun or there is no such job
-pub plays_no_begin : {A : Type 0} (m : MachineState) (workbench after : List (Workplace A)) (job : ℕ) → WorkbenchFits m workbench →
+pub plays_no_begin : {A : Type 0} (m : MachineState) (workbench after : List (Workplace A)) (job : ℕ) →
+    WorkbenchFits m workbench →
     Takes workplace.Free job workbench after None → Played (Begin job) m m after
 plays_no_begin m workbench after job fit taken =
     let closed = begin_closed m workbench fit job taken.0 (of_job job workbench) refl in
@@ -326,7 +348,8 @@ no_recall job task Ended e = refl
 no_recall job task Collected e = refl
 
 step_closed : {A : Type 0} (event : Event) (m : MachineState) (workbench : List (Workplace A)) → IsOfSteps event →
-    WorkbenchFits m workbench → (job : ℕ) → ((filled : Asked) → of_job job workbench ≡ Some (workplace.Holds filled) → ⊥) →
+    WorkbenchFits m workbench → (job : ℕ) → ((filled : Asked) → of_job job workbench ≡ Some (workplace.Holds filled)
+    → ⊥) →
     (h : Option (Workplace A)) → of_job job workbench ≡ h →
     next_standing_in event (of_job job m.tasks) (of_job job m.standings) ≡ None
 step_closed event m workbench steps fit job none None is =
@@ -335,16 +358,20 @@ step_closed event m workbench steps fit job none (Some (workplace.Free desk)) is
     let f = fit.each job (workplace.Free desk) is in
     closed_by event m job (workplace.Free desk) f (steps f.task f.standing f.fits.1)
 step_closed event m workbench steps fit job none (Some (workplace.Holds filled)) is = absurd (none filled is)
-step_closed event m workbench steps fit job none (Some workplace.Empty) is = absurd (fit.each job workplace.Empty is).fits
+step_closed event m workbench steps fit job none (Some workplace.Empty) is =
+    absurd (fit.each job workplace.Empty is).fits
 
-pub plays_no_finish : {A : Type 0} (m : MachineState) (workbench after : List (Workplace A)) (job : ℕ) → WorkbenchFits m workbench →
+pub plays_no_finish : {A : Type 0} (m : MachineState) (workbench after : List (Workplace A)) (job : ℕ) →
+    WorkbenchFits m workbench →
     Takes workplace.Holds job workbench after None → Played (Finish job) m m after
 plays_no_finish m workbench after job fit taken =
     let closed = step_closed (Finish job) m workbench (no_finish job) fit job taken.0 (of_job job workbench) refl in
     still (Finish job) m m workbench after job fit refl taken.1 closed (sym (passed (Finish job) m job refl closed))
 
-pub plays_no_recall : {A : Type 0} (m new : MachineState) (workbench after : List (Workplace A)) (job : ℕ) → WorkbenchFits m workbench →
-    Takes workplace.Holds job workbench after None → new ≡ machine_after (Recall job) m → Played (Recall job) m new after
+pub plays_no_recall : {A : Type 0} (m new : MachineState) (workbench after : List (Workplace A)) (job : ℕ) →
+    WorkbenchFits m workbench →
+    Takes workplace.Holds job workbench after None → new ≡ machine_after (Recall job) m →
+    Played (Recall job) m new after
 plays_no_recall m new workbench after job fit taken is =
     still (Recall job) m new workbench after job fit refl taken.1
     (step_closed (Recall job) m workbench (no_recall job) fit job taken.0 (of_job job workbench) refl) is
@@ -357,7 +384,8 @@ landed n (Over ending executed peak) = refl
 landed n Stuck = refl
 
 -- the step that the workplace holds is over, and its desk is free again
-freed : {A : Type 0} (stay : OthersStay) (event : Event) (m new : MachineState) (workbench between after : List (Workplace A))
+freed : {A : Type 0} (stay : OthersStay) (event : Event) (m new : MachineState)
+    (workbench between after : List (Workplace A))
     (job desk : ℕ) (filled : Asked) (late : Task → Standing) → WorkbenchFits m workbench →
     Takes workplace.Holds job workbench between (Some filled) → job_of m.region m.tasks event (queue_of m) ≡ Some job →
     ((task : Task) → next_standing event task (InFlight filled.step) ≡ Some (late task)) →
@@ -375,15 +403,19 @@ freed {A} stay event m new workbench between after job desk filled late fit take
     (desk_is ∙ f.fits.1, lands f.task)))
     (after_is ∙ (ap (with_workplace job free) taken.1 ∙ workplace_twice job workplace.Empty free workbench))
 
-pub plays_recall : {A : Type 0} (stay : OthersStay) (m new : MachineState) (workbench between after : List (Workplace A))
-    (job desk : ℕ) (filled : Asked) → WorkbenchFits m workbench → Takes workplace.Holds job workbench between (Some filled) →
-    desk ≡ filled.words → new ≡ machine_after (Recall job) m → after ≡ with_workplace job (workplace.Free desk) between →
+pub plays_recall : {A : Type 0} (stay : OthersStay) (m new : MachineState)
+    (workbench between after : List (Workplace A))
+    (job desk : ℕ) (filled : Asked) → WorkbenchFits m workbench →
+    Takes workplace.Holds job workbench between (Some filled) →
+    desk ≡ filled.words → new ≡ machine_after (Recall job) m →
+    after ≡ with_workplace job (workplace.Free desk) between →
     Played (Recall job) m new after
 plays_recall stay m new workbench between after job desk filled fit taken desk_is new_is after_is =
     freed stay (Recall job) m new workbench between after job desk filled (λ task. Live filled.step) fit taken refl
     (λ task. refl) (λ task. refl) desk_is new_is after_is
 
-finishes : {A : Type 0} (m new : MachineState) (workbench : List (Workplace A)) (job : ℕ) (filled : Asked) (answer : Finished) →
+finishes : {A : Type 0} (m new : MachineState) (workbench : List (Workplace A)) (job : ℕ) (filled : Asked)
+    (answer : Finished) →
     WorkbenchFits m workbench → of_job job workbench ≡ Some (workplace.Holds filled) →
     FinishesIn filled (of_job filled.job m.tasks) (of_job filled.job m.standings) answer →
     new ≡ after_finished answer m (machine_after (Finish filled.job) m) → new ≡ machine_after (Finish job) m
@@ -400,7 +432,8 @@ finishes m new workbench job filled answer fit own answers new_is =
     ∙ (finished_by f.task filled answer m (machine_after (Finish filled.job) m) f.fits.2.question here
     ∙ ap (λ j. machine_after (Finish j) m) f.fits.0)
 
-pub plays_finish : {A : Type 0} (stay : OthersStay) (m new : MachineState) (workbench between after : List (Workplace A))
+pub plays_finish : {A : Type 0} (stay : OthersStay) (m new : MachineState)
+    (workbench between after : List (Workplace A))
     (job desk : ℕ) (filled : Asked) (answer : Finished) → WorkbenchFits m workbench →
     Takes workplace.Holds job workbench between (Some filled) →
     FinishesIn filled (of_job filled.job m.tasks) (of_job filled.job m.standings) answer →
@@ -420,7 +453,8 @@ record IsSteppedBy (A : Type 0) (m : MachineState) (job desk : ℕ) (answer : St
   fits : FitsIn {A = A} (after_step job m) job (workplace.Free desk)
 
 -- the job went on or ended, and its desk is free
-went : {A : Type 0} (m : MachineState) (job desk : ℕ) (f : FitsIn {A = A} m job (workplace.Free desk)) (after : Standing) →
+went : {A : Type 0} (m : MachineState) (job desk : ℕ)
+    (f : FitsIn {A = A} m job (workplace.Free desk)) (after : Standing) →
     standing_after_step job f.task f.standing ≡ after → is_in_flight after ≡ false →
     FitsIn {A = A} (after_step job m) job (workplace.Free desk)
 went m job desk f after after_is lands = record {
@@ -443,21 +477,28 @@ not_stepped {A} m job desk f e =
     (passed (Begin job) m job refl (closed_by (Begin job) m job own f (not_live job f.task f.standing e)))
     ∙ passed (Finish job) m job refl (closed_by (Finish job) m job own f (no_finish job f.task f.standing f.fits.1))
 
-steps : {A : Type 0} (m : MachineState) (job desk : ℕ) (f : FitsIn {A = A} m job (workplace.Free desk)) (answer : Stepped) →
+steps : {A : Type 0} (m : MachineState) (job desk : ℕ)
+    (f : FitsIn {A = A} m job (workplace.Free desk)) (answer : Stepped) →
     Steps job desk f.task f.standing answer → IsSteppedBy A m job desk answer
 steps m job desk f stepped.Done is =
     record { state = refl; fits = went m job desk f (Live (is.1.step + 1)) is.1.next refl }
 steps m job desk f stepped.Ended is = record { state = refl; fits = went m job desk f Ended is.1 refl }
 steps {A} m job desk f stepped.NotReady is =
     let same = not_stepped m job desk f is in
-    record { state = sym same; fits = subst (λ (k : MachineState). FitsIn {A = A} k job (workplace.Free desk)) (sym same) f }
+    record {
+      state = sym same;
+      fits = subst (λ (k : MachineState). FitsIn {A =
+          A} k job (workplace.Free desk)) (sym same) f;
+    }
 steps m job desk f stepped.SmallDesk is =
     let small = is.1 in let words = f.fits.0 in absurd (omega (arith, small, words))
 
 pub plays_step : {A : Type 0} (stay : OthersStay) (m new : MachineState) (workbench between after : List (Workplace A))
-    (job desk used : ℕ) (answer : Stepped) → WorkbenchFits m workbench → Takes workplace.Free job workbench between (Some desk) →
+    (job desk used : ℕ) (answer : Stepped) → WorkbenchFits m workbench →
+    Takes workplace.Free job workbench between (Some desk) →
     StepsIn job desk (of_job job m.tasks) (of_job job m.standings) answer →
-    new ≡ after_stepped answer m (after_step job m) → used ≡ desk → after ≡ with_workplace job (workplace.Free used) between →
+    new ≡ after_stepped answer m (after_step job m) → used ≡ desk →
+    after ≡ with_workplace job (workplace.Free used) between →
     Played (Finish job) (machine_after (Begin job) m) new after
 plays_step {A} stay m new workbench between after job desk used answer fit taken answers new_is same after_is =
     let free : Workplace A = workplace.Free desk in

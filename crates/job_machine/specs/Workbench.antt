@@ -14,9 +14,11 @@ abbrev pub with_workplace : {A : Type 0} → ℕ → Workplace A → List (Workp
 with_workplace zero workplace workbench = workbench
 with_workplace (suc place) workplace workbench = slice_set workbench place workplace
 
--- what of the workplace of a job is taken, which is so: then the workplace is empty; else it is otherwise, and nothing changes
+-- what of the workplace of a job is taken, which is so: then the workplace is empty; else it is otherwise, and nothing
+-- changes
 abbrev pub Takes : {A T : Type 0} → (T → Workplace A) → ℕ → (old new : List (Workplace A)) → Option T → Type 0
-Takes {T = T} of job old new (Some taken) = (of_job job old ≡ Some (of taken)) × (new ≡ with_workplace job workplace.Empty old)
+Takes {T = T} of job old new (Some taken) =
+    (of_job job old ≡ Some (of taken)) × (new ≡ with_workplace job workplace.Empty old)
 Takes of job old new None = ((taken : _) → of_job job old ≡ Some (of taken) → ⊥) × (new ≡ old)
 
 -- the workplace after a begin

@@ -25,8 +25,8 @@ pub enum ReplayFault {
 impl<A: Allocator + Clone> Machine<A> {
     /// Does an event; an event that isn't open changes nothing.
     ///
-    /// A step is begun on the desk in the job's workplace and computed at once; the workplace holds it until it is finished or
-    /// given up, and has the desk again then. So the workbench has to fit the machine, as it does after
+    /// A step is begun on the desk in the job's workplace and computed at once; the workplace holds it until it is
+    /// finished or given up, and has the desk again then. So the workbench has to fit the machine, as it does after
     /// [`Workbench::new`] if no step has begun, and it still does after each event.
     ///
     /// # Errors

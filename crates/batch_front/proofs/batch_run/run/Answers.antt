@@ -1,55 +1,37 @@
-use Rattle.std.proofs.Common.{arith}
-use Rattle.std.proofs.lemmas.Result.{on_ok_weaker}
-use Rattle.batch_front.proofs.FeedLemmas.{fault_at_write, front_told, only_at_write, report_told, whole_told}
+use Rattle.std.proofs.Common.{◌≡◌, Err, rules}
+use Rattle.batch_front.proofs.WholeRuns.{run_given_up, run_refused, run_told, run_unread}
 use Rattle.batch_front.proofs.batch_run.run.Goals as goal
 
-pub returns-clause-report : goal.returns-clause-report
-returns-clause-report g c =
-    report_told _ _ _ _ _ _ c.write_answer.result (record {
-      batch = c.in_ok-batch.batch;
+pub returns-clause-runs : goal.returns-clause-runs
+returns-clause-runs g c =
+    run_told _ _ _ _ _ _ _ c.in_ok-batch.batch c.in_ok-loaded.loaded c.in_ok-ran.ran c.interrupts.result
+    c.write_report.result
+    (record {
       comes = c.in_ok-batch.ensures.batch;
-      report = c.in_ok-answer.ensures.report;
-      status = c.in_ok-answer.ensures.status;
-    }) c.write_answer.ensures.status c.write_answer.ensures.all_written
+      worked = c.in_ok-batch.ensures.reader_worked;
+      to_the_end = c.in_ok-batch.ensures.read_to_the_end;
+      no_further = c.in_ok-batch.ensures.read_no_further;
+    })
+    c.in_ok-loaded.ensures.report c.in_ok-loaded.ensures.status c.in_ok-ran.ensures c.interrupts.ensures
+    c.write_report.ensures.status c.write_report.ensures.written
 
-pub returns-clause-front_written : goal.returns-clause-front_written
-returns-clause-front_written g c = λ _.
-    front_told _ _ _ _ _ _ (record {
-      batch = c.in_ok-batch.batch;
-      comes = c.in_ok-batch.ensures.batch;
-      report = c.in_ok-answer.ensures.report;
-      status = c.in_ok-answer.ensures.status;
-    }) c.write_answer.ensures.front_written
+pub write_report-requires-clause-out : goal.write_report-requires-clause-out
+write_report-requires-clause-out g c = c.in_ok-ran.ensures.out
 
-pub returns-clause-whole_written : goal.returns-clause-whole_written
-returns-clause-whole_written g c = λ e flushing.
-    whole_told _ _ _ _ _ _ c.write_answer.result _ (record {
-      batch = c.in_ok-batch.batch;
-      comes = c.in_ok-batch.ensures.batch;
-      report = c.in_ok-answer.ensures.report;
-      status = c.in_ok-answer.ensures.status;
-    }) c.write_answer.ensures.before_flush e flushing
+pub returns-in_err-batch-clause-runs : goal.returns-in_err-batch-clause-runs
+returns-in_err-batch-clause-runs g c =
+    let fault : c.from_residual.result ≡ Err c.in_err-batch.field-0.0 = search rules in
+    run_unread _ _ _ _ _ _ c.from_residual.result c.in_err-batch.field-0.0 fault
+    c.in_err-batch.ensures.read_or_memory c.in_err-batch.ensures.read_fault c.requires.writer
+    c.in_err-batch.ensures.read_no_further
 
-pub returns-clause-reader_worked : goal.returns-clause-reader_worked
-returns-clause-reader_worked g c =
-    on_ok_weaker c.write_answer.result
-    (λ worked. (c.in_ok-batch.ensures.reader_worked.0, omega (arith, worked.1, c.interrupts.ensures)))
-    c.write_answer.ensures.writer_worked
+pub returns-in_err-loaded-clause-runs : goal.returns-in_err-loaded-clause-runs
+returns-in_err-loaded-clause-runs g c =
+    run_refused _ _ _ _ _ _ c.from_residual-in_err-loaded.result c.from_residual-in_err-loaded.ensures.1
+    c.requires.writer c.in_ok-batch.ensures.read_no_further
 
-pub returns-clause-writer_worked : goal.returns-clause-writer_worked
-returns-clause-writer_worked g c =
-    on_ok_weaker c.write_answer.result (λ worked. (worked.0, omega (arith, worked.1, c.interrupts.ensures)))
-    c.write_answer.ensures.writer_worked
-
-pub returns-clause-read_to_the_end : goal.returns-clause-read_to_the_end
-returns-clause-read_to_the_end g c =
-    on_ok_weaker c.write_answer.result (λ worked. c.in_ok-batch.ensures.read_to_the_end)
-    c.write_answer.ensures.writer_worked
-
-pub returns-clause-write_fault : goal.returns-clause-write_fault
-returns-clause-write_fault g c =
-    fault_at_write c.write_answer.result c.write_answer.new.writer _ _ (omega (arith, c.interrupts.ensures))
-    c.write_answer.ensures.write_fault
-
-pub returns-clause-nothing_written : goal.returns-clause-nothing_written
-returns-clause-nothing_written g c = only_at_write c.write_answer.result c.write_answer.ensures.write_alone
+pub returns-in_err-ran-clause-runs : goal.returns-in_err-ran-clause-runs
+returns-in_err-ran-clause-runs g c =
+    run_given_up _ _ _ _ _ _ c.from_residual-in_err-ran.result c.in_err-ran.field-0.0
+    c.from_residual-in_err-ran.ensures.1
+    c.requires.writer c.in_ok-batch.ensures.read_no_further

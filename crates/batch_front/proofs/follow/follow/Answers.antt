@@ -7,7 +7,8 @@ use Rattle.batch_front.proofs.TurnLemmas.{workbench_fits, items_with}
 use Rattle.batch_front.proofs.follow.follow.Goals as goal
 
 pub admit_all-requires-clause-fit : goal.admit_all-requires-clause-fit
-admit_all-requires-clause-fit g c = workbench_fits c.args.machine.now c.in_ok-workbench.workbench c.requires c.in_ok-workbench.ensures
+admit_all-requires-clause-fit g c =
+    workbench_fits c.args.machine.now c.in_ok-workbench.workbench c.requires c.in_ok-workbench.ensures
 
 pub admit_all-requires-clause-none_ended : goal.admit_all-requires-clause-none_ended
 admit_all-requires-clause-none_ended g c = none_ended_first c.args.machine.now c.requires
@@ -16,7 +17,7 @@ pub loop-item-preserved : goal.loop-item-preserved
 loop-item-preserved g c =
     let inv = c.loop-item.invariant in
     record {
-      state = items_with c.args.seats.now c.args.schedule.now c.loop-item.item-index (c.loop-item.item-index + 1) _
+      state = items_with c.args.reported.now c.args.schedule.now c.loop-item.item-index (c.loop-item.item-index + 1) _
           (settled c.args.machine.now) c.loop-item.machine c.follow_item.new.machine
           refl c.loop-item-test.true inv.state c.in_ok-follow_item.ensures.state;
       settled = c.in_ok-follow_item.ensures.settled;
@@ -28,4 +29,4 @@ pub returns-clause-state : goal.returns-clause-state
 returns-clause-state g c =
     let whole : take c.loop-item.item-index c.args.schedule.now ≡ c.args.schedule.now =
     take_all c.loop-item.item-index c.args.schedule.now (grind (arith, common_steps)) in
-    c.loop-item.invariant.state ∙ ap (λ items. after_items c.args.seats.now items (settled c.args.machine.now)) whole
+    c.loop-item.invariant.state ∙ ap (λ items. after_items c.args.reported.now items (settled c.args.machine.now)) whole

@@ -5,7 +5,7 @@ use Rattle.batch_front.proofs.follow.follow.Given as goal
 
 abbrev pub invariant-loop-item : goal.invariant-loop-item
 invariant-loop-item g l = record {
-  state : l.machine ≡ after_items l.seats (take l.item-index l.schedule) (settled l.fn.machine);
+  state : l.machine ≡ after_items l.reported (take l.item-index l.schedule) (settled l.fn.machine);
   settled : IsSettled l.machine;
   tasks : l.machine.tasks ≡ l.fn.machine.tasks;
   fit : WorkbenchFits l.machine l.workbench;

@@ -2,7 +2,7 @@ use Rattle.std.proofs.Common.{◌∙◌, ap, subst}
 use Rattle.std.specs.Prelude.{Err}
 use Rattle.batch_reader.specs.Fates.{IsBatch}
 use Rattle.batch_front.proofs.FeedLemmas.{batch_in, fault_in}
-use Rattle.batch_front.proofs.SeatLemmas.{batch_fits}
+use Rattle.batch_front.proofs.ReportedJobLemmas.{batch_fits}
 use Rattle.batch_front.proofs.transfer.read_batch.Goals as goal
 
 pub returns-in_ok-end-in-Ok-clause-batch : goal.returns-in_ok-end-in-Ok-clause-batch

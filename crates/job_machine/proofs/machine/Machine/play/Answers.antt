@@ -25,7 +25,8 @@ returns-in-Recall-clause-leads g c =
 
 pub returns-in_ok-collect-in-Collect-clause-fit : goal.returns-in_ok-collect-in-Collect-clause-fit
 returns-in_ok-collect-in-Collect-clause-fit g c =
-    fit_collected c.others_stay.ensures c.args.self.now c.collect.new.self c.args.workbench.now c.in-Collect.job c.requires
+    fit_collected c.others_stay.ensures c.args.self.now c.collect.new.self c.args.workbench.now c.in-Collect.job
+    c.requires
     c.in_ok-collect-in-Collect.ensures.state
 
 pub returns-in_ok-collect-in-Collect-clause-leads : goal.returns-in_ok-collect-in-Collect-clause-leads
