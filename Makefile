@@ -3,6 +3,7 @@
 # make run     runs the example sum_of_two
 # make packing the programs around it, proved: bin/vjobs-pack and bin/vjobs-split
 # make kinds   the program that finds signatures, proved: bin/vjobs-kinds
+# make why     the program that shows why a job ended, proved: bin/vjobs-why
 # make cluster runs job files of strangers by vjobs-spread on a Slurm of three nodes and by GNU parallel, with faults: by the
 #              programs of bin, or of the folder VJOBS_PROGRAMS; as root it installs the packages if they are missing
 # make cluster-hard   does so with 1,000 files, cut cables, dead hosts and killed daemons, as root; not in the gate
@@ -18,7 +19,7 @@
 # make hostile MINUTES=60   runs batches that were changed at random for so many minutes, and compares each report with the
 #              second writing, its memory with the sum in docs/OPERATING.md, and its time with its limits; not in the gate
 
-.PHONY: all try run packing kinds cluster cluster-hard test gate install dist names check bench soak hostile models clean
+.PHONY: all try run packing kinds why cluster cluster-hard test gate install dist names check bench soak hostile models clean
 
 PREFIX = /usr/local
 MINUTES = 60
@@ -47,6 +48,11 @@ kinds:
 	.ci/prove vjobs_kinds
 	mkdir -p bin
 	cp crates/vjobs_kinds/out/vjobs_kinds bin/vjobs-kinds
+
+why:
+	.ci/prove vjobs_why
+	mkdir -p bin
+	cp crates/vjobs_why/out/vjobs_why bin/vjobs-why
 
 cluster:
 	.ci/cluster

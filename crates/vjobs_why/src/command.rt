@@ -74,10 +74,9 @@ fn number_option<'a>(alloc: Global, name: &'a str, value: &'a str, help: &'a str
 
 /// The option for a line.
 fn at_option<'a>(alloc: Global) -> Arg<'a> {
-    Arg::new(alloc, "at")
-        .long("at")
-        .value_name("LINE[:K]")
-        .help("Shows what there is before LINE is next, for the first or the K-th time")
+    Arg::new(alloc, "at").long("at").value_name("LINE[:K]").help(
+        "Shows what there is before LINE is next, for the first or the K-th time",
+    )
 }
 
 /// The option for a list of instructions.
@@ -98,16 +97,23 @@ fn file_argument<'a>(alloc: Global) -> Arg<'a> {
 
 /// The command.
 fn command<'a>(alloc: Global) -> Result<Command<'a>, clap::Error> {
-    Ok(Command::new(alloc, "vjobs-why")
-        .about("Shows why a VCODE job ended, and what there was on the way")
-        .version("0.1.0")
-        .arg(number_option(alloc, "job", "K", "Shows the K-th job of the batch alone"))?
-        .arg(number_option(alloc, "after", "N", "Shows what there is after N instructions"))?
-        .arg(at_option(alloc))?
-        .arg(steps_option(alloc))?
-        .arg(number_option(alloc, "from", "N", "The first instruction of --steps"))?
-        .arg(number_option(alloc, "to", "N", "The last instruction of --steps"))?
-        .arg(file_argument(alloc))?)
+    Ok(
+        Command::new(alloc, "vjobs-why")
+            .about("Shows why a VCODE job ended, and what there was on the way")
+            .version("0.1.0")
+            .arg(number_option(alloc, "job", "K", "Shows the K-th job of the batch alone"))?
+            .arg(number_option(
+                alloc,
+                "after",
+                "N",
+                "Shows what there is after N instructions",
+            ))?
+            .arg(at_option(alloc))?
+            .arg(steps_option(alloc))?
+            .arg(number_option(alloc, "from", "N", "The first instruction of --steps"))?
+            .arg(number_option(alloc, "to", "N", "The last instruction of --steps"))?
+            .arg(file_argument(alloc))?,
+    )
 }
 
 /// The number of an option, if it was given.

@@ -2,7 +2,6 @@
 
 use crate::watch::Watch;
 use job_steps::Job;
-use job_walk::Run;
 use std::alloc::{AllocError, Global};
 use vcode_base::limits::{MOST_BUDGET, MOST_CALLS, MOST_CELLS, MOST_WORDS};
 use vcode_base::{DataFault, Limits, MemoryFault, Outcome, Rule};
@@ -16,7 +15,7 @@ pub enum Ending {
     Budget,
 }
 
-/// How a job ended, how many instructions lead to its last picture, and the most that it used.
+/// How a job ended, how many instructions lead to the last state before its end, and the most that it used.
 #[derive(Clone, Copy, Drop)]
 pub struct End {
     pub ending: Ending,
@@ -27,9 +26,18 @@ pub struct End {
     pub calls: usize,
 }
 
+/// How a job that a limit ended goes on within the widest limits.
+#[derive(Clone, Copy, Drop)]
+pub struct Wide {
+    /// How it ends.
+    pub end: End,
+    /// The most words that it held and needed up to the instruction at which the limit ended it.
+    pub wanted: usize,
+}
+
 /// How the job of a run ended, whose results are collected.
-fn ending_of(run: &Run<Global>) -> Ending {
-    match run.ending() {
+fn ending_of(watch: &Watch) -> Ending {
+    match watch.run.ending() {
         Some(Outcome::Returned(_)) => Ending::Returned,
         Some(Outcome::Fault(fault, line)) => Ending::Fault(*fault, *line),
         Some(Outcome::Memory(fault, line)) => Ending::Memory(*fault, *line),
@@ -37,13 +45,8 @@ fn ending_of(run: &Run<Global>) -> Ending {
     }
 }
 
-/// Runs a job to its end, and gives it back.
-pub fn run_through(
-    alloc: Global,
-    rule: Rule,
-    job: Job<Global>,
-) -> Result<(End, Job<Global>), AllocError> {
-    let mut watch = Watch::new(alloc, rule, job)?;
+/// Runs a job to its end.
+fn run_out(watch: &mut Watch) -> Result<End, AllocError> {
     let mut steps: u64 = 0;
     for _ in 0..MOST_BUDGET {
         if !watch.step()? {
@@ -52,77 +55,56 @@ pub fn run_through(
         steps = steps.saturating_add(1);
     }
     watch.run.collect()?;
-    let end = End {
-        ending: ending_of(&watch.run),
+    Ok(End {
+        ending: ending_of(watch),
         steps,
         executed: watch.run.executed(),
         words: watch.run.peak(),
         cells: watch.most_cells.max(1),
         calls: watch.most_calls,
-    };
-    Ok((end, watch.run.into_job()))
+    })
 }
 
-/// The run of a job after a number of instructions.
-pub fn watch_at(
+/// How a job ends, and the job.
+pub fn run_through(
     alloc: Global,
     rule: Rule,
     job: Job<Global>,
-    count: u64,
-) -> Result<Watch, AllocError> {
+) -> Result<(End, Job<Global>), AllocError> {
     let mut watch = Watch::new(alloc, rule, job)?;
-    watch.go_to(count)?;
-    Ok(watch)
+    let end = run_out(&mut watch)?;
+    Ok((end, watch.into_job()))
 }
 
-/// The words that are held and needed at the instruction after `count` others, which passes the job's words, and the
-/// job. Within more words the run is the same up to there, and that instruction sets the peak. `None` if they are more
-/// than any job may have.
-pub fn words_wanted(
-    alloc: Global,
-    rule: Rule,
-    job: Job<Global>,
-    count: u64,
-) -> Result<(Option<usize>, Job<Global>), AllocError> {
-    let limits = job.limits();
-    let wider = Limits {
+/// The widest limits, and a budget that is some times what was executed.
+fn wide_limits(executed: u64) -> Limits {
+    let budget = executed.saturating_mul(16).saturating_add(1_000_000);
+    Limits {
         words: MOST_WORDS,
-        cells: limits.cells,
-        calls: limits.calls,
-        budget: limits.budget,
-    };
-    let mut run = Run::new(alloc, rule, job.with_limits(wider))?;
-    for _ in 0..count {
-        run.step();
-    }
-    run.step();
-    let wanted = run.peak();
-    let job = run.into_job().with_limits(limits);
-    if wanted > limits.words {
-        Ok((Some(wanted), job))
-    } else {
-        Ok((None, job))
+        cells: MOST_CELLS,
+        calls: MOST_CALLS,
+        budget: budget.min(MOST_BUDGET),
     }
 }
 
-/// How the job ends within the widest limits and a budget that is some times what it has executed, and the job.
+/// How a run goes on that is within the widest limits, if the job's limits ended it after this number of instructions.
+fn wide_of(watch: &mut Watch, steps: u64) -> Result<Wide, AllocError> {
+    watch.go_to(steps)?;
+    watch.step()?;
+    let wanted = watch.run.peak();
+    let end = run_out(watch)?;
+    Ok(Wide { end, wanted })
+}
+
+/// How a job goes on within the widest limits that its limits ended so, and the job.
 pub fn run_wide(
     alloc: Global,
     rule: Rule,
     job: Job<Global>,
-    executed: u64,
-) -> Result<(End, Job<Global>), AllocError> {
+    end: End,
+) -> Result<(Wide, Job<Global>), AllocError> {
     let limits = job.limits();
-    let budget = executed
-        .saturating_mul(16)
-        .saturating_add(1_000_000)
-        .min(MOST_BUDGET);
-    let wide = Limits {
-        words: MOST_WORDS,
-        cells: MOST_CELLS,
-        calls: MOST_CALLS,
-        budget,
-    };
-    let (end, job) = run_through(alloc, rule, job.with_limits(wide))?;
-    Ok((end, job.with_limits(limits)))
+    let mut watch = Watch::new(alloc, rule, job.with_limits(wide_limits(end.executed)))?;
+    let wide = wide_of(&mut watch, end.steps)?;
+    Ok((wide, watch.into_job().with_limits(limits)))
 }

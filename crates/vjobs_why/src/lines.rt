@@ -3,124 +3,119 @@
 use std::alloc::{AllocError, Global};
 use std::io;
 
-/// The lines of a batch.
+/// A text with the places at which its lines begin.
 #[derive(Drop)]
-pub struct Lines<'a> {
-    lines: Vec<&'a [u8]>,
+pub struct Lines {
+    text: Vec<u8>,
+    begins: Vec<usize>,
 }
 
-/// Whether a byte separates words.
-fn is_blank(byte: u8) -> bool {
-    byte == b' ' || byte == b'\t' || byte == b'\r'
+/// The character that shows a byte: a blank for a tab and a CR, and a question mark for any other byte outside 32 to 126.
+fn shown_byte(byte: u8) -> char {
+    if byte == b'\t' || byte == b'\r' {
+        return ' ';
+    }
+    if byte < 32 || byte > 126 {
+        return '?';
+    }
+    char::from(byte)
 }
 
-/// The bytes as they may be shown: each byte outside 32 to 126 is a question mark.
+/// The bytes as they may be shown.
 pub fn printable(alloc: Global, bytes: &[u8]) -> Result<String, AllocError> {
     let mut shown = String::new(alloc);
     for byte in bytes {
-        if *byte >= 32 && *byte <= 126 {
-            shown.push(char::from(*byte))?;
-        } else {
-            shown.push('?')?;
-        }
+        shown.push(shown_byte(*byte))?;
     }
     Ok(shown)
 }
 
-/// The line without the blanks before its first word, and how many these are.
-fn without_blanks(line: &[u8]) -> (usize, &[u8]) {
-    let mut rest = line;
-    let mut count = 0;
-    while let [first, more @ ..] = rest {
-        if !is_blank(*first) || count == usize::MAX {
-            break;
-        }
-        rest = more;
-        count += 1;
+/// The code of a line: what comes before its comment, or the whole line if nothing does, without the blanks at its ends.
+fn code_of(line: &str) -> &str {
+    match line.split_once('{') {
+        Some((code, _)) if !code.trim_ascii().is_empty() => code.trim_ascii(),
+        Some(_) | None => line.trim_ascii(),
     }
-    (count, rest)
 }
 
-/// What comes before the comment, without the blanks at its end.
-fn before_comment(line: &[u8]) -> &[u8] {
-    let mut code = line;
-    if let Some(place) = line.iter().position(|byte| *byte == b'{') {
-        code = &line[..place];
+/// Carets below the code of a line, after as many blanks as the line has before it.
+fn carets(alloc: Global, line: &str) -> Result<String, AllocError> {
+    let mut text = String::new(alloc);
+    let blanks = line.len().saturating_sub(line.trim_ascii_start().len());
+    for _ in 0..blanks {
+        text.push(' ')?;
     }
-    while let [before @ .., last] = code {
-        if !is_blank(*last) {
-            break;
-        }
-        code = before;
+    for _ in 0..code_of(line).len() {
+        text.push('^')?;
     }
-    code
+    Ok(text)
 }
 
-impl<'a> Lines<'a> {
+impl Lines {
     /// The lines of a text.
-    pub fn of(alloc: Global, text: &'a [u8]) -> Result<Lines<'a>, AllocError> {
-        let mut lines = Vec::new(alloc);
-        for line in text.split(|byte| *byte == b'\n') {
-            lines.push(line)?;
+    pub fn of(alloc: Global, text: Vec<u8>) -> Result<Lines, AllocError> {
+        let mut begins = Vec::new(alloc);
+        let mut place: usize = 0;
+        begins.push(place)?;
+        for byte in &text {
+            place = place.saturating_add(1);
+            if *byte == b'\n' {
+                begins.push(place)?;
+            }
         }
-        Ok(Lines { lines })
+        Ok(Lines { text, begins })
     }
 
-    /// The line of a number, counted from 1, and nothing if there is none.
-    fn line(&self, number: u64) -> &'a [u8] {
-        let Some(place) = number.checked_sub(1) else {
-            return &[];
+    /// The text.
+    pub fn text(&self) -> &[u8] {
+        &self.text
+    }
+
+    /// The bytes of a line without its LF, if there is a line of this number, counted from 1.
+    fn bytes(&self, number: u64) -> Option<&[u8]> {
+        let Ok(place) = usize::try_from(number.checked_sub(1)?) else {
+            return None;
         };
-        match usize::try_from(place) {
-            Ok(place) => match self.lines.get(place) {
-                Some(line) => *line,
-                None => &[],
-            },
-            Err(_) => &[],
+        let begin = *self.begins.get(place)?;
+        let rest = self.text.get(begin..)?;
+        match rest.iter().position(|byte| *byte == b'\n') {
+            Some(end) => rest.get(..end),
+            None => Some(rest),
+        }
+    }
+
+    /// A line as it may be shown, without its LF. It is empty if there is none of this number.
+    fn line(&self, alloc: Global, number: u64) -> Result<String, AllocError> {
+        match self.bytes(number) {
+            Some(bytes) => printable(alloc, bytes),
+            None => Ok(String::new(alloc)),
         }
     }
 
     /// The code of a line: without blanks and comment at its ends.
     pub fn code(&self, alloc: Global, number: u64) -> Result<String, AllocError> {
-        let (_, rest) = without_blanks(self.line(number));
-        printable(alloc, before_comment(rest))
+        let line = self.line(alloc, number)?;
+        String::from_str(alloc, code_of(line.as_str()))
     }
 
-    /// Prints a line with its number, if there is one.
+    /// Prints a line with its number, unless it is empty.
     fn print(&self, rt: &HostRuntime, number: u64) -> io::Result<()> {
-        let line = self.line(number);
+        let line = self.line(rt.alloc(), number)?;
         if line.is_empty() {
             return Ok(());
         }
-        let shown = printable(rt.alloc(), line)?;
-        println!(rt; "{number:>7} | {shown}")
+        println!(rt; "{number:>7} | {line}")
     }
 
     /// Prints a line between those beside it, with carets below its code and a note after them.
     pub fn print_around(&self, rt: &HostRuntime, number: u64, note: &str) -> io::Result<()> {
         println!(rt; "")?;
-        if let Some(before) = number.checked_sub(1) {
-            self.print(rt, before)?;
-        }
+        self.print(rt, number.saturating_sub(1))?;
         self.print(rt, number)?;
-        self.print_carets(rt, number, note)?;
-        if let Some(after) = number.checked_add(1) {
-            self.print(rt, after)?;
-        }
+        let line = self.line(rt.alloc(), number)?;
+        let carets = carets(rt.alloc(), line.as_str())?;
+        println!(rt; "        | {carets} {note}")?;
+        self.print(rt, number.saturating_add(1))?;
         println!(rt; "")
-    }
-
-    /// Prints carets below the code of a line, and a note after them.
-    fn print_carets(&self, rt: &HostRuntime, number: u64, note: &str) -> io::Result<()> {
-        let (blanks, rest) = without_blanks(self.line(number));
-        let code = before_comment(rest);
-        print!(rt; "        | ")?;
-        for _ in 0..blanks {
-            print!(rt; " ")?;
-        }
-        for _ in 0..code.len() {
-            print!(rt; "^")?;
-        }
-        println!(rt; " {note}")
     }
 }

@@ -1,7 +1,7 @@
 //! What is shown of a job.
 
 use crate::command::Look;
-use crate::end::{End, Ending, run_through, run_wide, watch_at, words_wanted};
+use crate::end::{End, Ending, Wide, run_through, run_wide};
 use crate::lines::{Lines, printable};
 use crate::operands::operand_names;
 use crate::reasons::reason;
@@ -10,17 +10,25 @@ use crate::watch::Watch;
 use job_steps::Job;
 use std::alloc::{AllocError, Global};
 use std::io;
-use vcode_base::limits::MOST_WORDS;
-use vcode_base::{DataFault, Limits, MemoryFault, Op, Rule, StackMove};
+use vcode_base::{Limits, MemoryFault, Op, Rule, StackMove};
 
 /// The last instructions that are shown of a job.
 const LAST: u64 = 6;
 
-/// A job of a batch, with the rule and the text of the batch.
+/// The rule and the lines of a batch.
 #[derive(Clone, Copy)]
 pub struct Batch<'a> {
     pub rule: Rule,
-    pub lines: &'a Lines<'a>,
+    pub lines: &'a Lines,
+}
+
+/// An instruction that was executed, and what there was after it.
+#[derive(Clone, Copy, Drop)]
+struct Step {
+    number: u64,
+    line: u64,
+    entries: usize,
+    held: usize,
 }
 
 /// How many entries there would be after an instruction of a stack of this depth.
@@ -64,7 +72,7 @@ fn print_picture(rt: &HostRuntime, watch: &Watch) -> io::Result<()> {
 }
 
 /// Prints what a job used beside its limits.
-fn print_used(rt: &HostRuntime, end: &End, limits: Limits) -> io::Result<()> {
+fn print_used(rt: &HostRuntime, end: End, limits: Limits) -> io::Result<()> {
     println!(rt; "\nused")?;
     let (used, limit) = (end.executed, limits.budget);
     println!(rt; "  instructions {used:>13} of {limit:>13}")?;
@@ -77,127 +85,133 @@ fn print_used(rt: &HostRuntime, end: &End, limits: Limits) -> io::Result<()> {
 }
 
 /// Prints the least limits within which a job returns, if it returned so.
-fn print_least(rt: &HostRuntime, name: &str, end: &End) -> io::Result<()> {
+fn print_least(rt: &HostRuntime, name: &str, end: End) -> io::Result<()> {
     if end.ending != Ending::Returned {
         return Ok(());
     }
     let (words, cells, calls, budget) = (end.words, end.cells, end.calls, end.executed);
-    println!(rt; "\nWithin these limits, and no less, it returns: JOB {name} {words} {cells} {calls} {budget}")
+    println!(rt;
+        "\nWithin these limits, and no less, it returns: JOB {name} {words} {cells} {calls} {budget}"
+    )
 }
 
-/// Prints the last instructions before a number of them, with what they did.
-fn print_last(
-    rt: &HostRuntime,
-    batch: Batch<'_>,
-    job: Job<Global>,
-    steps: u64,
-) -> io::Result<Job<Global>> {
-    let from = steps.saturating_sub(LAST);
-    println!(rt; "\nthe last instructions")?;
-    print_steps(rt, batch, job, from, steps)
+/// Executes the next instruction. `None` if it isn't executed, since it ends the job, or if there is none.
+fn step_of(watch: &mut Watch) -> Result<Option<Step>, AllocError> {
+    let before = watch.run.executed();
+    let Some(next) = watch.next() else {
+        return Ok(None);
+    };
+    watch.step()?;
+    let number = watch.run.executed();
+    if number == before {
+        return Ok(None);
+    }
+    Ok(Some(Step {
+        number,
+        line: next.line,
+        entries: watch.run.depth(),
+        held: watch.run.held(),
+    }))
 }
 
-/// Prints each instruction after the first `from`, up to the number `to`.
+/// Prints the head of a list of instructions.
+fn print_head(rt: &HostRuntime) -> io::Result<()> {
+    println!(rt; "       step     line  entries       held  instruction")
+}
+
+/// Prints an instruction that was executed.
+fn print_step(rt: &HostRuntime, batch: Batch<'_>, step: Step) -> io::Result<()> {
+    let (number, line, entries, held) = (step.number, step.line, step.entries, step.held);
+    let code = batch.lines.code(rt.alloc(), line)?;
+    println!(rt; "  {number:>9} {line:>8} {entries:>8} {held:>10}  {code}")
+}
+
+/// Prints the instructions of a run from the next one on, this many at most.
 fn print_steps(
     rt: &HostRuntime,
     batch: Batch<'_>,
-    job: Job<Global>,
-    from: u64,
-    to: u64,
-) -> io::Result<Job<Global>> {
-    let mut watch = watch_at(rt.alloc(), batch.rule, job, from)?;
-    println!(rt; "       step     line  entries       held  instruction")?;
-    for _ in from..to {
-        let Some(next) = watch.next() else {
-            break;
-        };
-        let went_on = watch.step()?;
-        let step = watch.run.executed();
-        if !went_on && step <= from {
-            break;
-        }
-        print_step(rt, batch, &watch, next.line)?;
-        if !went_on {
-            break;
+    watch: &mut Watch,
+    count: u64,
+) -> io::Result<()> {
+    print_head(rt)?;
+    for _ in 0..count {
+        match step_of(watch)? {
+            Some(step) => print_step(rt, batch, step)?,
+            None => break,
         }
     }
-    Ok(watch.run.into_job())
+    Ok(())
 }
 
-/// Prints an instruction of this line that was executed.
-fn print_step(rt: &HostRuntime, batch: Batch<'_>, watch: &Watch, line: u64) -> io::Result<()> {
-    let step = watch.run.executed();
-    let entries = watch.run.depth();
-    let held = watch.run.held();
-    let code = batch.lines.code(rt.alloc(), line)?;
-    println!(rt; "  {step:>9} {line:>8} {entries:>8} {held:>10}  {code}")
+/// Executes this many instructions, which are there.
+fn steps_of(alloc: Global, watch: &mut Watch, count: u64) -> Result<Vec<Step>, AllocError> {
+    let mut steps = Vec::new(alloc);
+    for _ in 0..count {
+        if let Some(step) = step_of(watch)? {
+            steps.push(step)?;
+        }
+    }
+    Ok(steps)
 }
 
-/// What a limit that would be passed comes from, and the job.
+/// Why a limit would be passed at the next instruction of a run.
 fn memory_note(
-    rt: &HostRuntime,
-    batch: Batch<'_>,
-    job: Job<Global>,
-    steps: u64,
+    alloc: Global,
+    watch: &Watch,
     fault: MemoryFault,
-) -> io::Result<(String, Job<Global>)> {
-    let limits = job.limits();
-    if let MemoryFault::Words = fault {
-        let (wanted, job) = words_wanted(rt.alloc(), batch.rule, job, steps)?;
-        let limit = limits.words;
-        let note = match wanted {
-            Some(wanted) => format!(in rt.alloc(); "{wanted} words with the result, and the limit is {limit}")?,
-            None => format!(in rt.alloc(); "more than {MOST_WORDS} words with the result, and the limit is {limit}")?,
-        };
-        return Ok((note, job));
-    }
-    let watch = watch_at(rt.alloc(), batch.rule, job, steps)?;
-    let note = match (fault, watch.next()) {
-        (MemoryFault::Cells, Some(next)) => {
-            let (cells, limit) = (depth_after(next.op, watch.run.depth()), limits.cells);
-            format!(in rt.alloc(); "{cells} entries with it, and the limit is {limit}")?
+    wide: Option<Wide>,
+) -> Result<String, AllocError> {
+    let limits = watch.run.job().limits();
+    match fault {
+        MemoryFault::Words => {
+            let limit = limits.words;
+            match wide {
+                Some(wide) if wide.wanted > limit => {
+                    let wanted = wide.wanted;
+                    format!(in alloc; "{wanted} words with the result, and the limit is {limit}")
+                }
+                Some(_) | None => format!(in alloc;
+                    "with the result more words than the limit, which is {limit}"
+                ),
+            }
         }
-        _ => {
+        MemoryFault::Cells => {
+            let limit = limits.cells;
+            match watch.next() {
+                Some(next) => {
+                    let cells = depth_after(next.op, watch.run.depth());
+                    format!(in alloc; "{cells} entries with it, and the limit is {limit}")
+                }
+                None => Ok(String::new(alloc)),
+            }
+        }
+        MemoryFault::Calls => {
             let limit = limits.calls;
-            format!(in rt.alloc(); "{limit} calls are active, and that is the limit")?
+            format!(in alloc; "{limit} calls are active, and that is the limit")
         }
-    };
-    Ok((note, watch.run.into_job()))
+    }
 }
 
-/// Why the values or the lengths of the operands have no result, and the job.
-fn fault_note(
-    rt: &HostRuntime,
-    batch: Batch<'_>,
-    job: Job<Global>,
-    steps: u64,
-    fault: DataFault,
-) -> io::Result<(String, Job<Global>)> {
-    let watch = watch_at(rt.alloc(), batch.rule, job, steps)?;
-    let note = match watch.next() {
-        Some(next) => reason(rt.alloc(), &watch, next.op, fault)?,
-        None => String::new(rt.alloc()),
-    };
-    Ok((note, watch.run.into_job()))
-}
-
-/// The note at the last line of a job, and the job.
+/// The note at the last line of a job.
 fn note_of(
-    rt: &HostRuntime,
-    batch: Batch<'_>,
-    job: Job<Global>,
-    end: &End,
-) -> io::Result<(String, Job<Global>)> {
-    match end.ending {
-        Ending::Returned => Ok((String::from_str(rt.alloc(), "returns")?, job)),
-        Ending::Budget => Ok((String::from_str(rt.alloc(), "would be next")?, job)),
-        Ending::Fault(fault, _) => fault_note(rt, batch, job, end.steps, fault),
-        Ending::Memory(fault, _) => memory_note(rt, batch, job, end.steps, fault),
+    alloc: Global,
+    watch: &Watch,
+    ending: Ending,
+    wide: Option<Wide>,
+) -> Result<String, AllocError> {
+    match ending {
+        Ending::Returned => String::from_str(alloc, "returns"),
+        Ending::Budget => String::from_str(alloc, "would be next"),
+        Ending::Memory(fault, _) => memory_note(alloc, watch, fault, wide),
+        Ending::Fault(fault, _) => match watch.next() {
+            Some(next) => reason(alloc, watch, next.op, fault),
+            None => Ok(String::new(alloc)),
+        },
     }
 }
 
 /// Prints how a job ended, after its name.
-fn print_ending(rt: &HostRuntime, end: &End) -> io::Result<()> {
+fn print_ending(rt: &HostRuntime, end: End) -> io::Result<()> {
     let count = end.executed;
     match end.ending {
         Ending::Returned => println!(rt; "RETURNED after {count} instructions"),
@@ -213,89 +227,102 @@ fn print_ending(rt: &HostRuntime, end: &End) -> io::Result<()> {
     }
 }
 
-/// Prints the least limits of a job: of its run if it returned, or of its run within the widest limits if a limit ended
-/// it and it returns so.
-fn print_limits(
+/// Prints what there was before the end of a job, and its last instructions. The run has executed nothing.
+fn print_last(
     rt: &HostRuntime,
     batch: Batch<'_>,
-    job: Job<Global>,
-    name: &str,
-    end: &End,
+    watch: &mut Watch,
+    end: End,
+    wide: Option<Wide>,
 ) -> io::Result<()> {
+    let count = end.steps.min(LAST);
+    watch.go_to(end.steps.saturating_sub(count))?;
+    let steps = steps_of(rt.alloc(), watch, count)?;
+    let note = note_of(rt.alloc(), watch, end.ending, wide)?;
+    print_place(rt, batch, watch, note.as_str())?;
+    print_picture(rt, watch)?;
+    println!(rt; "\nthe last instructions")?;
+    print_head(rt)?;
+    for step in &steps {
+        print_step(rt, batch, *step)?;
+    }
+    Ok(())
+}
+
+/// How a job goes on within the widest limits if a limit ended it, and the job.
+fn wide_of(
+    alloc: Global,
+    rule: Rule,
+    job: Job<Global>,
+    end: End,
+) -> Result<(Option<Wide>, Job<Global>), AllocError> {
     match end.ending {
-        Ending::Returned => print_least(rt, name, end),
-        Ending::Fault(..) => Ok(()),
+        Ending::Returned | Ending::Fault(..) => Ok((None, job)),
         Ending::Memory(..) | Ending::Budget => {
-            let (wide, _) = run_wide(rt.alloc(), batch.rule, job, end.executed)?;
-            print_least(rt, name, &wide)
+            let (wide, job) = run_wide(alloc, rule, job, end)?;
+            Ok((Some(wide), job))
         }
     }
 }
 
-/// Prints how a job ended and what there was before its last instruction.
+/// Prints how a job ended, what there was before, and what it used.
 fn print_end(rt: &HostRuntime, batch: Batch<'_>, job: Job<Global>, name: &str) -> io::Result<()> {
     let (end, job) = run_through(rt.alloc(), batch.rule, job)?;
-    print_ending(rt, &end)?;
-    let limits = job.limits();
-    let (note, job) = note_of(rt, batch, job, &end)?;
-    let watch = watch_at(rt.alloc(), batch.rule, job, end.steps)?;
-    print_place(rt, batch, &watch, note.as_str())?;
-    print_picture(rt, &watch)?;
-    let job = print_last(rt, batch, watch.run.into_job(), end.steps)?;
-    print_used(rt, &end, limits)?;
-    print_limits(rt, batch, job, name, &end)
+    let (wide, job) = wide_of(rt.alloc(), batch.rule, job, end)?;
+    let mut watch = Watch::new(rt.alloc(), batch.rule, job)?;
+    print_all(rt, batch, &mut watch, end, wide, name)
 }
 
-/// Prints what there is after a number of instructions.
-fn print_after(rt: &HostRuntime, batch: Batch<'_>, job: Job<Global>, count: u64) -> io::Result<()> {
-    let watch = watch_at(rt.alloc(), batch.rule, job, count)?;
+/// Prints how a job ended, what there was before, and what it used. The run has executed nothing.
+fn print_all(
+    rt: &HostRuntime,
+    batch: Batch<'_>,
+    watch: &mut Watch,
+    end: End,
+    wide: Option<Wide>,
+    name: &str,
+) -> io::Result<()> {
+    print_ending(rt, end)?;
+    print_last(rt, batch, watch, end, wide)?;
+    print_used(rt, end, watch.run.job().limits())?;
+    match wide {
+        Some(wide) => print_least(rt, name, wide.end),
+        None => print_least(rt, name, end),
+    }
+}
+
+/// Prints what there is at a state of a run.
+fn print_state(rt: &HostRuntime, batch: Batch<'_>, watch: &Watch) -> io::Result<()> {
     let executed = watch.run.executed();
-    let peak = watch.run.peak();
     if !watch.run.goes_on() {
         return println!(rt; "is over after {executed} instructions");
     }
+    let peak = watch.run.peak();
     println!(rt; "after {executed} instructions, with a peak of {peak} words")?;
-    print_place(rt, batch, &watch, "is next")?;
-    print_picture(rt, &watch)
+    print_place(rt, batch, watch, "is next")?;
+    print_picture(rt, watch)
 }
 
-/// How many instructions come before a line is next for the K-th time, and the job.
-fn count_before(
-    rt: &HostRuntime,
-    batch: Batch<'_>,
-    job: Job<Global>,
-    line: u64,
-    time: u64,
-) -> io::Result<(Option<u64>, Job<Global>)> {
-    let mut watch = Watch::new(rt.alloc(), batch.rule, job)?;
-    let mut times: u64 = 0;
-    for count in 0..u64::MAX {
-        let Some(next) = watch.next() else {
-            break;
-        };
-        if next.line == line {
-            times = times.saturating_add(1);
-            if times >= time {
-                return Ok((Some(count), watch.run.into_job()));
-            }
+/// Shows what was asked for of a run that has executed nothing.
+fn show_run(rt: &HostRuntime, batch: Batch<'_>, watch: &mut Watch, look: Look) -> io::Result<()> {
+    match look {
+        Look::End => Ok(()),
+        Look::After(count) => {
+            watch.go_to(count)?;
+            print_state(rt, batch, watch)
         }
-        watch.step()?;
-    }
-    Ok((None, watch.run.into_job()))
-}
-
-/// Prints what there is before a line is next for the K-th time.
-fn print_at(
-    rt: &HostRuntime,
-    batch: Batch<'_>,
-    job: Job<Global>,
-    line: u64,
-    time: u64,
-) -> io::Result<()> {
-    let (count, job) = count_before(rt, batch, job, line, time)?;
-    match count {
-        Some(count) => print_after(rt, batch, job, count),
-        None => println!(rt; "line {line} is not next {time} times"),
+        Look::At { line, time } => {
+            if watch.go_to_line(line, time)? {
+                return print_state(rt, batch, watch);
+            }
+            println!(rt; "line {line} is not next {time} times")
+        }
+        Look::Steps { from, to } => {
+            println!(rt; "")?;
+            let before = from.saturating_sub(1);
+            watch.go_to(before)?;
+            print_steps(rt, batch, watch, to.saturating_sub(before))
+        }
     }
 }
 
@@ -309,15 +336,9 @@ pub fn show(
 ) -> io::Result<()> {
     let name = printable(rt.alloc(), job.name())?;
     print!(rt; "JOB {place} {name} ")?;
-    match look {
-        Look::End => print_end(rt, batch, job, name.as_str()),
-        Look::After(count) => print_after(rt, batch, job, count),
-        Look::At { line, time } => print_at(rt, batch, job, line, time),
-        Look::Steps { from, to } => {
-            println!(rt; "")?;
-            let before = from.saturating_sub(1);
-            let _ = print_steps(rt, batch, job, before, to)?;
-            Ok(())
-        }
+    if let Look::End = look {
+        return print_end(rt, batch, job, name.as_str());
     }
+    let mut watch = Watch::new(rt.alloc(), batch.rule, job)?;
+    show_run(rt, batch, &mut watch, look)
 }

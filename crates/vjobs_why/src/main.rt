@@ -5,6 +5,7 @@ mod command;
 mod end;
 mod lines;
 mod look;
+mod meanings;
 mod operands;
 mod reading;
 mod reasons;
@@ -15,6 +16,7 @@ use batch_reader::{Batch, Entry, Fate, Feed, JobEntries, JobEntry};
 use command::{Asked, Line, LineFault, Look, read_line};
 use lines::{Lines, printable};
 use look::show;
+use meanings::{batch_meaning, job_meaning};
 use reading::read_batch;
 use std::alloc::Global;
 use std::process::ExitCode;
@@ -47,7 +49,7 @@ fn show_entry(
             let name = printable(rt.alloc(), name.as_slice())?;
             let text = fault.text();
             println!(rt; "JOB {place} {name} REFUSED line {line} {text}")?;
-            batch.lines.print_around(rt, line, "")
+            batch.lines.print_around(rt, line, job_meaning(fault))
         }
     }
 }
@@ -74,14 +76,14 @@ fn show_entries(
 /// Shows what was asked for. Answers the exit status.
 fn show_asked(rt: &HostRuntime, asked: &Asked) -> io::Result<u8> {
     let text = read_batch(rt, asked.file.as_str())?;
-    let lines = Lines::of(rt.alloc(), text.as_slice())?;
+    let lines = Lines::of(rt.alloc(), text)?;
     let mut feed = Feed::new(rt.alloc(), MOST_WORDS)?;
-    feed.feed(text.as_slice())?;
+    feed.feed(lines.text())?;
     match feed.end()? {
         Batch::Refused(line, fault) => {
-            let fault = fault.text();
-            println!(rt; "REFUSED line {line} {fault}")?;
-            lines.print_around(rt, line, "")?;
+            let text = fault.text();
+            println!(rt; "BATCH line {line} {text}")?;
+            lines.print_around(rt, line, batch_meaning(fault))?;
             Ok(1)
         }
         Batch::Jobs(rule, entries) => {

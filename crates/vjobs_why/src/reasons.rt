@@ -114,42 +114,27 @@ fn outside_by_segment(indices: &[i64], places: &[i64]) -> Option<Outside> {
     None
 }
 
-/// The segment of the element at a place, and the place at which that segment begins.
-fn segment_of(lengths: &[i64], place: usize) -> Option<(usize, usize)> {
-    let mut begin: usize = 0;
-    for segment in 0..lengths.len() {
-        let len = usize::try_from(lengths[segment]).unwrap_or(0);
-        let end = begin.saturating_add(len);
-        if place < end {
-            return Some((segment, begin));
-        }
-        begin = end;
-    }
-    None
+/// A length as a number of places.
+fn count_of(length: i64) -> usize {
+    usize::try_from(length).unwrap_or(0)
 }
 
 /// The first index outside its segment, if the indices lie in segments of these lengths.
 fn outside_by_element(indices: &[i64], lengths: &[i64], places: &[i64]) -> Option<Outside> {
-    let mut segment: usize = 0;
-    let mut left: i64 = 0;
-    if let Some(length) = lengths.get(0) {
-        left = *length;
-    }
-    for place in 0..indices.len() {
-        while left <= 0 {
-            segment = segment.checked_add(1)?;
-            left = *lengths.get(segment)?;
-        }
-        let within = *places.get(segment)?;
-        if is_outside(indices[place], within) {
+    let mut begin: usize = 0;
+    for segment in 0..lengths.len().min(places.len()) {
+        let end = begin.saturating_add(count_of(lengths[segment]));
+        let part = indices.get(begin..end)?;
+        let within = places[segment];
+        if let Some(place) = part.iter().position(|index| is_outside(*index, within)) {
             return Some(Outside {
-                place,
-                index: indices[place],
+                place: begin.saturating_add(place),
+                index: *part.get(place)?,
                 segment,
                 places: within,
             });
         }
-        left -= 1;
+        begin = end;
     }
     None
 }
@@ -167,35 +152,79 @@ fn bad_index(alloc: Global, watch: &Watch, op: Op) -> Result<String, AllocError>
     };
     match found {
         Some(found) => {
-            let (place, index, segment, places) =
-                (found.place, found.index, found.segment, found.places);
-            format!(in alloc; "at place {place} of {count}, I is {index}, and segment {segment} has {places} places")
+            let (place, index, segment, places) = (
+                found.place,
+                found.index,
+                found.segment,
+                found.places,
+            );
+            format!(in alloc;
+                "at place {place} of {count}, I is {index}, and segment {segment} has {places} places"
+            )
         }
         None => Ok(String::new(alloc)),
     }
 }
 
-/// The first place of an index of the same segment before this place, if there is one.
-fn place_before(indices: &[i64], begin: usize, place: usize) -> Option<usize> {
-    for before in begin..place {
-        if before < indices.len() && place < indices.len() && indices[before] == indices[place] {
-            return Some(before);
+/// The first place whose index an earlier place has too, if there is one. Each index is below a number of places.
+fn second_place(
+    alloc: Global,
+    indices: &[i64],
+    places: usize,
+) -> Result<Option<usize>, AllocError> {
+    let mut marks = vec![in alloc; false; places]?;
+    for place in 0..indices.len() {
+        let Ok(index) = usize::try_from(indices[place]) else {
+            return Ok(None);
+        };
+        let Some(mark) = marks.get_mut(index) else {
+            return Ok(None);
+        };
+        if *mark {
+            return Ok(Some(place));
         }
+        *mark = true;
     }
-    None
+    Ok(None)
+}
+
+/// What there is to say of a place of a segment whose index an earlier place has too. The segment begins at `begin`.
+fn twice_text(
+    alloc: Global,
+    indices: &[i64],
+    place: usize,
+    begin: usize,
+    segment: usize,
+) -> Result<String, AllocError> {
+    let Some(index) = indices.get(place) else {
+        return Ok(String::new(alloc));
+    };
+    let index = *index;
+    let first = indices
+        .iter()
+        .position(|other| *other == index)
+        .unwrap_or(place);
+    let (first, second) = (begin.saturating_add(first), begin.saturating_add(place));
+    format!(in alloc; "at places {first} and {second}, I is {index}, both in segment {segment}")
 }
 
 /// The first place whose index an earlier place of its segment has too.
 fn index_twice(alloc: Global, watch: &Watch, op: Op) -> Result<String, AllocError> {
     let (indices, lengths) = (named(watch, op, "I"), named(watch, op, "S"));
-    for place in 0..indices.len() {
-        let Some((segment, begin)) = segment_of(lengths, place) else {
+    let places = match op {
+        Op::Segmented(Segmented::DefaultPermute(_)) => named(watch, op, "R"),
+        _ => lengths,
+    };
+    let mut begin: usize = 0;
+    for segment in 0..lengths.len().min(places.len()) {
+        let end = begin.saturating_add(count_of(lengths[segment]));
+        let Some(part) = indices.get(begin..end) else {
             return Ok(String::new(alloc));
         };
-        if let Some(before) = place_before(indices, begin, place) {
-            let index = indices[place];
-            return format!(in alloc; "at places {before} and {place}, I is {index}, both in segment {segment}");
+        if let Some(place) = second_place(alloc, part, count_of(places[segment]))? {
+            return twice_text(alloc, part, place, begin, segment);
         }
+        begin = end;
     }
     Ok(String::new(alloc))
 }

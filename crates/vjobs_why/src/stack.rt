@@ -25,24 +25,30 @@ fn kind_text(kind: Kind) -> &'static str {
     }
 }
 
+/// Adds a value of a kind to a text.
+fn push_value(text: &mut String, kind: Kind, word: i64) -> Result<(), AllocError> {
+    match kind {
+        Kind::Bool if word == 0 => text.push('F'),
+        Kind::Bool => text.push('T'),
+        Kind::Int | Kind::Segdes => {
+            write!(text, "{word}")?;
+            Ok(())
+        }
+    }
+}
+
 /// The first values of an entry.
-pub fn values_text(alloc: Global, kind: Kind, words: &[i64]) -> Result<String, AllocError> {
+fn values_text(alloc: Global, kind: Kind, words: &[i64]) -> Result<String, AllocError> {
     let mut text = String::from_str(alloc, "(")?;
-    let mut count = 0;
-    for word in words {
-        if count > 0 {
+    for place in 0..words.len() {
+        if place > 0 {
             text.push(' ')?;
         }
-        if count == MOST_VALUES {
+        if place == MOST_VALUES {
             text.push_str("..")?;
             break;
         }
-        match kind {
-            Kind::Bool if *word == 0 => text.push('F')?,
-            Kind::Bool => text.push('T')?,
-            Kind::Int | Kind::Segdes => write!(text, "{word}")?,
-        }
-        count += 1;
+        push_value(&mut text, kind, words[place])?;
     }
     text.push(')')?;
     Ok(text)

@@ -39,6 +39,26 @@ fn op_of(line: &CodeLine<'_>) -> Op {
     }
 }
 
+/// Pushes the origins from a place on, this many of them, once more.
+fn copy_origins(origins: &mut Vec<Origin>, from: usize, count: usize) -> Result<(), AllocError> {
+    for place in from..from.saturating_add(count) {
+        let Some(origin) = origins.get(place) else {
+            return Ok(());
+        };
+        let origin = *origin;
+        origins.push(origin)?;
+    }
+    Ok(())
+}
+
+/// Moves the first `count` of the origins from a place on to the top.
+fn raise_origins(origins: &mut Vec<Origin>, from: usize, count: usize) {
+    if from <= origins.len() {
+        let part = &mut origins[from..];
+        part.rotate_left(count.min(part.len()));
+    }
+}
+
 /// Moves the origins as a motion of the stack moves the entries.
 fn move_origins(
     origins: &mut Vec<Origin>,
@@ -47,27 +67,19 @@ fn move_origins(
     upper: usize,
 ) -> Result<(), AllocError> {
     let depth = origins.len();
-    if depth < upper {
-        return Ok(());
-    }
-    if depth - upper < lower {
-        return Ok(());
-    }
-    let below = depth - upper - lower;
+    let below = depth.saturating_sub(lower.saturating_add(upper));
     match motion {
-        StackMove::Copy => {
-            for place in below..below + lower {
-                let origin = origins[place];
-                origins.push(origin)?;
-            }
-        }
+        StackMove::Copy => copy_origins(origins, below, lower),
         StackMove::Pop => {
-            origins[below..].rotate_left(lower);
-            origins.truncate(depth - lower);
+            raise_origins(origins, below, lower);
+            origins.truncate(depth.saturating_sub(lower));
+            Ok(())
         }
-        StackMove::MoveToTop => origins[below..].rotate_left(lower),
+        StackMove::MoveToTop => {
+            raise_origins(origins, below, lower);
+            Ok(())
+        }
     }
-    Ok(())
 }
 
 impl Watch {
@@ -130,6 +142,30 @@ impl Watch {
             }
         }
         Ok(())
+    }
+
+    /// Executes instructions until this line is next for the time of this number, or none is left before the end. True if
+    /// the line is next.
+    pub fn go_to_line(&mut self, line: u64, time: u64) -> Result<bool, AllocError> {
+        let mut times: u64 = 0;
+        for _ in 0..u64::MAX {
+            let Some(next) = self.next() else {
+                return Ok(false);
+            };
+            if next.line == line {
+                times = times.saturating_add(1);
+                if times >= time {
+                    return Ok(true);
+                }
+            }
+            self.step()?;
+        }
+        Ok(false)
+    }
+
+    /// The job.
+    pub fn into_job(self) -> Job<Global> {
+        self.run.into_job()
     }
 
     /// The origins and the callers after an instruction.
