@@ -128,6 +128,9 @@ fn line_and_time(text: &str) -> Option<Look> {
             let (Ok(line), Ok(time)) = (line.parse::<u64>(), time.parse::<u64>()) else {
                 return None;
             };
+            if time == 0 {
+                return None;
+            }
             Some(Look::At { line, time })
         }
         None => match text.parse::<u64>() {

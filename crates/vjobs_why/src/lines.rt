@@ -3,6 +3,9 @@
 use std::alloc::{AllocError, Global};
 use std::io;
 
+/// The most bytes of a line that are shown.
+const MOST_COLUMNS: usize = 96;
+
 /// A text with the places at which its lines begin.
 #[derive(Drop)]
 pub struct Lines {
@@ -84,12 +87,19 @@ impl Lines {
         }
     }
 
-    /// A line as it may be shown, without its LF. It is empty if there is none of this number.
+    /// A line as it may be shown, without its LF. Two dots end one that is cut. It is empty if there is none of this number.
     fn line(&self, alloc: Global, number: u64) -> Result<String, AllocError> {
-        match self.bytes(number) {
-            Some(bytes) => printable(alloc, bytes),
-            None => Ok(String::new(alloc)),
+        let Some(bytes) = self.bytes(number) else {
+            return Ok(String::new(alloc));
+        };
+        let Some(front) = bytes.get(..MOST_COLUMNS) else {
+            return printable(alloc, bytes);
+        };
+        let mut line = printable(alloc, front)?;
+        if bytes.len() > MOST_COLUMNS {
+            line.push_str("..")?;
         }
+        Ok(line)
     }
 
     /// The code of a line: without blanks and comment at its ends.

@@ -318,7 +318,7 @@ fn show_run(rt: &HostRuntime, batch: Batch<'_>, watch: &mut Watch, look: Look) -
             println!(rt; "line {line} is not next {time} times")
         }
         Look::Steps { from, to } => {
-            println!(rt; "")?;
+            println!(rt; "step by step")?;
             let before = from.saturating_sub(1);
             watch.go_to(before)?;
             print_steps(rt, batch, watch, to.saturating_sub(before))

@@ -54,7 +54,7 @@ fn show_entry(
     }
 }
 
-/// Shows what was asked for of the jobs of the batch. Answers whether there was one.
+/// Shows what was asked for of the jobs of the batch. Answers whether there was one if one alone was asked for.
 fn show_entries(
     rt: &HostRuntime,
     batch: look::Batch<'_>,
@@ -62,7 +62,7 @@ fn show_entries(
     asked: &Asked,
 ) -> io::Result<bool> {
     let mut place: u64 = 0;
-    let mut found = false;
+    let mut found = asked.job.is_none();
     for entry in entries.into_vec() {
         place = place.saturating_add(1);
         if asked.job.is_none() || asked.job == Some(place) {
