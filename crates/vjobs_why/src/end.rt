@@ -60,7 +60,7 @@ fn run_out(watch: &mut Watch) -> Result<End, AllocError> {
         steps,
         executed: watch.run.executed(),
         words: watch.run.peak(),
-        cells: watch.most_cells.max(1),
+        cells: watch.most_cells,
         calls: watch.most_calls,
     })
 }

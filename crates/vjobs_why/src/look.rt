@@ -89,7 +89,7 @@ fn print_least(rt: &HostRuntime, name: &str, end: End) -> io::Result<()> {
     if end.ending != Ending::Returned {
         return Ok(());
     }
-    let (words, cells, calls, budget) = (end.words, end.cells, end.calls, end.executed);
+    let (words, cells, calls, budget) = (end.words, end.cells.max(1), end.calls, end.executed);
     println!(rt;
         "\nWithin these limits, and no less, it returns: JOB {name} {words} {cells} {calls} {budget}"
     )

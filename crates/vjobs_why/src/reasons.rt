@@ -239,8 +239,7 @@ fn bad_length(alloc: Global, watch: &Watch, op: Op) -> Result<String, AllocError
             return format!(in alloc; "at place {place} of {count}, the length is {length}");
         }
     }
-    let total = total(lengths);
-    format!(in alloc; "the total of the lengths is {total}, and the most is {MOST_TOTAL}")
+    format!(in alloc; "the total of the lengths is more than {MOST_TOTAL}")
 }
 
 /// Why the next instruction of a run has this fault.
