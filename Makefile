@@ -3,6 +3,7 @@
 # make run     runs the example sum_of_two
 # make packing the programs around it, proved: bin/vjobs-pack and bin/vjobs-split
 # make kinds   the program that finds signatures, proved: bin/vjobs-kinds
+# make why     the program that shows why a job ended, proved: bin/vjobs-why
 # make embed   the library for programs in other languages, proved: bin/libvjobs.a and bin/libvjobs.so; and compares what
 #              the programs of embed/, in C, Python and Rust, print for the examples with their reports
 # make cluster runs job files of strangers by vjobs-spread on a Slurm of three nodes and by GNU parallel, with faults: by the
@@ -22,8 +23,8 @@
 # make hostile MINUTES=60   runs batches that were changed at random for so many minutes, and compares each report with the
 #              second writing, its memory with the sum in docs/OPERATING.md, and its time with its limits; not in the gate
 
-.PHONY: all try run packing kinds embed fast cluster cluster-hard test gate install dist names check bench soak hostile
-.PHONY: models clean
+.PHONY: all try run packing kinds why embed fast cluster cluster-hard test gate install dist names check bench soak
+.PHONY: hostile models clean
 
 PREFIX = /usr/local
 MINUTES = 60
@@ -52,6 +53,11 @@ kinds:
 	.ci/prove vjobs_kinds
 	mkdir -p bin
 	cp crates/vjobs_kinds/out/vjobs_kinds bin/vjobs-kinds
+
+why:
+	.ci/prove vjobs_why
+	mkdir -p bin
+	cp crates/vjobs_why/out/vjobs_why bin/vjobs-why
 
 embed:
 	.ci/prove vjobs_embed

@@ -1,0 +1,110 @@
+//! The end of a job, and what it used.
+
+use crate::watch::Watch;
+use job_steps::Job;
+use std::alloc::{AllocError, Global};
+use vcode_base::limits::{MOST_BUDGET, MOST_CALLS, MOST_CELLS, MOST_WORDS};
+use vcode_base::{DataFault, Limits, MemoryFault, Outcome, Rule};
+
+/// How a job ended, without its results.
+#[derive(Clone, Copy, PartialEq, Eq, Drop)]
+pub enum Ending {
+    Returned,
+    Fault(DataFault, u64),
+    Memory(MemoryFault, u64),
+    Budget,
+}
+
+/// How a job ended, how many instructions lead to the last state before its end, and the most that it used.
+#[derive(Clone, Copy, Drop)]
+pub struct End {
+    pub ending: Ending,
+    pub steps: u64,
+    pub executed: u64,
+    pub words: usize,
+    pub cells: usize,
+    pub calls: usize,
+}
+
+/// How a job that a limit ended goes on within the widest limits.
+#[derive(Clone, Copy, Drop)]
+pub struct Wide {
+    /// How it ends.
+    pub end: End,
+    /// The most words that it held and needed up to the instruction at which the limit ended it.
+    pub wanted: usize,
+}
+
+/// How the job of a run ended, whose results are collected.
+fn ending_of(watch: &Watch) -> Ending {
+    match watch.run.ending() {
+        Some(Outcome::Returned(_)) => Ending::Returned,
+        Some(Outcome::Fault(fault, line)) => Ending::Fault(*fault, *line),
+        Some(Outcome::Memory(fault, line)) => Ending::Memory(*fault, *line),
+        Some(Outcome::Budget) | None => Ending::Budget,
+    }
+}
+
+/// Runs a job to its end.
+fn run_out(watch: &mut Watch) -> Result<End, AllocError> {
+    let mut steps: u64 = 0;
+    for _ in 0..MOST_BUDGET {
+        if !watch.step()? {
+            break;
+        }
+        steps = steps.saturating_add(1);
+    }
+    watch.run.collect()?;
+    Ok(End {
+        ending: ending_of(watch),
+        steps,
+        executed: watch.run.executed(),
+        words: watch.run.peak(),
+        cells: watch.most_cells,
+        calls: watch.most_calls,
+    })
+}
+
+/// How a job ends, and the job.
+pub fn run_through(
+    alloc: Global,
+    rule: Rule,
+    job: Job<Global>,
+) -> Result<(End, Job<Global>), AllocError> {
+    let mut watch = Watch::new(alloc, rule, job)?;
+    let end = run_out(&mut watch)?;
+    Ok((end, watch.into_job()))
+}
+
+/// The widest limits, and a budget that is some times what was executed.
+fn wide_limits(executed: u64) -> Limits {
+    let budget = executed.saturating_mul(16).saturating_add(1_000_000);
+    Limits {
+        words: MOST_WORDS,
+        cells: MOST_CELLS,
+        calls: MOST_CALLS,
+        budget: budget.min(MOST_BUDGET),
+    }
+}
+
+/// How a run goes on that is within the widest limits, if the job's limits ended it after this number of instructions.
+fn wide_of(watch: &mut Watch, steps: u64) -> Result<Wide, AllocError> {
+    watch.go_to(steps)?;
+    watch.step()?;
+    let wanted = watch.run.peak();
+    let end = run_out(watch)?;
+    Ok(Wide { end, wanted })
+}
+
+/// How a job goes on within the widest limits that its limits ended so, and the job.
+pub fn run_wide(
+    alloc: Global,
+    rule: Rule,
+    job: Job<Global>,
+    end: End,
+) -> Result<(Wide, Job<Global>), AllocError> {
+    let limits = job.limits();
+    let mut watch = Watch::new(alloc, rule, job.with_limits(wide_limits(end.executed)))?;
+    let wide = wide_of(&mut watch, end.steps)?;
+    Ok((wide, watch.into_job().with_limits(limits)))
+}

@@ -1,0 +1,131 @@
+//! The lines of a batch, as they may be shown on a terminal.
+
+use std::alloc::{AllocError, Global};
+use std::io;
+
+/// The most bytes of a line that are shown.
+const MOST_COLUMNS: usize = 96;
+
+/// A text with the places at which its lines begin.
+#[derive(Drop)]
+pub struct Lines {
+    text: Vec<u8>,
+    begins: Vec<usize>,
+}
+
+/// The character that shows a byte: a blank for a tab and a CR, and a question mark for any other byte outside 32 to 126.
+fn shown_byte(byte: u8) -> char {
+    if byte == b'\t' || byte == b'\r' {
+        return ' ';
+    }
+    if byte < 32 || byte > 126 {
+        return '?';
+    }
+    char::from(byte)
+}
+
+/// The bytes as they may be shown.
+pub fn printable(alloc: Global, bytes: &[u8]) -> Result<String, AllocError> {
+    let mut shown = String::new(alloc);
+    for byte in bytes {
+        shown.push(shown_byte(*byte))?;
+    }
+    Ok(shown)
+}
+
+/// The code of a line: what comes before its comment, or the whole line if nothing does, without the blanks at its ends.
+fn code_of(line: &str) -> &str {
+    match line.split_once('{') {
+        Some((code, _)) if !code.trim_ascii().is_empty() => code.trim_ascii(),
+        Some(_) | None => line.trim_ascii(),
+    }
+}
+
+/// Carets below the code of a line, after as many blanks as the line has before it.
+fn carets(alloc: Global, line: &str) -> Result<String, AllocError> {
+    let mut text = String::new(alloc);
+    let blanks = line.len().saturating_sub(line.trim_ascii_start().len());
+    for _ in 0..blanks {
+        text.push(' ')?;
+    }
+    for _ in 0..code_of(line).len() {
+        text.push('^')?;
+    }
+    Ok(text)
+}
+
+impl Lines {
+    /// The lines of a text.
+    pub fn of(alloc: Global, text: Vec<u8>) -> Result<Lines, AllocError> {
+        let mut begins = Vec::new(alloc);
+        let mut place: usize = 0;
+        begins.push(place)?;
+        for byte in &text {
+            place = place.saturating_add(1);
+            if *byte == b'\n' {
+                begins.push(place)?;
+            }
+        }
+        Ok(Lines { text, begins })
+    }
+
+    /// The text.
+    pub fn text(&self) -> &[u8] {
+        &self.text
+    }
+
+    /// The bytes of a line without its LF, if there is a line of this number, counted from 1.
+    fn bytes(&self, number: u64) -> Option<&[u8]> {
+        let Ok(place) = usize::try_from(number.checked_sub(1)?) else {
+            return None;
+        };
+        let begin = *self.begins.get(place)?;
+        let rest = self.text.get(begin..)?;
+        match rest.iter().position(|byte| *byte == b'\n') {
+            Some(end) => rest.get(..end),
+            None => Some(rest),
+        }
+    }
+
+    /// A line as it may be shown, without its LF. Two dots end one that is cut. It is empty if there is none of this number.
+    fn line(&self, alloc: Global, number: u64) -> Result<String, AllocError> {
+        let Some(bytes) = self.bytes(number) else {
+            return Ok(String::new(alloc));
+        };
+        let Some(front) = bytes.get(..MOST_COLUMNS) else {
+            return printable(alloc, bytes);
+        };
+        let mut line = printable(alloc, front)?;
+        if bytes.len() > MOST_COLUMNS {
+            line.push_str("..")?;
+        }
+        Ok(line)
+    }
+
+    /// The code of a line: without blanks and comment at its ends.
+    pub fn code(&self, alloc: Global, number: u64) -> Result<String, AllocError> {
+        let line = self.line(alloc, number)?;
+        String::from_str(alloc, code_of(line.as_str()))
+    }
+
+    /// Prints a line with its number, unless it is empty.
+    fn print(&self, rt: &HostRuntime, number: u64) -> io::Result<()> {
+        let line = self.line(rt.alloc(), number)?;
+        if line.is_empty() {
+            return Ok(());
+        }
+        println!(rt; "{number:>7} | {line}")
+    }
+
+    /// Prints a line between those beside it, with carets below its code and a note after them.
+    pub fn print_around(&self, rt: &HostRuntime, number: u64, note: &str) -> io::Result<()> {
+        println!(rt; "")?;
+        self.print(rt, number.saturating_sub(1))?;
+        self.print(rt, number)?;
+        let line = self.line(rt.alloc(), number)?;
+        let carets = carets(rt.alloc(), line.as_str())?;
+        println!(rt; "        | {carets} {note}")?;
+        self.print(rt, number.saturating_add(1))?;
+        println!(rt; "")
+    }
+}

@@ -1,0 +1,344 @@
+//! What is shown of a job.
+
+use crate::command::Look;
+use crate::end::{End, Ending, Wide, run_through, run_wide};
+use crate::lines::{Lines, printable};
+use crate::operands::operand_names;
+use crate::reasons::reason;
+use crate::stack::{function_name, print_calls, print_stack};
+use crate::watch::Watch;
+use job_steps::Job;
+use std::alloc::{AllocError, Global};
+use std::io;
+use vcode_base::{Limits, MemoryFault, Op, Rule, StackMove};
+
+/// The last instructions that are shown of a job.
+const LAST: u64 = 6;
+
+/// The rule and the lines of a batch.
+#[derive(Clone, Copy)]
+pub struct Batch<'a> {
+    pub rule: Rule,
+    pub lines: &'a Lines,
+}
+
+/// An instruction that was executed, and what there was after it.
+#[derive(Clone, Copy, Drop)]
+struct Step {
+    number: u64,
+    line: u64,
+    entries: usize,
+    held: usize,
+}
+
+/// How many entries there would be after an instruction of a stack of this depth.
+fn depth_after(op: Op, depth: usize) -> usize {
+    match op {
+        Op::Move(StackMove::Copy, lower, _) => depth.saturating_add(usize::from(lower)),
+        _ => depth
+            .saturating_sub(op.operand_kinds().len())
+            .saturating_add(op.result_kinds().len()),
+    }
+}
+
+/// The names of the operands of an instruction, the top first.
+fn names_from_top(alloc: Global, op: Op) -> Result<Vec<&'static str>, AllocError> {
+    let names = operand_names(op);
+    let mut turned = Vec::new(alloc);
+    for name in names.iter().rev() {
+        turned.push(*name)?;
+    }
+    Ok(turned)
+}
+
+/// Prints where a run is, with a note at its next line.
+fn print_place(rt: &HostRuntime, batch: Batch<'_>, watch: &Watch, note: &str) -> io::Result<()> {
+    match watch.next() {
+        Some(next) => batch.lines.print_around(rt, next.line, note),
+        None => Ok(()),
+    }
+}
+
+/// Prints the calls and the stack of a run.
+fn print_picture(rt: &HostRuntime, watch: &Watch) -> io::Result<()> {
+    print_calls(rt, watch)?;
+    match watch.next() {
+        Some(next) => {
+            let names = names_from_top(rt.alloc(), next.op)?;
+            print_stack(rt, watch, names.as_slice())
+        }
+        None => print_stack(rt, watch, &[]),
+    }
+}
+
+/// Prints what a job used beside its limits.
+fn print_used(rt: &HostRuntime, end: End, limits: Limits) -> io::Result<()> {
+    println!(rt; "\nused")?;
+    let (used, limit) = (end.executed, limits.budget);
+    println!(rt; "  instructions {used:>13} of {limit:>13}")?;
+    let (used, limit) = (end.words, limits.words);
+    println!(rt; "  words        {used:>13} of {limit:>13}")?;
+    let (used, limit) = (end.cells, limits.cells);
+    println!(rt; "  cells        {used:>13} of {limit:>13}")?;
+    let (used, limit) = (end.calls, limits.calls);
+    println!(rt; "  calls        {used:>13} of {limit:>13}")
+}
+
+/// Prints the least limits within which a job returns, if it returned so.
+fn print_least(rt: &HostRuntime, name: &str, end: End) -> io::Result<()> {
+    if end.ending != Ending::Returned {
+        return Ok(());
+    }
+    let (words, cells, calls, budget) = (end.words, end.cells.max(1), end.calls, end.executed);
+    println!(rt;
+        "\nWithin these limits, and no less, it returns: JOB {name} {words} {cells} {calls} {budget}"
+    )
+}
+
+/// Executes the next instruction. `None` if it isn't executed, since it ends the job, or if there is none.
+fn step_of(watch: &mut Watch) -> Result<Option<Step>, AllocError> {
+    let before = watch.run.executed();
+    let Some(next) = watch.next() else {
+        return Ok(None);
+    };
+    watch.step()?;
+    let number = watch.run.executed();
+    if number == before {
+        return Ok(None);
+    }
+    Ok(Some(Step {
+        number,
+        line: next.line,
+        entries: watch.run.depth(),
+        held: watch.run.held(),
+    }))
+}
+
+/// Prints the head of a list of instructions.
+fn print_head(rt: &HostRuntime) -> io::Result<()> {
+    println!(rt; "       step     line  entries       held  instruction")
+}
+
+/// Prints an instruction that was executed.
+fn print_step(rt: &HostRuntime, batch: Batch<'_>, step: Step) -> io::Result<()> {
+    let (number, line, entries, held) = (step.number, step.line, step.entries, step.held);
+    let code = batch.lines.code(rt.alloc(), line)?;
+    println!(rt; "  {number:>9} {line:>8} {entries:>8} {held:>10}  {code}")
+}
+
+/// Prints the instructions of a run from the next one on, this many at most.
+fn print_steps(
+    rt: &HostRuntime,
+    batch: Batch<'_>,
+    watch: &mut Watch,
+    count: u64,
+) -> io::Result<()> {
+    print_head(rt)?;
+    for _ in 0..count {
+        match step_of(watch)? {
+            Some(step) => print_step(rt, batch, step)?,
+            None => break,
+        }
+    }
+    Ok(())
+}
+
+/// Executes this many instructions, which are there.
+fn steps_of(alloc: Global, watch: &mut Watch, count: u64) -> Result<Vec<Step>, AllocError> {
+    let mut steps = Vec::new(alloc);
+    for _ in 0..count {
+        if let Some(step) = step_of(watch)? {
+            steps.push(step)?;
+        }
+    }
+    Ok(steps)
+}
+
+/// Why a limit would be passed at the next instruction of a run.
+fn memory_note(
+    alloc: Global,
+    watch: &Watch,
+    fault: MemoryFault,
+    wide: Option<Wide>,
+) -> Result<String, AllocError> {
+    let limits = watch.run.job().limits();
+    match fault {
+        MemoryFault::Words => {
+            let limit = limits.words;
+            match wide {
+                Some(wide) if wide.wanted > limit => {
+                    let wanted = wide.wanted;
+                    format!(in alloc; "{wanted} words with the result, and the limit is {limit}")
+                }
+                Some(_) | None => format!(in alloc;
+                    "with the result more words than the limit, which is {limit}"
+                ),
+            }
+        }
+        MemoryFault::Cells => {
+            let limit = limits.cells;
+            match watch.next() {
+                Some(next) => {
+                    let cells = depth_after(next.op, watch.run.depth());
+                    format!(in alloc; "{cells} entries with it, and the limit is {limit}")
+                }
+                None => Ok(String::new(alloc)),
+            }
+        }
+        MemoryFault::Calls => {
+            let limit = limits.calls;
+            format!(in alloc; "{limit} calls are active, and that is the limit")
+        }
+    }
+}
+
+/// The note at the last line of a job.
+fn note_of(
+    alloc: Global,
+    watch: &Watch,
+    ending: Ending,
+    wide: Option<Wide>,
+) -> Result<String, AllocError> {
+    match ending {
+        Ending::Returned => String::from_str(alloc, "returns"),
+        Ending::Budget => String::from_str(alloc, "would be next"),
+        Ending::Memory(fault, _) => memory_note(alloc, watch, fault, wide),
+        Ending::Fault(fault, _) => match watch.next() {
+            Some(next) => reason(alloc, watch, next.op, fault),
+            None => Ok(String::new(alloc)),
+        },
+    }
+}
+
+/// Prints how a job ended, after its name.
+fn print_ending(rt: &HostRuntime, end: End) -> io::Result<()> {
+    let count = end.executed;
+    match end.ending {
+        Ending::Returned => println!(rt; "RETURNED after {count} instructions"),
+        Ending::Budget => println!(rt; "BUDGET after {count} instructions"),
+        Ending::Fault(fault, line) => {
+            let text = fault.text();
+            println!(rt; "FAULT line {line} {text}, after {count} instructions")
+        }
+        Ending::Memory(fault, line) => {
+            let text = fault.text();
+            println!(rt; "MEMORY line {line} {text}, after {count} instructions")
+        }
+    }
+}
+
+/// Prints what there was before the end of a job, and its last instructions. The run has executed nothing.
+fn print_last(
+    rt: &HostRuntime,
+    batch: Batch<'_>,
+    watch: &mut Watch,
+    end: End,
+    wide: Option<Wide>,
+) -> io::Result<()> {
+    let count = end.steps.min(LAST);
+    watch.go_to(end.steps.saturating_sub(count))?;
+    let steps = steps_of(rt.alloc(), watch, count)?;
+    let note = note_of(rt.alloc(), watch, end.ending, wide)?;
+    print_place(rt, batch, watch, note.as_str())?;
+    print_picture(rt, watch)?;
+    println!(rt; "\nthe last instructions")?;
+    print_head(rt)?;
+    for step in &steps {
+        print_step(rt, batch, *step)?;
+    }
+    Ok(())
+}
+
+/// How a job goes on within the widest limits if a limit ended it, and the job.
+fn wide_of(
+    alloc: Global,
+    rule: Rule,
+    job: Job<Global>,
+    end: End,
+) -> Result<(Option<Wide>, Job<Global>), AllocError> {
+    match end.ending {
+        Ending::Returned | Ending::Fault(..) => Ok((None, job)),
+        Ending::Memory(..) | Ending::Budget => {
+            let (wide, job) = run_wide(alloc, rule, job, end)?;
+            Ok((Some(wide), job))
+        }
+    }
+}
+
+/// Prints how a job ended, what there was before, and what it used.
+fn print_end(rt: &HostRuntime, batch: Batch<'_>, job: Job<Global>, name: &str) -> io::Result<()> {
+    let (end, job) = run_through(rt.alloc(), batch.rule, job)?;
+    let (wide, job) = wide_of(rt.alloc(), batch.rule, job, end)?;
+    let mut watch = Watch::new(rt.alloc(), batch.rule, job)?;
+    print_all(rt, batch, &mut watch, end, wide, name)
+}
+
+/// Prints how a job ended, what there was before, and what it used. The run has executed nothing.
+fn print_all(
+    rt: &HostRuntime,
+    batch: Batch<'_>,
+    watch: &mut Watch,
+    end: End,
+    wide: Option<Wide>,
+    name: &str,
+) -> io::Result<()> {
+    print_ending(rt, end)?;
+    print_last(rt, batch, watch, end, wide)?;
+    print_used(rt, end, watch.run.job().limits())?;
+    match wide {
+        Some(wide) => print_least(rt, name, wide.end),
+        None => print_least(rt, name, end),
+    }
+}
+
+/// Prints what there is at a state of a run.
+fn print_state(rt: &HostRuntime, batch: Batch<'_>, watch: &Watch) -> io::Result<()> {
+    let executed = watch.run.executed();
+    if !watch.run.goes_on() {
+        return println!(rt; "is over after {executed} instructions");
+    }
+    let peak = watch.run.peak();
+    println!(rt; "after {executed} instructions, with a peak of {peak} words")?;
+    print_place(rt, batch, watch, "is next")?;
+    print_picture(rt, watch)
+}
+
+/// Shows what was asked for of a run that has executed nothing.
+fn show_run(rt: &HostRuntime, batch: Batch<'_>, watch: &mut Watch, look: Look) -> io::Result<()> {
+    match look {
+        Look::End => Ok(()),
+        Look::After(count) => {
+            watch.go_to(count)?;
+            print_state(rt, batch, watch)
+        }
+        Look::At { line, time } => {
+            if watch.go_to_line(line, time)? {
+                return print_state(rt, batch, watch);
+            }
+            println!(rt; "line {line} is not next {time} times")
+        }
+        Look::Steps { from, to } => {
+            println!(rt; "step by step")?;
+            let before = from.saturating_sub(1);
+            watch.go_to(before)?;
+            print_steps(rt, batch, watch, to.saturating_sub(before))
+        }
+    }
+}
+
+/// Shows what was asked for of a job of this place and this name.
+pub fn show(
+    rt: &HostRuntime,
+    batch: Batch<'_>,
+    place: u64,
+    job: Job<Global>,
+    look: Look,
+) -> io::Result<()> {
+    let name = printable(rt.alloc(), job.name())?;
+    print!(rt; "JOB {place} {name} ")?;
+    if let Look::End = look {
+        return print_end(rt, batch, job, name.as_str());
+    }
+    let mut watch = Watch::new(rt.alloc(), batch.rule, job)?;
+    show_run(rt, batch, &mut watch, look)
+}

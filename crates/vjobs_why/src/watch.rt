@@ -1,0 +1,195 @@
+//! A run that is watched: for each entry of its stack where it comes from, and for each call where it was made.
+
+use job_steps::Job;
+use job_walk::Run;
+use std::alloc::{AllocError, Global};
+use vcode_base::{Kind, Op, Rule, StackMove};
+use vcode_reader::{CodeItem, CodeLine};
+
+/// Where an entry of the stack comes from: its kind, and the line that made it.
+#[derive(Clone, Copy, Drop)]
+pub struct Origin {
+    pub kind: Kind,
+    pub line: u64,
+}
+
+/// An instruction without its list and its name, and its line.
+#[derive(Clone, Copy, Drop)]
+pub struct Next {
+    pub op: Op,
+    pub line: u64,
+}
+
+/// A run, with the origins of its entries, the lines of the CALLs of its active calls, and the most entries and calls
+/// that it had.
+#[derive(Drop)]
+pub struct Watch {
+    pub run: Run<Global>,
+    origins: Vec<Origin>,
+    callers: Vec<u64>,
+    pub most_cells: usize,
+    pub most_calls: usize,
+}
+
+/// The instruction of a line.
+fn op_of(line: &CodeLine<'_>) -> Op {
+    match &line.item {
+        CodeItem::Do(instruction) => instruction.op(),
+        CodeItem::If | CodeItem::Else | CodeItem::Endif => Op::If,
+    }
+}
+
+/// Pushes the origins from a place on, this many of them, once more.
+fn copy_origins(origins: &mut Vec<Origin>, from: usize, count: usize) -> Result<(), AllocError> {
+    for place in from..from.saturating_add(count) {
+        let Some(origin) = origins.get(place) else {
+            return Ok(());
+        };
+        let origin = *origin;
+        origins.push(origin)?;
+    }
+    Ok(())
+}
+
+/// Moves the first `count` of the origins from a place on to the top.
+fn raise_origins(origins: &mut Vec<Origin>, from: usize, count: usize) {
+    if from <= origins.len() {
+        let part = &mut origins[from..];
+        part.rotate_left(count.min(part.len()));
+    }
+}
+
+/// Moves the origins as a motion of the stack moves the entries.
+fn move_origins(
+    origins: &mut Vec<Origin>,
+    motion: StackMove,
+    lower: usize,
+    upper: usize,
+) -> Result<(), AllocError> {
+    let depth = origins.len();
+    let below = depth.saturating_sub(lower.saturating_add(upper));
+    match motion {
+        StackMove::Copy => copy_origins(origins, below, lower),
+        StackMove::Pop => {
+            raise_origins(origins, below, lower);
+            origins.truncate(depth.saturating_sub(lower));
+            Ok(())
+        }
+        StackMove::MoveToTop => {
+            raise_origins(origins, below, lower);
+            Ok(())
+        }
+    }
+}
+
+impl Watch {
+    /// A run that has executed nothing.
+    pub fn new(alloc: Global, rule: Rule, job: Job<Global>) -> Result<Watch, AllocError> {
+        let run = Run::new(alloc, rule, job)?;
+        Ok(Watch {
+            run,
+            origins: Vec::new(alloc),
+            callers: Vec::new(alloc),
+            most_cells: 0,
+            most_calls: 1,
+        })
+    }
+
+    /// The next instruction, if the job goes on.
+    pub fn next(&self) -> Option<Next> {
+        let line = self.run.next_line()?;
+        Some(Next {
+            op: op_of(&line),
+            line: line.number,
+        })
+    }
+
+    /// The origin of the entry at a depth, 0 at the top.
+    pub fn origin(&self, depth: usize) -> Option<Origin> {
+        let above = depth.checked_add(1)?;
+        let place = self.origins.len().checked_sub(above)?;
+        Some(*self.origins.get(place)?)
+    }
+
+    /// The line of the CALL by which the call at this place was made, that of `MAIN` at 0, or goes on by if it is the
+    /// innermost.
+    pub fn call_line(&self, place: usize) -> Option<u64> {
+        match self.callers.get(place) {
+            Some(line) => Some(*line),
+            None => Some(self.run.next_line()?.number),
+        }
+    }
+
+    /// Executes the next instruction; true if the job goes on.
+    pub fn step(&mut self) -> Result<bool, AllocError> {
+        let Some(next) = self.next() else {
+            return Ok(false);
+        };
+        if !self.run.step() {
+            return Ok(false);
+        }
+        self.follow(next)?;
+        self.most_cells = self.most_cells.max(self.run.depth());
+        self.most_calls = self.most_calls.max(self.run.calls());
+        Ok(true)
+    }
+
+    /// Executes instructions until this number is executed, or none is left before the end.
+    pub fn go_to(&mut self, count: u64) -> Result<(), AllocError> {
+        for _ in 0..count {
+            if !self.step()? {
+                return Ok(());
+            }
+        }
+        Ok(())
+    }
+
+    /// Executes instructions until this line is next for the time of this number, or none is left before the end. True if
+    /// the line is next.
+    pub fn go_to_line(&mut self, line: u64, time: u64) -> Result<bool, AllocError> {
+        let mut times: u64 = 0;
+        for _ in 0..u64::MAX {
+            let Some(next) = self.next() else {
+                return Ok(false);
+            };
+            if next.line == line {
+                times = times.saturating_add(1);
+                if times >= time {
+                    return Ok(true);
+                }
+            }
+            self.step()?;
+        }
+        Ok(false)
+    }
+
+    /// The job.
+    pub fn into_job(self) -> Job<Global> {
+        self.run.into_job()
+    }
+
+    /// The origins and the callers after an instruction.
+    fn follow(&mut self, next: Next) -> Result<(), AllocError> {
+        match next.op {
+            Op::Move(motion, lower, upper) => {
+                let (lower, upper) = (usize::from(lower), usize::from(upper));
+                return move_origins(&mut self.origins, motion, lower, upper);
+            }
+            Op::Call => self.callers.push(next.line)?,
+            Op::Return => {
+                self.callers.pop();
+            }
+            Op::Const(_) | Op::Elementwise(_) | Op::Segmented(_) | Op::If => {}
+        }
+        let taken = next.op.operand_kinds().len();
+        let kept = self.origins.len().saturating_sub(taken);
+        self.origins.truncate(kept);
+        for kind in next.op.result_kinds() {
+            self.origins.push(Origin {
+                kind: *kind,
+                line: next.line,
+            })?;
+        }
+        Ok(())
+    }
+}

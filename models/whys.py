@@ -1,0 +1,149 @@
+#!/usr/bin/env python3
+"""Compares what vjobs-why shows of each job with the report: python3 models/whys.py VJOBS_WHY VJOBS
+
+It takes the examples and the tables of `worked_batches`. Of each job the end, the line, the count of instructions and
+the most words have to be those of the report of `vjobs`. Of each job that ran, what there is after a number of
+instructions, at a line and at each instruction is shown too: the counts have to be those that were asked for. If
+`vjobs-why` names a JOB line within which a job returns, the job has to return within it, and with any number of it one
+less it must not."""
+import re
+import subprocess
+import sys
+
+from hostile import TOP, batches_of
+
+DATA = TOP / "crates" / "worked_batches" / "data"
+ENDING = re.compile(r"JOB (\d+) (\S+) (RETURNED|BUDGET|(?:FAULT|MEMORY) line \d+ \w+ \w+),? after (\d+) instructions")
+WORDS = re.compile(r"^  words +(\d+) of +(\d+)$", re.M)
+LEAST = re.compile(r"it returns: JOB (.+) (\d+) (\d+) (\d+) (\d+)$", re.M)
+# Instructions that are listed of a job.
+LISTED = 40
+
+
+def stored():
+    """The name of each batch, and its bytes."""
+    for path in sorted((DATA / "examples").glob("*.vcode")):
+        yield path.stem, path.read_bytes()
+    for path in sorted((DATA / "tables").iterdir()):
+        for place, (batch, _) in enumerate(batches_of(path)):
+            yield f"{path.name}, case {place + 1}", batch
+
+
+def run(program, batch, *words):
+    ran = subprocess.run([program, *words, "-"], input=batch, capture_output=True, timeout=300)
+    return ran.returncode, ran.stdout.decode("latin1"), ran.stderr.decode("latin1")
+
+
+def ends(report):
+    """Of each job of a report: how it ended, how many instructions it executed, and the most words."""
+    found = {}
+    for line in report.splitlines():
+        if line.startswith("JOB "):
+            _, place, name, ending = line.split(" ", 3)
+            found[place] = [name, ending, None, None]
+        elif line.startswith("USED "):
+            words = line.split()
+            found[place][2:] = int(words[1]), int(words[3])
+    return found
+
+
+def with_limits(batch, place, limits):
+    """The batch with other limits on the JOB line of a place. Only lines between jobs are JOB lines."""
+    lines, inside, seen = batch.split(b"\n"), False, 0
+    coded = False
+    for number, line in enumerate(lines):
+        words = line.split()
+        if not inside and words[:1] == [b"JOB"]:
+            inside, coded, seen = True, False, seen + 1
+            if seen == place:
+                lines[number] = b" ".join([*words[:2], *(b"%d" % limit for limit in limits)])
+        elif inside and words == [b"CODE"] and not coded:
+            coded = True
+        elif coded and words == [b"END"]:
+            inside = coded = False
+    return b"\n".join(lines)
+
+
+def wrong_least(programs, batch, place, limits):
+    """What is wrong with the least limits of a job, if anything."""
+    tried = [limits]
+    for changed, least in enumerate([0, 1, 1, 0]):
+        if limits[changed] > least:
+            tried.append([limit - (number == changed) for number, limit in enumerate(limits)])
+    for number, limits in enumerate(tried):
+        _, report, _ = run(programs[1], with_limits(batch, int(place), limits))
+        returned = ends(report)[place][1] == "RETURNED"
+        if returned != (number == 0):
+            yield f"with the limits {limits} it {'returns' if returned else 'does not return'}"
+
+
+def wrong_end(programs, batch, place, wanted):
+    """What is wrong with what is shown of the end of a job."""
+    name, ending, executed, words = wanted
+    status, shown, said = run(programs[0], batch, "--job", place)
+    if status or said:
+        yield f"exit {status}: {said}"
+    if ending.startswith("REFUSED"):
+        if shown.partition("\n")[0] != f"JOB {place} {name} {ending}":
+            yield f"shown as {shown}"
+        return
+    found, used = ENDING.match(shown), WORDS.search(shown)
+    if not found or not used:
+        yield f"shown as {shown}"
+    elif (found[1], found[2], found[3], int(found[4]), int(used[1])) != (place, name, ending, executed, words):
+        yield f"shown as {found[0]} with {used[0]}, and reported as {ending} after {executed} with {words}"
+    least = LEAST.search(shown)
+    if least:
+        yield from wrong_least(programs, batch, place, [int(number) for number in least.groups()[1:]])
+    elif ending == "RETURNED":
+        yield "no least limits are named"
+
+
+def wrong_looks(programs, batch, place, wanted):
+    """What is wrong with what is shown of a job on the way."""
+    executed = wanted[2]
+    status, shown, said = run(programs[0], batch, "--job", place, "--steps", "--to", str(LISTED))
+    listed = [line.split() for line in shown.splitlines()[2:]]
+    if status or said or [int(line[0]) for line in listed] != list(range(1, min(executed, LISTED) + 1)):
+        yield f"--steps: exit {status}: {said}{shown}"
+    for count in {0, 1, executed // 2, max(executed - 1, 0), executed, executed + 1}:
+        status, shown, said = run(programs[0], batch, "--job", place, "--after", str(min(count, 10**9)))
+        first = shown.partition("\n")[0]
+        if status or said or not re.search(rf"after {min(count, executed)} instructions", first):
+            yield f"--after {count}: exit {status}: {said}{first}"
+    for line in {line[1] for line in listed}:
+        status, shown, said = run(programs[0], batch, "--job", place, "--at", line)
+        before = next(number for number, other in enumerate(listed) if other[1] == line)
+        if status or said or f"after {before} instructions" not in shown.partition("\n")[0]:
+            yield f"--at {line}: exit {status}: {said}{shown}"
+
+
+def wrong(programs, batch):
+    """What is wrong with what is shown of a batch."""
+    _, report, _ = run(programs[1], batch, "--workers", "1")
+    if report.startswith("BATCH"):
+        status, shown, _ = run(programs[0], batch)
+        if status != 1 or shown.partition("\n")[0] != report.rstrip("\n"):
+            yield f"exit {status}, shown as {shown}"
+        return
+    for place, wanted in ends(report).items():
+        for text in wrong_end(programs, batch, place, wanted):
+            yield f"job {place}: {text}"
+        if wanted[2] is not None:
+            for text in wrong_looks(programs, batch, place, wanted):
+                yield f"job {place}: {text}"
+
+
+def main(*programs):
+    count = differing = 0
+    for name, batch in stored():
+        count += 1
+        for text in wrong(programs, batch):
+            differing += 1
+            print(f"{name}: {text}")
+    print(f"whys: {count} batches, {differing} differences")
+    sys.exit(bool(differing))
+
+
+if __name__ == "__main__":
+    main(*sys.argv[1:])
