@@ -6,8 +6,8 @@
 # make why     the program that shows why a job ended, proved: bin/vjobs-why
 # make embed   the library for programs in other languages, proved: bin/libvjobs.a and bin/libvjobs.so; and compares what
 #              the programs of embed/, in C, Python and Rust, print for the examples with their reports
-# make cluster runs job files of strangers by vjobs-spread on a Slurm of three nodes and by GNU parallel, with faults: by the
-#              programs of bin, or of the folder VJOBS_PROGRAMS; as root it installs the packages if they are missing
+# make cluster runs job files of strangers by vjobs-spread on a Slurm of three nodes and by GNU parallel, with faults: by
+#              the programs of bin, or of the folder VJOBS_PROGRAMS; as root it installs the packages if they are missing
 # make cluster-hard   does so with 1,000 files, cut cables, dead hosts and killed daemons, as root; not in the gate
 # make test    runs all tests, tables and examples without proving anything
 # make gate    the gate: every proof from nothing, the wrong bodies to be refused, all tests, tables and examples
@@ -15,13 +15,14 @@
 # make dist LOG=FILE   packs the same into bin/vjobs-COMMIT.tar.gz; FILE is the output of make gate on this commit
 # make names   checks that every name exists which a page, a comment or a wrong body uses
 # make check CRATE=name   proves one crate and runs its tests
-# make fast CRATE=name   builds a program unproved and optimised, at bin/unproved/name, to measure a form before it is proved
+# make fast CRATE=name   builds a program unproved and optimised, at bin/unproved/name, to measure a form before its proof
 # make bench   times reading, the steps of jobs, workers, the instructions beside plain C, the memory, and the verifier; no test
 # make soak    runs batches on 1 to 16 workers for an hour, and stops at the first report that differs; not in the gate
 # make models  compares the programs with a second writing of the rules, in Python, on random cases, and those of make packing
 #              and make kinds on files of strangers and on the codes of all examples; not in the gate
 # make hostile MINUTES=60   runs batches that were changed at random for so many minutes, and compares each report with the
 #              second writing, its memory with the sum in docs/OPERATING.md, and its time with its limits; not in the gate
+# make clean   removes bin, and what the crates keep of their proofs and builds
 
 .PHONY: all try run packing kinds why embed fast cluster cluster-hard test gate install dist names check bench soak
 .PHONY: hostile models clean
