@@ -20,9 +20,9 @@ TOOL, OWN_SLURM = TOP / "tools" / "vjobs-spread", TOP / "tools" / "own-slurm"
 LIMITS = ["--memory", str(strangers.MEMORY), "--output", str(strangers.OUTPUT)]
 # How long a state or the end of a run is waited for, in seconds. Only what doesn't come at all takes so long.
 WAIT, WAIT_FOR_RUN = 300, 1500
-# The limit of time is so many times what the slowest job takes alone, within these bounds in seconds.
+# The limit of time is this multiple of what the slowest job takes alone, within these bounds in seconds.
 TIMES, LEAST_TIME, MOST_TIME = 15, 8, 40
-# How long something that is told to end may take, in seconds.
+# How long something that is asked to end may take, in seconds.
 SECONDS_TO_END = 30
 # Names the folder of the tests in the environment of everything that they start.
 MARK = "VJOBS_CLUSTER_TEST"

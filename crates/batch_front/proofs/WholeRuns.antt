@@ -30,7 +30,7 @@ pub record IsRead {R : Type 0} (remaining : R → Option (List ℕ)) (region : �
   pub to_the_end : ReadsFirstBytes (remaining (inner_of reader)) (remaining (inner_of new_reader))
   pub no_further : ReadsNoFurther (remaining (inner_of reader)) (remaining (inner_of new_reader))
 
--- a run that comes to its report
+-- a run that writes its report
 pub run_told : {R W : Type 0} (remaining : R → Option (List ℕ)) (contents : W → Option (List ℕ)) (region : ℕ)
     (reader new_reader : Device R) (writer new_writer : Device W) (batch : Batch (List JobEntry))
     (loaded out : LoadedBatch) (spent : ℕ) (result : Result Status FrontFault)

@@ -7,7 +7,7 @@ use std::fmt::Write;
 use vcode_base::limits::MOST_TOTAL;
 use vcode_base::{DataFault, Kind, Op, Segmented};
 
-/// An index at a place, outside a segment with so many places.
+/// An index at a place, outside its segment, which has `places` places.
 #[derive(Clone, Copy, Drop)]
 struct Outside {
     place: usize,
@@ -16,7 +16,7 @@ struct Outside {
     places: i64,
 }
 
-/// The operand at a place among so many, the bottom one at 0.
+/// The operand at a place among `count` operands, the bottom one at 0.
 fn operand(watch: &Watch, place: usize, count: usize) -> &[i64] {
     if place >= count {
         return &[];
@@ -94,7 +94,7 @@ fn bad_shift(alloc: Global, watch: &Watch, op: Op) -> Result<String, AllocError>
     Ok(String::new(alloc))
 }
 
-/// Whether the index of a place is outside so many places.
+/// Whether an index is outside a segment of `places` places.
 fn is_outside(index: i64, places: i64) -> bool {
     index < 0 || index >= places
 }
