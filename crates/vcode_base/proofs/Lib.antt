@@ -3,5 +3,6 @@ mod Lengths
 mod LineFeeds
 mod LineWordLemmas
 mod Needs
+mod PackedLemmas
 mod Permuted
 mod Vectors

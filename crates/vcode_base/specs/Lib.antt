@@ -10,6 +10,7 @@ pub mod Meaning
 pub mod Motions
 pub mod Names
 pub mod Operands
+pub mod PackedWords
 pub mod Segments
 pub mod TextAnswers
 pub mod Texts

@@ -13,6 +13,7 @@ pub mod limits;
 mod line_words;
 mod op;
 mod outcome;
+mod packed_words;
 mod rule;
 mod sequence;
 mod shared_words;

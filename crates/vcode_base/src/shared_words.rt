@@ -1,7 +1,8 @@
 //! Words that have several owners.
 
-ghost use Rattle.std.specs.Prelude.{◌≡◌, IfOk};
+ghost use Rattle.std.specs.Prelude.{◌≡◌, ◌+◌, ◌≤◌, length, take, drop, IfOk};
 
+use crate::packed_words::PackedWords;
 use std::alloc::{AllocError, Allocator};
 use std::marker::Model;
 use std::sync::Arc;
@@ -10,16 +11,17 @@ use std::sync::Arc;
 /// their memory back.
 #[derive(Debug, Drop)]
 pub struct SharedWords<A: Allocator> {
-    words: Arc<Vec<i64, A>, A>,
+    words: Arc<PackedWords<A>, A>,
 }
 
 impl<A: Allocator> Model for SharedWords<A> {
     ghost use Rattle.std.specs.Arc.{arc_value};
     ghost use Rattle.std.specs.Prelude.{List, ℤ};
+    ghost use Rattle.vcode_base.specs.PackedWords.{words_of};
 
     ghost Value = { List ℤ };
 
-    ghost view = { λ s. (arc_value s.words).items };
+    ghost view = { λ s. words_of (arc_value s.words) };
 }
 
 impl<A: Allocator> SharedWords<A> {
@@ -33,7 +35,7 @@ impl<A: Allocator> SharedWords<A> {
         A: Clone,
         ensures { IfOk result (λ copy. copy ≡ words.now) }
     {
-        let words = words.to_vec(alloc.clone()?)?;
+        let words = PackedWords::copy_of(alloc.clone()?, words)?;
         Ok(SharedWords {
             words: Arc::new(alloc, words)?,
         })
@@ -52,10 +54,18 @@ impl<A: Allocator> SharedWords<A> {
         })
     }
 
-    /// The words in order.
-    pub fn as_slice(&self) -> &[i64]
-        ensures { result.now ≡ self.now }
+    /// How many words there are.
+    pub fn len(&self) -> usize
+        ensures { result ≡ length self.now }
     {
-        self.words.as_slice()
+        self.words.len()
+    }
+
+    /// Fills `into` with the words from the place `from` on. There are at least as many.
+    pub fn copy_from(&self, from: usize, into: &mut [i64])
+        requires { from + length into.old ≤ length self.now }
+        ensures { into.new ≡ take (length into.old) (drop from self.now) }
+    {
+        self.words.copy_from(from, into)
     }
 }
