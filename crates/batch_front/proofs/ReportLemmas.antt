@@ -1,7 +1,10 @@
 -- The words of a vector, one by one.
-use Rattle.std.proofs.Common.{◌≡◌, ℕ, ℤ, List, [], ◌∷◌, ◌++◌, map, ap, ◌∙◌, sym}
+use Rattle.std.proofs.Common.{◌≡◌, ℕ, ◌+◌, ◌≤◌, ℤ, List, [], ◌∷◌, ◌++◌, length, min, take, drop, map, ap, ◌∙◌, sym}
+use Rattle.std.proofs.Common.{arith}
 use Rattle.std.specs.List.{flat_map, join_with_byte}
-use Rattle.std.proofs.lemmas.List.{append-nil}
+use Rattle.std.proofs.lemmas.Grind.{flat_map-append}
+use Rattle.std.proofs.lemmas.List.{append-nil, length-take, take-append-drop, take-take, take_min, drop-take}
+use Rattle.std.proofs.lemmas.List.{drop-append-le, length-drop}
 use Rattle.vcode_base.specs.declared.kind.Kind.{Kind}
 use Rattle.batch_front.specs.Reports.{next_word_text, word_text}
 
@@ -17,3 +20,31 @@ pub words_joined : (kind : Kind) (words others : List ℤ) (first : ℤ) → wor
 words_joined kind words others first whole =
     sym (ap (λ (ws : List ℤ). join_with_byte 32 (map (word_text kind) ws)) whole
     ∙ joined_by 32 (word_text kind) first others)
+
+-- a front, and as many more
+take_two : (d n : ℕ) (ws : List ℤ) → take (d + n) ws ≡ take d ws ++ take n (drop d ws)
+take_two d n ws =
+    sym (take-append-drop d (take (d + n) ws))
+    ∙ ap (λ front. front ++ drop d (take (d + n) ws)) (take-take d (d + n) ws (omega arith))
+    ∙ ap (λ rest. take d ws ++ rest) (drop-take d n ws)
+
+pub more_within : (ws more : List ℤ) (d m : ℕ) → d ≤ length ws → more ≡ take m (drop d ws)
+    → d + length more ≤ length ws
+more_within ws more d m within is =
+    let long = ap length is in
+    let most = length-take m (drop d ws) in
+    let rest = length-drop d ws in
+    omega arith
+
+-- some more words, after others than the first
+pub more_words : (f : ℤ → List ℕ) (ws more : List ℤ) (d m : ℕ) → 1 ≤ d → d ≤ length ws → more ≡ take m (drop d ws)
+    → flat_map f (drop 1 (take d ws)) ++ flat_map f more ≡ flat_map f (drop 1 (take (d + length more) ws))
+more_words f ws more d m first within is =
+    let front = length-take d ws in
+    let same : more ≡ take (length more) (drop d ws) =
+        is ∙ sym (take_min m (drop d ws))
+        ∙ ap (λ n. take n (drop d ws)) (sym (ap length is ∙ length-take m (drop d ws))) in
+    ap (λ rest. flat_map f (drop 1 (take d ws)) ++ flat_map f rest) same
+    ∙ sym (flat_map-append f (drop 1 (take d ws)) (take (length more) (drop d ws)))
+    ∙ ap (flat_map f) (sym (drop-append-le 1 (take d ws) (take (length more) (drop d ws)) (omega arith))
+    ∙ ap (drop 1) (sym (take_two d (length more) ws)))

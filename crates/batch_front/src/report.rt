@@ -1,6 +1,6 @@
 //! The report, line by line.
 
-ghost use Rattle.std.specs.Prelude.{◌≡◌, decimal, map};
+ghost use Rattle.std.specs.Prelude.{◌≡◌, ◌<◌, decimal, drop, length, map};
 ghost use Rattle.std.specs.Fmt.{signed_decimal};
 ghost use Rattle.std.specs.List.{flat_map, join_with_byte};
 ghost use Rattle.batch_front.specs.Pages.{Puts};
@@ -13,6 +13,9 @@ use itoa::Buffer;
 use std::alloc::Allocator;
 use std::io::Write;
 use vcode_base::{Kind, Outcome, SharedWords, Value, Values};
+
+/// How many words of a result are copied at a time, out of the form in which they are kept.
+const ROOM: usize = 64;
 
 /// Puts a number.
 fn put_number<W: Write>(page: &mut Page, writer: &mut Device<W>, number: u64)
@@ -65,8 +68,8 @@ fn put_next_word<W: Write>(page: &mut Page, writer: &mut Device<W>, kind: Kind, 
     put_word(page, writer, kind, word);
 }
 
-/// Puts the words of a vector after its first, each after a blank.
-fn put_other_words<W: Write>(page: &mut Page, writer: &mut Device<W>, kind: Kind, words: &[i64])
+/// Puts words of a vector of this kind, each after a blank.
+fn put_next_words<W: Write>(page: &mut Page, writer: &mut Device<W>, kind: Kind, words: &[i64])
     ensures { Puts W.contents page.old writer.old page.new writer.new (flat_map (next_word_text kind) words.now) }
 {
     for word in words {
@@ -74,28 +77,58 @@ fn put_other_words<W: Write>(page: &mut Page, writer: &mut Device<W>, kind: Kind
     }
 }
 
-/// Puts the words of a vector of this kind, with a blank between each two.
-fn put_words<W: Write>(page: &mut Page, writer: &mut Device<W>, kind: Kind, words: &[i64])
-    ensures { Puts W.contents page.old writer.old page.new writer.new (join_with_byte 32 (map (word_text kind) words.now)) }
+/// Puts the words of a vector after its first, each after a blank. They come by way of `room`, as many at a time as it
+/// has room for.
+fn put_other_words<A: Allocator, W: Write>(
+    page: &mut Page,
+    writer: &mut Device<W>,
+    kind: Kind,
+    words: &SharedWords<A>,
+    room: &mut [i64; ROOM],
+)
+    requires { 0 < length words.now }
+    ensures { Puts W.contents page.old writer.old page.new writer.new (flat_map (next_word_text kind) (drop 1 words.now)) }
 {
-    let Some((first, others)) = words.split_first() else {
-        return;
-    };
-    put_word(page, writer, kind, *first);
-    put_other_words(page, writer, kind, others);
+    let mut done = 1;
+    'words: while done < words.len() {
+        let part = &mut room[..(words.len() - done).min(ROOM)];
+        words.copy_from(done, part);
+        put_next_words(page, writer, kind, part);
+        done += part.len();
+    }
 }
 
-/// Puts the line of a result.
+/// Puts the words of a vector of this kind, with a blank between each two.
+fn put_words<A: Allocator, W: Write>(
+    page: &mut Page,
+    writer: &mut Device<W>,
+    kind: Kind,
+    words: &SharedWords<A>,
+    room: &mut [i64; ROOM],
+)
+    ensures { Puts W.contents page.old writer.old page.new writer.new (join_with_byte 32 (map (word_text kind) words.now)) }
+{
+    if words.len() == 0 {
+        return;
+    }
+    let mut first = [0];
+    words.copy_from(0, &mut first);
+    put_word(page, writer, kind, first[0]);
+    put_other_words(page, writer, kind, words, room);
+}
+
+/// Puts the line of a result. Its words come by way of `room`.
 fn put_value<A: Allocator, W: Write>(
     page: &mut Page,
     writer: &mut Device<W>,
     value: &Value<SharedWords<A>>,
+    room: &mut [i64; ROOM],
 )
     ensures { Puts W.contents page.old writer.old page.new writer.new (value_text value.now) }
 {
     put(page, writer, kind_text(value.kind).as_bytes());
     put(page, writer, b" (");
-    put_words(page, writer, value.kind, value.words.as_slice());
+    put_words(page, writer, value.kind, &value.words, room);
     put(page, writer, b")\n");
 }
 
@@ -107,8 +140,9 @@ fn put_values<A: Allocator, W: Write>(
 )
     ensures { Puts W.contents page.old writer.old page.new writer.new (flat_map value_text values.now) }
 {
+    let mut room = [0; ROOM];
     for value in values {
-        put_value(page, writer, value);
+        put_value(page, writer, value, &mut room);
     }
 }
 

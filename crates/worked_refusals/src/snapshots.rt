@@ -43,10 +43,15 @@ fn has_returned<A: Allocator>(machine: &Machine<A>, job: usize, word: i64) -> bo
     let Some(Outcome::Returned(values)) = machine.outcome(job) else {
         return false;
     };
-    match values.as_slice().first() {
-        Some(value) => values.len() == 1 && value.words.as_slice() == [word].as_slice(),
-        None => false,
+    let [value] = values.as_slice() else {
+        return false;
+    };
+    let mut words = [0];
+    if value.words.len() != words.len() {
+        return false;
     }
+    value.words.copy_from(0, &mut words);
+    words == [word]
 }
 
 /// Whether the first of the two jobs is collected and has returned what it returns.
