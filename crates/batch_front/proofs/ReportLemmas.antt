@@ -42,8 +42,8 @@ pub more_words : (f : ℤ → List ℕ) (ws more : List ℤ) (d m : ℕ) → 1 �
 more_words f ws more d m first within is =
     let front = length-take d ws in
     let same : more ≡ take (length more) (drop d ws) =
-        is ∙ sym (take_min m (drop d ws))
-        ∙ ap (λ n. take n (drop d ws)) (sym (ap length is ∙ length-take m (drop d ws))) in
+    is ∙ sym (take_min m (drop d ws))
+    ∙ ap (λ n. take n (drop d ws)) (sym (ap length is ∙ length-take m (drop d ws))) in
     ap (λ rest. flat_map f (drop 1 (take d ws)) ++ flat_map f rest) same
     ∙ sym (flat_map-append f (drop 1 (take d ws)) (take (length more) (drop d ws)))
     ∙ ap (flat_map f) (sym (drop-append-le 1 (take d ws) (take (length more) (drop d ws)) (omega arith))

@@ -26,11 +26,10 @@ fn put_number<W: Write>(page: &mut Page, writer: &mut Device<W>, number: u64)
 }
 
 /// Puts a number with its sign.
-fn put_signed<W: Write>(page: &mut Page, writer: &mut Device<W>, number: i64)
+fn put_signed<W: Write>(page: &mut Page, writer: &mut Device<W>, number: i64, digits: &mut Buffer)
     ensures { Puts W.contents page.old writer.old page.new writer.new (signed_decimal number) }
 {
-    let mut buffer = Buffer::new();
-    put(page, writer, buffer.format(number).as_bytes());
+    put(page, writer, digits.format(number).as_bytes());
 }
 
 /// The word that begins the line of a result.
@@ -45,11 +44,17 @@ fn kind_text(kind: Kind) -> &'static str
 }
 
 /// Puts a word of a vector of this kind.
-fn put_word<W: Write>(page: &mut Page, writer: &mut Device<W>, kind: Kind, word: i64)
+fn put_word<W: Write>(
+    page: &mut Page,
+    writer: &mut Device<W>,
+    kind: Kind,
+    word: i64,
+    digits: &mut Buffer,
+)
     ensures { Puts W.contents page.old writer.old page.new writer.new (word_text kind word) }
 {
     match kind {
-        Kind::Int | Kind::Segdes => put_signed(page, writer, word),
+        Kind::Int | Kind::Segdes => put_signed(page, writer, word, digits),
         Kind::Bool => {
             if word == 1 {
                 put(page, writer, b"T")
@@ -61,19 +66,26 @@ fn put_word<W: Write>(page: &mut Page, writer: &mut Device<W>, kind: Kind, word:
 }
 
 /// Puts a blank and a word of a vector of this kind.
-fn put_next_word<W: Write>(page: &mut Page, writer: &mut Device<W>, kind: Kind, word: i64)
+fn put_next_word<W: Write>(
+    page: &mut Page,
+    writer: &mut Device<W>,
+    kind: Kind,
+    word: i64,
+    digits: &mut Buffer,
+)
     ensures { Puts W.contents page.old writer.old page.new writer.new (next_word_text kind word) }
 {
     put(page, writer, b" ");
-    put_word(page, writer, kind, word);
+    put_word(page, writer, kind, word, digits);
 }
 
 /// Puts words of a vector of this kind, each after a blank.
 fn put_next_words<W: Write>(page: &mut Page, writer: &mut Device<W>, kind: Kind, words: &[i64])
     ensures { Puts W.contents page.old writer.old page.new writer.new (flat_map (next_word_text kind) words.now) }
 {
+    let mut digits = Buffer::new();
     for word in words {
-        put_next_word(page, writer, kind, *word);
+        put_next_word(page, writer, kind, *word, &mut digits);
     }
 }
 
@@ -113,7 +125,7 @@ fn put_words<A: Allocator, W: Write>(
     }
     let mut first = [0];
     words.copy_from(0, &mut first);
-    put_word(page, writer, kind, first[0]);
+    put_word(page, writer, kind, first[0], &mut Buffer::new());
     put_other_words(page, writer, kind, words, room);
 }
 

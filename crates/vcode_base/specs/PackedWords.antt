@@ -3,12 +3,12 @@ use Rattle.std.specs.Prelude.{ℕ, ℤ, pos, negsuc, ◌+◌, ◌*◌, ◌/◌, 
 use Rattle.vcode_base.specs.declared.packed_words.PackedWords.{PackedWords}
 use Rattle.vcode_base.specs.declared.packed_words.PackedWords.TheVariants.{Bytes, ThreeBytes, Whole}
 
--- how many numbers of its sign are nearer to zero, 0 and -1 being the nearest
+-- how many numbers are before a word, counted from 0 up or from -1 down
 abbrev pub magnitude : ℤ → ℕ
 magnitude (pos n) = n
 magnitude (negsuc n) = n
 
--- one of the 2 * half numbers that lie around zero
+-- one of the least numbers from 0 up or from -1 down, so many of each
 abbrev pub IsBelow : ℕ → ℤ → Type 0
 IsBelow half word = magnitude word < half
 

@@ -1,16 +1,18 @@
+//! Words in as few bytes as they need.
+
 ghost use Rattle.std.specs.Prelude.{◌≡◌, ◌+◌, ◌<◌, ◌≤◌, length, map, take, drop, IfOk};
 ghost use Rattle.std.specs.List.{All};
 ghost use Rattle.vcode_base.specs.PackedWords.{height, high_of, low_of, magnitude, three_byte_words, words_of, IsBelow};
 
 use std::alloc::{AllocError, Allocator};
 
-/// Fewer words than these take 8 bytes each, since a list of its own costs more than it saves.
+/// Fewer words than this take 8 bytes each. For them a look at each word and a second list cost more than they save.
 const FEW: usize = 64;
 
-/// The words of one byte are as many from 0 on as below it.
+/// How many words of one byte are negative, and how many are not.
 const BYTE_HALF: u64 = 128;
 
-/// The words of three bytes are as many from 0 on as below it.
+/// How many words of three bytes are negative, and how many are not.
 const THREE_BYTE_HALF: u64 = 8_388_608;
 
 /// How many numbers two bytes can be.
@@ -23,7 +25,10 @@ pub(crate) enum PackedWords<A: Allocator> {
     Bytes(Vec<i8, A>),
     /// Words from -8,388,608 to 8,388,607. The number that a word is above the least of these has three bytes: the
     /// highest is in `highs`, and the other two in `lows`.
-    ThreeBytes { highs: Vec<u8, A>, lows: Vec<u16, A> },
+    ThreeBytes {
+        highs: Vec<u8, A>,
+        lows: Vec<u16, A>,
+    },
     /// Any words.
     Whole(Vec<i64, A>),
 }
@@ -78,8 +83,8 @@ impl<A: Allocator> PackedWords<A> {
     }
 }
 
-/// How many numbers of its sign are nearer to zero, 0 and -1 being the nearest: a word of `n` bits has fewer than half
-/// of 2^n.
+/// How many numbers are before a word, counted from 0 up or from -1 down. For a word of one byte it is below
+/// `BYTE_HALF`, and for one of three bytes below `THREE_BYTE_HALF`.
 fn magnitude_of(word: i64) -> u64
     ensures { result ≡ magnitude word }
 {
@@ -90,7 +95,7 @@ fn magnitude_of(word: i64) -> u64
     }
 }
 
-/// A number that no word's magnitude passes, below the least power of 2 that is above all of them.
+/// A number that no word's magnitude passes. It has no more bits than the greatest of them.
 fn bound_of(words: &[i64]) -> u64
     ensures { All (λ w. magnitude w ≤ result) words.now }
 {

@@ -11,6 +11,8 @@ mod batches;
 #[cfg(test)]
 mod calls;
 #[cfg(test)]
+mod copies;
+#[cfg(test)]
 mod devices;
 #[cfg(test)]
 mod failures;
