@@ -8,8 +8,22 @@ ghost use Rattle.vcode_base.specs.declared.op.Segmented.TheVariants.{MakeSegdes,
 
 use vcode_base::{DataFault, Kind};
 
-/// The total of a descriptor.
+/// The total of a descriptor. That of one segment alone takes no loop.
+#[inline(always)]
 pub(crate) fn total_of(descriptor: &[i64]) -> u64
+    requires lengths { AreLengths descriptor.now }
+    requires small { total descriptor.now ≤ MOST_TOTAL }
+    ensures { result ≡ total descriptor.now }
+{
+    match descriptor {
+        [size] => *size as u64,
+        _ => total_of_many(descriptor),
+    }
+}
+
+/// The same for any number of segments. It is a call of its own, so that what needs a total stays short.
+#[inline(never)]
+fn total_of_many(descriptor: &[i64]) -> u64
     requires lengths { AreLengths descriptor.now }
     requires small { total descriptor.now ≤ MOST_TOTAL }
     ensures { result ≡ total descriptor.now }

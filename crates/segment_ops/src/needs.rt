@@ -12,6 +12,7 @@ use vcode_base::{Op, Segmented};
 ///
 /// `op` and `ops` are as for [`shape`](crate::shape), which has answered `Ok`. Nothing is made: the
 /// length of a result that no memory could hold is found as fast as any.
+#[inline(always)]
 #[tactic(auto, unfolding(vcode_base::specs::Meaning::need))]
 pub fn need(op: Op, ops: &[&[i64]]) -> (u64, u64)
     requires served { IsServed op }
@@ -26,6 +27,7 @@ pub fn need(op: Op, ops: &[&[i64]]) -> (u64, u64)
 }
 
 /// The same of an instruction over segments.
+#[inline(always)]
 fn need_segmented(op: Segmented, ops: &[&[i64]]) -> (u64, u64)
     requires kinds { HaveKinds (segmented_operands op) (contents ops.now) }
     ensures { result ≡ segmented_need op (contents ops.now) }

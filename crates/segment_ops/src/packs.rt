@@ -68,7 +68,8 @@ fn pack_segment(elements: &[i64], flags: &[i64], out: &mut [i64]) -> usize
     kept
 }
 
-/// How many flags are T, which is their sum.
+/// How many flags are T, which is their sum. It is a call of its own, so that [`need`](crate::need) stays short.
+#[inline(never)]
 pub(crate) fn count_set(flags: &[i64]) -> u64
     requires kind { All IsFlag flags.now }
     ensures counted { result ≡ count_by is_set flags.now }
