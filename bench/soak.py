@@ -1,13 +1,13 @@
 #!/usr/bin/env python3
 """Runs batches on 1 to 16 workers again and again, and stops at the first that answers otherwise than it should.
 
-    python3 bench/soak.py MINUTES [SEED]
+    python3 bench/soak.py MINUTES [SEED [PROGRAM]]
 
-Run it at the top of the repository, after `make`. It takes the batches in turn: the examples and the program's stored
-run, whose reports are kept; random batches, whose reports come from `models/`; and mixed ones, of up to 64 jobs with
-the loads of bench/steps.py, which crowd one region. What these should answer is what the program answers with a
-schedule, since it has no workers then. At the end it prints how many runs there were; the first that differs is printed
-whole, and ends it with status 1.
+Run it at the top of the repository, after `make`; PROGRAM stands in the place of bin/vjobs. It takes the batches in turn: the examples and the program's stored
+run, whose reports are kept; random batches, whose reports come from `models/`; mixed ones, of up to 64 jobs with the
+loads of bench/steps.py, which crowd one region; and turning ones, whose jobs change between many short steps and some
+long ones. What these two should answer is what the program answers with a schedule, since it has no workers then. At
+the end it prints how many runs there were; the first that differs is printed whole, and ends it with status 1.
 """
 import random
 import subprocess
@@ -21,9 +21,10 @@ sys.path.insert(0, str(TOP / "models"))
 
 import batches  # noqa: E402
 import steps  # noqa: E402
+import workers  # noqa: E402
 from random_batches import MOST_WORDS, RandomBatches  # noqa: E402
 
-PROGRAM = str(TOP / "bin" / "vjobs")
+PROGRAM = sys.argv[3] if len(sys.argv) > 3 else str(TOP / "bin" / "vjobs")
 MOST_WORKERS, MOST_JOBS = 16, 64
 
 
@@ -63,9 +64,27 @@ def mixed(source):
         load = source.choice(loads)
         shrunk = replace(load, rounds=max(1, load.rounds // source.choice([500, 2_000, 20_000])))
         text += steps.batch(shrunk, shrunk.rounds).replace(f"JOB t {MOST_WORDS} ", f"JOB t {share} ")
+    return alone("mixed", text, region)
+
+
+def turning(source):
+    """Jobs whose rounds are a stretch of short steps and one of long divisions, the same length in all jobs or not."""
+    count = source.choice([2, 4, 8, 16])
+    share, text = MOST_WORDS // count, ""
+    for _ in range(count):
+        length = source.choice([100, 1_000, min(30_000, share // workers.VECTORS)])
+        long = workers.divisions(length, source.choice([1, 4, 20]))
+        short = ["CONST INT 1", *steps.chain("", 1).round * source.choice([1, 10]), "POP 1 0"]
+        load = replace(long, round=[*short, *long.round], jobs=1)
+        text += steps.batch(load, load.rounds).replace(f"JOB t {MOST_WORDS} ", f"JOB t {share} ")
+    return alone("turning", text, MOST_WORDS)
+
+
+def alone(kind, text, region):
+    """A batch that is to answer what the calling thread alone answers."""
     data = text.encode()
     answer, _ = answered(data, region, ["--schedule", "1"])
-    return Batch("mixed", data, region, answer)
+    return Batch(kind, data, region, answer)
 
 
 def random_batch(jobs):
@@ -73,23 +92,23 @@ def random_batch(jobs):
     return Batch("random", text, region, batches.report(text, region))
 
 
-def differs(batch, workers):
-    answer, errors = answered(batch.text, batch.region, ["--workers", str(workers)])
+def differs(batch, count):
+    answer, errors = answered(batch.text, batch.region, ["--workers", str(count)])
     if answer == batch.answer and not errors:
         return False
-    print(f"{batch.kind} differs on {workers} workers and {batch.region} words\n{batch.text.decode('latin1')}")
+    print(f"{batch.kind} differs on {count} workers and {batch.region} words\n{batch.text.decode('latin1')}")
     print(f"wanted {batch.answer}\ngot    {answer} {errors}")
     return True
 
 
-def main(minutes, seed=1):
+def main(minutes, seed=1, *_):
     source = random.Random(int(seed))
     jobs, stored = RandomBatches(source), [*kept()]
     runs, end = {}, time.monotonic() + 60 * float(minutes)
     while time.monotonic() < end:
-        for batch in (source.choice(stored), random_batch(jobs), mixed(source)):
-            for workers in source.sample(range(1, MOST_WORKERS + 1), 4):
-                if differs(batch, workers):
+        for batch in (source.choice(stored), random_batch(jobs), mixed(source), turning(source)):
+            for count in source.sample(range(1, MOST_WORKERS + 1), 4):
+                if differs(batch, count):
                     sys.exit(1)
                 runs[batch.kind] = runs.get(batch.kind, 0) + 1
     print(f"{sum(runs.values())} runs in {minutes} minutes (seed {seed}), none differs: {runs}")
