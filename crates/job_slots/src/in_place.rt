@@ -86,7 +86,7 @@ pub(crate) fn placement_of<A: Allocator>(
     if is_short(next) {
         return None;
     }
-    placement_of_long(rule, job, track, number, blocks, *next)
+    placement_of_long(rule, job, track, number, blocks, next)
 }
 
 /// Whether it is seen at once that an instruction has no result of many words from the stack.
@@ -103,24 +103,24 @@ fn is_short(next: &Next<'_>) -> bool {
 }
 
 /// The same, if the instruction may have such a result.
-#[inline(never)]
+#[inline(always)]
 fn placement_of_long<A: Allocator>(
     rule: Rule,
     job: &Job<A>,
     track: &Track<BlockId, A>,
     number: usize,
     blocks: &JobMemory<A>,
-    next: Next<'_>,
+    next: &Next<'_>,
 ) -> Option<Placement>
     requires running { IsRunningSlot (own_slots number blocks.now) (ruled rule job.now) track.now }
     requires verified { IsVerified (ruled rule job.now) }
     requires is_job { IsJob blocks.now number }
-    requires next { IsNext (ruled rule job.now) track.now.executed next.op next.line
-        (contents (take next.operands.count next.operands.lists)) }
-    requires kinds { HaveKinds (source_kinds next.op)
-        (contents (take next.operands.count next.operands.lists)) }
-    requires shaped { shape next.op (contents (take next.operands.count next.operands.lists)) ≡ None }
-    ensures { IfSome result (IsPlaceable (ruled rule job.now) number blocks.now track.now next.entry.op) }
+    requires next { IsNext (ruled rule job.now) track.now.executed next.now.op next.now.line
+        (contents (take next.now.operands.count next.now.operands.lists)) }
+    requires kinds { HaveKinds (source_kinds next.now.op)
+        (contents (take next.now.operands.count next.now.operands.lists)) }
+    requires shaped { shape next.now.op (contents (take next.now.operands.count next.now.operands.lists)) ≡ None }
+    ensures { IfSome result (IsPlaceable (ruled rule job.now) number blocks.now track.now next.now.op) }
 {
     steps_can_begin::<BlockId>();
     if is_constant(next.op) {

@@ -114,8 +114,37 @@ pub(crate) fn next_at<'a, A: Allocator>(
         → contents (take result.operands.count result.operands.lists) ≡ list ∷ [] }
 {
     steps_can_begin::<BlockId>();
-    let own = next_line(rule, job, track, number, blocks);
-    next_of_list(rule, job, track, number, blocks, line, list_of(&own), op)
+    let list = own_list(rule, job, track, number, blocks, line, op);
+    next_of_list(rule, job, track, number, blocks, line, list, op)
+}
+
+/// The list of the next instruction of a job that runs, which is this one, if it is a `CONST`; no element for another.
+/// The line is looked at only for a `CONST`.
+#[inline(always)]
+fn own_list<'a, A: Allocator>(
+    rule: Rule,
+    job: &'a Job<A>,
+    track: &Track<BlockId, A>,
+    number: usize,
+    blocks: &JobMemory<A>,
+    line: &CodeLine<'_>,
+    op: Op,
+) -> &'a [i64]
+    requires running { IsRunningSlot (own_slots number blocks.now) (ruled rule job.now) track.now }
+    requires verified { IsVerified (ruled rule job.now) }
+    requires line { IsLineOf (ruled rule job.now) track.now line.now }
+    requires op { op ≡ op_of (instruction_in line.now.item) }
+    ensures { result.now ≡ list_in (instruction_in line.now.item) }
+{
+    steps_can_begin::<BlockId>();
+    match op {
+        Op::Const(_) => {
+            let own = next_line(rule, job, track, number, blocks);
+            list_of(&own)
+        }
+        Op::Elementwise(_) | Op::Segmented(_) | Op::If | Op::Move(..) | Op::Call | Op::Return =>
+            &[],
+    }
 }
 
 /// The same, with the list of the line's `CONST`.

@@ -11,6 +11,7 @@ mod Held
 mod Kept
 mod KindLemmas
 mod LeastLimits
+mod Moved
 mod OpLemmas
 mod Passes
 mod Passing

@@ -1,8 +1,9 @@
 -- Lists that are kept backwards.
-use Rattle.std.proofs.Common.{◌≡◌, ℕ, ◌+◌, ◌-◌, ◌≤◌, List, ◌++◌, length, take, drop, sym, ◌∙◌, ap}
-use Rattle.std.proofs.Common.{arith, append_assoc, drop-drop, length-drop, length-take-le}
+use Rattle.std.proofs.Common.{◌≡◌, ℕ, ◌+◌, ◌-◌, ◌<◌, ◌≤◌, List, [], ◌∷◌, ◌++◌, length, take, drop, refl, sym, ◌∙◌, ap, suc}
+use Rattle.std.proofs.Common.{arith, append_assoc, drop-drop, length-drop, length-take-le, slice_set}
 use Rattle.std.specs.Prelude.{reverse}
 use Rattle.std.proofs.lemmas.List.{reverse-append, reverse-reverse, length-reverse, take-append-drop, take_at, drop_at}
+use lib.Seq.{set_split}
 use Rattle.vcode_base.specs.declared.op.StackMove.{StackMove}
 use Rattle.vcode_base.specs.declared.op.StackMove.TheVariants.{Copy, Pop, MoveToTop}
 use Rattle.vcode_base.specs.Motions.{entries_after_move}
@@ -18,6 +19,19 @@ reverse_front xs n h =
     ap reverse (sym (take-append-drop k xs)) ∙ reverse-append (take k xs) (drop k xs) in
     let long : length (reverse (drop k xs)) ≡ n = omega (arith, length-reverse (drop k xs), length-drop k xs) in
     sym (ap (drop n) whole ∙ drop_at (reverse (drop k xs)) (reverse (take k xs)) n long)
+
+none_left : {T : Type 0} (xs : List T) → length xs ≡ 0 → xs ≡ []
+none_left [] h = refl
+none_left (x ∷ xs) h = absurd (omega arith)
+
+-- with another element in the place of the last
+reverse_set : {T : Type 0} (xs : List T) (x : T) → 0 < length xs →
+    reverse (slice_set xs (length xs - 1) x) ≡ x ∷ drop 1 (reverse xs)
+reverse_set xs x h =
+    let k = length xs - 1 in
+    let none : drop (suc k) xs ≡ [] = none_left (drop (suc k) xs) (omega (arith, length-drop (suc k) xs)) in
+    ap reverse (set_split xs k x (omega arith) ∙ ap (λ ys. take k xs ++ x ∷ ys) none)
+    ∙ (reverse-append (take k xs) (x ∷ []) ∙ ap (λ ys. x ∷ ys) (reverse_front xs 1 (omega arith)))
 
 -- what a motion takes, in three parts from the bottom up
 module _ {E : Type 0} (base low up : List E) where
@@ -166,6 +180,12 @@ module _ {E : Type 0} (old : PileState E) (xs ys : List E) (room : ℕ) (is : pi
   lowered count n there long h =
       with_entries (drop count)
       (ap reverse (h ∙ ap (λ m. take m xs) long) ∙ reverse_front xs count (omega (arith, long_entries)))
+
+  pub topped : (x : E) (n : ℕ) → 0 < length old.entries → n ≡ length xs - 1 → ys ≡ slice_set xs n x →
+      pile ys room ≡ record old { entries = x ∷ drop 1 old.entries }
+  topped x n there at h =
+      with_entries (λ entries. x ∷ drop 1 entries)
+      (ap reverse (h ∙ ap (λ m. slice_set xs m x) at) ∙ reverse_set xs x (omega (arith, long_entries)))
 
   module _ (lower upper place : ℕ) (there : lower + upper ≤ length old.entries)
       (at : place ≡ length xs - (lower + upper)) where

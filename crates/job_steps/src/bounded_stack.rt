@@ -79,6 +79,16 @@ impl<T: Copy, A: Allocator> BoundedStack<T, A> {
         self.entries.push_reserved(entry);
     }
 
+    /// Puts an entry in the place of the one at the top.
+    #[inline(always)]
+    pub(crate) fn replace_top(&mut self, entry: T)
+        requires { 0 < length self.old.entries }
+        ensures { self.new ≡ record self.old { entries = entry ∷ drop 1 self.old.entries } }
+    {
+        let last = self.entries.len() - 1;
+        self.entries[last] = entry;
+    }
+
     /// Puts these on the others, the last of them at the top.
     #[inline(always)]
     pub(crate) fn extend(&mut self, entries: &[T])
@@ -161,8 +171,7 @@ fn turn<T: Copy, A: Allocator>(entries: &mut Vec<T, A>, below: usize, lower: usi
     ensures capacity { vec_capacity entries.old ≤ vec_capacity entries.new }
 {
     if lower == 1 {
-        let entry = entries.remove(below);
-        entries.push_reserved(entry);
+        first_to_last(&mut entries[below..]);
         return;
     }
     if lower <= entries.capacity() - entries.len() {
@@ -185,4 +194,18 @@ fn turn_by_copy<T: Copy, A: Allocator>(entries: &mut Vec<T, A>, below: usize, lo
 {
     copy_lower(entries, below, lower);
     remove_range(entries, below, lower);
+}
+
+/// Moves the first entry after the others.
+#[inline(always)]
+fn first_to_last<T: Copy>(entries: &mut [T])
+    requires { 0 < length entries.old }
+    ensures { entries.new ≡ drop 1 entries.old ++ take 1 entries.old }
+{
+    let last = entries.len() - 1;
+    let first = entries[0];
+    for place in 0..last {
+        entries[place] = entries[place + 1];
+    }
+    entries[last] = first;
 }

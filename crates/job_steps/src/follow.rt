@@ -47,7 +47,7 @@ pub(crate) fn follow<A: Allocator>(frames: &mut BoundedStack<Frame, A>, job: &Jo
     let frame = frames.at(0);
     match &frame.line(program).item {
         CodeItem::Do(instruction) => follow_instruction(frames, job, frame, instruction),
-        _ => replace_top(frames, frame.chosen(program, flag)),
+        _ => frames.replace_top(frame.chosen(program, flag)),
     }
 }
 
@@ -70,10 +70,10 @@ fn follow_instruction<A: Allocator>(
         Instr::Return => frames.lower(1),
         Instr::Call(_) => {
             let callee = called(frame, job);
-            replace_top(frames, frame.next(job.verified().program()));
+            frames.replace_top(frame.next(job.verified().program()));
             frames.push(callee);
         }
-        _ => replace_top(frames, frame.next(job.verified().program())),
+        _ => frames.replace_top(frame.next(job.verified().program())),
     }
 }
 
@@ -86,15 +86,4 @@ fn called<A: Allocator>(frame: Frame, job: &Job<A>) -> Frame
 {
     let program = job.verified().program();
     Frame::first(program.callee(frame.function, frame.place).unwrap())
-}
-
-/// The innermost call goes on here.
-#[inline(always)]
-fn replace_top<A: Allocator>(frames: &mut BoundedStack<Frame, A>, frame: Frame)
-    requires { 0 < length frames.old.entries }
-    ensures { frames.new ≡ record frames.old { entries = frame ∷ drop 1 frames.old.entries } }
-{
-    let _depth = frames.len();
-    frames.lower(1);
-    frames.push(frame);
 }

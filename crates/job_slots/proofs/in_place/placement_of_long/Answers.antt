@@ -14,7 +14,7 @@ use Rattle.job_slots.proofs.in_place.placement_of_long.Goals as goal
 
 pub returns : goal.returns
 returns g c =
-    let next = c.args.next in
+    let next = c.args.next.now in
     let sources = contents (take next.operands.count next.operands.lists) in
     let reads : is_constant next.op ≡ false = sym c.is_constant.ensures ∙ c.if-is_constant.false in
     let one : length (result_kinds next.op) ≡ 1 =

@@ -3,10 +3,10 @@ use Rattle.vcode_reader.specs.Pools.{list_in}
 use Rattle.vcode_reader.specs.Trees.{Item}
 use Rattle.job_steps.specs.States.{ruled}
 use Rattle.job_slots.proofs.Begins.{can_begin, same_instruction}
-use Rattle.job_slots.proofs.next.next_at.Goals as goal
+use Rattle.job_slots.proofs.next.own_list.Goals as goal
 
-pub next_of_list-requires-clause-list : goal.next_of_list-requires-clause-list
-next_of_list-requires-clause-list g c =
+pub returns-in-Const : goal.returns-in-Const
+returns-in-Const g c =
     let job = ruled c.args.rule c.args.job.now in
     let run = c.requires.running in
     c.list_of.ensures
