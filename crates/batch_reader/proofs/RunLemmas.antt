@@ -1,5 +1,5 @@
 -- Lines of code that are taken at once.
-use Rattle.std.proofs.Common.{◌≡◌, ℕ, zero, suc, ◌+◌, ◌<◌, ◌≤◌, Bool, true, false, List, [], ◌∷◌, ◌++◌, length, refl, sym}
+use Rattle.std.proofs.Common.{◌≡◌, ℕ, zero, suc, ◌+◌, ◌≤◌, List, [], ◌∷◌, ◌++◌, length, refl, sym}
 use Rattle.std.proofs.Common.{ap, subst, ◌∙◌, take, arith, add-one, append_assoc, length-append}
 use Rattle.std.proofs.lemmas.List.{append-nil}
 use Rattle.vcode_base.specs.Lines.{line_feeds}
@@ -7,13 +7,13 @@ use Rattle.vcode_base.specs.declared.rule.Rule.{Rule}
 use Rattle.batch_reader.specs.declared.head.JobHeader.{JobHeader}
 use Rattle.batch_reader.specs.declared.part.Part.TheVariants.{Reading, Refused as PartRefused}
 use Rattle.batch_reader.specs.declared.stage.Stage.TheVariants as stage
-use Rattle.batch_reader.specs.Batches.{JobText, RuledJobs, job_and_later, jobs_in, under}
+use Rattle.batch_reader.specs.Batches.{JobText, job_and_later, jobs_in, under}
 use Rattle.batch_reader.specs.Feeds.{ByLines, FeedState, HasCome, HasComeIn, IsWholeLine, LinesState, Stands}
 use Rattle.batch_reader.specs.Headings.{BatchLine, line_of, numbered_lines}
 use Rattle.batch_reader.specs.Lines.{lines}
 use Rattle.batch_reader.specs.Runs.{AreCodeLines, GoesOn, IsCodeLine, TakesCode}
 use Rattle.batch_reader.specs.Standings.{BatchStanding, Fresh, Between, Headed, InSignatures, InCode, Ended, Refused}
-use Rattle.batch_reader.specs.Standings.{CodeFits, CodePart, HasRoom, JobStage, ShowsCode, StageFits, StageShows}
+use Rattle.batch_reader.specs.Standings.{CodeFits, CodePart, HasRoom, JobStage, StageShows}
 use Rattle.batch_reader.specs.Standings.{jobs_behind, jobs_from, with_code}
 use Rattle.batch_reader.specs.Batches.{jobs_of}
 use Rattle.batch_reader.proofs.LineLemmas.{feeds_of_whole, lines_of_whole, numbered_next}

@@ -6,9 +6,9 @@ ghost use Rattle.batch_reader.specs.Feeds.{RefusesLongLine, Stands};
 ghost use Rattle.batch_reader.specs.Feeds.{ByLines, HasCome, HasComeIn, HasEnded, HasFailed, HasFewJobs};
 ghost use Rattle.batch_reader.specs.Feeds.{HoldsNoLineFeed, IsWholeLine};
 
+use crate::code_run::code_run;
 use crate::entry::{Batch, JobEntries};
 use crate::line::first_line;
-use crate::code_run::code_run;
 use crate::line_reader::LineReader;
 use std::alloc::{AllocError, Allocator};
 use std::marker::Model;

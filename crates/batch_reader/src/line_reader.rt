@@ -15,9 +15,9 @@ ghost use Rattle.batch_reader.specs.declared.heading.Heading.TheVariants as head
 ghost use Rattle.batch_reader.specs.declared.stage.Stage.TheVariants as stages;
 
 use crate::batch_line::BatchLine;
+use crate::code_run::CodeRun;
 use crate::entry::{Batch, JobEntries};
 use crate::fault::BatchFault;
-use crate::code_run::CodeRun;
 use crate::heading::{Heading, heading_of};
 use crate::stage::{JobStage, JobStep, Stage, StageStep};
 use crate::step::{step, step_inside, step_through};

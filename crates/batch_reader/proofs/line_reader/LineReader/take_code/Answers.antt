@@ -1,4 +1,4 @@
-use Rattle.std.proofs.Common.{ℕ, ◌+◌, ◌<◌, ◌≤◌, arith, length, refl, subst}
+use Rattle.std.proofs.Common.{ℕ, ◌+◌, ◌≤◌, arith, length, refl, subst}
 use Rattle.batch_reader.specs.Standings.{StageFits}
 use Rattle.batch_reader.proofs.RunLemmas.{code_taken, feeds_of_lines, few_lines}
 use Rattle.batch_reader.proofs.line_reader.LineReader.take_code.Goals as goal
