@@ -27,6 +27,7 @@ pub(crate) enum Heading {
 }
 
 /// What a line is.
+#[inline(always)]
 pub(crate) fn heading_of(line: &[u8]) -> Heading
     ensures { result ≡ heading_of (batch_words line.now) }
 {
