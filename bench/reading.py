@@ -1,44 +1,98 @@
 #!/usr/bin/env python3
-"""Times bin/vjobs on one job whose code is nearly as long as a batch may be.
+"""Times bin/vjobs on batches of 16 MB that run little: nearly all of the time is reading.
 
-Run it at the top of the repository, after `make`. The code is one function that pushes a long constant and adds it to
-itself, again and again, so that most of the time is reading; a second batch of the same length is refused at its last
-line.
+    python3 bench/reading.py [PROGRAM [ARGUMENT ..]]
+
+Run it at the top of the repository, after `make`. If another program of the same command line is named, it reads each
+batch too, in turn with bin/vjobs, and must print the same. The least processor times of several runs count. A ratio
+below 1 says that bin/vjobs is faster.
 """
-import pathlib
+import os
 import subprocess
+import sys
 import tempfile
-import time
+from pathlib import Path
 
-TOP = pathlib.Path(__file__).resolve().parent.parent
+TOP = Path(__file__).resolve().parent.parent
+RUNS = 5
 LENGTH = 16_000_000
 ELEMENTS = 65_536
+# What one function of ordinary code repeats: motions, arithmetic, a choice, comments.
+LINES = [
+    "COPY 1 0", "CONST INT 17", "+ INT", "COPY 2 1", "* INT", "CPOP 1 1", "- INT", "COPY 1 0", "CONST INT -3", "< INT",
+    "IF", "CONST INT 5", "XOR INT", "ELSE { not below }", "NOT INT", "ENDIF", "CPOP 1 1", "POP 1 0", "COPY 1 1", "OR INT",
+]
 
 
-def batch(end):
-    """A batch of one job, of about LENGTH bytes."""
-    constant = "CONST INT (" + " ".join(str(n) for n in range(ELEMENTS)) + ")\n"
+def job(signatures, code, words=1_000):
+    return f"JOB long {words} 16 4 100000\nSIGNATURES\n{signatures}CODE\n{code}END\n"
+
+
+def ordinary_code(end=""):
+    """Functions of at most some thousand lines, of which none is called."""
+    body = "\n".join(LINES * 40) + "\n"
+    count = min(500, LENGTH // len(body))
+    rounds = LENGTH // (len(body) * count)
+    names = [f"f{number}" for number in range(count)]
+    signatures = "MAIN () -> ()\n" + "".join(f"{name} (INT INT) -> (INT INT)\n" for name in names)
+    code = "FUNC MAIN\nRET\n" + "".join(f"FUNC {name}\n{body * rounds}RET\n" for name in names)
+    return job(signatures, code + end)
+
+
+def constants(end=""):
+    """One function that pushes a long constant and adds it to itself, again and again."""
+    constant = "CONST INT (" + " ".join(str(number) for number in range(ELEMENTS)) + ")\n"
     times = LENGTH // len(constant)
-    code = constant + (constant + "+ INT\n") * (times - 1)
-    head = f"JOB long {3 * ELEMENTS} 16 4 100000\nSIGNATURES\nMAIN () -> (INT)\nCODE\nFUNC MAIN\n"
-    return head + code + end + "END\n"
+    code = "FUNC MAIN\n" + constant + (constant + "+ INT\n") * (times - 1)
+    return job("MAIN () -> (INT)\n", code + end + "RET\n", 3 * ELEMENTS)
 
 
-def timed(text):
-    """The seconds of a run on a batch, and the first line of its report."""
+def filled(line):
+    """A good job of little code that has this line again and again."""
+    return job("MAIN () -> ()\n", "FUNC MAIN\n" + line * (LENGTH // len(line)) + "RET\n")
+
+
+def loads():
+    yield "code", ordinary_code()
+    yield "code, the batch refused in its last line", ordinary_code() + "END\n"
+    yield "code, the job refused in its last line", ordinary_code("+ INT\n")
+    yield "constants", constants()
+    yield "constants, the batch refused in its last line", constants() + "END\n"
+    yield "constants, the job refused in its last line", constants("+ INT\n")
+    yield "LFs between jobs", "\n" * LENGTH
+    yield "LFs in the code", filled("\n")
+    yield "comments", filled("{ a line of a comment, and nothing else }\n")
+    yield "one long line", "JOB " + "x" * LENGTH + "\n"
+
+
+def run(program, file):
+    """The processor seconds of a run, the most memory that it held, in MB, and its report."""
+    with tempfile.TemporaryFile() as report:
+        running = subprocess.Popen([*program, file], stdin=subprocess.DEVNULL, stdout=report, stderr=subprocess.DEVNULL)
+        _, status, used = os.wait4(running.pid, 0)
+        running.returncode = os.waitstatus_to_exitcode(status)
+        report.seek(0)
+        return used.ru_utime + used.ru_stime, used.ru_maxrss / 1024, report.read()
+
+
+def measured(programs, text):
+    """The least seconds of each program, its memory, and whether all reports are the same."""
     with tempfile.NamedTemporaryFile("w", suffix=".vcode") as file:
         file.write(text)
         file.flush()
-        begin = time.perf_counter()
-        run = subprocess.run([TOP / "bin" / "vjobs", file.name], capture_output=True, text=True)
-        return time.perf_counter() - begin, run.stdout.split("\n", 1)[0]
+        rounds = [[run(program, file.name) for program in programs] for _ in range(RUNS)]
+    runs = list(zip(*rounds))
+    same = all(report == rounds[0][0][2] for each in runs for _, _, report in each)
+    return [min(seconds for seconds, _, _ in each) for each in runs], [each[0][1] for each in runs], same
 
 
 def main():
-    for end in ("RET\n", "+ INT\nRET\n"):
-        text = batch(end)
-        seconds, line = timed(text)
-        print(f"{len(text) / 1e6:.1f} MB in {seconds:.2f} s, {len(text) / 1e6 / seconds:.0f} MB/s: {line}")
+    programs = [[str(TOP / "bin" / "vjobs")], *([sys.argv[1:]] if sys.argv[1:] else [])]
+    for name, text in loads():
+        seconds, memory, same = measured(programs, text)
+        columns = [f"{it:6.3f} s {held:4.0f} MB" for it, held in zip(seconds, memory)]
+        ratio = f"  {seconds[0] / seconds[1]:5.2f}" if len(programs) > 1 else ""
+        print(f"{name:48}{'  '.join(columns)}{ratio}{'' if same else '  the reports differ'}", flush=True)
 
 
 if __name__ == "__main__":

@@ -1,15 +1,16 @@
 -- Lines that are no heading.
 use Rattle.std.proofs.Common.{◌≡◌, ◌∙◌, ℕ, Bool, true, false, ◌||◌, ◌&&◌, ◌==◌, List, [], ◌∷◌, length, refl, ap, codes}
 use Rattle.std.proofs.Common.{◌<◌, arith, get_or}
-use Rattle.std.specs.Prelude.{nat_lt}
+use Rattle.std.specs.Prelude.{nat_lt, if◌then◌else◌}
 use Rattle.std.specs.List.{onto_first}
 use Rattle.std.specs.Str.{bytes_eq}
 use Rattle.std.proofs.lemmas.Bool.Decides.{nat_tests}
 use Rattle.vcode_base.specs.LineWords.{words_of_line, with_plain, begins_plain, is_separator}
 use Rattle.vcode_base.specs.declared.line_words.Parentheses.TheVariants.{StandInWords}
-use Rattle.batch_reader.specs.Headings.{heading_of, may_begin_heading, may_go_on_in_code}
+use Rattle.batch_reader.specs.Blocks.{is_end}
+use Rattle.batch_reader.specs.Headings.{heading_of, may_begin_end, may_begin_heading, may_go_on_in_code}
 use Rattle.batch_reader.specs.Lines.{batch_words}
-use Rattle.batch_reader.specs.declared.heading.Heading.TheVariants.{Other}
+use Rattle.batch_reader.specs.declared.heading.Heading.TheVariants.{SecondRule, Signatures, Code, End, Other}
 
 -- no word of a heading is this
 pub other_word : (w : List ℕ) (ws : List (List ℕ)) → bytes_eq w (codes "CODE") ≡ false
@@ -54,9 +55,42 @@ other_line (x ∷ xs) some h =
     let first = first_byte x xs b.0 in
     ap heading_of first.2 ∙ other_first x first.0 first.1 b.1 c.1 e.1 s.1
 
+-- a line of one word that isn't END
+no_end_marker : (signatures code end : Bool) → end ≡ false
+    → is_end (if signatures then Signatures else if code then Code else if end then End else Other) ≡ false
+no_end_marker true code end e = refl
+no_end_marker false true end e = refl
+no_end_marker false false end e = rw e refl
+
+no_end_pair : (rule : Bool) → is_end (if rule then SecondRule else Other) ≡ false
+no_end_pair true = refl
+no_end_pair false = refl
+
+-- a first word that begins with another byte than END does
+no_end_first : (x : ℕ) (t : List ℕ) (ws : List (List ℕ)) → (x == 69) ≡ false → is_end (heading_of ((x ∷ t) ∷ ws)) ≡ false
+no_end_first x t [] e =
+    no_end_marker (bytes_eq (x ∷ t) (codes "SIGNATURES")) (bytes_eq (x ∷ t) (codes "CODE"))
+    (bytes_eq (x ∷ t) (codes "END")) (rw e refl)
+no_end_first x t (v ∷ []) e = no_end_pair (bytes_eq (x ∷ t) (codes "BATCH") && bytes_eq v (codes "2"))
+no_end_first x t (v ∷ u ∷ ws) e = refl
+
 -- a byte that stands between words is no greater than the blank
 no_separator : (x : ℕ) → nat_lt x 33 ≡ false → is_separator x ≡ false
 no_separator x h = grind (arith, nat_tests)
+
+pub no_end_in_none : (t : List ℕ) → (length t == 0) ≡ true → is_end (heading_of (batch_words t)) ≡ false
+unfolding words_of_line
+no_end_in_none [] none = refl
+no_end_in_none (x ∷ xs) none = absurd (grind (arith, nat_tests))
+
+-- a line that begins with another byte than END does
+pub no_end : (t : List ℕ) → (length t == 0) ≡ false → may_begin_end (get_or t 0 0) ≡ false
+    → is_end (heading_of (batch_words t)) ≡ false
+no_end [] some h = cc
+no_end (x ∷ xs) some h =
+    let other = neither (x == 69) (nat_lt x 33) h in
+    let first = first_byte x xs (no_separator x other.1) in
+    ap (λ ws. is_end (heading_of ws)) first.2 ∙ no_end_first x first.0 first.1 other.0
 
 -- a byte that doesn't stand between words joins the word that follows it at once
 joins_words : (x y : ℕ) (ys : List ℕ) → is_separator x ≡ false → is_separator y ≡ false

@@ -6,4 +6,5 @@ pub mod LineLemmas
 pub mod ReaderLemmas
 pub mod OneBatch
 pub mod Results
+pub mod RunLemmas
 pub mod StepLemmas

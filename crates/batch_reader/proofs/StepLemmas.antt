@@ -393,7 +393,7 @@ code_in job t b =
     (with_code job t)))
     [ None ↦ refl | Some l ↦ code_by job t b.text b.rest l.number l.is_past (is_end l.heading) ]
 
-code_goes_on : (job : JobText) (l : BatchLine) (ls : List BatchLine) → l.is_past ≡ false → is_end l.heading ≡ false
+pub code_goes_on : (job : JobText) (l : BatchLine) (ls : List BatchLine) → l.is_past ≡ false → is_end l.heading ≡ false
     → job_from_code job (l ∷ ls) ≡ job_from_code (with_code job l.text) ls
 unfolding job_from_code
 code_goes_on job l ls past isnt =

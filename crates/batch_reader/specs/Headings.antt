@@ -28,6 +28,10 @@ may_begin_heading b = is_separator b || b == 66 || b == 67 || b == 69 || b == 83
 abbrev pub may_go_on_in_code : ℕ → ℕ → Bool
 may_go_on_in_code second third = third == 68 || nat_lt second 33 || nat_lt third 33
 
+-- the byte separates words, or begins END
+abbrev pub may_begin_end : ℕ → Bool
+may_begin_end b = b == 69 || nat_lt b 33
+
 -- a line of these words
 abbrev pub heading_of : List (List ℕ) → Heading
 heading_of [] = Blank

@@ -8,4 +8,5 @@ pub mod Headings
 pub mod JobLines
 pub mod Laws
 pub mod Lines
+pub mod Runs
 pub mod Standings

@@ -6,6 +6,7 @@ ghost use Rattle.batch_reader.specs.Feeds.{RefusesLongLine, Stands};
 ghost use Rattle.batch_reader.specs.Feeds.{ByLines, HasCome, HasComeIn, HasEnded, HasFailed, HasFewJobs};
 ghost use Rattle.batch_reader.specs.Feeds.{HoldsNoLineFeed, IsWholeLine};
 
+use crate::code_run::code_run;
 use crate::entry::{Batch, JobEntries};
 use crate::line::first_line;
 use crate::line_reader::LineReader;
@@ -132,8 +133,28 @@ impl<A: Allocator + Copy> Feed<A> {
         let mut rest = piece;
         'lines: while let Some((line, behind)) = first_line(rest) {
             self.end_line(line)?;
-            rest = behind;
+            rest = self.feed_code(behind)?;
         }
+        Ok(rest)
+    }
+
+    /// Takes the lines at the front of a piece that are lines of the open code, at once, and answers the rest after
+    /// them.
+    fn feed_code<'p>(&mut self, piece: &'p [u8]) -> Result<&'p [u8], AllocError>
+        ensures fed { MatchResult result
+            (λ rest. HasComeIn self.old self.new piece.now rest.now)
+            (λ _. HasFailed self.new.lines) }
+        ensures region { self.new.lines.region ≡ self.old.lines.region }
+        ensures within { IfOk result (λ rest. length rest.now ≤ length piece.now) }
+    {
+        if !self.held.is_empty() {
+            return Ok(piece);
+        }
+        if !self.lines.is_in_code() {
+            return Ok(piece);
+        }
+        let (run, rest) = code_run(piece, self.lines.left());
+        self.lines.take_code(run)?;
         Ok(rest)
     }
 

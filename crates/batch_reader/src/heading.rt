@@ -1,7 +1,9 @@
 //! What a line of a batch is by itself.
 
 ghost use Rattle.std.specs.Prelude.{◌≡◌, ◌∷◌, List, false, ℕ};
-ghost use Rattle.batch_reader.specs.Headings.{heading_of, marker_of, may_begin_heading, may_go_on_in_code, pair_of};
+ghost use Rattle.batch_reader.specs.Blocks.{is_end};
+ghost use Rattle.batch_reader.specs.Headings.{heading_of, marker_of, may_begin_end, may_begin_heading, may_go_on_in_code};
+ghost use Rattle.batch_reader.specs.Headings.{pair_of};
 ghost use Rattle.batch_reader.specs.Lines.{batch_words};
 ghost use Rattle.batch_reader.specs.declared.heading.Heading.TheVariants.{Other};
 
@@ -25,6 +27,7 @@ pub(crate) enum Heading {
 }
 
 /// What a line is.
+#[inline(always)]
 pub(crate) fn heading_of(line: &[u8]) -> Heading
     ensures { result ≡ heading_of (batch_words line.now) }
 {
@@ -45,6 +48,27 @@ pub(crate) fn heading_of(line: &[u8]) -> Heading
         None => pair(word, second),
         Some(_) => Heading::Other,
     }
+}
+
+/// Whether a line is `END`. Few lines of code begin as it does.
+#[inline(always)]
+pub(crate) fn is_end(line: &[u8]) -> bool
+    ensures { result ≡ is_end (heading_of (batch_words line.now)) }
+{
+    if line.is_empty() {
+        return false;
+    }
+    if !may_begin_end(line[0]) {
+        return false;
+    }
+    matches!(heading_of(line), Heading::End)
+}
+
+/// Whether a byte may be the first of a line that is `END`.
+fn may_begin_end(byte: u8) -> bool
+    ensures { result ≡ may_begin_end byte }
+{
+    byte == b'E' || byte <= b' '
 }
 
 /// Whether a line may be a heading, or have no word, as its first bytes say. Few lines of code may.

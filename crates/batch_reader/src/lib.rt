@@ -30,6 +30,7 @@
 #![tactic(auto)]
 
 mod batch_line;
+mod code_run;
 mod entry;
 mod fate;
 mod fault;

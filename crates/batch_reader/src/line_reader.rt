@@ -9,16 +9,18 @@ ghost use Rattle.batch_reader.specs.Feeds.{Keeps};
 ghost use Rattle.batch_reader.specs.Feeds.{RefusesLongLine, Stands, is_settled};
 ghost use Rattle.batch_reader.specs.Headings.{heading_of, line_of};
 ghost use Rattle.batch_reader.specs.Lines.{batch_words};
+ghost use Rattle.batch_reader.specs.Runs.{AreCodeLines, IsInCode, TakesCode};
 ghost use Rattle.batch_reader.specs.Standings.{Stays, rule_by};
 ghost use Rattle.batch_reader.specs.declared.heading.Heading.TheVariants as headings;
 ghost use Rattle.batch_reader.specs.declared.stage.Stage.TheVariants as stages;
 
 use crate::batch_line::BatchLine;
+use crate::code_run::CodeRun;
 use crate::entry::{Batch, JobEntries};
 use crate::fault::BatchFault;
 use crate::heading::{Heading, heading_of};
 use crate::stage::{JobStage, JobStep, Stage, StageStep};
-use crate::step::{step, step_inside};
+use crate::step::{step, step_inside, step_through};
 use std::alloc::{AllocError, Allocator};
 use std::marker::Model;
 use std::mem;
@@ -151,6 +153,38 @@ impl<A: Allocator + Copy> LineReader<A> {
             return Ok(());
         }
         self.take_other(line)
+    }
+
+    /// Whether the next line is one of a job's code, or its `END`.
+    pub(crate) fn is_in_code(&self) -> bool
+        ensures { result ≡ true → IsInCode self.now.stage }
+    {
+        matches!(self.stage, Stage::Code(..))
+    }
+
+    /// Takes the next lines, which are code of the open job and within the limit of a batch.
+    ///
+    /// # Errors
+    ///
+    /// [`AllocError`] if memory is refused. The reader has then failed.
+    pub(crate) fn take_code(&mut self, run: CodeRun<'_>) -> Result<(), AllocError>
+        requires in_code { IsInCode self.old.stage }
+        requires lines { AreCodeLines run.count run.text.now }
+        requires within { length run.text.now ≤ self.old.left }
+        ensures taken { OnOk result ((come : ByLines) → Stands self.old come
+            → TakesCode self.old self.new run.entry.text.now come) }
+        ensures unread { OnErr result (self.new.left ≡ self.old.left) }
+        ensures left { OnOk result (self.new.left + length run.entry.text.now ≡ self.old.left) }
+        ensures region { self.new.region ≡ self.old.region }
+        ensures failed { OnErr result (HasFailed self.new) }
+    {
+        if let Err(refused) = step_through(&mut self.stage, run.text) {
+            fail_stage(&mut self.stage);
+            return Err(refused);
+        }
+        self.number += run.count;
+        self.left -= run.text.len();
+        Ok(())
     }
 
     /// Takes the next line, which may make another stage. It has this reader's number and its own heading.

@@ -1,6 +1,7 @@
 //! What a line makes of a stage.
 
-ghost use Rattle.std.specs.Prelude.{◌≡◌, ◌+◌, ℕ, [], IsErr, IfOk, OnOk};
+ghost use Rattle.std.specs.Prelude.{◌≡◌, ◌+◌, ◌<◌, ◌^◌, ℕ, [], IsErr, IfOk, OnOk};
+ghost use Rattle.vcode_base.specs.Lines.{line_feeds};
 ghost use Rattle.job_steps.specs.Jobs.{IsName};
 ghost use Rattle.batch_reader.specs.declared.stage.Stage.TheVariants as stages;
 ghost use Rattle.batch_reader.specs.declared.stage.StageStep.TheVariants.{To};
@@ -9,6 +10,7 @@ ghost use Rattle.batch_reader.specs.declared.part.Part.TheVariants.{Refused as P
 ghost use Rattle.batch_reader.specs.Batches.{JobText, job_without_parts};
 ghost use Rattle.batch_reader.specs.Headings.{BatchLine as SpecLine};
 ghost use Rattle.batch_reader.specs.JobLines.{JobLine as JobLineOf};
+ghost use Rattle.batch_reader.specs.Runs.{GoesOn, IsInCode};
 ghost use Rattle.batch_reader.specs.Standings.{Fresh, Between, Headed, InSignatures, InCode, BatchStanding};
 ghost use Rattle.batch_reader.specs.Standings.{HasRoom, StageShows, ShowsHead};
 ghost use Rattle.batch_reader.specs.Standings.{ShowsSignatures, ShowsCode, SaysJob, SignaturesFit, CodeFits, StageFits};
@@ -238,7 +240,7 @@ fn step_in_code<A: Allocator + Copy>(
     match line.heading {
         Heading::End => Ok(StageStep::Ends(job_entry(alloc, head, part)?)),
         _ => {
-            more_code(&mut part, line)?;
+            more_code(&mut part, line.text)?;
             Ok(StageStep::To(Stage::Code(head, part)))
         }
     }
@@ -260,25 +262,47 @@ pub(crate) fn step_inside<A: Allocator + Copy>(
         → HasRoom ended room standing → Turns region ended room standing (shown_line line.entry) (To stage.new)) }
 {
     match stage {
-        Stage::Code(_, part) => more_code(part, line),
+        Stage::Code(_, part) => more_code(part, line.text),
         Stage::Signatures(_, part) => more_signatures(part, line),
         _ => Ok(()),
     }
 }
 
-/// Takes one line more of the code. Once the code has a fault, no further line is read.
+/// Takes more lines of the code, and leaves the stage as it is.
+///
+/// # Errors
+///
+/// [`AllocError`] if memory is refused. The stage then says nothing of the lines so far.
+pub(crate) fn step_through<A: Allocator + Copy>(
+    stage: &mut JobStage<A>,
+    text: &[u8],
+) -> Result<(), AllocError>
+    requires in_code { IsInCode stage.old }
+    requires fits { (number : ℕ) × StageFits number stage.old × (number + line_feeds text.now < 2 ^ 64) }
+    ensures fits { OnOk result ((number : ℕ) → StageFits number stage.old
+        → StageFits (number + line_feeds text.now) stage.new) }
+    ensures shown { OnOk result (GoesOn stage.old stage.new text.now) }
+{
+    match stage {
+        Stage::Code(_, part) => more_code(part, text),
+        _ => Ok(()),
+    }
+}
+
+/// Takes more of the code. Once the code has a fault, no further line is read.
 fn more_code<A: Allocator + Copy>(
     part: &mut Part<CodeReading<A>>,
-    line: BatchLine<'_>,
+    text: &[u8],
 ) -> Result<(), AllocError>
-    requires { CodeFits line.number part.old }
-    ensures fits { OnOk result (CodeFits (line.entry.number + 1) part.new) }
+    requires { (number : ℕ) × CodeFits number part.old × (number + line_feeds text.now < 2 ^ 64) }
+    ensures fits { OnOk result ((number : ℕ) → CodeFits number part.old
+        → CodeFits (number + line_feeds text.now) part.new) }
     ensures shown { OnOk result ((region : ℕ) (job : JobText) → ShowsCode region part.old job
-        → ShowsCode region part.new (with_code job line.entry.text.now)) }
+        → ShowsCode region part.new (with_code job text.now)) }
 {
     match part {
         Part::Reading((_, reader)) => {
-            reader.feed(line.text)?;
+            reader.feed(text)?;
             match reader.fault() {
                 None => Ok(()),
                 Some((fault, number)) => {

@@ -199,7 +199,7 @@ no_bytes (b ∷ bs) h = grind (arith, nat_tests)
 -- ---- a word after a blank
 
 -- a byte that separates words is part of none
-separates : (b : ℕ) → b ≤ 32 → is_plain (class_of b) ≡ false
+pub separates : (b : ℕ) → b ≤ 32 → is_plain (class_of b) ≡ false
 unfolding class_of
 separates b low = grind (arith, nat_tests)
 
@@ -250,7 +250,7 @@ rest_after zero [] = refl
 rest_after (suc n) [] = refl
 rest_after n (b ∷ t) = refl
 
-dropped : (n : ℕ) (t : List ℕ) → n < length t → 1 ≤ length (drop n t)
+pub dropped : (n : ℕ) (t : List ℕ) → n < length t → 1 ≤ length (drop n t)
 dropped zero t more = omega arith
 dropped (suc n) [] more = absurd (omega arith)
 dropped (suc n) (b ∷ t) more = dropped n t (omega arith)

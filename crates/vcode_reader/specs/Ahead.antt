@@ -1,8 +1,11 @@
 -- Words at the front of a text.
-use Rattle.std.specs.Prelude.{◌≡◌, ℕ, suc, ◌<◌, ◌≤◌, Bool, true, false, List, length, take, drop, get_or}
+use Rattle.std.specs.Prelude.{◌≡◌, ℕ, ℤ, suc, ◌<◌, ◌≤◌, Bool, true, false, List, length, take, drop, get_or, Some}
+use Rattle.vcode_base.specs.declared.kind.Scalar.{Scalar}
+use Rattle.vcode_base.specs.declared.kind.Scalar.TheVariants as scalar
 use Rattle.vcode_reader.specs.declared.place.Place.{Place}
 use Rattle.vcode_reader.specs.declared.place.Place.TheVariants.{Outside, Name, Inside, InsideOrInt, Words, Elements}
 use Rattle.vcode_reader.specs.Classes.{plain_length}
+use Rattle.vcode_reader.specs.Numbers.{decimal, number_of}
 
 abbrev pub IsDigit : ℕ → Type 0
 IsDigit d = (48 ≤ d) × (d ≤ 57)
@@ -16,6 +19,19 @@ awaits_part InsideOrInt = false
 awaits_part (Words keyword slot begun) = true
 awaits_part (Elements keyword begun line) = false
 
+abbrev pub is_int : Scalar → Bool
+is_int scalar.Int = true
+is_int scalar.Bool = false
+
+-- the next word is in a list, and elements of this kind are numbers
+abbrev pub awaits_number : Place → Scalar → Bool
+awaits_number Outside kind = false
+awaits_number Name kind = false
+awaits_number Inside kind = false
+awaits_number InsideOrInt kind = false
+awaits_number (Words keyword slot begun) kind = false
+awaits_number (Elements keyword begun line) kind = is_int kind
+
 -- a blank and this word are at the front of a text, and a byte follows that is no part of the word
 pub record HasWord (t w : List ℕ) : Type 0 where
   pub some : 1 ≤ length w
@@ -23,3 +39,17 @@ pub record HasWord (t w : List ℕ) : Type 0 where
   pub blank : get_or t 0 0 ≡ 32
   pub plain : plain_length (drop 1 t) ≡ length w
   pub word : w ≡ take (length w) (drop 1 t)
+
+-- that many digits, of this value, are at the front of a text, and a byte follows that is no part of their word
+pub record HasDigits (t : List ℕ) (value digits : ℕ) : Type 0 where
+  pub some : 1 ≤ digits
+  pub more : digits < length t
+  pub plain : plain_length t ≡ digits
+  pub value_is : decimal (take digits t) ≡ Some value
+
+-- this number, in that many bytes, is at the front of a text, and a byte follows that is no part of its word
+pub record HasNumber (t : List ℕ) (number : ℤ) (digits : ℕ) : Type 0 where
+  pub some : 1 ≤ digits
+  pub more : digits < length t
+  pub plain : plain_length t ≡ digits
+  pub number_is : number_of (take digits t) ≡ Some number

@@ -1,7 +1,9 @@
-//! Short words that are at the front of a text after a blank.
+//! Words that are whole at the front of a text: short ones after a blank, and numbers.
 
 ghost use Rattle.std.specs.Prelude.{[], ◌∷◌, codes, IsTrue, IfSome};
-ghost use Rattle.vcode_reader.specs.Ahead.{HasWord, IsDigit};
+ghost use Rattle.vcode_reader.specs.Ahead.{HasDigits, HasNumber, HasWord, IsDigit};
+
+use crate::number::{negative, positive};
 
 /// The digit, if a blank and a word of one digit are at the front of a text, before a blank or a control byte.
 #[inline(always)]
@@ -52,4 +54,52 @@ pub(crate) fn is_int_ahead(text: &[u8]) -> bool
         return false;
     }
     true
+}
+
+/// The number at the front of a text, and how many bytes it has, if a blank or a control byte follows it.
+#[inline(always)]
+pub(crate) fn number_ahead(text: &[u8]) -> Option<(i64, usize)>
+    ensures { IfSome result (λ found. HasNumber text.now found.0 found.1) }
+{
+    if text.is_empty() {
+        return None;
+    }
+    if text[0] == b'-' {
+        let (_, digits) = text.split_at(1);
+        let (value, len) = digits_ahead(digits)?;
+        let number = negative(value)?;
+        return Some((number, len + 1));
+    }
+    let (value, len) = digits_ahead(text)?;
+    let number = positive(value)?;
+    Some((number, len))
+}
+
+/// The value of the digits at the front of a text, and how many they are, if there is one, a blank or a control byte
+/// follows them, and they are no more than a number may have.
+#[inline(always)]
+fn digits_ahead(text: &[u8]) -> Option<(u64, usize)>
+    ensures { IfSome result (λ found. HasDigits text.now found.0 found.1) }
+{
+    let mut value: u64 = 0;
+    for (place, byte) in text.iter().enumerate() {
+        if *byte <= b' ' {
+            if place == 0 {
+                return None;
+            }
+            return Some((value, place));
+        }
+        if *byte < b'0' {
+            return None;
+        }
+        if *byte > b'9' {
+            return None;
+        }
+        // So 18 digits fit, and each number of 19.
+        if value >= 1_800_000_000_000_000_000 {
+            return None;
+        }
+        value = 10 * value + u64::from(*byte - b'0');
+    }
+    None
 }

@@ -1,7 +1,7 @@
 //! Numbers and truth values.
 
-ghost use Rattle.std.specs.Prelude.{◌≡◌, ◌<◌, ◌≤◌, ◌^◌, length};
-ghost use Rattle.vcode_reader.specs.Numbers.{below, decimal, natural_of, number_of, truth_of, value_of};
+ghost use Rattle.std.specs.Prelude.{◌≡◌, ◌<◌, ◌≤◌, ◌^◌, Some, length};
+ghost use Rattle.vcode_reader.specs.Numbers.{below, decimal, natural_of, negative, number_of, positive, truth_of, value_of};
 
 use vcode_base::Scalar;
 
@@ -45,14 +45,30 @@ fn short_decimal(digits: &[u8]) -> Option<u64>
     Some(value)
 }
 
+/// The number of this value, if it fits.
+#[inline(always)]
+pub(crate) fn positive(value: u64) -> Option<i64>
+    ensures { result ≡ positive (Some value) }
+{
+    0i64.checked_add_unsigned(value)
+}
+
+/// The number that is this much less than 0, if it fits.
+#[inline(always)]
+pub(crate) fn negative(value: u64) -> Option<i64>
+    ensures { result ≡ negative (Some value) }
+{
+    0i64.checked_sub_unsigned(value)
+}
+
 /// The number that a word is.
 #[tactic(auto, unfolding(crate::specs::Numbers::number_of))]
 pub(crate) fn number_of(word: &[u8]) -> Option<i64>
     ensures { result ≡ number_of word.now }
 {
     match word {
-        [b'-', digits @ ..] => 0i64.checked_sub_unsigned(decimal(digits)?),
-        _ => 0i64.checked_add_unsigned(decimal(word)?),
+        [b'-', digits @ ..] => negative(decimal(digits)?),
+        _ => positive(decimal(word)?),
     }
 }
 

@@ -1,9 +1,9 @@
 //! A text, word by word.
 
-ghost use Rattle.std.specs.Prelude.{◌≡◌, [], ◌∷◌, false, codes, OnOk, IfOk};
+ghost use Rattle.std.specs.Prelude.{◌≡◌, ℕ, List, [], ◌∷◌, Some, true, false, codes, OnOk, IfOk};
 ghost use Rattle.vcode_reader.specs.declared.head.Head.TheVariants.{Return, If, Else, Endif};
 ghost use Rattle.vcode_reader.specs.declared.place.Place.TheVariants.{Inside};
-ghost use Rattle.vcode_reader.specs.Ahead.{IsDigit, awaits_part};
+ghost use Rattle.vcode_reader.specs.Ahead.{IsDigit, awaits_number, awaits_part};
 ghost use Rattle.vcode_reader.specs.Drafts.{is_open};
 ghost use Rattle.vcode_reader.specs.Heads.{head_slots};
 ghost use Rattle.vcode_reader.specs.Keywords.{ItemParts, keyword_slots};
@@ -12,7 +12,7 @@ ghost use Rattle.vcode_reader.specs.Parsing.{with_kind, with_value, counted_part
 ghost use Rattle.vcode_reader.specs.Parsing.{with_count, with_callee, in_slot, one_element, in_list, outside, has_name};
 ghost use Rattle.vcode_reader.specs.Parsing.{after_name, after_return, inside, take};
 ghost use Rattle.vcode_reader.specs.Parsing.{is_no_name, no_value, int_of, kind_of, count_in};
-ghost use Rattle.vcode_reader.specs.Numbers.{natural_of, value_of};
+ghost use Rattle.vcode_reader.specs.Numbers.{natural_of, number_of, value_of};
 ghost use Rattle.vcode_reader.specs.Reading.{result_at_end, unless, Gives};
 
 use crate::code::Draft;
@@ -546,6 +546,34 @@ impl<A: Allocator + Clone> Parser<A> {
             }
             _ => self.take_anywhere(&[digit], line),
         }
+    }
+
+    /// Whether the next word is in a list of numbers.
+    #[inline(always)]
+    pub(crate) fn awaits_number(&self) -> bool
+        ensures { result ≡ awaits_number self.now.place self.now.parts.kind }
+    {
+        matches!(
+            (self.place, self.parts.kind),
+            (Place::Elements(..), Scalar::Int)
+        )
+    }
+
+    /// Takes the next word, which is this number on this line.
+    #[inline(always)]
+    pub(crate) fn take_number(&mut self, number: i64, line: u64) -> Result<(), AllocError>
+        requires { awaits_number self.old.place self.old.parts.kind ≡ true }
+        ensures { OnOk result ((word : List ℕ) → number_of word ≡ Some number → self.new ≡ take word line self.old) }
+    {
+        if self.fault.is_some() {
+            return Ok(());
+        }
+        if self.parts.numbers.len() < MOST_ELEMENTS {
+            self.parts.numbers.push(number)?;
+        } else {
+            self.refuse(CodeFault::TooLarge, line);
+        }
+        Ok(())
     }
 
     /// The refusal if the text ends here: in a comment that begins at this line, or in none.

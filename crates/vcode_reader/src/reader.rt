@@ -1,11 +1,12 @@
 //! A text, byte by byte.
 
-ghost use Rattle.std.specs.Prelude.{◌≡◌, ◌+◌, ◌<◌, ◌≤◌, ◌^◌, OnOk, OnErr, IsErr, IsErrOf, IfOk, IsTrue, false, ℕ};
+ghost use Rattle.std.specs.Prelude.{◌≡◌, ◌+◌, ◌<◌, ◌≤◌, ◌^◌, OnOk, OnErr, IsErr, IsErrOf, IfOk, IsTrue, true, false, ℕ};
 ghost use Rattle.std.specs.Prelude.{List, [], ◌++◌, length, None, Some, Err};
 ghost use Rattle.vcode_reader.specs.declared.class.Class.TheVariants.{LineFeed};
 ghost use Rattle.vcode_base.specs.Lines.{line_feeds};
 ghost use Rattle.vcode_base.specs.TextAnswers.{Answers};
 ghost use Rattle.vcode_base.specs.declared.fault.TextFault.TheVariants.{Memory};
+ghost use Rattle.vcode_reader.specs.Ahead.{awaits_number};
 ghost use Rattle.vcode_reader.specs.Classes.{class_of, plain_length};
 ghost use Rattle.vcode_reader.specs.First.{IsAnswer};
 ghost use Rattle.vcode_reader.specs.Parsing.{start, take};
@@ -13,7 +14,7 @@ ghost use Rattle.vcode_reader.specs.Reading.{outcome, reading, Gives, HasCome};
 ghost use Rattle.vcode_reader.specs.Refusals.{Fault};
 ghost use Rattle.vcode_reader.specs.Scan.{beginning, end_word, lone_word, in_text, in_comment, scan_byte, scan_all};
 
-use crate::ahead::{digit_ahead, is_int_ahead};
+use crate::ahead::{digit_ahead, is_int_ahead, number_ahead};
 use crate::class::{Class, class_of, is_plain, plain_length};
 use crate::fault::{CodeFault, ReadFault};
 use crate::parser::Parser;
@@ -141,6 +142,28 @@ impl<A: Allocator + Clone> Scanner<A> {
         Ok(rest)
     }
 
+    /// Takes a number of a list at the front of a text outside a comment, if it is whole, with the separator after it;
+    /// else the plain bytes there. Answers what is after them.
+    #[inline(always)]
+    fn number<'p>(&mut self, text: &'p [u8]) -> Result<&'p [u8], AllocError>
+        requires text { self.old.comment ≡ None }
+        requires number { awaits_number self.old.found.place self.old.found.parts.kind ≡ true }
+        requires some { 1 ≤ plain_length text.now }
+        requires room { self.old.line + line_feeds text.now < 2 ^ 64 }
+        ensures same { IfOk result (λ rest. scan_all take self.old text.now ≡ scan_all take self.new rest.now) }
+        ensures shorter { IfOk result (λ rest. length rest.now < length text.now) }
+    {
+        if !self.word.is_empty() {
+            return self.plain_bytes(text);
+        }
+        let Some((number, len)) = number_ahead(text) else {
+            return self.plain_bytes(text);
+        };
+        let (_, rest) = text.split_at(len);
+        self.parser.take_number(number, self.line)?;
+        Ok(self.pass_separator(rest))
+    }
+
     /// Takes short words that belong to a keyword, at the front of a text and each after a blank, and the separator
     /// after them, and answers what is after it.
     #[inline(always)]
@@ -240,6 +263,9 @@ impl<A: Allocator + Clone> Scanner<A> {
     {
         let byte = text[0];
         if self.comment.is_none() && is_plain(byte) {
+            if self.parser.awaits_number() {
+                return self.number(text);
+            }
             let rest = self.plain_bytes(text)?;
             return self.short_words(rest);
         }

@@ -15,11 +15,11 @@ returns-in-None-clause-shown g c =
 pub returns-in-Some-clause-shown : goal.returns-in-Some-clause-shown
 returns-in-Some-clause-shown g c =
     λ region job shown. let read = rw c.in-Reading.is at shown in
-    rw c.refuse_code.ensures (refused_in_code region job _ _ c.args.line.text.now c.in-Some.fault c.in-Some.number
+    rw c.refuse_code.ensures (refused_in_code region job _ _ c.args.text.now c.in-Some.fault c.in-Some.number
     read.signatures (c.feed.ensures.first_line ∙ read.first_line) (λ more. c.fault.ensures.stays
     (c.in-Some.fault, c.in-Some.number) _ more c.in-Some.is (c.in_ok-feed-in-Reading.ensures.fed _ read.code)))
 
 pub returns-in-Refused-clause-shown : goal.returns-in-Refused-clause-shown
 returns-in-Refused-clause-shown g c =
-    λ region job shown. rw c.in-Refused.is (refused_with_more region job _ c.args.line.text.now (rw c.in-Refused.is
+    λ region job shown. rw c.in-Refused.is (refused_with_more region job _ c.args.text.now (rw c.in-Refused.is
     at shown))

@@ -1,0 +1,49 @@
+use Rattle.std.proofs.Common.{ℕ, ◌+◌, ◌≤◌, arith, length, refl, subst}
+use Rattle.batch_reader.specs.Standings.{StageFits}
+use Rattle.batch_reader.proofs.RunLemmas.{code_taken, feeds_of_lines, few_lines}
+use Rattle.batch_reader.proofs.line_reader.LineReader.take_code.Goals as goal
+
+pub step_through-requires-clause-fits : goal.step_through-requires-clause-fits
+step_through-requires-clause-fits g c =
+    let within : length c.args.run.text.now ≤ c.self.inside.left = rw (← c.self.view_is) at c.requires.within in (
+      c.self.inside.number,
+      c.self.invariant.stage,
+      omega (
+        arith,
+        within,
+        c.self.invariant.number,
+        feeds_of_lines c.args.run.count c.args.run.text.now c.requires.lines,
+        few_lines c.args.run.count c.args.run.text.now c.requires.lines,
+      ),
+    )
+
+pub overflow_add-self : goal.overflow_add-self
+overflow_add-self g c =
+    let within : length c.args.run.text.now ≤ c.self.inside.left = rw (← c.self.view_is) at c.requires.within in
+    omega (
+      arith,
+      within,
+      c.self.invariant.number,
+      few_lines c.args.run.count c.args.run.text.now c.requires.lines,
+    )
+
+pub invariant_of-self-2 : goal.invariant_of-self-2
+invariant_of-self-2 g c =
+    let within : length c.args.run.text.now ≤ c.self.inside.left = rw (← c.self.view_is) at c.requires.within in
+    record {
+      number = omega (
+        arith,
+        within,
+        c.self.invariant.number,
+        few_lines c.args.run.count c.args.run.text.now c.requires.lines,
+      );
+      stage = subst (λ (n : ℕ). StageFits (c.self.inside.number + n) c.step_through.new.stage)
+          (feeds_of_lines c.args.run.count c.args.run.text.now c.requires.lines)
+          (c.in_default.ensures.fits c.self.inside.number c.self.invariant.stage);
+    }
+
+pub returns-clause-taken : goal.returns-clause-taken
+returns-clause-taken g c =
+    let within : length c.args.run.text.now ≤ c.self.inside.left = rw (← c.self.view_is) at c.requires.within in
+    rw (← c.self.view_is) (λ come stands. code_taken _ come c.args.run.text.now c.args.run.count _ _
+    c.step_through.new.stage c.requires.lines c.in_default.ensures.shown refl (omega (arith, within)) stands)

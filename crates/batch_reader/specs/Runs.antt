@@ -1,0 +1,42 @@
+-- Lines of a job's code that are taken at once.
+use Rattle.std.specs.Prelude.{◌≡◌, ℕ, zero, suc, false, List, [], ◌++◌}
+use Rattle.batch_reader.specs.declared.head.JobHeader.{JobHeader}
+use Rattle.batch_reader.specs.declared.stage.Stage.TheVariants as stage
+use Rattle.batch_reader.specs.Batches.{JobText}
+use Rattle.batch_reader.specs.Blocks.{is_end}
+use Rattle.batch_reader.specs.Feeds.{ByLines, IsWholeLine, LinesState, Stands}
+use Rattle.batch_reader.specs.Headings.{heading_of, numbered_lines}
+use Rattle.batch_reader.specs.Lines.{batch_words, lines}
+use Rattle.batch_reader.specs.Standings.{CodePart, JobStage, ShowsCode, with_code}
+
+-- a line with its LF that isn't END
+pub record IsCodeLine (line : List ℕ) : Type 0 where
+  pub whole : IsWholeLine line
+  pub code : is_end (heading_of (batch_words line)) ≡ false
+
+-- a text of that many such lines
+unfoldable pub AreCodeLines : ℕ → List ℕ → Type 0
+AreCodeLines zero text = text ≡ []
+AreCodeLines (suc n) text =
+    (front : List ℕ) × (line : List ℕ) × (text ≡ front ++ line) × AreCodeLines n front × IsCodeLine line
+
+-- a stage among the lines of a job's code
+abbrev pub IsInCode : JobStage → Type 0
+IsInCode (stage.Code kept part) = Unit {0}
+IsInCode _ = ⊥
+
+-- the stage stays in the code of the job, of which this text has come
+pub record GoesOn (old new : JobStage) (text : List ℕ) : Type 0 where
+  pub kept : JobHeader (List ℕ)
+  pub before : CodePart
+  pub behind : CodePart
+  pub was : old ≡ stage.Code kept before
+  pub is : new ≡ stage.Code kept behind
+  pub shown : (region : ℕ) (job : JobText) → ShowsCode region before job → ShowsCode region behind (with_code job text)
+
+-- a text was taken: whatever follows it, the batch is what the new state makes of the lines after it
+pub record TakesCode (old new : LinesState) (text : List ℕ) (come : ByLines) : Type 0 where
+  pub next : ByLines
+  pub stands : Stands new next
+  pub comes : (more : List ℕ) → come (numbered_lines old.number old.left (lines (text ++ more)))
+      ≡ next (numbered_lines new.number new.left (lines more))

@@ -1,0 +1,174 @@
+-- Numbers at the front of a text.
+use Rattle.std.proofs.Common.{◌≡◌, ◌∙◌, ℕ, ℤ, zero, suc, ◌+◌, ◌-◌, ◌*◌, ◌==◌, ◌<◌, ◌≤◌, Bool, true, false, ◌&&◌, List, [], ◌∷◌}
+use Rattle.std.proofs.Common.{◌++◌, Option, Some, None, refl, arith, ap, sym, add-one, length, take, drop, get_or}
+use Rattle.std.specs.Prelude.{if◌then◌else◌, codes, nat_le, nat_lt, is_some}
+use Rattle.std.specs.Str.{bytes_eq}
+use Rattle.std.proofs.lemmas.Bool.Decides.{nat_tests}
+use Rattle.std.proofs.lemmas.List.{append-nil}
+use Rattle.vcode_base.specs.declared.kind.Scalar.{Scalar}
+use Rattle.vcode_base.specs.declared.kind.Scalar.TheVariants as scalar
+use Rattle.vcode_base.specs.declared.limits.TheConstants.{MOST_ELEMENTS}
+use Rattle.vcode_reader.specs.declared.fault.CodeFault.TheVariants.{TooLarge}
+use Rattle.vcode_reader.specs.declared.place.Place.{Place}
+use Rattle.vcode_reader.specs.declared.place.Place.TheVariants.{Outside, Name, Inside, InsideOrInt, Words, Elements}
+use Rattle.vcode_reader.specs.Ahead.{HasDigits, HasNumber, awaits_number}
+use Rattle.vcode_reader.specs.Classes.{plain_length}
+use Rattle.vcode_reader.specs.Numbers.{decimal, digits_from, negative, number_of, positive}
+use Rattle.vcode_reader.specs.Parsing.{Parse, at_place, one_element, take as take_word, with_fault}
+use Rattle.vcode_reader.specs.Scan.{Scan, scan_all}
+use Rattle.vcode_reader.proofs.Digits.{decimal_is, with_digit}
+use Rattle.vcode_reader.proofs.Pieces.{dropped, none_at, plain_at, plain_range, separates, whole_word}
+
+-- ---- digit by digit
+
+take_next : (t : List ℕ) (i : ℕ) (rest : List ℕ) → i < length t → take (suc i) t ++ rest ≡ take i t ++ (get_or t i 0 ∷ rest)
+take_next [] i rest lt = absurd (omega arith)
+take_next (x ∷ t) zero rest lt = refl
+take_next (x ∷ t) (suc i) rest lt = ap (λ z. x ∷ z) (take_next t i rest (omega arith))
+
+-- the first digits have this value, whatever follows them
+abbrev pub HaveValue : List ℕ → ℕ → ℕ → Type 0
+HaveValue t i value = (rest : List ℕ) → digits_from 0 (take i t ++ rest) ≡ digits_from value rest
+
+pub digit_more : (t : List ℕ) (i v d : ℕ) → i < length t → 48 ≤ get_or t i 0 → get_or t i 0 ≤ 57
+    → d ≡ get_or t i 0 - 48 → HaveValue t i v → HaveValue t (i + 1) (10 * v + d)
+digit_more t i v d lt low high same h rest =
+    rw add-one (ap (digits_from 0) (take_next t i rest lt)
+    ∙ (h (get_or t i 0 ∷ rest) ∙ with_digit v (get_or t i 0) d (get_or t i 0 ∷ rest) rest refl low high same))
+
+pub plain_more : (t : List ℕ) (i : ℕ) → i < length t → 48 ≤ get_or t i 0 → get_or t i 0 ≤ 57
+    → plain_length t ≡ i + plain_length (drop i t) → plain_length t ≡ (i + 1) + plain_length (drop (i + 1) t)
+plain_more t i lt low high h =
+    omega (arith, h, plain_at t i lt (plain_range (get_or t i 0) (omega arith) (omega arith)))
+
+some_taken : (i : ℕ) (t : List ℕ) → 1 ≤ i → i < length t → 1 ≤ length (take i t)
+some_taken zero t some lt = absurd (omega arith)
+some_taken (suc i) [] some lt = absurd (omega arith)
+some_taken (suc i) (x ∷ t) some lt = omega arith
+
+pub digits_found : (t : List ℕ) (i v : ℕ) → 1 ≤ i → i < length t → get_or t i 0 ≤ 32 → HaveValue t i v
+    → plain_length t ≡ i + plain_length (drop i t) → HasDigits t v i
+digits_found t i v some more low digits plain =
+    record {
+      some = some;
+      more = more;
+      plain = omega (arith, plain, none_at t i more (separates (get_or t i 0) low));
+      value_is = decimal_is (take i t) (some_taken i t some more)
+          ∙ (ap (digits_from 0) (sym (append-nil (take i t))) ∙ digits []);
+    }
+
+-- ---- digits as a number
+
+digit_no_minus : (c : ℕ) → (nat_le 48 c && nat_lt c 58) ≡ true → (c == 45) ≡ false
+digit_no_minus c h = grind (arith, nat_tests)
+
+first_digit : (b : Bool) (c v : ℕ) (o : Option ℕ) → (nat_le 48 c && nat_lt c 58) ≡ b
+    → (if b then o else None) ≡ Some v → (c == 45) ≡ false
+first_digit true c v o is e = digit_no_minus c is
+first_digit false c v o is e = cc
+
+positive_is : (w : List ℕ) (v : ℕ) (n : ℤ) → decimal w ≡ Some v → positive (Some v) ≡ Some n → number_of w ≡ Some n
+unfolding number_of
+positive_is [] v n e h = cc
+positive_is (c ∷ cs) v n e h =
+    let isnt : (c == 45) ≡ false =
+    first_digit (nat_le 48 c && nat_lt c 58) c v (digits_from (10 * 0 + (c - 48)) cs) refl e in
+    rw isnt (ap positive e ∙ h)
+
+pub positive_found : (t : List ℕ) (v d : ℕ) (n : ℤ) → HasDigits t v d → positive (Some v) ≡ Some n → HasNumber t n d
+positive_found t v d n h e =
+    record {
+      some = h.some;
+      more = h.more;
+      plain = h.plain;
+      number_is = positive_is (take d t) v n h.value_is e;
+    }
+
+negative_is : (w : List ℕ) (v : ℕ) (n : ℤ) → decimal w ≡ Some v → negative (Some v) ≡ Some n
+    → number_of (45 ∷ w) ≡ Some n
+unfolding number_of
+negative_is w v n e h = ap negative e ∙ h
+
+minus_found : (t : List ℕ) (v d : ℕ) (n : ℤ) → HasDigits t v d → negative (Some v) ≡ Some n
+    → HasNumber (45 ∷ t) n (suc d)
+minus_found t v d n h e =
+    record {
+      some = omega arith;
+      more = omega (arith, h.more);
+      plain = rw (plain_range 45 (omega arith) (omega arith)) (ap suc h.plain);
+      number_is = negative_is (take d t) v n h.value_is e;
+    }
+
+pub negative_found : (t rest : List ℕ) (v d : ℕ) (n : ℤ) → 1 ≤ length t → get_or t 0 0 ≡ 45 → rest ≡ drop 1 t
+    → HasDigits rest v d → negative (Some v) ≡ Some n → HasNumber t n (d + 1)
+negative_found [] rest v d n some minus behind h e = absurd (omega arith)
+negative_found (c ∷ t) rest v d n some minus behind h e =
+    rw (minus, add-one) (minus_found t v d n (rw behind at h) e)
+
+-- ---- a number as an element of a list
+
+no_close_by : (b : Bool) (c : ℕ) (n : ℤ) → (c == 41) ≡ b → number_of (c ∷ []) ≡ Some n → b ≡ false
+unfolding number_of
+no_close_by true c n is e = let same : c ≡ 41 = is_close c is in let none = rw same at e in absurd (cc)
+  where
+    is_close : (c : ℕ) → (c == 41) ≡ true → c ≡ 41
+    is_close c is = grind (arith, nat_tests)
+no_close_by false c n is e = refl
+
+both_false : (b : Bool) → (b && false) ≡ false
+both_false true = refl
+both_false false = refl
+
+both_true : (b : Bool) → b ≡ false → (b && true) ≡ false
+both_true b e = rw e refl
+
+no_close : (w : List ℕ) (n : ℤ) → number_of w ≡ Some n → bytes_eq w (codes ")") ≡ false
+no_close [] n e = refl
+no_close (c ∷ []) n e = both_true (c == 41) (no_close_by (c == 41) c n refl e)
+no_close (c ∷ d ∷ t) n e = both_false (c == 41)
+
+in_numbers : (place : Place) (kind : Scalar) (p : Parse) (w : List ℕ) (n : ℤ) (l : ℕ) → p.parts.kind ≡ kind
+    → awaits_number place kind ≡ true → number_of w ≡ Some n → at_place place w l p ≡ one_element (Some n) w l p
+in_numbers Outside kind p w n l same awaits e = cc
+in_numbers Name kind p w n l same awaits e = cc
+in_numbers Inside kind p w n l same awaits e = cc
+in_numbers InsideOrInt kind p w n l same awaits e = cc
+in_numbers (Words keyword slot begun) kind p w n l same awaits e = cc
+in_numbers (Elements keyword begun line) scalar.Bool p w n l same awaits e = cc
+in_numbers (Elements keyword begun line) scalar.Int p w n l same awaits e =
+    rw (no_close w n e, same, e) refl
+
+takes_number : (p : Parse) (w : List ℕ) (n : ℤ) (l : ℕ) → is_some p.fault ≡ false
+    → awaits_number p.place p.parts.kind ≡ true → number_of w ≡ Some n → take_word w l p ≡ one_element (Some n) w l p
+unfolding take_word
+takes_number p w n l none awaits e = rw none (in_numbers p.place p.parts.kind p w n l refl awaits e)
+
+pub faulted : (p : Parse) (w : List ℕ) (l : ℕ) → is_some p.fault ≡ true → p ≡ take_word w l p
+unfolding take_word
+faulted p w l h = rw h refl
+
+pub takes_few : (p : Parse) (w : List ℕ) (n : ℤ) (l : ℕ) → is_some p.fault ≡ false
+    → awaits_number p.place p.parts.kind ≡ true → number_of w ≡ Some n → length p.parts.numbers < MOST_ELEMENTS
+    → record p { parts = record p.parts { numbers = p.parts.numbers ++ n ∷ [] } } ≡ take_word w l p
+takes_few p w n l none awaits e few =
+    let is_few : nat_lt (length p.parts.numbers) MOST_ELEMENTS ≡ true = grind (arith, nat_tests) in
+    sym (takes_number p w n l none awaits e ∙ rw is_few refl)
+
+pub takes_many : (p : Parse) (w : List ℕ) (n : ℤ) (l : ℕ) → is_some p.fault ≡ false
+    → awaits_number p.place p.parts.kind ≡ true → number_of w ≡ Some n → MOST_ELEMENTS ≤ length p.parts.numbers
+    → with_fault TooLarge l p ≡ take_word w l p
+takes_many p w n l none awaits e many =
+    let isnt_few : nat_lt (length p.parts.numbers) MOST_ELEMENTS ≡ false = grind (arith, nat_tests) in
+    sym (takes_number p w n l none awaits e ∙ rw isnt_few refl)
+
+-- ---- a number as a word
+
+pub number_passed : (s : Scan Parse) (t rest : List ℕ) (n : ℤ) (digits : ℕ) (next : Parse) → s.comment ≡ None
+    → s.word ≡ [] → HasNumber t n digits → rest ≡ drop digits t
+    → ((w : List ℕ) → number_of w ≡ Some n → next ≡ take_word w s.line s.found)
+    → scan_all take_word s t ≡ scan_all take_word (record s { found = next }) rest
+number_passed s t rest n digits next none empty h behind takes =
+    whole_word take_word t (take digits t) rest s none empty (rw h.plain refl) (rw h.plain behind)
+    (some_taken digits t h.some h.more) (rw behind (dropped digits t h.more))
+    ∙ ap (λ (p : Parse). let r : Scan Parse = record s { found = p } in scan_all take_word r rest)
+    (sym (takes (take digits t) h.number_is))
