@@ -45,7 +45,7 @@ fn kind_text(kind: Kind) -> &'static str
     }
 }
 
-/// Puts a word of a vector of this kind. A call of its own would cost each word a sixth more.
+/// Puts a word of a vector of this kind. The loop over the words makes no call for it.
 #[inline(always)]
 fn put_word<W: Write>(page: &mut Page, writer: &mut Device<W>, kind: Kind, word: i64)
     ensures { Puts W.contents page.old writer.old page.new writer.new (word_text kind word) }
