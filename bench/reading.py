@@ -66,31 +66,31 @@ def loads():
 
 
 def run(program, file):
-    """The processor seconds of a run, the most memory that it held, in MB, and its report."""
+    """The processor seconds of a run, and its report."""
     with tempfile.TemporaryFile() as report:
         running = subprocess.Popen([*program, file], stdin=subprocess.DEVNULL, stdout=report, stderr=subprocess.DEVNULL)
         _, status, used = os.wait4(running.pid, 0)
         running.returncode = os.waitstatus_to_exitcode(status)
         report.seek(0)
-        return used.ru_utime + used.ru_stime, used.ru_maxrss / 1024, report.read()
+        return used.ru_utime + used.ru_stime, report.read()
 
 
 def measured(programs, text):
-    """The least seconds of each program, its memory, and whether all reports are the same."""
+    """The least seconds of each program, and whether all reports are the same."""
     with tempfile.NamedTemporaryFile("w", suffix=".vcode") as file:
         file.write(text)
         file.flush()
         rounds = [[run(program, file.name) for program in programs] for _ in range(RUNS)]
     runs = list(zip(*rounds))
-    same = all(report == rounds[0][0][2] for each in runs for _, _, report in each)
-    return [min(seconds for seconds, _, _ in each) for each in runs], [each[0][1] for each in runs], same
+    same = all(report == rounds[0][0][1] for each in runs for _, report in each)
+    return [min(seconds for seconds, _ in each) for each in runs], same
 
 
 def main():
     programs = [[str(TOP / "bin" / "vjobs")], *([sys.argv[1:]] if sys.argv[1:] else [])]
     for name, text in loads():
-        seconds, memory, same = measured(programs, text)
-        columns = [f"{it:6.3f} s {held:4.0f} MB" for it, held in zip(seconds, memory)]
+        seconds, same = measured(programs, text)
+        columns = [f"{it:6.3f} s" for it in seconds]
         ratio = f"  {seconds[0] / seconds[1]:5.2f}" if len(programs) > 1 else ""
         print(f"{name:48}{'  '.join(columns)}{ratio}{'' if same else '  the reports differ'}", flush=True)
 
