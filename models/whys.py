@@ -1,16 +1,20 @@
 #!/usr/bin/env python3
-"""Compares what vjobs-why shows of each job with the report: python3 models/whys.py VJOBS_WHY VJOBS
+"""Compares what vjobs-why shows of each job with the report: python3 models/whys.py VJOBS_WHY VJOBS [BATCHES [SEED]]
 
 It takes the examples and the tables of `worked_batches`. Of each job the end, the line, the count of instructions and
 the most words have to be those of the report of `vjobs`. Of each job that ran, what there is after a number of
 instructions, at a line and at each instruction is shown too: the counts have to be those that were asked for. If
 `vjobs-why` names a JOB line within which a job returns, the job has to return within it, and with any number of it one
-less it must not."""
+less it must not. What `--json` prints has to be what the second writing counts, for these batches and for as many
+random ones as are asked for (300 by default)."""
+import random
 import re
 import subprocess
 import sys
 
+import profiles
 from hostile import TOP, batches_of
+from random_batches import RandomBatches
 
 DATA = TOP / "crates" / "worked_batches" / "data"
 ENDING = re.compile(r"JOB (\d+) (\S+) (RETURNED|BUDGET|(?:FAULT|MEMORY) line \d+ \w+ \w+),? after (\d+) instructions")
@@ -134,15 +138,32 @@ def wrong(programs, batch):
                 yield f"job {place}: {text}"
 
 
-def main(*programs):
-    count = differing = 0
-    for name, batch in stored():
-        count += 1
-        for text in wrong(programs, batch):
-            differing += 1
-            print(f"{name}: {text}")
-    print(f"whys: {count} batches, {differing} differences")
-    sys.exit(bool(differing))
+def wrong_profiles(program, batch):
+    """What is wrong with the profiles of the jobs of a batch."""
+    _, shown, said = run(program, batch, "--json")
+    if said:
+        yield f"--json: {said}"
+    else:
+        yield from profiles.differences(shown, batch)
+
+
+def random_ones(count, seed):
+    """The name of each random batch, and its bytes."""
+    cases = RandomBatches(random.Random(seed))
+    for place in range(count):
+        yield f"random batch {place + 1}", cases.whole_batch()[0]
+
+
+def main(why, vjobs, count=300, seed=1):
+    differences = []
+    batches = list(stored())
+    for name, batch in batches:
+        differences += [f"{name}: {text}" for text in (*wrong((why, vjobs), batch), *wrong_profiles(why, batch))]
+    for name, batch in random_ones(int(count), int(seed)):
+        differences += [f"{name}: {text}" for text in wrong_profiles(why, batch)]
+    print(*differences, sep="\n", end="\n" if differences else "")
+    print(f"whys: {len(batches)} batches and {count} random ones, {len(differences)} differences")
+    sys.exit(bool(differences))
 
 
 if __name__ == "__main__":

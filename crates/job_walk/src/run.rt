@@ -209,6 +209,7 @@ impl<A: Allocator> Run<A> {
     }
 
     /// The line of the next instruction, if the job goes on.
+    #[inline(always)]
     pub fn next_line(&self) -> Option<CodeLine<'_>>
         ensures { result ≡ next_line_in (progress_of self.now) }
     {

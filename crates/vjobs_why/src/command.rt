@@ -16,6 +16,12 @@ pub enum Look {
     At { line: u64, time: u64 },
     /// A line for each instruction from one number to another.
     Steps { from: u64, to: u64 },
+    /// How often its functions and lines were executed.
+    Profile,
+    /// The same as data.
+    Data,
+    /// How many instructions its functions executed, by the functions that run inside one another.
+    Folded,
 }
 
 /// What is to be shown.
@@ -79,12 +85,12 @@ fn at_option<'a>(alloc: Global) -> Arg<'a> {
     )
 }
 
-/// The option for a list of instructions.
-fn steps_option<'a>(alloc: Global) -> Arg<'a> {
-    Arg::new(alloc, "steps")
-        .long("steps")
+/// An option without a value.
+fn flag_option<'a>(alloc: Global, name: &'a str, help: &'a str) -> Arg<'a> {
+    Arg::new(alloc, name)
+        .long(name)
         .action(ArgAction::SetTrue)
-        .help("Shows a line for each instruction")
+        .help(help)
 }
 
 /// The file.
@@ -109,9 +115,24 @@ fn command<'a>(alloc: Global) -> Result<Command<'a>, clap::Error> {
                 "Shows what there is after N instructions",
             ))?
             .arg(at_option(alloc))?
-            .arg(steps_option(alloc))?
+            .arg(flag_option(alloc, "steps", "Shows a line for each instruction"))?
             .arg(number_option(alloc, "from", "N", "The first instruction of --steps"))?
             .arg(number_option(alloc, "to", "N", "The last instruction of --steps"))?
+            .arg(flag_option(
+                alloc,
+                "profile",
+                "Shows how often functions and lines were executed",
+            ))?
+            .arg(flag_option(
+                alloc,
+                "json",
+                "Shows the same as data, an object for each job",
+            ))?
+            .arg(flag_option(
+                alloc,
+                "folded",
+                "Shows instructions by stacks of functions, for flame graph tools",
+            ))?
             .arg(file_argument(alloc))?,
     )
 }
@@ -153,6 +174,15 @@ fn look_of(matches: &ArgMatches<'_>) -> Option<Look> {
             from: number(matches, "from").unwrap_or(1),
             to: number(matches, "to").unwrap_or(MOST_BUDGET),
         });
+    }
+    if matches.get_flag("profile") {
+        return Some(Look::Profile);
+    }
+    if matches.get_flag("json") {
+        return Some(Look::Data);
+    }
+    if matches.get_flag("folded") {
+        return Some(Look::Folded);
     }
     Some(Look::End)
 }

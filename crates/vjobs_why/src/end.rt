@@ -2,6 +2,7 @@
 
 use crate::watch::Watch;
 use job_steps::Job;
+use job_walk::Run;
 use std::alloc::{AllocError, Global};
 use vcode_base::limits::{MOST_BUDGET, MOST_CALLS, MOST_CELLS, MOST_WORDS};
 use vcode_base::{DataFault, Limits, MemoryFault, Outcome, Rule};
@@ -36,8 +37,8 @@ pub struct Wide {
 }
 
 /// How the job of a run ended, whose results are collected.
-fn ending_of(watch: &Watch) -> Ending {
-    match watch.run.ending() {
+pub fn ending_of(run: &Run<Global>) -> Ending {
+    match run.ending() {
         Some(Outcome::Returned(_)) => Ending::Returned,
         Some(Outcome::Fault(fault, line)) => Ending::Fault(*fault, *line),
         Some(Outcome::Memory(fault, line)) => Ending::Memory(*fault, *line),
@@ -56,7 +57,7 @@ fn run_out(watch: &mut Watch) -> Result<End, AllocError> {
     }
     watch.run.collect()?;
     Ok(End {
-        ending: ending_of(watch),
+        ending: ending_of(&watch.run),
         steps,
         executed: watch.run.executed(),
         words: watch.run.peak(),

@@ -1,12 +1,16 @@
 //! What is shown of a job.
 
 use crate::command::Look;
-use crate::end::{End, Ending, Wide, run_through, run_wide};
+use crate::data::print_data;
+use crate::end::{End, Ending, Wide, ending_of, run_through, run_wide};
+use crate::folded::print_folded;
 use crate::lines::{Lines, printable};
 use crate::operands::operand_names;
+use crate::profile::print_profile;
 use crate::reasons::reason;
 use crate::stack::{function_name, print_calls, print_stack};
 use crate::watch::Watch;
+use job_profile::Profile;
 use job_steps::Job;
 use std::alloc::{AllocError, Global};
 use std::io;
@@ -210,10 +214,9 @@ fn note_of(
     }
 }
 
-/// Prints how a job ended, after its name.
-fn print_ending(rt: &HostRuntime, end: End) -> io::Result<()> {
-    let count = end.executed;
-    match end.ending {
+/// Prints how a job ended after this many instructions, on the line of its name.
+fn print_ending(rt: &HostRuntime, ending: Ending, count: u64) -> io::Result<()> {
+    match ending {
         Ending::Returned => println!(rt; "RETURNED after {count} instructions"),
         Ending::Budget => println!(rt; "BUDGET after {count} instructions"),
         Ending::Fault(fault, line) => {
@@ -282,7 +285,7 @@ fn print_all(
     wide: Option<Wide>,
     name: &str,
 ) -> io::Result<()> {
-    print_ending(rt, end)?;
+    print_ending(rt, end.ending, end.executed)?;
     print_last(rt, batch, watch, end, wide)?;
     print_used(rt, end, watch.run.job().limits())?;
     match wide {
@@ -306,7 +309,7 @@ fn print_state(rt: &HostRuntime, batch: Batch<'_>, watch: &Watch) -> io::Result<
 /// Shows what was asked for of a run that has executed nothing.
 fn show_run(rt: &HostRuntime, batch: Batch<'_>, watch: &mut Watch, look: Look) -> io::Result<()> {
     match look {
-        Look::End => Ok(()),
+        Look::End | Look::Profile | Look::Data | Look::Folded => Ok(()),
         Look::After(count) => {
             watch.go_to(count)?;
             print_state(rt, batch, watch)
@@ -326,6 +329,56 @@ fn show_run(rt: &HostRuntime, batch: Batch<'_>, watch: &mut Watch, look: Look) -
     }
 }
 
+/// The profile of a job that has run to its end, and how it ended.
+fn profile_of(
+    alloc: Global,
+    rule: Rule,
+    job: Job<Global>,
+) -> Result<(Profile<Global>, Ending), AllocError> {
+    let mut profile = Profile::new(alloc, rule, job)?;
+    profile.run_out()?;
+    profile.collect()?;
+    let ending = ending_of(profile.run());
+    Ok((profile, ending))
+}
+
+/// Prints how a job ended and its profile, on the line of its name.
+fn show_profile(rt: &HostRuntime, batch: Batch<'_>, job: Job<Global>) -> io::Result<()> {
+    let (profile, ending) = profile_of(rt.alloc(), batch.rule, job)?;
+    print_ending(rt, ending, profile.run().executed())?;
+    print_profile(rt, batch.lines, &profile)
+}
+
+/// Prints the profile of a job of this place and this name as data.
+fn show_data(
+    rt: &HostRuntime,
+    batch: Batch<'_>,
+    place: u64,
+    job: Job<Global>,
+    name: &str,
+) -> io::Result<()> {
+    let (profile, ending) = profile_of(rt.alloc(), batch.rule, job)?;
+    print_data(rt, place, name, ending, &profile)
+}
+
+/// Shows what was asked for of a job of this name, on the line of its name.
+fn show_named(
+    rt: &HostRuntime,
+    batch: Batch<'_>,
+    job: Job<Global>,
+    name: &str,
+    look: Look,
+) -> io::Result<()> {
+    match look {
+        Look::End => print_end(rt, batch, job, name),
+        Look::Profile => show_profile(rt, batch, job),
+        Look::After(_) | Look::At { .. } | Look::Steps { .. } | Look::Data | Look::Folded => {
+            let mut watch = Watch::new(rt.alloc(), batch.rule, job)?;
+            show_run(rt, batch, &mut watch, look)
+        }
+    }
+}
+
 /// Shows what was asked for of a job of this place and this name.
 pub fn show(
     rt: &HostRuntime,
@@ -335,10 +388,12 @@ pub fn show(
     look: Look,
 ) -> io::Result<()> {
     let name = printable(rt.alloc(), job.name())?;
-    print!(rt; "JOB {place} {name} ")?;
-    if let Look::End = look {
-        return print_end(rt, batch, job, name.as_str());
+    match look {
+        Look::Data => show_data(rt, batch, place, job, name.as_str()),
+        Look::Folded => print_folded(rt, batch.rule, job),
+        Look::End | Look::Profile | Look::After(_) | Look::At { .. } | Look::Steps { .. } => {
+            print!(rt; "JOB {place} {name} ")?;
+            show_named(rt, batch, job, name.as_str(), look)
+        }
     }
-    let mut watch = Watch::new(rt.alloc(), batch.rule, job)?;
-    show_run(rt, batch, &mut watch, look)
 }

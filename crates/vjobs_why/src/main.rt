@@ -2,11 +2,14 @@
 #![tactic(auto)]
 
 mod command;
+mod data;
 mod end;
+mod folded;
 mod lines;
 mod look;
 mod meanings;
 mod operands;
+mod profile;
 mod reading;
 mod reasons;
 mod stack;
@@ -14,6 +17,7 @@ mod watch;
 
 use batch_reader::{Batch, Entry, Fate, Feed, JobEntries, JobEntry};
 use command::{Asked, Line, LineFault, Look, read_line};
+use data::print_refusal;
 use lines::{Lines, printable};
 use look::show;
 use meanings::{batch_meaning, job_meaning};
@@ -47,9 +51,16 @@ fn show_entry(
         Fate::Ready(job) => show(rt, batch, place, job, look),
         Fate::Refused(line, fault) => {
             let name = printable(rt.alloc(), name.as_slice())?;
-            let text = fault.text();
-            println!(rt; "JOB {place} {name} REFUSED line {line} {text}")?;
-            batch.lines.print_around(rt, line, job_meaning(fault))
+            match look {
+                Look::Data => print_refusal(rt, place, name.as_str(), line, fault),
+                Look::Folded => Ok(()),
+                Look::End | Look::After(_) | Look::At { .. } | Look::Steps { .. } | Look::Profile =>
+                    {
+                        let text = fault.text();
+                        println!(rt; "JOB {place} {name} REFUSED line {line} {text}")?;
+                        batch.lines.print_around(rt, line, job_meaning(fault))
+                    }
+            }
         }
     }
 }

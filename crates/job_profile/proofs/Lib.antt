@@ -1,0 +1,3 @@
+pub mod Counted
+pub mod Lists
+pub mod Whole
