@@ -1,6 +1,6 @@
 -- What a step makes of the counts.
-use Rattle.std.proofs.Common.{add-one, List, ◌≡◌, ℕ, zero, suc, ◌+◌, ◌-◌, ◌<◌, ◌≤◌, Bool, true, false, cond, eqb, []}
-use Rattle.std.proofs.Common.{◌∷◌, length, Option, Some, None, get_or, refl, sym, ◌∙◌, ap, subst, inl, inr, arith}
+use Rattle.std.proofs.Common.{add-one, List, ◌≡◌, ℕ, ◌+◌, ◌-◌, ◌<◌, ◌≤◌, Bool, true, false, cond, eqb, []}
+use Rattle.std.proofs.Common.{◌∷◌, Option, Some, None, get_or, refl, sym, ◌∙◌, ap, subst, inl, inr, arith}
 use Rattle.std.specs.Prelude.{◌⊎◌, nat_lt, max}
 use Rattle.std.proofs.lemmas.Bool.Decides.{nat_tests}
 use Rattle.vcode_base.specs.declared.fault.DataFault.{DataFault}
@@ -15,7 +15,7 @@ use Rattle.job_steps.specs.Runs.{state_after, progress_from, executed_count_in, 
 use Rattle.job_steps.specs.States.{Task, State, Active}
 use Rattle.job_steps.specs.Steps.{Ending, Progress, Running, Over, Stuck, progress_by, progress_past, words_at}
 use Rattle.job_profile.specs.Counts.{IsFirstPeak, line_in, times_until}
-use Rattle.job_profile.specs.Sound.{CountAlike, IsCounted}
+use Rattle.job_profile.specs.Sound.{IsCounted}
 use Rattle.job_profile.proofs.Lists.{IsMore}
 
 -- ---- how a step goes

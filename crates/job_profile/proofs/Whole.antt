@@ -1,5 +1,5 @@
 -- The whole run, and a profile whose run is elsewhere.
-use Rattle.std.proofs.Common.{add-one, List, ◌≡◌, ℕ, zero, suc, ◌+◌, ◌-◌, ◌<◌, ◌≤◌, Bool, true, false, cond, get_or, length}
+use Rattle.std.proofs.Common.{add-one, List, ◌≡◌, ℕ, zero, suc, ◌+◌, ◌-◌, ◌<◌, ◌≤◌, false, cond, get_or, length}
 use Rattle.std.proofs.Common.{drop, take, refl, sym, ◌∙◌, ap, subst, inl, inr, arith}
 use Rattle.std.specs.Prelude.{◌⊎◌, nat_lt, sum}
 use Rattle.std.proofs.Math.ListN.{set}
@@ -7,7 +7,7 @@ use Rattle.std.proofs.lemmas.Bool.{false≢true}
 use Rattle.std.proofs.lemmas.List.Sums.{get_or-le-sum_by}
 use Rattle.job_steps.specs.EventLaws.{EarlyEndsEnd, OthersAreReady}
 use Rattle.job_steps.specs.Reached.{EachEnds, EndIsOwn, IsVerifiedBySome, NeverStuck, Reaches}
-use Rattle.job_steps.specs.Runs.{state_after, whole_run, progress_from, outcome, executed_count, peak}
+use Rattle.job_steps.specs.Runs.{state_after, whole_run, progress_from, executed_count, peak}
 use Rattle.job_steps.specs.Runs.{executed_count_in, peak_in}
 use Rattle.job_steps.specs.States.{Task}
 use Rattle.job_steps.specs.Steps.{Ending, Progress, Running, Over, Stuck}

@@ -136,6 +136,14 @@ impl Chains {
     }
 }
 
+/// Appends a name as it may be shown, with a question mark for a semicolon, since that parts the names.
+fn push_name(alloc: Global, names: &mut String, name: &[u8]) -> Result<(), AllocError> {
+    for letter in printable(alloc, name)?.chars() {
+        names.push(if letter == ';' { '?' } else { letter })?;
+    }
+    Ok(())
+}
+
 /// The names of these functions of a job, from the last one to the first, with semicolons between them.
 fn names_of(alloc: Global, job: &Job<Global>, functions: &[usize]) -> Result<String, AllocError> {
     let all = job.verified().program().functions();
@@ -145,8 +153,7 @@ fn names_of(alloc: Global, job: &Job<Global>, functions: &[usize]) -> Result<Str
             names.push(';')?;
         }
         if let Some(function) = all.get(*place) {
-            let name = printable(alloc, function.name())?;
-            names.push_str(name.as_str())?;
+            push_name(alloc, &mut names, function.name())?;
         }
     }
     Ok(names)

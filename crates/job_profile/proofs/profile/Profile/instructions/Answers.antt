@@ -1,4 +1,4 @@
-use Rattle.std.proofs.Common.{◌≡◌, ◌≤◌, List, ℕ, drop, take, sym, ◌∙◌, ap, arith}
+use Rattle.std.proofs.Common.{◌≡◌, List, ℕ, drop, take, ◌∙◌, ap, arith}
 use Rattle.std.specs.Prelude.{sum}
 use Rattle.job_steps.specs.Runs.{executed_count_in}
 use Rattle.job_walk.specs.Walks.{RunState, progress_of}

@@ -1,6 +1,6 @@
-use Rattle.std.proofs.Common.{◌≡◌, ◌+◌, ◌-◌, ℕ, List, get_or, refl, sym, ◌∙◌, ap}
+use Rattle.std.proofs.Common.{◌≡◌, ◌+◌, ◌-◌, ℕ, List, get_or, refl, ◌∙◌, ap}
 use Rattle.std.proofs.Math.ListN.{set}
-use Rattle.job_steps.specs.Runs.{executed_count_in, peak_in}
+use Rattle.job_steps.specs.Runs.{peak_in}
 use Rattle.job_walk.specs.Walks.{progress_of}
 use Rattle.job_profile.proofs.Lists.{given_back}
 use Rattle.job_profile.proofs.Whole.{StepCounts, counted_after, no_less}
