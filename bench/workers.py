@@ -27,7 +27,7 @@ import steps
 
 TOP = Path(__file__).resolve().parent.parent
 WORKERS = (1, 2, 4)
-LENGTHS, JOBS = (100, 1_000, 10_000, 30_000), (1, 4, 16)
+LENGTHS, JOBS = (100, 1_000, 3_000, 10_000, 30_000), (1, 4, 16)
 # The number of vectors that each job has room for.
 VECTORS = 6
 
@@ -48,7 +48,7 @@ def divisions(length, rounds):
 
 
 # What is repeated, and the words that its results have in all jobs of a batch together.
-INSTRUCTIONS = {"+": (steps.sums, 40_000_000), "/": (divisions, 10_000_000), "PERMUTE": (steps.permutations, 10_000_000)}
+INSTRUCTIONS = {"+": (steps.sums, 400_000_000), "/": (divisions, 200_000_000), "PERMUTE": (steps.permutations, 200_000_000)}
 
 
 def own_batches(scale):
