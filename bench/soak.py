@@ -3,11 +3,12 @@
 
     python3 bench/soak.py MINUTES [SEED [PROGRAM]]
 
-Run it at the top of the repository, after `make`; PROGRAM stands in the place of bin/vjobs. It takes the batches in turn: the examples and the program's stored
-run, whose reports are kept; random batches, whose reports come from `models/`; mixed ones, of up to 64 jobs with the
-loads of bench/steps.py, which crowd one region; and turning ones, whose jobs change between many short steps and some
-long ones. What these two should answer is what the program answers with a schedule, since it has no workers then. At
-the end it prints how many runs there were; the first that differs is printed whole, and ends it with status 1.
+Run it at the top of the repository, after `make`; PROGRAM stands in the place of bin/vjobs. It takes these batches in
+turn: the examples and the program's stored run, whose reports are kept; random batches, whose reports come from
+`models/`; mixed ones, of up to 64 jobs with the loads of bench/steps.py, which crowd one region; and turning ones,
+whose jobs change between many short steps and some long ones. What the last two should answer is what the program
+answers with a schedule, since it has no workers then. At the end it prints how many runs there were; the first that
+differs is printed whole, and ends it with status 1.
 """
 import random
 import subprocess
