@@ -48,7 +48,11 @@ def divisions(length, rounds):
 
 
 # What is repeated, and the words that its results have in all jobs of a batch together.
-INSTRUCTIONS = {"+": (steps.sums, 400_000_000), "/": (divisions, 200_000_000), "PERMUTE": (steps.permutations, 200_000_000)}
+INSTRUCTIONS = {
+    "+": (steps.sums, 400_000_000),
+    "/": (divisions, 200_000_000),
+    "PERMUTE": (steps.permutations, 200_000_000),
+}
 
 
 def own_batches(scale):

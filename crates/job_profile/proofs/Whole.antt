@@ -17,7 +17,7 @@ use Rattle.job_profile.specs.Sound.{CountAlike, IsCounted}
 use Rattle.job_profile.proofs.Counted.{not_fewer, still_counted}
 use Rattle.job_profile.proofs.Lists.{IsMore, more_by, part_more}
 
--- the run has come to a state after at least so many steps
+-- the run has come to a state after `least` steps or more
 pub record IsPast (task : Task) (least : ℕ) (r : RunState) : Type 0 where
   pub steps : ℕ
   pub least_is : least ≤ steps

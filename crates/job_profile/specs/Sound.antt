@@ -12,7 +12,7 @@ pub record CountAlike (old new : List ℕ) : Type 0 where
   pub total : sum new ≡ sum old
 
 -- A verified job has come so far by a number of steps, no state of which has a greater peak. The times are those of its
--- lines, and the peak was first reached after so many instructions.
+-- lines, and the peak was first reached after `after` instructions.
 pub record IsCounted (task : Task) (p : Progress) (times : List ℕ) (after : ℕ) : Type 0 where
   pub steps : ℕ
   pub come : p ≡ state_after task steps

@@ -2,7 +2,7 @@
 use Rattle.std.proofs.Common.{◌≡◌, ℕ, ◌+◌, ◌-◌, ◌<◌, List, [], ◌∷◌, ◌++◌, length, take, drop, refl, ap, suc, zero, arith}
 use Rattle.std.proofs.Common.{◌∙◌, sym, slice_index_or, slice_set}
 
--- with so many others moved
+-- the first element behind the n that follow it
 abbrev shifted : {T : Type 0} → ℕ → List T → List T
 shifted n xs = take n (drop 1 xs) ++ drop n xs
 

@@ -8,7 +8,7 @@ abbrev pub magnitude : ℤ → ℕ
 magnitude (pos n) = n
 magnitude (negsuc n) = n
 
--- one of the least numbers from 0 up or from -1 down, so many of each
+-- a number from -half to half - 1
 abbrev pub IsBelow : ℕ → ℤ → Type 0
 IsBelow half word = magnitude word < half
 
