@@ -9,7 +9,7 @@
 # make cluster runs job files of strangers by vjobs-spread on a Slurm of three nodes and by GNU parallel, with faults: by
 #              the programs of bin, or of the folder VJOBS_PROGRAMS; as root it installs the packages if they are missing
 # make cluster-hard   does so with 1,000 files, cut cables, dead hosts and killed daemons, as root; not in the gate
-# make test    runs all tests, tables and examples without proving anything
+# make test    runs all tests, tables and examples without proving anything; with WITHIN=600 as far as they come in 600 s
 # make gate    the gate: every proof from nothing, the wrong bodies to be refused, all tests, tables and examples
 # make install PREFIX=..   installs what was built, the man pages, the pages and the examples; /usr/local without PREFIX
 # make dist LOG=FILE   packs the same into bin/vjobs-COMMIT.tar.gz; FILE is the output of make gate on this commit
@@ -71,7 +71,7 @@ cluster-hard:
 	python3 -B tests/cluster/hard.py
 
 test:
-	.ci/try
+	.ci/try $(if $(WITHIN),--within $(WITHIN))
 
 gate:
 	rt ci
