@@ -25,7 +25,7 @@ use Rattle.job_steps.specs.Reached.{IsVerifiedBySome}
 use Rattle.job_steps.specs.Frames.{StopAt, Stands, StandAll, remaining, lines_at, first_line, next_line}
 use Rattle.job_steps.specs.Frames.{instruction_in}
 use Rattle.job_steps.specs.Motions.{stack_after, depth_after}
-use Rattle.job_steps.specs.States.{Arrow, Task, StackEntry, Active, State, Callee, callee_of, callee_at, callee_named}
+use Rattle.job_steps.specs.States.{Task, StackEntry, Active, State, Callee, callee_of, callee_at, callee_named}
 use Rattle.job_steps.specs.States.{calls_with}
 use Rattle.job_steps.specs.States.{first_state, new_entries}
 use Rattle.job_steps.specs.Steps.{next_item, calls_past, calls_after, can_call, can_run, is_call, question_of}
@@ -261,7 +261,7 @@ function_in : Option Callee → Option Function
 function_in None = None
 function_in (Some c) = Some c.function
 
-function_is : (a : Option Function) (b : Option Arrow) (c : Callee) → callee_of a b ≡ Some c → a ≡ Some c.function
+function_is : (a : Option Function) (b : Option FunctionType) (c : Callee) → callee_of a b ≡ Some c → a ≡ Some c.function
 unfolding function_in
 function_is None b c e = absurd (let h : ◌≡◌ {A = Option Callee} None (Some c) = e in cc)
 function_is (Some f) None c e = absurd (let h : ◌≡◌ {A = Option Callee} None (Some c) = e in cc)

@@ -20,7 +20,7 @@ use Rattle.vcode_base.specs.Motions.{entries_after_move}
 use Rattle.vcode_base.specs.Names.{main_name}
 use Rattle.vcode_reader.specs.Decode.{then_body}
 use Rattle.vcode_reader.specs.Trees.{Item, Body, End, Do, Choice, Function, IsBodyInstruction, IsProperBody}
-use Rattle.signatures.specs.Signatures.{Signature, kinds_of as signature_of}
+use Rattle.signatures.specs.Signatures.{FunctionType, Signature, kinds_of as signature_of}
 use Rattle.vcode_base.specs.declared.rule.Rule.{Rule}
 use Rattle.verifier.specs.Typed.{TypedProgram, AreArrows}
 use Rattle.verifier.specs.Kinded.{Scope, Turns, HasKinds, FitsSignature, has_function, scope_of}
@@ -86,26 +86,26 @@ named (g ∷ fs) name place e =
       named = (bytes_eq-Decides f.name name).0 p.1;
     }
 
-same_arrow : (a b c d : List Kind) → ◌≡◌ {A = Option (List Kind × List Kind)} (Some (a, b)) (Some (c, d)) →
+same_arrow : (a b c d : List Kind) → ◌≡◌ {A = Option FunctionType} (Some (a, b)) (Some (c, d)) →
     (a ≡ c) × (b ≡ d)
-same_arrow a b c d e = let h : ◌≡◌ {A = List Kind × List Kind} (a, b) (c, d) = cc in
-    (ap (λ (p : List Kind × List Kind). p.0) h, ap (λ (p : List Kind × List Kind). p.1) h)
+same_arrow a b c d e = let h : ◌≡◌ {A = FunctionType} (a, b) (c, d) = cc in
+    (ap (λ (p : FunctionType). p.0) h, ap (λ (p : FunctionType). p.1) h)
 
-arrow_in : (o : Option (List Kind × List Kind)) (arrow : List Kind × List Kind) →
-    option_map (λ (a : List Kind × List Kind). Some a) o ≡ Some (Some arrow) → o ≡ Some arrow
+arrow_in : (o : Option FunctionType) (arrow : FunctionType) →
+    option_map (λ (a : FunctionType). Some a) o ≡ Some (Some arrow) → o ≡ Some arrow
 arrow_in None arrow e =
-    absurd (let h : ◌≡◌ {A = Option (Option (List Kind × List Kind))} None (Some (Some arrow)) = e in cc)
+    absurd (let h : ◌≡◌ {A = Option (Option FunctionType)} None (Some (Some arrow)) = e in cc)
 arrow_in (Some a) arrow e =
-    let h : ◌≡◌ {A = Option (Option (List Kind × List Kind))} (Some (Some a)) (Some (Some arrow)) = e in cc
+    let h : ◌≡◌ {A = Option (Option FunctionType)} (Some (Some a)) (Some (Some arrow)) = e in cc
 
 -- the arrow of a function is that of its signature
-arrow_at : (signatures : List Signature) (functions : List Function) (arrows : List (List Kind × List Kind))
-    (place : ℕ) (f : Function) (arrow : List Kind × List Kind) →
+arrow_at : (signatures : List Signature) (functions : List Function) (arrows : List FunctionType)
+    (place : ℕ) (f : Function) (arrow : FunctionType) →
     AreArrows signatures functions arrows → slice_get functions place ≡ Some f →
     signature_of signatures f.name ≡ Some arrow → slice_get arrows place ≡ Some arrow
 arrow_at signatures functions arrows place f arrow same there signed =
     arrow_in (slice_get arrows place) arrow
-    (sym (slice_get-map (λ (a : List Kind × List Kind). Some a) arrows place)
+    (sym (slice_get-map (λ (a : FunctionType). Some a) arrows place)
     ∙ (ap (λ os. slice_get os place) (sym same)
     ∙ (slice_get-map (λ (g : Function). signature_of signatures g.name) functions place
     ∙ (ap (option_map (λ (g : Function). signature_of signatures g.name)) there ∙ ap Some signed))))

@@ -9,15 +9,12 @@ use Rattle.vcode_base.specs.declared.limits.Limits.{Limits}
 use Rattle.vcode_base.specs.declared.rule.Rule.{Rule}
 use Rattle.vcode_base.specs.Names.{main_name}
 use Rattle.vcode_reader.specs.Trees.{Body, Function}
+use Rattle.signatures.specs.Signatures.{FunctionType}
 use Rattle.verifier.specs.Typed.{TypedProgram}
 
 -- a vector: its kind and its words
 abbrev pub Vector : Type 0
 Vector = Value (List ℤ)
-
--- the kinds that a function takes, and those that it gives, from the bottom of the stack up
-abbrev pub Arrow : Type 0
-Arrow = List Kind × List Kind
 
 -- what a job is: a verified program, with its name and its limits
 pub record JobValue : Type 0 where
@@ -59,9 +56,9 @@ pub record State : Type 0 where
 -- a function that is called, with the kinds that it takes and gives
 pub record Callee : Type 0 where
   pub function : Function
-  pub arrow : Arrow
+  pub arrow : FunctionType
 
-abbrev pub callee_of : Option Function → Option Arrow → Option Callee
+abbrev pub callee_of : Option Function → Option FunctionType → Option Callee
 callee_of (Some function) (Some arrow) = Some (record { function = function; arrow = arrow })
 callee_of (Some function) None = None
 callee_of None arrow = None

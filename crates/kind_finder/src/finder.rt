@@ -2,7 +2,8 @@
 
 use crate::fault::{FindFault, Obstacle, PathFault, PlacedFault};
 use crate::operands::{Entry, Operands};
-use crate::walk::{Arrow, Finding, Walk, operands_of};
+use crate::walk::{Finding, Walk, operands_of};
+use signatures::FunctionType;
 use std::alloc::{AllocError, Allocator};
 use vcode_base::Kind;
 use vcode_base::limits::MOST_KINDS;
@@ -18,13 +19,6 @@ pub(crate) struct Finder<'a, A: Allocator> {
     findings: Vec<Finding<A>, A>,
     /// The first function that was assumed to return.
     assumed: Option<usize>,
-}
-
-/// The kinds that a function takes and those that it gives, from the bottom up.
-#[derive(Drop)]
-pub(crate) struct Signature<A: Allocator> {
-    pub(crate) takes: Vec<Kind, A>,
-    pub(crate) gives: Vec<Kind, A>,
 }
 
 /// The fault that ends a walk through a function at a line, which may call one.
@@ -45,8 +39,10 @@ fn fault_at(fault: PathFault, function: usize, callee: Option<usize>, line: u64)
 /// Whether callers go on with a new finding in another way than with the old one.
 fn is_news<A: Allocator>(old: &Finding<A>, new: &Finding<A>) -> bool {
     match (old, new) {
-        (Finding::Returns(old), Finding::Returns(new)) => old.operands != new.operands,
-        (Finding::WaitsFor(_), Finding::Returns(_)) => true,
+        (Finding::Returns { operands: old, .. }, Finding::Returns { operands: new, .. }) => {
+            old != new
+        }
+        (Finding::WaitsFor(_), Finding::Returns { .. }) => true,
         (_, Finding::WaitsFor(_)) => false,
     }
 }
@@ -116,7 +112,7 @@ impl<'a, A: Allocator + Copy> Finder<'a, A> {
         let operands = self.operands.count(place);
         let results = operands_of(self.alloc, place, operands)?;
         if let Some(finding) = self.findings.get_mut(place) {
-            *finding = Finding::Returns(Arrow { operands, results });
+            *finding = Finding::Returns { operands, results };
         }
         if self.assumed.is_none() {
             self.assumed = Some(place);
@@ -137,7 +133,9 @@ impl<'a, A: Allocator + Copy> Finder<'a, A> {
             if let Some(known) = self.findings.get_mut(place) {
                 changed |= is_news(known, &found);
                 // What was assumed stays until the function returns.
-                if matches!(found, Finding::Returns(_)) || matches!(known, Finding::WaitsFor(_)) {
+                if matches!(found, Finding::Returns { .. })
+                    || matches!(known, Finding::WaitsFor(_))
+                {
                     *known = found;
                 }
             }
@@ -165,20 +163,25 @@ impl<'a, A: Allocator + Copy> Finder<'a, A> {
         }
     }
 
-    /// The signature of the function at this place, with INT for kinds that are open.
-    pub(crate) fn signature(&self, place: usize) -> Result<Signature<A>, PlacedFault> {
+    /// What the function at this place takes and gives, with INT for kinds that are open.
+    pub(crate) fn function_type(&self, place: usize) -> Result<FunctionType<A>, PlacedFault> {
         match self.findings.get(place) {
-            Some(Finding::Returns(arrow)) => Ok(self.signature_of(place, arrow)?),
+            Some(Finding::Returns { operands, results }) => {
+                Ok(self.function_type_of(place, *operands, results)?)
+            }
             _ => Err(self.never_returns(place)),
         }
     }
 
-    fn signature_of(&self, place: usize, arrow: &Arrow<A>) -> Result<Signature<A>, AllocError> {
-        let takes = operands_of(self.alloc, place, arrow.operands)?;
-        Ok(Signature {
-            takes: self.kinds_of(&takes)?,
-            gives: self.kinds_of(&arrow.results)?,
-        })
+    fn function_type_of(
+        &self,
+        place: usize,
+        operands: usize,
+        results: &[Entry],
+    ) -> Result<FunctionType<A>, AllocError> {
+        let operands = operands_of(self.alloc, place, operands)?;
+        let operands = self.kinds_of(&operands)?;
+        Ok(FunctionType::new(operands, self.kinds_of(results)?))
     }
 
     /// The kinds of entries.

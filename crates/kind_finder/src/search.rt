@@ -75,8 +75,8 @@ fn make_guess<A: Allocator + Copy>(
     finder.find()?;
     let mut text = Vec::new(alloc);
     for (place, function) in program.functions().iter().enumerate() {
-        let signature = finder.signature(place)?;
-        put_signature(&mut text, function.name(), &signature)?;
+        let kinds = finder.function_type(place)?;
+        put_signature(&mut text, function.name(), &kinds)?;
     }
     let blame = finder.blame().map(|fault| named(alloc, program, fault));
     Ok(Guess { text, blame })

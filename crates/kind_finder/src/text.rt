@@ -1,6 +1,6 @@
 //! The text of signatures.
 
-use crate::finder::Signature;
+use signatures::FunctionType;
 use std::alloc::{AllocError, Allocator};
 use vcode_base::Kind;
 
@@ -30,13 +30,13 @@ fn put_kinds<A: Allocator>(text: &mut Vec<u8, A>, kinds: &[Kind]) -> Result<(), 
 pub(crate) fn put_signature<A: Allocator>(
     text: &mut Vec<u8, A>,
     name: &[u8],
-    signature: &Signature<A>,
+    kinds: &FunctionType<A>,
 ) -> Result<(), AllocError> {
     text.extend_from_slice(name)?;
     text.push(b' ')?;
-    put_kinds(text, &signature.takes)?;
+    put_kinds(text, kinds.operands())?;
     text.extend_from_slice(b" -> ")?;
-    put_kinds(text, &signature.gives)?;
+    put_kinds(text, kinds.results())?;
     text.push(b'\n')?;
     Ok(())
 }

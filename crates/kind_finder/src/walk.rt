@@ -9,20 +9,16 @@ use vcode_base::{Instr, Instruction, Kind};
 use vcode_reader::{CodeItem, CodeLine};
 use verifier::KindFault;
 
-/// What a function takes and gives.
-#[derive(Drop)]
-pub(crate) struct Arrow<A: Allocator> {
-    /// How many operands it takes.
-    pub(crate) operands: usize,
-    /// The kinds of its results, from the bottom up.
-    pub(crate) results: Vec<Entry, A>,
-}
-
 /// What is known of a function.
 #[derive(Drop)]
 pub(crate) enum Finding<A: Allocator> {
-    /// It returns, and takes and gives this.
-    Returns(Arrow<A>),
+    /// It returns.
+    Returns {
+        /// How many operands it takes.
+        operands: usize,
+        /// The kinds of its results, from the bottom up, as far as they are known.
+        results: Vec<Entry, A>,
+    },
     /// No path reaches its RET, as long as nothing is known of the function at this place.
     WaitsFor(usize),
 }
@@ -118,9 +114,14 @@ impl<A: Allocator + Copy> Walk<A> {
             return Ok(());
         };
         match findings.get(callee) {
-            Some(Finding::Returns(arrow)) => {
-                let takes = operands_of(self.alloc, callee, arrow.operands)?;
-                stack.replace(operands, &takes, &arrow.results)
+            Some(
+                Finding::Returns {
+                    operands: count,
+                    results,
+                },
+            ) => {
+                let takes = operands_of(self.alloc, callee, *count)?;
+                stack.replace(operands, &takes, results)
             }
             _ => {
                 self.path = None;
@@ -176,9 +177,9 @@ impl<A: Allocator + Copy> Walk<A> {
         };
         let count = operands.count(function);
         stack.uncover(operands, count)?;
-        Ok(Finding::Returns(Arrow {
+        Ok(Finding::Returns {
             operands: count,
             results: stack.into_entries(),
-        }))
+        })
     }
 }

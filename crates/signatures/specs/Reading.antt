@@ -9,7 +9,7 @@ use Rattle.signatures.specs.declared.fault.SignatureFault.{SignatureFault}
 use Rattle.signatures.specs.declared.fault.SignatureFault.TheVariants.{BadLine, NameTwice, TooLarge}
 use Rattle.signatures.specs.Faults.{Fault}
 use Rattle.signatures.specs.Lines.{lines, line_words}
-use Rattle.signatures.specs.Signatures.{Signature, signature, kinds_of}
+use Rattle.signatures.specs.Signatures.{FunctionType, Signature, signature, kinds_of}
 use Rattle.signatures.specs.Spelling.{is_name}
 
 -- ---- the words of a line
@@ -38,18 +38,18 @@ abbrev pub list_in : List (List ℕ) → Option (List Kind × List (List ℕ))
 list_in ws = option_and_then (kinds_from []) (words_behind (codes "(") ws)
 
 -- the kinds, if no word is left
-abbrev pub whole_arrow : List Kind → List Kind × List (List ℕ) → Option (List Kind × List Kind)
+abbrev pub whole_arrow : List Kind → List Kind × List (List ℕ) → Option FunctionType
 whole_arrow operands (results, []) = Some (operands, results)
 whole_arrow operands (results, w ∷ ws) = None
 
-abbrev pub after_arrow : List Kind → List (List ℕ) → Option (List Kind × List Kind)
+abbrev pub after_arrow : List Kind → List (List ℕ) → Option FunctionType
 after_arrow operands ws = option_and_then (whole_arrow operands) (list_in ws)
 
-abbrev pub after_operands : List Kind × List (List ℕ) → Option (List Kind × List Kind)
+abbrev pub after_operands : List Kind × List (List ℕ) → Option FunctionType
 after_operands taken = option_and_then (after_arrow taken.0) (words_behind (codes "->") taken.1)
 
 -- the kinds that the words after a name say
-unfoldable pub arrow_in : List (List ℕ) → Option (List Kind × List Kind)
+unfoldable pub arrow_in : List (List ℕ) → Option FunctionType
 arrow_in ws = option_and_then after_operands (list_in ws)
 
 -- ---- a line after these signatures
@@ -66,7 +66,7 @@ add known s =
     else if is_some (kinds_of known s.name) then Err NameTwice
     else Ok (known ++ s ∷ [])
 
-abbrev pub after_name : List Signature → List ℕ → Option (List Kind × List Kind)
+abbrev pub after_name : List Signature → List ℕ → Option FunctionType
     → Result (List Signature) SignatureFault
 after_name known name None = Err BadLine
 after_name known name (Some kinds) = add known (signature name kinds)

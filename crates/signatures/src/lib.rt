@@ -18,11 +18,13 @@
 #![tactic(auto)]
 
 mod fault;
+mod function_type;
 pub mod laws;
 mod line;
 mod reader;
 mod table;
 
 pub use fault::{SigFault, SignatureFault};
+pub use function_type::FunctionType;
 pub use reader::{SigReader, read};
 pub use table::Signatures;

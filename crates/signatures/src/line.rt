@@ -6,7 +6,7 @@ ghost use Rattle.signatures.specs.Reading.{kind_of, words_behind, list_in, kinds
 ghost use Rattle.signatures.specs.Spelling.{is_name, is_name_byte};
 
 use crate::fault::{EntryFault, SignatureFault};
-use crate::table::Arrow;
+use crate::function_type::FunctionType;
 use std::alloc::Allocator;
 use vcode_base::{Kind, LineWords};
 
@@ -84,16 +84,16 @@ fn kinds<A: Allocator>(alloc: A, words: &mut LineWords<'_>) -> Result<Vec<Kind, 
 pub(crate) fn arrow<A: Allocator + Clone>(
     alloc: A,
     mut words: LineWords<'_>,
-) -> Result<Arrow<A>, EntryFault>
+) -> Result<FunctionType<A>, EntryFault>
     ensures { MatchResult result
-        (λ arrow. arrow_in words.entry ≡ Some arrow)
+        (λ kinds. arrow_in words.entry ≡ Some kinds)
         (λ fault. OnBadLine fault (arrow_in words.entry ≡ None)) }
 {
     let operands = list(alloc.clone()?, &mut words)?;
     expect(&mut words, b"->")?;
     let results = list(alloc, &mut words)?;
     match words.next() {
-        None => Ok(Arrow { operands, results }),
+        None => Ok(FunctionType::new(operands, results)),
         Some(_) => Err(EntryFault::Wrong(SignatureFault::BadLine)),
     }
 }

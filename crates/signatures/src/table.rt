@@ -8,6 +8,7 @@ ghost use Rattle.signatures.specs.Reading.{add, is_too_large};
 ghost use Rattle.signatures.specs.Signatures.{kinds_of, signature, NamesDiffer};
 
 use crate::fault::{EntryFault, SignatureFault};
+use crate::function_type::FunctionType;
 use indexmap::IndexMap;
 use std::alloc::Allocator;
 use std::hash::{BuildHasherDefault, FoldHasher};
@@ -15,26 +16,10 @@ use std::marker::Model;
 use vcode_base::Kind;
 use vcode_base::limits::{LONGEST_NAME, MOST_FUNCTIONS, MOST_KINDS};
 
-/// The kinds that a function takes and those that it gives, from bottom to top.
-#[derive(Drop)]
-pub(crate) struct Arrow<A: Allocator> {
-    pub(crate) operands: Vec<Kind, A>,
-    pub(crate) results: Vec<Kind, A>,
-}
-
-impl<A: Allocator> Model for Arrow<A> {
-    ghost use Rattle.std.specs.Prelude.{List};
-    ghost use Rattle.vcode_base.specs.declared.kind.Kind.{Kind as KindOf};
-
-    ghost Value = { List KindOf × List KindOf };
-
-    ghost view = { λ a. (a.operands.items, a.results.items) };
-}
-
 /// The signatures of a text, in the order of its lines. No name comes twice.
 #[derive(Drop)]
 pub struct Signatures<A: Allocator> {
-    arrows: IndexMap<Vec<u8, A>, Arrow<A>, BuildHasherDefault<FoldHasher>, A>,
+    types: IndexMap<Vec<u8, A>, FunctionType<A>, BuildHasherDefault<FoldHasher>, A>,
 }
 
 impl<A: Allocator> Model for Signatures<A> {
@@ -44,7 +29,7 @@ impl<A: Allocator> Model for Signatures<A> {
 
     ghost Value = { List Signature };
 
-    ghost view = { λ s. signatures_in s.arrows.entries };
+    ghost view = { λ s. signatures_in s.types.entries };
 }
 
 impl<A: Allocator + Copy> Signatures<A> {
@@ -53,26 +38,26 @@ impl<A: Allocator + Copy> Signatures<A> {
         ensures { result ≡ [] }
     {
         Signatures {
-            arrows: IndexMap::new(alloc),
+            types: IndexMap::new(alloc),
         }
     }
 
     /// Adds a signature after the others, if it fits the limits and its name is new. At an `Err`
     /// they are as before.
-    pub(crate) fn add(&mut self, name: &[u8], arrow: Arrow<A>) -> Result<(), EntryFault>
+    pub(crate) fn add(&mut self, name: &[u8], kinds: FunctionType<A>) -> Result<(), EntryFault>
         ensures added { MatchResult result
-            (λ _. add self.old (signature name.now arrow) ≡ Ok self.new)
-            (λ fault. OnWrong fault (add self.old (signature name.now arrow))) }
+            (λ _. add self.old (signature name.now kinds) ≡ Ok self.new)
+            (λ fault. OnWrong fault (add self.old (signature name.now kinds))) }
         ensures err { OnErr result (self.new ≡ self.old) }
     {
-        if self.is_too_large(name, &arrow) {
+        if self.is_too_large(name, &kinds) {
             return Err(EntryFault::Wrong(SignatureFault::TooLarge));
         }
-        if self.arrows.contains_key(name) {
+        if self.types.contains_key(name) {
             return Err(EntryFault::Wrong(SignatureFault::NameTwice));
         }
-        let owned = Vec::from_slice(*self.arrows.allocator(), name)?;
-        self.arrows.insert(owned, arrow)?;
+        let owned = Vec::from_slice(*self.types.allocator(), name)?;
+        self.types.insert(owned, kinds)?;
         Ok(())
     }
 }
@@ -83,7 +68,7 @@ impl<A: Allocator> Signatures<A> {
     where
         A: Copy,
     {
-        *self.arrows.allocator()
+        *self.types.allocator()
     }
 
     /// The kinds that the function of this name takes and those that it gives, from bottom to top;
@@ -92,17 +77,17 @@ impl<A: Allocator> Signatures<A> {
         ensures { MatchOption result (kinds_of self.now name.now ≡ None)
             (λ kinds. kinds_of self.now name.now ≡ Some (kinds.0.now, kinds.1.now)) }
     {
-        let arrow = self.arrows.get(name)?;
-        Some((arrow.operands.as_slice(), arrow.results.as_slice()))
+        let found = self.types.get(name)?;
+        Some(found.kinds())
     }
 
     /// Whether one signature more would pass a limit.
-    fn is_too_large(&self, name: &[u8], arrow: &Arrow<A>) -> bool
-        ensures { result ≡ is_too_large self.now (signature name.now arrow.now) }
+    fn is_too_large(&self, name: &[u8], kinds: &FunctionType<A>) -> bool
+        ensures { result ≡ is_too_large self.now (signature name.now kinds.now) }
     {
         name.len() > LONGEST_NAME
-            || arrow.operands.len() > MOST_KINDS
-            || arrow.results.len() > MOST_KINDS
+            || kinds.operands().len() > MOST_KINDS
+            || kinds.results().len() > MOST_KINDS
             || self.len() >= MOST_FUNCTIONS
     }
 
@@ -113,12 +98,8 @@ impl<A: Allocator> Signatures<A> {
             (λ parts. slice_get self.now place
             ≡ Some (record { name = parts.0.now; operands = parts.1.now; results = parts.2.now })) }
     {
-        let (name, arrow) = self.arrows.get_index(place)?;
-        Some((
-            name.as_slice(),
-            arrow.operands.as_slice(),
-            arrow.results.as_slice(),
-        ))
+        let (name, kinds) = self.types.get_index(place)?;
+        Some((name.as_slice(), kinds.operands(), kinds.results()))
     }
 
     /// How many there are.
@@ -126,13 +107,13 @@ impl<A: Allocator> Signatures<A> {
         ensures len { result ≡ length self.now }
         ensures distinct { NamesDiffer self.now }
     {
-        self.arrows.len()
+        self.types.len()
     }
 
     /// Whether there is none.
     pub fn is_empty(&self) -> bool
         ensures { IsTrue result ↔ (self.now ≡ []) }
     {
-        self.arrows.is_empty()
+        self.types.is_empty()
     }
 }

@@ -5,19 +5,15 @@ use Rattle.std.specs.Prelude.{map, All, IsSome, MatchOption}
 use Rattle.std.proofs.Math.Seq.{take-suc}
 use Rattle.std.proofs.lemmas.List.{map-append}
 use Rattle.std.proofs.lemmas.List.Elements.{All-get_or}
-use Rattle.vcode_base.specs.declared.kind.Kind.{Kind}
 use Rattle.vcode_reader.specs.Trees.{Function, Program}
-use Rattle.signatures.specs.Signatures.{Signature, kinds_of}
+use Rattle.signatures.specs.Signatures.{FunctionType, Signature, kinds_of}
 use Rattle.verifier.specs.Kinded.{IsWellKinded, FitsSignature, scope_of}
 use Rattle.verifier.specs.Typed.{AreArrows}
-
-abbrev Arrow : Type 0
-Arrow = List Kind × List Kind
 
 -- the signature of the function at a place
 pub arrow_at : (signatures : List Signature) (program : Program) (fs : List Function) (i : ℕ) (f : Function)
     → IsWellKinded signatures program → fs ≡ program.functions → i < length fs → f ≡ get_or fs i f
-    → (arrow : Arrow) × (kinds_of signatures f.name ≡ Some arrow)
+    → (arrow : FunctionType) × (kinds_of signatures f.name ≡ Some arrow)
 arrow_at signatures program fs i f h same lt is =
     let scope = scope_of signatures program in
     let all : All (FitsSignature scope) fs = subst (All (FitsSignature scope)) (sym same) h.functions in
@@ -25,8 +21,8 @@ arrow_at signatures program fs i f h same lt is =
     ((takes, gives), ap (λ (g : Function). kinds_of signatures g.name) is ∙ signature)
 
 -- an answer that is none only if there is no signature
-pub is_known : {T : Type 0} (o : Option T) (P : T → Type 0) (known : Option Arrow) → MatchOption o (known ≡ None) P
-    → ((arrow : Arrow) × (known ≡ Some arrow)) → IsSome o
+pub is_known : {T : Type 0} (o : Option T) (P : T → Type 0) (known : Option FunctionType) → MatchOption o (known ≡ None) P
+    → ((arrow : FunctionType) × (known ≡ Some arrow)) → IsSome o
 is_known None P known h k = absurd (let e : Some k.0 ≡ None = sym k.1 ∙ h in cc)
 is_known (Some x) P known h k = refl
 
@@ -38,11 +34,11 @@ known_arrow (Some y) P N x h e = let same : y ≡ x = cc in subst P same h
 
 -- the arrows of the functions before a place, and the next one
 one_arrow_more : (signatures : List Signature) (fs : List Function) (i : ℕ) (f : Function)
-    (arrows new : List Arrow) (arrow : Arrow)
+    (arrows new : List FunctionType) (arrow : FunctionType)
     → i < length fs → f ≡ get_or fs i f → AreArrows signatures (take i fs) arrows
     → kinds_of signatures f.name ≡ Some arrow → new ≡ arrows ++ arrow ∷ [] → AreArrows signatures (take (i + 1) fs) new
 one_arrow_more signatures fs i f arrows new arrow lt is before here e =
-    let row : Function → Option Arrow = λ g. kinds_of signatures g.name in
+    let row : Function → Option FunctionType = λ g. kinds_of signatures g.name in
     let front : take (i + 1) fs ≡ take i fs ++ f ∷ [] =
     ap (λ n. take n fs) (add-one i) ∙ (take-suc fs i f lt ∙ ap (λ g. take i fs ++ g ∷ []) (sym is)) in
     ap (map row) front
@@ -52,7 +48,7 @@ one_arrow_more signatures fs i f arrows new arrow lt is before here e =
 
 -- the same, of a program's functions as a slice gives them
 pub next_arrow : (signatures : List Signature) (program : Program) (fs : List Function) (i : ℕ) (f : Function)
-    (arrows new : List Arrow) (arrow : Arrow) → fs ≡ program.functions → i < length fs → f ≡ get_or fs i f
+    (arrows new : List FunctionType) (arrow : FunctionType) → fs ≡ program.functions → i < length fs → f ≡ get_or fs i f
     → AreArrows signatures (take i program.functions) arrows → kinds_of signatures f.name ≡ Some arrow
     → new ≡ arrows ++ arrow ∷ [] → AreArrows signatures (take (i + 1) program.functions) new
 next_arrow signatures program fs i f arrows new arrow same lt is before here e =

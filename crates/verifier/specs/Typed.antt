@@ -5,19 +5,18 @@ use Rattle.vcode_base.specs.declared.kind.Kind.{Kind}
 use Rattle.vcode_base.specs.Names.{main_name}
 use Rattle.vcode_reader.specs.Trees.{CodeLine, Function, Program}
 use Rattle.vcode_reader.specs.Decode.{program_code}
-use Rattle.signatures.specs.Signatures.{Signature, kinds_of}
+use Rattle.signatures.specs.Signatures.{FunctionType, Signature, kinds_of}
 use Rattle.verifier.specs.Kinded.{IsWellKinded}
 
--- a program, for each of its functions in their order the kinds that it takes and gives, from the bottom up, and the
--- kinds
--- of the entries at the RET of its MAIN
+-- a program, what each of its functions takes and gives, in their order, and the kinds of the entries at the RET of its
+-- MAIN
 pub record TypedProgram : Type 0 where
   pub program : Program
-  pub arrows : List (List Kind × List Kind)
+  pub arrows : List FunctionType
   pub results : List Kind
 
 -- the signatures give each function the kinds at its place
-abbrev pub AreArrows : List Signature → List Function → List (List Kind × List Kind) → Type 0
+abbrev pub AreArrows : List Signature → List Function → List FunctionType → Type 0
 AreArrows signatures functions arrows = map (λ f. kinds_of signatures f.name) functions ≡ map (λ a. Some a) arrows
 
 -- these signatures make the program well kinded, and give its functions these kinds
@@ -32,7 +31,7 @@ IsVerified typed = (signatures : List Signature) × IsVerifiedBy signatures type
 -- it is identified by its program and the kinds
 abbrev pub typed_program_code : Coded CodeLine → Coded Kind → Coded TypedProgram
 typed_program_code line kind =
-    code_by (Program × (List (List Kind × List Kind) × List Kind))
+    code_by (Program × (List FunctionType × List Kind))
     (coded× (program_code line) (coded× (coded_list (coded× (coded_list kind) (coded_list kind))) (coded_list kind)))
     (λ t. (t.program, (t.arrows, t.results)))
     (λ p. record { program = p.0; arrows = p.1.0; results = p.1.1 }) (λ _. refl)

@@ -14,14 +14,11 @@ use crate::fault::{KindFault, VerifyFault};
 use crate::lines::check_lines;
 use crate::scope::Scope;
 use crate::stack::{KindStack, are_same_kinds};
-use signatures::Signatures;
+use signatures::{FunctionType, Signatures};
 use std::alloc::{AllocError, Allocator};
 use std::marker::Model;
 use vcode_base::{Kind, Sequence};
 use vcode_reader::{Function, Program};
-
-/// The kinds that a function takes, and those that it gives.
-type Arrow<A> = (Sequence<Kind, A>, Sequence<Kind, A>);
 
 /// A well kinded program. It keeps, for each function, the kinds that the signatures by which it was
 /// verified let this function take and give.
@@ -29,7 +26,7 @@ type Arrow<A> = (Sequence<Kind, A>, Sequence<Kind, A>);
 #[derive_where(PartialEq, Eq)]
 pub struct Verified<A: Allocator> {
     program: Program<A>,
-    arrows: Sequence<Arrow<A>, A>,
+    types: Sequence<FunctionType<A>, A>,
     results: Sequence<Kind, A>,
 }
 
@@ -43,11 +40,11 @@ impl<A: Allocator> Model for Verified<A> {
 
     ghost use Rattle.verifier.specs.Typed.{IsVerified};
 
-    ghost view = { λ v. record { program = v.program; arrows = v.arrows; results = v.results } };
+    ghost view = { λ v. record { program = v.program; arrows = v.types; results = v.results } };
 
-    ghost invariant = { λ v. IsVerified (record { program = v.program; arrows = v.arrows; results = v.results }) };
+    ghost invariant = { λ v. IsVerified (record { program = v.program; arrows = v.types; results = v.results }) };
 
-    ghost inverse = { λ t. record { program = t.program; arrows = t.arrows; results = t.results } };
+    ghost inverse = { λ t. record { program = t.program; types = t.arrows; results = t.results } };
 }
 
 impl<A: Allocator> Verified<A> {
@@ -66,8 +63,8 @@ impl<A: Allocator> Verified<A> {
             (slice_get self.now.arrows place ≡ None)
             (λ kinds. slice_get self.now.arrows place ≡ Some (kinds.0.now, kinds.1.now)) }
     {
-        let (takes, gives) = self.arrows.as_slice().get(place)?;
-        Some((takes.as_slice(), gives.as_slice()))
+        let found = self.types.as_slice().get(place)?;
+        Some(found.kinds())
     }
 
     /// The kinds of what `MAIN` leaves, from the bottom of the stack up.
@@ -93,11 +90,11 @@ pub fn verify<A: Allocator + Clone>(
 {
     match check_program(alloc.clone()?, &program, signatures) {
         Ok(()) => {
-            let arrows = arrows_of(alloc.clone()?, &program, signatures)?;
+            let types = types_of(alloc.clone()?, &program, signatures)?;
             let results = results_of_main(alloc, signatures)?;
             Ok(Verified {
                 program,
-                arrows,
+                types,
                 results,
             })
         }
@@ -106,33 +103,20 @@ pub fn verify<A: Allocator + Clone>(
 }
 
 /// The kinds that each function takes and gives, in the order of the text.
-fn arrows_of<A: Allocator + Clone>(
+fn types_of<A: Allocator + Clone>(
     alloc: A,
     program: &Program<A>,
     signatures: &Signatures<A>,
-) -> Result<Sequence<Arrow<A>, A>, AllocError>
+) -> Result<Sequence<FunctionType<A>, A>, AllocError>
     requires { IsWellKinded signatures.now program.now }
     ensures { IfOk result (AreArrows signatures.now program.now.functions) }
 {
-    let mut arrows = Vec::new(alloc.clone()?);
+    let mut types = Vec::new(alloc.clone()?);
     for function in program.functions() {
         let (takes, gives) = signatures.get(function.name()).unwrap();
-        arrows.push(arrow_of(alloc.clone()?, takes, gives)?)?;
+        types.push(FunctionType::from_slices(alloc.clone()?, takes, gives)?)?;
     }
-    Ok(Sequence::from_vec(arrows))
-}
-
-/// Copies of what a function takes and gives.
-fn arrow_of<A: Allocator + Clone>(
-    alloc: A,
-    takes: &[Kind],
-    gives: &[Kind],
-) -> Result<Arrow<A>, AllocError>
-    ensures { IfOk result (λ arrow. (arrow.0 ≡ takes.now) × (arrow.1 ≡ gives.now)) }
-{
-    let takes = takes.to_vec(alloc.clone()?)?;
-    let gives = gives.to_vec(alloc)?;
-    Ok((Sequence::from_vec(takes), Sequence::from_vec(gives)))
+    Ok(Sequence::from_vec(types))
 }
 
 /// The kinds of what `MAIN` leaves, which takes nothing.

@@ -1,3 +1,4 @@
+use Rattle.std.proofs.Common.{Some, sym, ap, ◌∙◌}
 use Rattle.std.proofs.lemmas.Result.{err_from_is_err_and}
 use Rattle.signatures.proofs.Parts.{on_bad, no_list, no_arrow, no_results, the_arrow, more_words}
 use Rattle.signatures.proofs.line.arrow.Goals as goal
@@ -25,6 +26,7 @@ pub returns-in-None : goal.returns-in-None
 returns-in-None g c =
     the_arrow c.args.words _ _ c.in_ok-operands.ensures _ c.in_ok-expect.ensures _ _ c.in_ok-results.ensures
     c.in-None.ensures.0
+    ∙ ap Some (sym c.new.ensures)
 
 pub returns-in-Some : goal.returns-in-Some
 returns-in-Some g c =

@@ -2,8 +2,8 @@ use Rattle.std.proofs.Common.{refl}
 use Rattle.verifier.proofs.Law.{has_no_fault}
 use Rattle.verifier.proofs.verified.verify.Goals as goal
 
-pub arrows_of-requires : goal.arrows_of-requires
-arrows_of-requires g c = (has_no_fault c.args.signatures.now c.args.program c.in-Ok.ensures).well_kinded
+pub types_of-requires : goal.types_of-requires
+types_of-requires g c = (has_no_fault c.args.signatures.now c.args.program c.in-Ok.ensures).well_kinded
 
 pub results_of_main-requires : goal.results_of_main-requires
 results_of_main-requires g c = (has_no_fault c.args.signatures.now c.args.program c.in-Ok.ensures).main
@@ -13,7 +13,7 @@ invariant_of-result g c = (
   c.args.signatures.now,
   record {
     well_kinded = (has_no_fault c.args.signatures.now c.args.program c.in-Ok.ensures).well_kinded;
-    arrows = c.in_ok-arrows-in-Ok.ensures;
+    arrows = c.in_ok-types-in-Ok.ensures;
     results = c.in_ok-results-in-Ok.ensures;
   },
 )
@@ -22,7 +22,7 @@ pub returns-in_ok-results-in-Ok : goal.returns-in_ok-results-in-Ok
 returns-in_ok-results-in-Ok g c = (
   record {
     well_kinded = (has_no_fault c.args.signatures.now c.args.program c.in-Ok.ensures).well_kinded;
-    arrows = c.in_ok-arrows-in-Ok.ensures;
+    arrows = c.in_ok-types-in-Ok.ensures;
     results = c.in_ok-results-in-Ok.ensures;
   },
   refl,

@@ -17,6 +17,6 @@ returns-clause-added g c =
     let absent =
     known_name c.args.self.now _ c.args.name.now _ c.self.view_is c.contains_key.ensures
     ∙ c.if-contains_key.false in
-    let table = added c.args.self.now _ _ c.in_ok-owned.owned c.args.arrow c.args.name.now c.self.view_is
+    let table = added c.args.self.now _ _ c.in_ok-owned.owned c.args.kinds c.args.name.now c.self.view_is
     c.in_ok-owned.ensures.items absent c.in_ok-insert.ensures.entries in
     add_new _ _ (sym c.is_too_large.ensures ∙ c.if-is_too_large.false) absent ∙ ap Ok (sym table)

@@ -4,14 +4,14 @@ use Rattle.signatures.specs.Signatures.{kinds_of}
 use Rattle.signatures.proofs.TableLemmas.{kinds_of-signatures_in}
 use Rattle.signatures.proofs.table.Signatures.get.Goals as goal
 
-pub returns-in_err-arrow : goal.returns-in_err-arrow
-returns-in_err-arrow g c =
+pub returns-in_err-found : goal.returns-in_err-found
+returns-in_err-found g c =
     let known = ap (λ ss. kinds_of ss c.args.name.now) (sym c.self.view_is) in
     rw c.from_residual.ensures
-    (known ∙ kinds_of-signatures_in _ c.args.name.now ∙ sym c.get.ensures.value ∙ ap option_copied c.in_err-arrow.was)
+    (known ∙ kinds_of-signatures_in _ c.args.name.now ∙ sym c.get.ensures.value ∙ ap option_copied c.in_err-found.was)
 
 pub returns : goal.returns
 returns g c =
     let known = ap (λ ss. kinds_of ss c.args.name.now) (sym c.self.view_is) in
-    known ∙ kinds_of-signatures_in _ c.args.name.now ∙ sym c.get.ensures.value ∙ ap option_copied c.in_ok-arrow.was
-    ∙ ap Some (sym c.arrow.view_is) ∙ (λ i. Some (sym c.as_slice.ensures.value i, sym c.as_slice-2.ensures.value i))
+    known ∙ kinds_of-signatures_in _ c.args.name.now ∙ sym c.get.ensures.value ∙ ap option_copied c.in_ok-found.was
+    ∙ ap Some (sym c.kinds.ensures)

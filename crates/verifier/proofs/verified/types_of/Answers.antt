@@ -3,7 +3,7 @@ use Rattle.std.proofs.lemmas.List.{take_all}
 use Rattle.signatures.specs.Signatures.{kinds_of}
 use Rattle.verifier.specs.Typed.{AreArrows}
 use Rattle.verifier.proofs.Arrows.{arrow_at, is_known, known_arrow, next_arrow}
-use Rattle.verifier.proofs.verified.arrows_of.Goals as goal
+use Rattle.verifier.proofs.verified.types_of.Goals as goal
 
 pub unwrap-requires : goal.unwrap-requires
 unwrap-requires g c =
@@ -16,10 +16,10 @@ pub loop-function-preserved : goal.loop-function-preserved
 loop-function-preserved g c =
     let items = c.functions-function-items in
     let known = known_arrow c.get.result _ _ c.unwrap.result c.get.ensures c.unwrap.ensures in
-    let copied = c.in_ok-arrow_of.ensures in
+    let copied = c.in_ok-from_slices.ensures in
     let here =
     ap (kinds_of c.args.signatures.now) (sym c.name.ensures)
-    ∙ (known ∙ (λ i. Some (sym copied.0 i, sym copied.1 i))) in
+    ∙ (known ∙ ap Some (sym copied)) in
     next_arrow c.args.signatures.now c.args.program.now items.result.now c.loop-function.function-index
     c.function-item.result _ _ _ items.ensures.functions c.loop-function-test.true c.function-item.is
     c.loop-function.invariant here c.in_ok-push.ensures.items
@@ -29,6 +29,6 @@ returns g c =
     let past = c.loop-function-test.false in
     let same = ap length c.functions-function-items.ensures.functions in
     let all : length c.args.program.now.functions ≤ c.loop-function.function-index = omega arith in
-    let whole = subst (λ fs. AreArrows c.args.signatures.now fs c.loop-function.arrows.items)
+    let whole = subst (λ fs. AreArrows c.args.signatures.now fs c.loop-function.types.items)
     (take_all c.loop-function.function-index c.args.program.now.functions all) c.loop-function.invariant in
     subst (AreArrows c.args.signatures.now c.args.program.now.functions) (sym c.from_vec.ensures) whole
