@@ -19,6 +19,7 @@ use Rattle.vcode_reader.specs.Trees.{Item, Body, End, Do, Choice, CodeLine, Func
 use Rattle.vcode_reader.specs.Trees.{body_lines}
 use Rattle.vcode_reader.specs.Trees.{lines_of, instruction_line}
 use Rattle.vcode_reader.specs.declared.line.Numbered.{Numbered}
+use Rattle.signatures.specs.Signatures.{FunctionType}
 use Rattle.verifier.specs.Typed.{TypedProgram}
 use Rattle.job_steps.specs.declared.frame.Frame.{Frame}
 use Rattle.job_steps.specs.Reached.{IsVerifiedBySome}
