@@ -64,15 +64,15 @@ def attacks() -> str:
 
 def budget() -> str:
     """A job that calls itself until its instructions are spent."""
-    return ("JOB endless 20000 4096 4096 3000\nSIGNATURES\nMAIN () -> ()\nagain (INT) -> ()\nCODE\nFUNC MAIN\nCONST INT (1 2 3)\n"
+    return ("JOB endless 20000 4096 1024 2500\nSIGNATURES\nMAIN () -> ()\nagain (INT) -> ()\nCODE\nFUNC MAIN\nCONST INT (1 2 3)\n"
             "CALL again\nRET\nFUNC again\nCOPY 1 0\nCONST INT (1 1 1)\n+ INT\nCALL again\nPOP 1 0\nRET\nEND\n")
 
 
-def batches(is_long: bool) -> dict[str, bytes]:
+def batches() -> dict[str, bytes]:
     """Each batch with the name of its page."""
     examples = TOP / "examples"
     found = {name: (examples / f"{name}.vcode").read_bytes() for name in ["quicksort", "four_ends", "reservation_too_small"]}
     found["budget"] = budget().encode()
     found["attacks"] = attacks().encode("latin1")
-    found["long"] = long_run(*((29, 6) if is_long else (20, 6))).encode()
+    found["long"] = long_run(28, 5).encode()
     return found

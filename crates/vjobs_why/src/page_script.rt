@@ -21,7 +21,7 @@ const short = (value) => [[1e9, 'G'], [1e6, 'M'], [1e3, 'k']].reduce((text, [siz
 
 function fill(node, attributes, children) {
   for (const [name, value] of Object.entries(attributes)) node.setAttribute(name, value);
-  node.append(...children.flat().map((child) => child instanceof Node ? child : document.createTextNode(child)));
+  node.append(...children.flat(Infinity).map((child) => child instanceof Node ? child : document.createTextNode(child)));
   return node;
 }
 const make = (tag, attributes, ...children) => fill(document.createElement(tag), attributes, children);
@@ -30,7 +30,7 @@ const draw = (tag, attributes, ...children) =>
 
 function table(caption, heads, rows) {
   const head = heads.map(([text, kind]) => make('th', {scope: 'col', class: kind}, text));
-  return make('table', {}, make('caption', {class: 'dim'}, caption),
+  return make('table', {}, make('caption', {class: 'heard'}, caption),
     make('thead', {}, make('tr', {}, head)), make('tbody', {}, rows));
 }
 const row = (cells) => make('tr', {}, cells.map(([child, kind]) => make('td', {class: kind}, child)));
@@ -81,7 +81,7 @@ function ending(job) {
   const before = [2, 1].map((back) => last - back).filter((line) => line_of(job, line));
   const after = [1, 2].map((on) => last + on).filter((line) => line_of(job, line));
   const note = make('span', {class: is_good(job) ? 'note good' : 'note'}, `${gap}${'^'.repeat(code.length)} ${job.note}`);
-  const lines = make('pre', {tabindex: 0}, before.map(shown), shown(last), '        | ', note, '\n', after.map(shown));
+  const lines = make('pre', {}, before.map(shown), shown(last), '        | ', note, '\n', after.map(shown));
   const {least} = job;
   const help = least ? [make('p', {}, 'Within these limits, and no less, it returns: ',
     make('code', {}, `JOB ${job.name} ${least.words} ${least.cells} ${least.calls} ${least.budget}`))] : [];
@@ -129,9 +129,9 @@ function axes(frame) {
   const rows = steps_up_to(frame.words, 4).map((words) => [
     draw('line', {class: 'grid', x1: box.left, x2: box.right, y1: y(words), y2: y(words)}),
     draw('text', {class: 'soft', x: box.left - 6, y: y(words) + 4, 'text-anchor': 'end'}, short(words))]);
-  const marks = steps_up_to(frame.last, frame.width < 600 ? 3 : 6).map((count) => draw('text', {class: 'soft',
-    x: x(count), y: box.bottom + 18, 'text-anchor': count ? (x(count) > box.right - 30 ? 'end' : 'middle') : 'start'},
-  count ? short(count) : '0 instructions'));
+  const marks = steps_up_to(frame.last, frame.width < 600 ? 3 : 6).filter((count) => !count || x(count) > box.left + 100)
+    .map((count) => draw('text', {class: 'soft', x: x(count), y: box.bottom + 18,
+      'text-anchor': count ? (x(count) > box.right - 30 ? 'end' : 'middle') : 'start'}, count ? short(count) : '0 instructions'));
   const unit = draw('text', {class: 'soft', x: box.left - 6, y: 11, 'text-anchor': 'end'}, 'words');
   return [...rows.flat(), ...marks, unit];
 }
@@ -149,10 +149,11 @@ function areas(columns, frame, colours) {
     return [draw('path', {d: dark, fill: colour}), draw('path', {d: light, fill: colour, 'fill-opacity': .45})];
   });
 }
+// A text beside a place of the drawing, on the side that has more room, and within the drawing.
 function label(frame, at, height, kind, text) {
-  const middle = (frame.box.left + frame.box.right) / 2;
-  const right = at > middle;
-  return draw('text', {class: kind, x: right ? at - 9 : at + 9, y: height, 'text-anchor': right ? 'end' : 'start'}, text);
+  const size = 7 * text.length, {left, right} = frame.box;
+  const begin = at > (left + right) / 2 ? at - 9 - size : at + 9, x = Math.max(2, Math.min(begin, frame.width - size));
+  return draw('text', {class: kind, x, y: height, textLength: size, lengthAdjust: 'spacingAndGlyphs'}, text);
 }
 function marks(job, frame) {
   const {x, y, box} = frame, found = [], end = x(frame.last);
@@ -200,7 +201,7 @@ function words_table(job, columns) {
 }
 function picker(job, columns) {
   const output = make('output', {}), lines = [];
-  const input = make('input', {type: 'range', min: 0, max: columns.length - 1, value: 0, 'aria-label': 'instructions'});
+  const input = make('input', {type: 'range', min: 0, max: columns.length - 1, 'aria-label': 'instructions'});
   const show = (place) => {
     input.value = place;
     output.textContent = column_text(job, columns[place]);
@@ -208,7 +209,8 @@ function picker(job, columns) {
     lines.forEach((move) => move(columns[place]));
   };
   input.addEventListener('input', () => show(Number(input.value)));
-  return {node: make('div', {class: 'pick'}, input, output), show, lines, count: columns.length};
+  show(Math.max(0, columns.findIndex(({to}) => job.peak_at <= to)));
+  return {node: make('div', {class: 'pick'}, input, output), show, lines};
 }
 function paint_words(job, columns, colours, pick, width) {
   const frame = frame_of(job, width), {x, box} = frame;
@@ -231,7 +233,7 @@ function words(job, colours) {
   const columns = columns_of(job), pick = picker(job, columns);
   const each = number(job.columns.each);
   const used = [...new Set(columns.map(({place}) => place))].filter((place) => place !== null && colours[place] !== GREY);
-  const remark = `${job.columns.each > 1 ? each + ' instructions' : 'an instruction'} a column: dark up to the least, light up to `
+  const remark = `${job.columns.each > 1 ? each + ' instructions' : 'an instruction'} a column: full up to the least, pale up to `
     + `the most${used.length ? ', in the colour of its function' : ''}`;
   const near = top_of(job).near ? '' : `; the limit of ${number(job.limits.words)} is far above`;
   return [section('words wide', 'Words held', remark + near,
@@ -338,7 +340,7 @@ function code(job) {
   });
   const remark = lines.length < job.code.lines.length ? `${number(lines.length)} of ${number(job.code.lines.length)} lines`
     : 'how often each line was executed; dim lines never were';
-  return section('code', 'Code', remark,
+  return section(job.functions ? 'code' : 'code wide', 'Code', remark,
     scroll('code', table('Lines of the batch', [['line', 'number'], ['times', 'number'], ['text', '']], rows)));
 }
 
@@ -350,7 +352,7 @@ function article(job) {
   const parts = [ending(job)];
   if (job.functions) {
     const colours = colours_of(job);
-    parts.push(...words(job, colours), code(job), functions(job, colours), calls(job, colours));
+    parts.push(...words(job, colours), code(job), make('div', {class: 'side'}, functions(job, colours), calls(job, colours)));
   } else {
     parts.push(code(job));
   }

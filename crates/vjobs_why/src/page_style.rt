@@ -32,14 +32,14 @@ h2 small, .dim { color: var(--dim); font-weight: normal; font-size: .9rem; }
 .cards b { font-size: 1.25rem; }
 .bar { height: 5px; margin-top: 6px; border-radius: 3px; background: var(--edge); overflow: hidden; }
 .bar i { display: block; height: 100%; background: var(--accent); print-color-adjust: exact; }
-.sheet { display: grid; grid-template-columns: minmax(0, 1fr); gap: 14px; }
+.sheet, .side { display: grid; grid-template-columns: minmax(0, 1fr); gap: 14px; }
+.heard { position: absolute; width: 1px; height: 1px; overflow: hidden; clip-path: inset(50%); }
 @media (min-width: 1000px) {
   .sheet { grid-template-columns: minmax(0, 3fr) minmax(0, 2fr); align-items: start; }
   .wide { grid-column: 1 / -1; }
-  .code { grid-row: span 2; }
 }
 pre, code, td.text { font: 13px/1.5 ui-monospace, "DejaVu Sans Mono", monospace; }
-pre { margin: 0; padding: 10px 12px; border-radius: 6px; background: var(--code); overflow-x: auto; }
+pre { margin: 0; padding: 10px 12px; border-radius: 6px; background: var(--code); white-space: pre-wrap; overflow-wrap: anywhere; }
 pre .note { color: var(--bad); font-weight: 600; }
 pre .note.good { color: var(--good); }
 p { margin: 8px 0 0; }
@@ -59,8 +59,9 @@ svg .bars rect { stroke: var(--card); stroke-width: 1; }
 .legend { display: flex; flex-wrap: wrap; gap: 2px 16px; margin: 6px 0 0; padding: 0; list-style: none; font-size: .9rem; }
 .swatch { display: inline-block; width: 11px; height: 11px; margin-right: 6px; border-radius: 2px; }
 .pick { display: flex; flex-wrap: wrap; align-items: center; gap: 2px 12px; margin-top: 6px; font-size: .9rem; }
-.pick input { flex: 1 1 200px; accent-color: var(--accent); }
-.pick output { flex: 1 1 280px; font-variant-numeric: tabular-nums; }
+.pick { padding: 0 14px 0 54px; }
+.pick input { flex: 1 1 100%; margin: 0; accent-color: var(--accent); }
+.pick output { font-variant-numeric: tabular-nums; overflow-wrap: anywhere; }
 .scroll { overflow: auto; max-height: 75vh; }
 details { margin-top: 8px; }
 summary { cursor: pointer; color: var(--dim); font-size: .9rem; }
@@ -71,7 +72,8 @@ th { padding: 2px 10px 4px; border-bottom: 1px solid var(--edge); color: var(--d
 td { padding: 1px 10px; vertical-align: top; }
 td.number, th.number { text-align: right; white-space: nowrap; }
 td.text { white-space: pre; width: 99%; }
-td.name { overflow-wrap: anywhere; }
+td.name { min-width: 8.5em; overflow-wrap: anywhere; }
+td.name a { display: inline-block; max-width: calc(100% - 20px); vertical-align: top; }
 tr.never td { color: var(--dim); }
 tr.last td { background: color-mix(in srgb, var(--bad) 16%, transparent); }
 tr.last.good td { background: color-mix(in srgb, var(--good) 16%, transparent); }
