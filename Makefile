@@ -4,6 +4,8 @@
 # make packing the programs around it, proved: bin/vjobs-pack and bin/vjobs-split
 # make kinds   the program that finds signatures, proved: bin/vjobs-kinds
 # make why     the program that shows why a job ended, proved: bin/vjobs-why
+# make page-test   opens pages of bin/vjobs-why in a browser without a window, at 400 and 1,600 pixels, light and dark, and
+#              leaves pictures of them in bin/page; as root it installs chromium if it is missing
 # make embed   the library for programs in other languages, proved: bin/libvjobs.a and bin/libvjobs.so; and compares what
 #              the programs of embed/, in C, Python and Rust, print for the examples with their reports
 # make cluster runs job files of strangers by vjobs-spread on a Slurm of three nodes and by GNU parallel, with faults: by
@@ -24,7 +26,7 @@
 #              second writing, its memory with the sum in docs/OPERATING.md, and its time with its limits; not in the gate
 # make clean   removes bin, and what the crates keep of their proofs and builds
 
-.PHONY: all try run packing kinds why embed fast cluster cluster-hard test gate install dist names check bench soak
+.PHONY: all try run packing kinds why page-test embed fast cluster cluster-hard test gate install dist names check bench soak
 .PHONY: hostile models clean
 
 PREFIX = /usr/local
@@ -59,6 +61,9 @@ why:
 	.ci/prove vjobs_why
 	mkdir -p bin
 	cp crates/vjobs_why/out/vjobs_why bin/vjobs-why
+
+page-test:
+	.ci/page
 
 embed:
 	.ci/prove vjobs_embed

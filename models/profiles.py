@@ -9,18 +9,54 @@ from runs import Limits
 
 
 class Counted(runs.Run):
-    """A run that counts how often each line is executed, and knows after which instruction it first had its peak."""
+    """A run that counts how often each line is executed, and knows after which instruction it first had its peak.
+
+    It also knows the line that was next last, the most entries and calls, and for each path of functions that run inside
+    one another how often its last function was called and how many instructions it executed. A function that runs
+    already goes on in its path."""
 
     def __init__(self, *job):
         super().__init__(*job)
-        self.times, self.peak_at = Counter(), 0
+        self.times, self.peak_at, self.last, self.cells, self.most_calls = Counter(), 0, 0, 0, 1
+        self.active = [("MAIN",)]
+        self.paths = {("MAIN",): [1, 0]}
 
     def step(self):
-        line, executed, peak = self.calls[-1][0].line, self.executed, self.peak
+        item, executed, peak, calls = self.calls[-1][0], self.executed, self.peak, len(self.calls)
+        self.last = item.line
         super().step()
-        self.times[line] += self.executed - executed
+        self.times[item.line] += self.executed - executed
+        self.paths[self.active[-1]][1] += self.executed - executed
         if self.peak > peak:
             self.peak_at = self.executed
+        self.cells, self.most_calls = max(self.cells, len(self.stack)), max(self.most_calls, len(self.calls))
+        if len(self.calls) < calls:
+            self.active.pop()
+        elif len(self.calls) > calls:
+            self.enter(item.word)
+
+    def enter(self, name):
+        path = self.active[-1]
+        path = path[: path.index(name) + 1] if name in path else (*path, name)
+        self.active.append(path)
+        self.paths.setdefault(path, [0, 0])[0] += 1
+
+    def chains(self, functions):
+        """For each path the place of the path around it, that of its function, and its counts."""
+        names, places = [function.name for function in functions], {path: place for place, path in enumerate(self.paths)}
+        return [[places.get(path[:-1], 0), names.index(path[-1]), *counts] for path, counts in self.paths.items()]
+
+
+def shown(line):
+    """A line of a batch as it is shown."""
+    text = "".join(chr(byte) if 32 <= byte <= 126 else " " if byte in b"\t\r" else "?" for byte in line[:96])
+    return text + ".." if len(line) > 96 else text
+
+
+def shown_code(functions, first, text):
+    """The lines of a code up to its last RET."""
+    last = functions[-1].items[-1].line if functions else 0
+    return {"first": first, "lines": [shown(line) for line in text.split(b"\n")[: max(last - first + 1, 0)]]}
 
 
 def end_of(job):
@@ -46,7 +82,9 @@ def profile(functions, limits, is_second):
         "instructions": job.executed,
         "peak": job.peak,
         "peak_at": job.peak_at,
+        "last": job.last,
         "limits": {"words": limits.words, "cells": limits.cells, "calls": limits.calls, "budget": limits.budget},
+        "used": {"words": job.peak, "cells": job.cells, "calls": job.most_calls, "budget": job.executed},
         "functions": [
             {
                 "name": function.name,
@@ -57,6 +95,7 @@ def profile(functions, limits, is_second):
             for function in functions
         ],
         "lines": [[line, times] for line, times in sorted(job.times.items()) if times],
+        "calls": job.chains(functions),
     }
 
 
@@ -69,20 +108,22 @@ def profiles(data):
     found = []
     for place, (begun, name, numbers, signatures, code) in enumerate(jobs, 1):
         try:
-            shown = profile(batches.verified(*signatures, *code), Limits(*numbers), is_second)
+            functions = batches.verified(*signatures, *code)
+            made = {**profile(functions, Limits(*numbers), is_second), "code": shown_code(functions, *code)}
         except Fault as fault:
             words = str(fault).split(" ", 2)
-            shown = {"end": f"REFUSED {words[2]}", "line": int(words[1])}
-        found.append({"job": place, "name": name, **shown})
+            made = {"end": f"REFUSED {words[2]}", "line": int(words[1])}
+        found.append({"job": place, "name": name, **made})
     return found
 
 
 def differences(shown, data):
-    """The jobs of a batch that are shown otherwise than the second writing has them."""
+    """The jobs of a batch that are shown otherwise than the second writing has them, by the members that it works out."""
     wanted = profiles(data)
     if wanted is None:
         return []
     found = [json.loads(line) for line in shown.splitlines()]
     if len(found) != len(wanted):
         return [f"{len(found)} of {len(wanted)} jobs are shown"]
+    found = [{member: got.get(member) for member in want} for got, want in zip(found, wanted)]
     return [f"shown as {got}, and not as {want}" for got, want in zip(found, wanted) if got != want]

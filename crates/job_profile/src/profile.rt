@@ -145,6 +145,13 @@ impl<A: Allocator> Profile<A> {
         &self.run
     }
 
+    /// The job, of which another run may be made.
+    pub fn into_job(self) -> Job<A>
+        ensures { ruled self.task.rule result ≡ self.task }
+    {
+        self.run.into_job()
+    }
+
     /// How often each line of the batch was executed, by its number. A line that isn't there was never executed.
     pub fn times(&self) -> &[u64]
         ensures each { (line : ℕ) → slice_index result.now line

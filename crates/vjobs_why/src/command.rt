@@ -5,7 +5,7 @@ use clap::{Arg, ArgAction, ArgMatches, Command, value_parser};
 use std::alloc::{AllocError, Global};
 use vcode_base::limits::MOST_BUDGET;
 
-/// What is to be shown of a job.
+/// What is to be shown of a job on a terminal.
 #[derive(Clone, Copy, Drop)]
 pub enum Look {
     /// How it ended.
@@ -18,10 +18,19 @@ pub enum Look {
     Steps { from: u64, to: u64 },
     /// How often its functions and lines were executed.
     Profile,
-    /// The same as data.
-    Data,
     /// How many instructions its functions executed, by the functions that run inside one another.
     Folded,
+}
+
+/// How jobs are to be shown.
+#[derive(Drop)]
+pub enum Form {
+    /// As texts, with this of each.
+    Texts(Look),
+    /// As data, an object for each.
+    Data,
+    /// As a page with this data, in the file of this name; `-` is standard output.
+    Page(String),
 }
 
 /// What is to be shown.
@@ -31,8 +40,8 @@ pub struct Asked {
     pub file: String,
     /// The place of a job in the batch, counted from 1. All jobs if there is none.
     pub job: Option<u64>,
-    /// What of it.
-    pub look: Look,
+    /// How.
+    pub form: Form,
 }
 
 /// What a command line asks for.
@@ -85,6 +94,13 @@ fn at_option<'a>(alloc: Global) -> Arg<'a> {
     )
 }
 
+/// The option for the file of a page.
+fn html_option<'a>(alloc: Global) -> Arg<'a> {
+    Arg::new(alloc, "html").long("html").value_name("OUT").help(
+        "Writes a page for a browser that shows this data to OUT; - is standard output",
+    )
+}
+
 /// An option without a value.
 fn flag_option<'a>(alloc: Global, name: &'a str, help: &'a str) -> Arg<'a> {
     Arg::new(alloc, name)
@@ -128,6 +144,7 @@ fn command<'a>(alloc: Global) -> Result<Command<'a>, clap::Error> {
                 "json",
                 "Shows the same as data, an object for each job",
             ))?
+            .arg(html_option(alloc))?
             .arg(flag_option(
                 alloc,
                 "folded",
@@ -161,7 +178,7 @@ fn line_and_time(text: &str) -> Option<Look> {
     }
 }
 
-/// What is to be shown of a job: the first of the options that was given.
+/// What is to be shown of a job on a terminal, by the options: `None` if that of `--at` is wrong.
 fn look_of(matches: &ArgMatches<'_>) -> Option<Look> {
     if let Some(count) = number(matches, "after") {
         return Some(Look::After(count));
@@ -178,18 +195,31 @@ fn look_of(matches: &ArgMatches<'_>) -> Option<Look> {
     if matches.get_flag("profile") {
         return Some(Look::Profile);
     }
-    if matches.get_flag("json") {
-        return Some(Look::Data);
-    }
     if matches.get_flag("folded") {
         return Some(Look::Folded);
     }
     Some(Look::End)
 }
 
+/// How jobs are to be shown, if that of `--at` isn't wrong: texts before data, and data before a page.
+fn form_of(alloc: Global, matches: &ArgMatches<'_>) -> Result<Option<Form>, AllocError> {
+    let Some(look) = look_of(matches) else {
+        return Ok(None);
+    };
+    if let Look::End | Look::Folded = look {
+        if matches.get_flag("json") {
+            return Ok(Some(Form::Data));
+        }
+        if let Some(file) = matches.get_str("html") {
+            return Ok(Some(Form::Page(String::from_str(alloc, file)?)));
+        }
+    }
+    Ok(Some(Form::Texts(look)))
+}
+
 /// What was matched.
 fn asked_of(alloc: Global, matches: &ArgMatches<'_>) -> Result<Line, LineFault> {
-    let Some(look) = look_of(matches) else {
+    let Some(form) = form_of(alloc, matches)? else {
         let text = String::from_str(alloc, "vjobs-why: --at takes LINE or LINE:K\n")?;
         return Err(LineFault::Usage(text));
     };
@@ -197,7 +227,7 @@ fn asked_of(alloc: Global, matches: &ArgMatches<'_>) -> Result<Line, LineFault> 
     Ok(Line::Show(Asked {
         file,
         job: number(matches, "job"),
-        look,
+        form,
     }))
 }
 

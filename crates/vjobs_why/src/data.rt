@@ -1,113 +1,242 @@
-//! The profile of a job as data: one JSON object.
+//! A job as data: one JSON object.
 
-use crate::end::Ending;
-use crate::profile::{functions_of, lines_of};
+use crate::chains::Chains;
+use crate::end::{End, Ending};
+use crate::lines::Lines;
+use crate::profile::{functions_of, last_line_of, lines_of};
+use crate::survey::Survey;
 use batch_reader::JobFault;
 use job_profile::Profile;
 use std::alloc::{AllocError, Global};
-use std::io;
+use std::fmt::Write;
 use vcode_base::Limits;
 
-/// A printable text as a JSON string that may stand in a page: `"`, `\`, `<` and `&` are escaped.
-fn quoted(alloc: Global, text: &str) -> Result<String, AllocError> {
-    let mut quoted = String::from_str(alloc, "\"")?;
-    for letter in text.chars() {
+/// How many lines are given before and after that of a refusal.
+const LINES_BESIDE: u64 = 8;
+
+/// What is said of the end of a job: the note at its last line, how it ends within wider limits, and the words that its last
+/// instruction wanted in all, if these are known.
+#[derive(Drop)]
+pub struct Told {
+    pub note: String,
+    pub least: Option<End>,
+    pub wanted: Option<usize>,
+}
+
+/// Adds a printable text as a JSON string that may stand in a page: `"`, `\`, `<` and `&` are escaped.
+fn push_quoted(text: &mut String, value: &str) -> Result<(), AllocError> {
+    text.push('"')?;
+    for letter in value.chars() {
         match letter {
-            '"' => quoted.push_str("\\\"")?,
-            '\\' => quoted.push_str("\\\\")?,
-            '<' => quoted.push_str("\\u003c")?,
-            '&' => quoted.push_str("\\u0026")?,
-            _ => quoted.push(letter)?,
+            '"' => text.push_str("\\\"")?,
+            '\\' => text.push_str("\\\\")?,
+            '<' => text.push_str("\\u003c")?,
+            '&' => text.push_str("\\u0026")?,
+            _ => text.push(letter)?,
         }
     }
-    quoted.push('"')?;
-    Ok(quoted)
+    text.push('"')
 }
 
-/// Prints the object of a job of this place and this name that was refused.
-pub fn print_refusal(
-    rt: &HostRuntime,
-    place: u64,
-    name: &str,
-    line: u64,
-    fault: JobFault,
-) -> io::Result<()> {
-    let (name, text) = (quoted(rt.alloc(), name)?, fault.text());
-    println!(rt; "{{\"job\":{place},\"name\":{name},\"end\":\"REFUSED {text}\",\"line\":{line}}}")
+/// Adds a comma before each item of a list but the first.
+fn push_comma(text: &mut String, place: usize) -> Result<(), AllocError> {
+    if place > 0 {
+        text.push(',')?;
+    }
+    Ok(())
 }
 
-/// How a job ended, and its last line if a fault has one.
-fn ending_text(alloc: Global, ending: Ending) -> Result<String, AllocError> {
+/// Adds the first members: the place and the name of a job.
+fn push_job(text: &mut String, place: u64, name: &str) -> Result<(), AllocError> {
+    write!(text, "{{\"job\":{place},\"name\":")?;
+    push_quoted(text, name)
+}
+
+/// Adds how a job ended, and its last line if a fault has one.
+fn push_ending(text: &mut String, ending: Ending) -> Result<(), AllocError> {
     match ending {
-        Ending::Returned => String::from_str(alloc, "\"RETURNED\",\"line\":null"),
-        Ending::Budget => String::from_str(alloc, "\"BUDGET\",\"line\":null"),
+        Ending::Returned => text.push_str(",\"end\":\"RETURNED\",\"line\":null")?,
+        Ending::Budget => text.push_str(",\"end\":\"BUDGET\",\"line\":null")?,
         Ending::Fault(fault, line) => {
-            let text = fault.text();
-            format!(in alloc; "\"FAULT {text}\",\"line\":{line}")
+            let fault = fault.text();
+            write!(text, ",\"end\":\"FAULT {fault}\",\"line\":{line}")?;
         }
         Ending::Memory(fault, line) => {
-            let text = fault.text();
-            format!(in alloc; "\"MEMORY {text}\",\"line\":{line}")
+            let fault = fault.text();
+            write!(text, ",\"end\":\"MEMORY {fault}\",\"line\":{line}")?;
         }
     }
+    Ok(())
 }
 
-/// Prints the members for the limits.
-fn print_limits(rt: &HostRuntime, limits: Limits) -> io::Result<()> {
-    let Limits {
-        words,
-        cells,
-        calls,
-        budget,
-    } = limits;
-    print!(rt;
-        ",\"limits\":{{\"words\":{words},\"cells\":{cells},\"calls\":{calls},\"budget\":{budget}}}"
-    )
+/// Adds a member of this name for words, cells, calls and instructions.
+fn push_limits(text: &mut String, member: &str, limits: Limits) -> Result<(), AllocError> {
+    let (words, cells, calls, budget) = (limits.words, limits.cells, limits.calls, limits.budget);
+    write!(
+        text,
+        ",\"{member}\":{{\"words\":{words},\"cells\":{cells},\"calls\":{calls},\"budget\":{budget}}}"
+    )?;
+    Ok(())
 }
 
-/// Prints the member for the functions.
-fn print_functions(rt: &HostRuntime, profile: &Profile<Global>) -> io::Result<()> {
-    print!(rt; ",\"functions\":[")?;
-    for (place, function) in functions_of(rt.alloc(), profile)?.iter().enumerate() {
-        if place > 0 {
-            print!(rt; ",")?;
-        }
-        let name = quoted(rt.alloc(), function.name.as_str())?;
+/// Adds the member for the functions.
+fn push_functions(
+    text: &mut String,
+    alloc: Global,
+    profile: &Profile<Global>,
+) -> Result<(), AllocError> {
+    text.push_str(",\"functions\":[")?;
+    for (place, function) in functions_of(alloc, profile)?.iter().enumerate() {
+        push_comma(text, place)?;
         let (line, count) = (function.line, function.instructions);
-        print!(rt; "{{\"name\":{name},\"line\":{line},\"instructions\":{count}}}")?;
+        text.push_str("{\"name\":")?;
+        push_quoted(text, function.name.as_str())?;
+        write!(text, ",\"line\":{line},\"instructions\":{count}}}")?;
     }
-    print!(rt; "]")
+    text.push(']')
 }
 
-/// Prints the member for the lines.
-fn print_lines(rt: &HostRuntime, profile: &Profile<Global>) -> io::Result<()> {
-    print!(rt; ",\"lines\":[")?;
-    for (place, count) in lines_of(rt.alloc(), profile)?.iter().enumerate() {
-        if place > 0 {
-            print!(rt; ",")?;
-        }
+/// Adds the member for the lines.
+fn push_lines(
+    text: &mut String,
+    alloc: Global,
+    profile: &Profile<Global>,
+) -> Result<(), AllocError> {
+    text.push_str(",\"lines\":[")?;
+    for (place, count) in lines_of(alloc, profile)?.iter().enumerate() {
+        push_comma(text, place)?;
         let (line, times) = (count.line, count.times);
-        print!(rt; "[{line},{times}]")?;
+        write!(text, "[{line},{times}]")?;
     }
-    print!(rt; "]")
+    text.push(']')
 }
 
-/// Prints the object of a job of this place and this name that has ended so.
-pub fn print_data(
-    rt: &HostRuntime,
+/// Adds the member for the functions that ran inside one another.
+fn push_calls(text: &mut String, chains: &Chains) -> Result<(), AllocError> {
+    text.push_str(",\"calls\":[")?;
+    for (place, chain) in chains.chains().iter().enumerate() {
+        push_comma(text, place)?;
+        let (outer, function, calls, count) =
+            (chain.outer, chain.function, chain.calls, chain.count);
+        write!(text, "[{outer},{function},{calls},{count}]")?;
+    }
+    text.push(']')
+}
+
+/// Adds the member for what is said of the last line.
+fn push_note(text: &mut String, note: &str) -> Result<(), AllocError> {
+    text.push_str(",\"note\":")?;
+    push_quoted(text, note)
+}
+
+/// Adds the member for the lines of code from one number to another, as they may be shown.
+fn push_code(
+    text: &mut String,
+    alloc: Global,
+    lines: &Lines,
+    first: u64,
+    last: u64,
+) -> Result<(), AllocError> {
+    write!(text, ",\"code\":{{\"first\":{first},\"lines\":[")?;
+    for number in first..=last {
+        if number > first {
+            text.push(',')?;
+        }
+        push_quoted(text, lines.line(alloc, number)?.as_str())?;
+    }
+    text.push_str("]}")
+}
+
+/// The object of a job of this place and this name that was refused at a line, where this is wrong.
+pub fn refusal_object(
+    alloc: Global,
+    lines: &Lines,
     place: u64,
     name: &str,
-    ending: Ending,
-    profile: &Profile<Global>,
-) -> io::Result<()> {
-    let name = quoted(rt.alloc(), name)?;
-    let ending = ending_text(rt.alloc(), ending)?;
-    let (executed, peak) = (profile.run().executed(), profile.run().peak());
-    let after = profile.peak_after();
-    print!(rt; "{{\"job\":{place},\"name\":{name},\"end\":{ending}")?;
-    print!(rt; ",\"instructions\":{executed},\"peak\":{peak},\"peak_at\":{after}")?;
-    print_limits(rt, profile.run().job().limits())?;
-    print_functions(rt, profile)?;
-    print_lines(rt, profile)?;
-    println!(rt; "}}")
+    (line, fault, meaning): (u64, JobFault, &str),
+) -> Result<String, AllocError> {
+    let mut text = String::new(alloc);
+    push_job(&mut text, place, name)?;
+    let fault = fault.text();
+    write!(text, ",\"end\":\"REFUSED {fault}\",\"line\":{line}")?;
+    push_note(&mut text, meaning)?;
+    let first = line.saturating_sub(LINES_BESIDE).max(1);
+    let last = line.saturating_add(LINES_BESIDE).min(lines.count());
+    push_code(&mut text, alloc, lines, first, last)?;
+    text.push('}')?;
+    Ok(text)
+}
+
+/// The most that a job used.
+fn used(end: End) -> Limits {
+    Limits {
+        words: end.words,
+        cells: end.cells,
+        calls: end.calls,
+        budget: end.executed,
+    }
+}
+
+/// Adds the members for how a job ended and what it used.
+fn push_end(text: &mut String, survey: &Survey) -> Result<(), AllocError> {
+    let (executed, peak) = (survey.end.executed, survey.end.words);
+    let (after, last) = (survey.profile.peak_after(), survey.last_line);
+    push_ending(text, survey.end.ending)?;
+    write!(
+        text,
+        ",\"instructions\":{executed},\"peak\":{peak},\"peak_at\":{after},\"last\":{last}"
+    )?;
+    push_limits(text, "limits", survey.profile.run().job().limits())?;
+    push_limits(text, "used", used(survey.end))
+}
+
+/// Adds the members for what is said of the end of a job, and ends its object.
+pub fn push_told(text: &mut String, told: &Told) -> Result<(), AllocError> {
+    push_note(text, told.note.as_str())?;
+    if let Some(wanted) = told.wanted {
+        write!(text, ",\"wanted\":{wanted}")?;
+    }
+    push_least(text, told.least)?;
+    text.push('}')
+}
+
+/// Adds the member for the least limits within which a job returns, if they are known.
+fn push_least(text: &mut String, least: Option<End>) -> Result<(), AllocError> {
+    match least {
+        Some(mut least) => {
+            least.cells = least.cells.max(1);
+            push_limits(text, "least", used(least))
+        }
+        None => Ok(()),
+    }
+}
+
+/// Adds the members for what was counted of a job.
+fn push_counts(
+    text: &mut String,
+    alloc: Global,
+    lines: &Lines,
+    survey: &Survey,
+) -> Result<(), AllocError> {
+    let profile = &survey.profile;
+    push_functions(text, alloc, profile)?;
+    push_lines(text, alloc, profile)?;
+    push_calls(text, &survey.chains)?;
+    let program = profile.run().job().verified().program();
+    push_code(text, alloc, lines, program.first_line(), last_line_of(program))
+}
+
+/// The object of a job of this place and this name that has run to its end, up to what is said of its end.
+pub fn job_object(
+    alloc: Global,
+    lines: &Lines,
+    place: u64,
+    name: &str,
+    survey: &Survey,
+) -> Result<String, AllocError> {
+    let mut text = String::new(alloc);
+    push_job(&mut text, place, name)?;
+    push_end(&mut text, survey)?;
+    push_counts(&mut text, alloc, lines, survey)?;
+    Ok(text)
 }

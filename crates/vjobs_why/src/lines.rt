@@ -87,8 +87,13 @@ impl Lines {
         }
     }
 
+    /// The number of the last line.
+    pub fn count(&self) -> u64 {
+        self.begins.len() as u64
+    }
+
     /// A line as it may be shown, without its LF. Two dots end one that is cut. It is empty if there is none of this number.
-    fn line(&self, alloc: Global, number: u64) -> Result<String, AllocError> {
+    pub fn line(&self, alloc: Global, number: u64) -> Result<String, AllocError> {
         let Some(bytes) = self.bytes(number) else {
             return Ok(String::new(alloc));
         };

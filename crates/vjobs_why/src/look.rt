@@ -1,7 +1,7 @@
 //! What is shown of a job.
 
 use crate::command::Look;
-use crate::data::print_data;
+use crate::data::{Told, job_object, push_told};
 use crate::end::{End, Ending, Wide, ending_of, run_through, run_wide};
 use crate::folded::print_folded;
 use crate::lines::{Lines, printable};
@@ -9,6 +9,7 @@ use crate::operands::operand_names;
 use crate::profile::print_profile;
 use crate::reasons::reason;
 use crate::stack::{function_name, print_calls, print_stack};
+use crate::survey::Survey;
 use crate::watch::Watch;
 use job_profile::Profile;
 use job_steps::Job;
@@ -309,7 +310,7 @@ fn print_state(rt: &HostRuntime, batch: Batch<'_>, watch: &Watch) -> io::Result<
 /// Shows what was asked for of a run that has executed nothing.
 fn show_run(rt: &HostRuntime, batch: Batch<'_>, watch: &mut Watch, look: Look) -> io::Result<()> {
     match look {
-        Look::End | Look::Profile | Look::Data | Look::Folded => Ok(()),
+        Look::End | Look::Profile | Look::Folded => Ok(()),
         Look::After(count) => {
             watch.go_to(count)?;
             print_state(rt, batch, watch)
@@ -349,16 +350,64 @@ fn show_profile(rt: &HostRuntime, batch: Batch<'_>, job: Job<Global>) -> io::Res
     print_profile(rt, batch.lines, &profile)
 }
 
-/// Prints the profile of a job of this place and this name as data.
-fn show_data(
-    rt: &HostRuntime,
+/// The note at the last line of a job that ended so.
+fn last_note(
+    alloc: Global,
+    rule: Rule,
+    job: Job<Global>,
+    end: End,
+    wide: Option<Wide>,
+) -> Result<String, AllocError> {
+    let mut watch = Watch::new(alloc, rule, job)?;
+    if let Ending::Fault(..) | Ending::Memory(..) = end.ending {
+        watch.go_to(end.steps)?;
+    }
+    note_of(alloc, &watch, end.ending, wide)
+}
+
+/// The end within the least limits, if a job returns within wider ones.
+fn least_of(end: End, wide: Option<Wide>) -> Option<End> {
+    let end = match wide {
+        Some(wide) => wide.end,
+        None => end,
+    };
+    if end.ending == Ending::Returned { Some(end) } else { None }
+}
+
+/// The words that the last instruction of a job wanted, if they passed its limit.
+fn wanted_of(end: End, wide: Option<Wide>, limit: usize) -> Option<usize> {
+    match (end.ending, wide) {
+        (Ending::Memory(MemoryFault::Words, _), Some(wide)) if wide.wanted > limit => {
+            Some(wide.wanted)
+        }
+        _ => None,
+    }
+}
+
+/// What is said of a job that ended so.
+fn told_of(alloc: Global, rule: Rule, job: Job<Global>, end: End) -> Result<Told, AllocError> {
+    let limit = job.limits().words;
+    let (wide, job) = wide_of(alloc, rule, job, end)?;
+    Ok(Told {
+        note: last_note(alloc, rule, job, end, wide)?,
+        least: least_of(end, wide),
+        wanted: wanted_of(end, wide, limit),
+    })
+}
+
+/// A job of this place as data.
+pub fn object_of(
+    alloc: Global,
     batch: Batch<'_>,
     place: u64,
     job: Job<Global>,
-    name: &str,
-) -> io::Result<()> {
-    let (profile, ending) = profile_of(rt.alloc(), batch.rule, job)?;
-    print_data(rt, place, name, ending, &profile)
+) -> Result<String, AllocError> {
+    let name = printable(alloc, job.name())?;
+    let survey = Survey::of(alloc, batch.rule, job)?;
+    let mut text = job_object(alloc, batch.lines, place, name.as_str(), &survey)?;
+    let (end, job) = survey.into_end();
+    push_told(&mut text, &told_of(alloc, batch.rule, job, end)?)?;
+    Ok(text)
 }
 
 /// Shows what was asked for of a job of this name, on the line of its name.
@@ -372,7 +421,7 @@ fn show_named(
     match look {
         Look::End => print_end(rt, batch, job, name),
         Look::Profile => show_profile(rt, batch, job),
-        Look::After(_) | Look::At { .. } | Look::Steps { .. } | Look::Data | Look::Folded => {
+        Look::After(_) | Look::At { .. } | Look::Steps { .. } | Look::Folded => {
             let mut watch = Watch::new(rt.alloc(), batch.rule, job)?;
             show_run(rt, batch, &mut watch, look)
         }
@@ -389,7 +438,6 @@ pub fn show(
 ) -> io::Result<()> {
     let name = printable(rt.alloc(), job.name())?;
     match look {
-        Look::Data => show_data(rt, batch, place, job, name.as_str()),
         Look::Folded => print_folded(rt, batch.rule, job),
         Look::End | Look::Profile | Look::After(_) | Look::At { .. } | Look::Steps { .. } => {
             print!(rt; "JOB {place} {name} ")?;

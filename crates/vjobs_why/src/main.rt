@@ -1,6 +1,7 @@
 //! Shows why a job of a batch ended, and what there was on the way.
 #![tactic(auto)]
 
+mod chains;
 mod command;
 mod data;
 mod end;
@@ -9,22 +10,27 @@ mod lines;
 mod look;
 mod meanings;
 mod operands;
+mod page;
+mod page_script;
+mod page_style;
 mod profile;
 mod reading;
 mod reasons;
 mod stack;
+mod survey;
 mod watch;
 
 use batch_reader::{Batch, Entry, Fate, Feed, JobEntries, JobEntry};
-use command::{Asked, Line, LineFault, Look, read_line};
-use data::print_refusal;
+use command::{Asked, Form, Line, LineFault, Look, read_line};
+use data::refusal_object;
 use lines::{Lines, printable};
-use look::show;
+use look::{object_of, show};
+use page::page_of;
 use meanings::{batch_meaning, job_meaning};
 use reading::read_batch;
-use std::alloc::Global;
+use std::alloc::{AllocError, Global};
 use std::process::ExitCode;
-use std::{env, io};
+use std::{env, fs, io};
 use vcode_base::limits::MOST_WORDS;
 
 /// Reads the command line.
@@ -50,19 +56,91 @@ fn show_entry(
     match fate {
         Fate::Ready(job) => show(rt, batch, place, job, look),
         Fate::Refused(line, fault) => {
-            let name = printable(rt.alloc(), name.as_slice())?;
-            match look {
-                Look::Data => print_refusal(rt, place, name.as_str(), line, fault),
-                Look::Folded => Ok(()),
-                Look::End | Look::After(_) | Look::At { .. } | Look::Steps { .. } | Look::Profile =>
-                    {
-                        let text = fault.text();
-                        println!(rt; "JOB {place} {name} REFUSED line {line} {text}")?;
-                        batch.lines.print_around(rt, line, job_meaning(fault))
-                    }
+            if let Look::Folded = look {
+                return Ok(());
             }
+            let name = printable(rt.alloc(), name.as_slice())?;
+            let text = fault.text();
+            println!(rt; "JOB {place} {name} REFUSED line {line} {text}")?;
+            batch.lines.print_around(rt, line, job_meaning(fault))
         }
     }
+}
+
+/// An entry of the batch as data.
+fn entry_object(
+    alloc: Global,
+    batch: look::Batch<'_>,
+    place: u64,
+    entry: JobEntry<Global>,
+) -> Result<String, AllocError> {
+    let Entry { name, fate } = entry;
+    match fate {
+        Fate::Ready(job) => object_of(alloc, batch, place, job),
+        Fate::Refused(line, fault) => {
+            let name = printable(alloc, name.as_slice())?;
+            let refusal = (line, fault, job_meaning(fault));
+            refusal_object(alloc, batch.lines, place, name.as_str(), refusal)
+        }
+    }
+}
+
+/// The jobs of the batch as data: the one of this place, or all.
+fn objects_of(
+    alloc: Global,
+    batch: look::Batch<'_>,
+    entries: JobEntries<Global>,
+    job: Option<u64>,
+) -> Result<Vec<String>, AllocError> {
+    let mut objects = Vec::new(alloc);
+    let mut place: u64 = 0;
+    for entry in entries.into_vec() {
+        place = place.saturating_add(1);
+        if job.is_none() || job == Some(place) {
+            objects.push(entry_object(alloc, batch, place, entry)?)?;
+        }
+    }
+    Ok(objects)
+}
+
+/// Prints jobs as data, an object on each line.
+fn print_objects(rt: &HostRuntime, objects: &[String]) -> io::Result<()> {
+    for object in objects {
+        println!(rt; "{object}")?;
+    }
+    Ok(())
+}
+
+/// Writes a page to the file of this name; `-` is standard output.
+fn write_page(rt: &HostRuntime, file: &str, page: &str) -> io::Result<()> {
+    if file == "-" {
+        return print!(rt; "{page}");
+    }
+    fs::write(rt, file, page)
+}
+
+/// Shows the jobs of the batch in the form that was asked for. Answers whether there was one if one alone was asked for.
+fn show_jobs(
+    rt: &HostRuntime,
+    batch: look::Batch<'_>,
+    entries: JobEntries<Global>,
+    asked: &Asked,
+) -> io::Result<bool> {
+    if let Form::Texts(look) = &asked.form {
+        return show_entries(rt, batch, entries, asked.job, *look);
+    }
+    let objects = objects_of(rt.alloc(), batch, entries, asked.job)?;
+    if objects.is_empty() && asked.job.is_some() {
+        return Ok(false);
+    }
+    match &asked.form {
+        Form::Page(file) => {
+            let page = page_of(rt.alloc(), &objects)?;
+            write_page(rt, file.as_str(), page.as_str())?;
+        }
+        Form::Texts(_) | Form::Data => print_objects(rt, &objects)?,
+    }
+    Ok(true)
 }
 
 /// Shows what was asked for of the jobs of the batch. Answers whether there was one if one alone was asked for.
@@ -70,15 +148,16 @@ fn show_entries(
     rt: &HostRuntime,
     batch: look::Batch<'_>,
     entries: JobEntries<Global>,
-    asked: &Asked,
+    job: Option<u64>,
+    look: Look,
 ) -> io::Result<bool> {
     let mut place: u64 = 0;
-    let mut found = asked.job.is_none();
+    let mut found = job.is_none();
     for entry in entries.into_vec() {
         place = place.saturating_add(1);
-        if asked.job.is_none() || asked.job == Some(place) {
+        if job.is_none() || job == Some(place) {
             found = true;
-            show_entry(rt, batch, place, entry, asked.look)?;
+            show_entry(rt, batch, place, entry, look)?;
         }
     }
     Ok(found)
@@ -102,7 +181,7 @@ fn show_asked(rt: &HostRuntime, asked: &Asked) -> io::Result<u8> {
                 rule,
                 lines: &lines,
             };
-            if show_entries(rt, batch, entries, asked)? {
+            if show_jobs(rt, batch, entries, asked)? {
                 return Ok(0);
             }
             eprintln!(rt; "vjobs-why: the batch has no such job")?;

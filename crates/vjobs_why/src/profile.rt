@@ -4,7 +4,7 @@ use crate::lines::{Lines, printable};
 use job_profile::Profile;
 use std::alloc::{AllocError, Global};
 use std::io;
-use vcode_reader::Function;
+use vcode_reader::{Function, Program};
 
 /// The most lines that are shown.
 const MOST_LINES: usize = 20;
@@ -31,6 +31,17 @@ fn line_count(function: &Function<Global>) -> u64 {
     };
     match function.item(last) {
         Some(ret) => ret.number.saturating_sub(function.line()).saturating_add(1),
+        None => 0,
+    }
+}
+
+/// The line of the last RET of a program.
+pub fn last_line_of(program: &Program<Global>) -> u64 {
+    match program.functions().last() {
+        Some(function) => function
+            .line()
+            .saturating_add(line_count(function))
+            .saturating_sub(1),
         None => 0,
     }
 }

@@ -1,0 +1,91 @@
+//! How the page looks.
+
+/// The style of the page.
+pub const STYLE: &str = r##":root {
+  color-scheme: light dark;
+  --back: #fbfbf9; --card: #fff; --edge: #dcdfe3; --text: #16191d; --dim: #59616b; --code: #f3f4f6;
+  --bad: #b3201b; --good: #116b34; --heat: 214 137 62; --accent: #3b6ea5; --focus: #0b57d0;
+}
+@media (prefers-color-scheme: dark) {
+  :root {
+    --back: #14171a; --card: #1c2024; --edge: #363c43; --text: #e9ecef; --dim: #a3abb4; --code: #252a30;
+    --bad: #ff938a; --good: #74d196; --heat: 214 137 62; --accent: #79a9dd; --focus: #9cc2ff;
+  }
+}
+* { box-sizing: border-box; }
+body { margin: 0; background: var(--back); color: var(--text); font: 15px/1.5 system-ui, sans-serif; }
+main, noscript { display: block; max-width: 1560px; margin: 0 auto; padding: 16px clamp(10px, 2vw, 32px); }
+a { color: inherit; }
+:focus-visible { outline: 3px solid var(--focus); outline-offset: 2px; }
+nav ul { display: flex; flex-wrap: wrap; gap: 4px 18px; margin: 0 0 12px; padding: 0; list-style: none; }
+article + article { margin-top: 40px; border-top: 2px solid var(--edge); padding-top: 16px; }
+header { display: flex; flex-wrap: wrap; align-items: baseline; gap: 4px 14px; margin: 4px 0 14px; }
+h1 { margin: 0; font-size: 1.5rem; overflow-wrap: anywhere; }
+h2 { margin: 0 0 8px; font-size: 1.05rem; }
+h2 small, .dim { color: var(--dim); font-weight: normal; font-size: .9rem; }
+.end { border: 1.5px solid var(--bad); border-radius: 99px; padding: 0 12px; color: var(--bad); font-weight: 600; }
+.end.good { border-color: var(--good); color: var(--good); }
+.cards { display: grid; grid-template-columns: repeat(auto-fit, minmax(165px, 1fr)); gap: 12px; margin: 0 0 14px; }
+.cards > div, section { border: 1px solid var(--edge); border-radius: 8px; background: var(--card); padding: 12px 14px; }
+.cards dt { color: var(--dim); font-size: .9rem; }
+.cards dd { margin: 0; overflow-wrap: anywhere; }
+.cards b { font-size: 1.25rem; }
+.bar { height: 5px; margin-top: 6px; border-radius: 3px; background: var(--edge); overflow: hidden; }
+.bar i { display: block; height: 100%; background: var(--accent); print-color-adjust: exact; }
+.sheet, .side { display: grid; grid-template-columns: minmax(0, 1fr); gap: 14px; }
+.heard { position: absolute; width: 1px; height: 1px; overflow: hidden; clip-path: inset(50%); }
+@media (min-width: 1000px) {
+  .sheet { grid-template-columns: minmax(0, 3fr) minmax(0, 2fr); align-items: start; }
+  .wide { grid-column: 1 / -1; }
+}
+pre, code, td.text { font: 13px/1.5 ui-monospace, "DejaVu Sans Mono", monospace; }
+pre { margin: 0; padding: 10px 12px; border-radius: 6px; background: var(--code); white-space: pre-wrap; overflow-wrap: anywhere; }
+pre .note { color: var(--bad); font-weight: 600; }
+pre .note.good { color: var(--good); }
+p { margin: 8px 0 0; }
+p code { overflow-wrap: anywhere; }
+svg { display: block; width: 100%; height: auto; font: 12px system-ui, sans-serif; }
+svg text { fill: var(--text); }
+svg .soft { fill: var(--dim); }
+svg .grid { stroke: var(--edge); }
+svg .limit { stroke: var(--bad); stroke-width: 1.5; stroke-dasharray: 6 4; }
+svg .stop { stroke: var(--bad); stroke-width: 2.5; fill: none; }
+svg .alarm { fill: var(--bad); font-weight: 600; }
+svg .strong { font-weight: 600; }
+svg .peak { fill: var(--card); stroke: var(--text); stroke-width: 2; }
+svg .cursor { stroke: var(--text); stroke-width: 1; }
+svg path, svg rect, .swatch { print-color-adjust: exact; }
+svg .bars rect { stroke: var(--card); stroke-width: 1; }
+.legend { display: flex; flex-wrap: wrap; gap: 2px 16px; margin: 6px 0 0; padding: 0; list-style: none; font-size: .9rem; }
+.swatch { display: inline-block; width: 11px; height: 11px; margin-right: 6px; border-radius: 2px; }
+.pick { display: flex; flex-wrap: wrap; align-items: center; gap: 2px 12px; margin-top: 6px; font-size: .9rem; }
+.pick { padding: 0 14px 0 54px; }
+.pick input { flex: 1 1 100%; margin: 0; accent-color: var(--accent); }
+.pick output { font-variant-numeric: tabular-nums; overflow-wrap: anywhere; }
+.scroll { overflow: auto; max-height: 75vh; }
+details { margin-top: 8px; }
+summary { cursor: pointer; color: var(--dim); font-size: .9rem; }
+table { border-collapse: collapse; font-size: .92rem; font-variant-numeric: tabular-nums; }
+section > .scroll > table { width: 100%; }
+th { padding: 2px 10px 4px; border-bottom: 1px solid var(--edge); color: var(--dim); text-align: left; font-weight: 600; }
+.scroll thead th { position: sticky; top: 0; background: var(--card); }
+td { padding: 1px 10px; vertical-align: top; }
+td.number, th.number { text-align: right; white-space: nowrap; }
+td.text { white-space: pre; width: 99%; }
+td.name { min-width: 8.5em; overflow-wrap: anywhere; }
+td.name a { display: inline-block; max-width: calc(100% - 20px); vertical-align: top; }
+tr.never td { color: var(--dim); }
+tr.last td { background: color-mix(in srgb, var(--bad) 16%, transparent); }
+tr.last.good td { background: color-mix(in srgb, var(--good) 16%, transparent); }
+tr:target td { box-shadow: inset 0 2px var(--focus), inset 0 -2px var(--focus); }
+td.heat { print-color-adjust: exact; }
+@media print {
+  body { background: #fff; font-size: 11px; }
+  .scroll { max-height: none; overflow: visible; }
+  .pick, nav { display: none; }
+  .cards > div, section { break-inside: avoid; }
+  section.code { break-inside: auto; }
+  tr { break-inside: avoid; }
+  td.text { white-space: pre-wrap; }
+}
+"##;

@@ -1,0 +1,89 @@
+//! One run of a job, with all that is counted on the way.
+
+use crate::chains::Chains;
+use crate::end::{End, Ending, ending_of};
+use job_profile::Profile;
+use job_steps::Job;
+use job_walk::Run;
+use std::alloc::{AllocError, Global};
+use vcode_base::Rule;
+use vcode_base::limits::MOST_BUDGET;
+
+/// A run of a job: its end, the line of the last instruction that was next, its counts, and its chains of functions.
+#[derive(Drop)]
+pub struct Survey {
+    pub end: End,
+    pub last_line: u64,
+    pub profile: Profile<Global>,
+    pub chains: Chains,
+}
+
+/// The number of the line that is next; that of an earlier one if the run is over.
+fn next_number(run: &Run<Global>, earlier: u64) -> u64 {
+    match run.next_line() {
+        Some(line) => line.number,
+        None => earlier,
+    }
+}
+
+impl Survey {
+    /// The survey of a job that has executed nothing.
+    fn new(alloc: Global, rule: Rule, job: Job<Global>) -> Result<Survey, AllocError> {
+        let profile = Profile::new(alloc, rule, job)?;
+        let chains = Chains::new(alloc, profile.run())?;
+        Ok(Survey {
+            end: End {
+                ending: Ending::Budget,
+                steps: 0,
+                executed: 0,
+                words: 0,
+                cells: 0,
+                calls: 1,
+            },
+            last_line: 0,
+            profile,
+            chains,
+        })
+    }
+
+    /// Executes and counts the next instruction; true if the job goes on.
+    fn step(&mut self) -> Result<bool, AllocError> {
+        let run = self.profile.run();
+        let (executed, calls) = (run.executed(), run.calls());
+        self.last_line = next_number(run, self.last_line);
+        let goes_on = self.profile.step()?;
+        self.chains.follow(executed, calls, self.profile.run())?;
+        if goes_on {
+            self.end.steps = self.end.steps.saturating_add(1);
+            self.end.cells = self.end.cells.max(self.profile.run().depth());
+            self.end.calls = self.end.calls.max(self.profile.run().calls());
+        }
+        Ok(goes_on)
+    }
+
+    /// Runs the job to its end.
+    fn run_out(&mut self) -> Result<(), AllocError> {
+        for _ in 0..=MOST_BUDGET {
+            if !self.step()? {
+                break;
+            }
+        }
+        self.profile.collect()?;
+        self.end.ending = ending_of(self.profile.run());
+        self.end.executed = self.profile.run().executed();
+        self.end.words = self.profile.run().peak();
+        Ok(())
+    }
+
+    /// How the job ended, and the job.
+    pub fn into_end(self) -> (End, Job<Global>) {
+        (self.end, self.profile.into_job())
+    }
+
+    /// The survey of a job that has run to its end.
+    pub fn of(alloc: Global, rule: Rule, job: Job<Global>) -> Result<Survey, AllocError> {
+        let mut survey = Survey::new(alloc, rule, job)?;
+        survey.run_out()?;
+        Ok(survey)
+    }
+}

@@ -1,0 +1,78 @@
+"""The batches whose pages are opened."""
+from __future__ import annotations
+
+from pathlib import Path
+
+TOP = Path(__file__).resolve().parents[2]
+
+# Calls of `fib` execute some millions of instructions each, and `wave` holds some words for a moment.
+FIB = """FUNC fib
+COPY 1 0
+CONST INT 2
+< INT
+IF
+POP 1 0
+CONST INT 1
+ELSE
+COPY 1 0
+CONST INT 1
+- INT
+CALL fib
+CPOP 1 1
+CONST INT 2
+- INT
+CALL fib
++ INT
+ENDIF
+RET
+FUNC wave
+CONST INT 7
+CPOP 1 1
+MAKE_SEGDES
+DIST INT
+POP 1 0
+RET
+"""
+FIB_SIGNATURES = "MAIN () -> (INT)\nfib (INT) -> (INT)\nwave (INT) -> ()\n"
+
+
+def long_run(depth: int, rounds: int) -> str:
+    """A job that calls `fib` and `wave` in turns."""
+    turns = "".join(f"CONST INT {500 * (1 + turn)}\nCALL wave\nCONST INT {depth}\nCALL fib\n+ INT\n" for turn in range(rounds))
+    return f"JOB long 20000 256 128 1000000000\nSIGNATURES\n{FIB_SIGNATURES}CODE\nFUNC MAIN\nCONST INT 0\n{turns}RET\n{FIB}END\n"
+
+
+# What a stranger may write where the batch has room for it.
+ATTACKS = ["</script><script>window.attacked=1</script>", "<img/src=x/onerror=window.attacked=1>", "<!--<script>", "-->]]>",
+           "\"'};window.attacked=1;//", "&lt;script&gt;&amp;&#60;b&#62;", "\\u003cb>\\\"", "${window.attacked=1}`",
+           "<svg/onload=window.attacked=1>", "javascript:window.attacked=1", "__proto__", "constructor"]
+
+
+def attacks() -> str:
+    """A job for each attack: in its name, in the name of a function that it calls, and in comments."""
+    jobs = []
+    for attack in ATTACKS:
+        function = attack.replace("(", "").replace(")", "").replace("{", "").replace("}", "")[:64]
+        comment = attack.replace("}", "")
+        jobs.append(f"JOB {attack[:64]} 64 16 4 100\nSIGNATURES\nMAIN () -> (INT)\n{function} (INT) -> (INT)\nCODE\n"
+                    f"{{ {comment} <b>bold</b> \x07\x7f\xe9 }}\nFUNC MAIN {{ {comment} }}\nCONST INT 1\nCALL {function} {{ {comment} }}\n"
+                    f"RET\nFUNC {function}\nCONST INT 0 {{ {comment} }}\n/ INT {{ {comment} }}\nRET\nEND\n")
+    jobs.append("JOB <b>refused</b> 64 16 4 100\nSIGNATURES\nMAIN () -> (INT)\nCODE\nFUNC MAIN\n"
+                "<img/src=x/onerror=window.attacked=1> { </script> }\nRET\nEND\n")
+    return "".join(jobs)
+
+
+def budget() -> str:
+    """A job that calls itself until its instructions are spent."""
+    return ("JOB endless 20000 4096 1024 2500\nSIGNATURES\nMAIN () -> ()\nagain (INT) -> ()\nCODE\nFUNC MAIN\nCONST INT (1 2 3)\n"
+            "CALL again\nRET\nFUNC again\nCOPY 1 0\nCONST INT (1 1 1)\n+ INT\nCALL again\nPOP 1 0\nRET\nEND\n")
+
+
+def batches() -> dict[str, bytes]:
+    """Each batch with the name of its page."""
+    examples = TOP / "examples"
+    found = {name: (examples / f"{name}.vcode").read_bytes() for name in ["quicksort", "four_ends", "reservation_too_small"]}
+    found["budget"] = budget().encode()
+    found["attacks"] = attacks().encode("latin1")
+    found["long"] = long_run(28, 5).encode()
+    return found

@@ -1,0 +1,135 @@
+"""A browser without a window, steered through two pipes by Chromium's own protocol."""
+from __future__ import annotations
+
+import json
+import os
+import select
+import shutil
+import subprocess
+import tempfile
+import time
+
+
+class Browser:
+    """A running Chromium. Use it by `with`; it is ended whatever happens."""
+
+    def __init__(self, program: str) -> None:
+        self.folder = tempfile.mkdtemp()
+        to_read, self.to_browser = os.pipe()
+        self.from_browser, to_write = os.pipe()
+        words = [program, "--headless=new", "--no-sandbox", "--disable-gpu", "--disable-dev-shm-usage", "--no-first-run",
+                 "--disable-background-networking", "--disable-component-update", "--disable-sync", "--hide-scrollbars",
+                 f"--user-data-dir={self.folder}", "--remote-debugging-pipe", "about:blank"]
+        shell = ["sh", "-c", f'exec "$@" 3<&{to_read} 4>&{to_write}', "sh", *words]
+        self.process = subprocess.Popen(shell, pass_fds=(to_read, to_write), stdin=subprocess.DEVNULL,
+                                        stdout=subprocess.DEVNULL, stderr=subprocess.DEVNULL)
+        os.close(to_read)
+        os.close(to_write)
+        self.count, self.rest, self.events = 0, b"", []
+
+    def __enter__(self) -> Browser:
+        return self
+
+    def __exit__(self, *_) -> None:
+        self.process.kill()
+        self.process.wait()
+        shutil.rmtree(self.folder, ignore_errors=True)
+
+    def _message(self, until: float) -> dict | None:
+        """The next message, if one comes in time."""
+        while b"\0" not in self.rest:
+            ready, _, _ = select.select([self.from_browser], [], [], max(0, until - time.monotonic()))
+            if not ready:
+                return None
+            piece = os.read(self.from_browser, 1 << 20)
+            if not piece:
+                raise ConnectionError("the browser has ended")
+            self.rest += piece
+        message, _, self.rest = self.rest.partition(b"\0")
+        return json.loads(message)
+
+    def ask(self, method: str, session: str | None = None, **parameters) -> dict:
+        """The answer to a call. What happens before it comes is kept in `events`."""
+        self.count += 1
+        call = {"id": self.count, "method": method, "params": parameters}
+        if session:
+            call["sessionId"] = session
+        os.write(self.to_browser, json.dumps(call).encode() + b"\0")
+        until = time.monotonic() + 60
+        while message := self._message(until):
+            if message.get("id") == self.count:
+                if "error" in message:
+                    raise RuntimeError(f"{method}: {message['error']}")
+                return message["result"]
+            self.events.append(message)
+        raise TimeoutError(f"no answer to {method}")
+
+    def wait_for(self, method: str, session: str) -> None:
+        """Waits until something has happened, which may be among what is kept."""
+        until = time.monotonic() + 60
+        while not any(event.get("method") == method and event.get("sessionId") == session for event in self.events):
+            message = self._message(until)
+            if message is None:
+                raise TimeoutError(f"no {method}")
+            self.events.append(message)
+
+
+class Page:
+    """A page that was opened at a width, light or dark. `said` is what the console has, `asked` what was asked for."""
+
+    def __init__(self, browser: Browser, url: str, width: int, scheme: str) -> None:
+        self.browser = browser
+        browser.events.clear()
+        self.target = browser.ask("Target.createTarget", url="about:blank")["targetId"]
+        self.session = browser.ask("Target.attachToTarget", targetId=self.target, flatten=True)["sessionId"]
+        for domain in ["Page", "Runtime", "Log", "Network"]:
+            self.ask(f"{domain}.enable")
+        self.ask("Emulation.setDeviceMetricsOverride", width=width, height=1000, deviceScaleFactor=1, mobile=False)
+        self.ask("Emulation.setEmulatedMedia", features=[{"name": "prefers-color-scheme", "value": scheme}])
+        browser.events.clear()
+        self.ask("Page.navigate", url=url)
+        browser.wait_for("Page.loadEventFired", self.session)
+        self.run("new Promise((done) => requestAnimationFrame(() => setTimeout(done, 50)))")
+
+    def ask(self, method: str, **parameters) -> dict:
+        return self.browser.ask(method, self.session, **parameters)
+
+    def run(self, code: str):
+        """The value of an expression on the page."""
+        answer = self.ask("Runtime.evaluate", expression=code, returnByValue=True, awaitPromise=True)
+        if "exceptionDetails" in answer:
+            raise RuntimeError(f"{code[:80]}: {answer['exceptionDetails']}")
+        return answer["result"].get("value")
+
+    def press(self, key: str, code: int) -> None:
+        """Presses a key."""
+        for kind in ["rawKeyDown", "keyUp"]:
+            self.ask("Input.dispatchKeyEvent", type=kind, key=key, code=key, windowsVirtualKeyCode=code)
+
+    def said(self) -> list[str]:
+        """Errors and warnings of the console."""
+        found = []
+        for event in self.browser.events:
+            method, parameters = event.get("method"), event.get("params", {})
+            if method == "Runtime.exceptionThrown":
+                found.append(parameters["exceptionDetails"].get("exception", {}).get("description", "an exception"))
+            elif method == "Log.entryAdded":
+                found.append(parameters["entry"]["text"])
+            elif method == "Runtime.consoleAPICalled":
+                found.append(f"console.{parameters['type']}")
+        return found
+
+    def asked(self) -> list[str]:
+        """The addresses that were asked for."""
+        return [event["params"]["request"]["url"] for event in self.browser.events
+                if event.get("method") == "Network.requestWillBeSent"]
+
+    def picture(self) -> bytes:
+        """The whole page as a PNG, in base 64."""
+        height = min(6000, self.run("document.documentElement.scrollHeight"))
+        width = self.run("innerWidth")
+        clip = {"x": 0, "y": 0, "width": width, "height": height, "scale": 1}
+        return self.ask("Page.captureScreenshot", clip=clip, captureBeyondViewport=True)["data"]
+
+    def close(self) -> None:
+        self.browser.ask("Target.closeTarget", targetId=self.target)
