@@ -1,15 +1,13 @@
 -- What a JOB line's words give.
-use Rattle.std.proofs.Common.{◌≡◌, ℕ, ◌+◌, ◌*◌, ◌^◌, ◌<◌, ◌≤◌, suc, zero, Bool, true, false, ◌&&◌, List, [], ◌∷◌}
-use Rattle.std.proofs.Common.{length, get_or, drop, add-one, Option, Some, None, refl, ap, ◌∙◌, arith}
-use Rattle.std.specs.Prelude.{nat_le, if◌then◌else◌}
+use Rattle.std.proofs.Common.{◌≡◌, ℕ, ◌<◌, ◌≤◌, Bool, true, false, List, length, Some, None, refl, ap, ◌∙◌, arith}
+use Rattle.std.specs.Prelude.{nat_le}
 use Rattle.std.proofs.lemmas.Bool.Decides.{nat_tests}
 use Rattle.std.proofs.Math.Bridge.{le_prop}
-use Rattle.std.proofs.Math.Nat.{one-le-pow, pow-suc}
-use Rattle.std.proofs.lemmas.Bool.{le-leb, leb-true}
-use Rattle.std.proofs.lemmas.List.{drop_all, drop_more}
+use Rattle.std.proofs.lemmas.Bool.{le-leb}
+use Rattle.vcode_base.specs.Bytes.{decimal}
 use Rattle.vcode_base.specs.declared.limits.Limits.{Limits}
 use Rattle.vcode_base.specs.declared.limits.TheConstants.{MOST_WORDS, MOST_CELLS, MOST_CALLS, MOST_BUDGET}
-use Rattle.batch_reader.specs.JobLines.{all_within, are_limits, limits_where, limits_of, number_of, value_of}
+use Rattle.batch_reader.specs.JobLines.{are_limits, limits_where, limits_of, number_of}
 
 none : (words cells calls budget : ℕ) (b : Bool) (e : are_limits words cells calls budget ≡ b) → b ≡ false
     → limits_where words cells calls budget b e ≡ None
@@ -70,69 +68,8 @@ limits_are l = found l (are_limits l.words l.cells l.calls l.budget) refl (fits 
 
 -- ---- numbers
 
--- one byte more, within or not
-pub within_next : (low high : ℕ) (w : List ℕ) (i : ℕ) → i < length w → low ≤ get_or w i 0 → get_or w i 0 ≤ high
-    → all_within low high (drop i w) ≡ all_within low high (drop (i + 1) w)
-within_next low high w i h above below =
-    let a : nat_le low (get_or w i 0) ≡ true = le-leb low (get_or w i 0) above in
-    let b : nat_le (get_or w i 0) high ≡ true = le-leb (get_or w i 0) high below in
-    rw (drop_more w i 0 h, a, b) refl
-
-pub too_low : (low high : ℕ) (w : List ℕ) (i : ℕ) → i < length w → get_or w i 0 < low
-    → all_within low high (drop i w) ≡ false
-too_low low high w i h less =
-    let a : nat_le low (get_or w i 0) ≡ false = grind (arith, nat_tests) in rw (drop_more w i 0 h, a) refl
-
-pub too_high : (low high : ℕ) (w : List ℕ) (i : ℕ) → i < length w → low ≤ get_or w i 0 → high < get_or w i 0
-    → all_within low high (drop i w) ≡ false
-too_high low high w i h above more =
-    let a : nat_le low (get_or w i 0) ≡ true = le-leb low (get_or w i 0) above in
-    let b : nat_le (get_or w i 0) high ≡ false = grind (arith, nat_tests) in
-    rw (drop_more w i 0 h, a, b) refl
-
-pub all_seen : (low high : ℕ) (w : List ℕ) (i : ℕ) → length w ≤ i → all_within low high (drop i w) ≡ true
-all_seen low high w i h = rw (drop_all i w h) refl
-
-first_within : (a b c : Bool) → ((a && b) && c) ≡ true → (a ≡ true) × (b ≡ true) × (c ≡ true)
-first_within true true true e = (refl, refl, refl)
-first_within true true false e = cc
-first_within true false c e = cc
-first_within false b c e = cc
-
-digit_at : (w : List ℕ) (i : ℕ) → i < length w → all_within 48 57 w ≡ true
-    → (nat_le 48 (get_or w i 0) ≡ true) × (nat_le (get_or w i 0) 57 ≡ true)
-digit_at [] i h all = absurd (omega arith)
-digit_at (x ∷ xs) zero h all = let f = first_within (nat_le 48 x) (nat_le x 57) (all_within 48 57 xs) all in (f.0, f.1)
-digit_at (x ∷ xs) (suc i) h all =
-    digit_at xs i (omega arith) (first_within (nat_le 48 x) (nat_le x 57) (all_within 48 57 xs) all).2
-
-pub digit_above : (w : List ℕ) (i : ℕ) → i < length w → all_within 48 57 w ≡ true → 48 ≤ get_or w i 0
-digit_above w i h all = leb-true 48 (get_or w i 0) (digit_at w i h all).0
-
-pub digit_below : (w : List ℕ) (i : ℕ) → i < length w → all_within 48 57 w ≡ true → get_or w i 0 ≤ 57
-digit_below w i h all = leb-true (get_or w i 0) 57 (digit_at w i h all).1
-
-ten_up : (i j : ℕ) → i ≤ j → 10 ^ i ≤ 10 ^ j
-ten_up zero j h = one-le-pow j 10 (omega arith)
-ten_up (suc i) zero h = absurd (omega arith)
-ten_up (suc i) (suc j) h = omega (arith, pow-suc 10 i, pow-suc 10 j, ten_up i j (omega arith))
-
--- fewer than ten digits leave room for one more
-pub room_for_digit : (value i : ℕ) → value < 10 ^ i → i < 10 → 10 * value + 9 < 2 ^ 64
-room_for_digit value i h less = omega (arith, ten_up i 9 (omega arith))
-
-pub one_digit_more : (value digit i : ℕ) → value < 10 ^ i → digit ≤ 9 → 10 * value + digit < 10 ^ (i + 1)
-one_digit_more value digit i h small = rw (add-one, pow-suc 10 i) (omega arith)
-
-pub number_is : (w : List ℕ) → length w ≤ 10 → all_within 48 57 w ≡ true → number_of w ≡ Some (value_of w)
-number_is w short all = rw (le-leb (length w) 10 short, all) refl
+pub number_is : (w : List ℕ) → length w ≤ 10 → number_of w ≡ decimal w
+number_is w short = rw (le-leb (length w) 10 short) refl
 
 pub number_of_long : (w : List ℕ) → 10 < length w → number_of w ≡ None
 number_of_long w long = let isnt : nat_le (length w) 10 ≡ false = grind (arith, nat_tests) in rw isnt refl
-
-neither : (b : Bool) (o : Option ℕ) → (if (b && false) then o else None) ≡ None
-neither true o = refl
-neither false o = refl
-
-pub number_of_other : (w : List ℕ) → all_within 48 57 w ≡ false → number_of w ≡ None
-number_of_other w other = rw other (neither (nat_le (length w) 10) (Some (value_of w)))

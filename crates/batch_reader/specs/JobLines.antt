@@ -1,10 +1,11 @@
 -- What a good JOB line says.
-use Rattle.std.specs.Prelude.{◌≡◌, ℕ, ◌+◌, ◌-◌, ◌*◌, ◌≤◌, nat_le, Bool, true, false, ◌&&◌, if◌then◌else◌, List, []}
-use Rattle.std.specs.Prelude.{◌∷◌, codes, length, fold, Option, Some, None, refl}
+use Rattle.std.specs.Prelude.{◌≡◌, ℕ, ◌≤◌, nat_le, Bool, true, false, ◌&&◌, if◌then◌else◌, List, []}
+use Rattle.std.specs.Prelude.{◌∷◌, codes, length, Option, Some, None, refl}
 use Rattle.std.specs.List.{list_all}
 use Rattle.std.specs.Str.{bytes_eq}
 use Rattle.std.proofs.Common.{arith}
 use Rattle.std.proofs.lemmas.Bool.Decides.{nat_tests}
+use Rattle.vcode_base.specs.Bytes.{decimal, is_visible}
 use Rattle.vcode_base.specs.declared.limits.Limits.{Limits}
 use Rattle.vcode_base.specs.declared.limits.TheConstants.{LONGEST_NAME, MOST_WORDS, MOST_CELLS, MOST_CALLS, MOST_BUDGET}
 
@@ -13,21 +14,13 @@ pub record JobLine : Type 0 where
   pub name : List ℕ
   pub limits : Limits
 
--- each byte is within these two
-abbrev pub all_within : ℕ → ℕ → List ℕ → Bool
-all_within low high w = list_all (λ b. nat_le low b && nat_le b high) w
-
--- some bytes, not too many, each of 33 to 126
+-- some bytes, not too many, each of them visible
 abbrev pub is_name : List ℕ → Bool
-is_name w = nat_le 1 (length w) && nat_le (length w) LONGEST_NAME && all_within 33 126 w
-
--- the value of decimal digits
-abbrev pub value_of : List ℕ → ℕ
-value_of w = fold (λ n b. 10 * n + (b - 48)) 0 w
+is_name w = nat_le 1 (length w) && nat_le (length w) LONGEST_NAME && list_all is_visible w
 
 -- a number of at most 10 decimal digits
 abbrev pub number_of : List ℕ → Option ℕ
-number_of w = if nat_le (length w) 10 && all_within 48 57 w then Some (value_of w) else None
+number_of w = if nat_le (length w) 10 then decimal w else None
 
 -- the numbers are within their ranges
 abbrev pub are_limits : ℕ → ℕ → ℕ → ℕ → Bool

@@ -1,12 +1,15 @@
 //! The JOB line: a job's name and its limits.
 
 ghost use Rattle.std.specs.Prelude.{◌≡◌, ◌≤◌, [], ◌∷◌, length, Some, None, MatchOption};
+ghost use Rattle.std.specs.List.{list_all};
+ghost use Rattle.vcode_base.specs.Bytes.{is_visible};
 ghost use Rattle.vcode_base.specs.declared.limits.TheConstants.{LONGEST_NAME};
-ghost use Rattle.batch_reader.specs.JobLines.{all_within, is_name, job_line_of, limits_of, number_of};
+ghost use Rattle.batch_reader.specs.JobLines.{is_name, job_line_of, limits_of, number_of};
 ghost use Rattle.batch_reader.specs.Lines.{batch_words};
 
+use vcode_base::laws::few_digits_fit;
 use vcode_base::limits::{LONGEST_NAME, MOST_BUDGET, MOST_CALLS, MOST_CELLS, MOST_WORDS};
-use vcode_base::{Limits, LineWords, Parentheses};
+use vcode_base::{Limits, LineWords, Parentheses, decimal, is_visible};
 
 /// The most digits of a number.
 const MOST_DIGITS: usize = 10;
@@ -14,7 +17,7 @@ const MOST_DIGITS: usize = 10;
 /// What a good JOB line says.
 #[derive(Clone, Copy)]
 pub(crate) struct JobLine<'a> {
-    /// At most [`LONGEST_NAME`] bytes of 33 to 126, and at least one.
+    /// At most [`LONGEST_NAME`] visible bytes, and at least one.
     pub(crate) name: &'a [u8],
     pub(crate) limits: Limits,
     ghost named: { (1 ≤ length name.now) × (length name.now ≤ LONGEST_NAME) },
@@ -77,19 +80,11 @@ fn six_words(line: &[u8]) -> Option<SixWords<'_>>
     })
 }
 
-/// Whether each byte of a word is within these two.
-fn all_within(word: &[u8], low: u8, high: u8) -> bool
-    ensures { result ≡ all_within low high word.now }
+/// Whether each byte of a word is visible.
+fn are_visible(word: &[u8]) -> bool
+    ensures { result ≡ list_all is_visible word.now }
 {
-    for b in word {
-        if *b < low {
-            return false;
-        }
-        if *b > high {
-            return false;
-        }
-    }
-    true
+    word.iter().all(|byte| is_visible(*byte))
 }
 
 /// Whether a word is a job's name.
@@ -102,25 +97,18 @@ fn is_name(word: &[u8]) -> bool
     if word.len() > LONGEST_NAME {
         return false;
     }
-    all_within(word, 33, 126)
+    are_visible(word)
 }
 
 /// The number that a word is of at most 10 decimal digits.
-#[tactic(auto, using(crate::proofs::JobLineLemmas::digit_above, crate::proofs::JobLineLemmas::digit_below, crate::proofs::JobLineLemmas::room_for_digit, crate::proofs::JobLineLemmas::one_digit_more))]
 fn number(word: &[u8]) -> Option<u64>
     ensures { result ≡ number_of word.now }
 {
+    few_digits_fit();
     if word.len() > MOST_DIGITS {
         return None;
     }
-    if !all_within(word, b'0', b'9') {
-        return None;
-    }
-    let mut value = 0;
-    for b in word {
-        value = 10 * value + u64::from(*b - b'0');
-    }
-    Some(value)
+    decimal(word)
 }
 
 /// These limits, if all four are numbers within their ranges.

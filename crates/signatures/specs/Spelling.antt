@@ -1,10 +1,11 @@
 -- Which line says which signature.
-use Rattle.std.specs.Prelude.{◌≡◌, ◌≤◌, ◌<◌, ℕ, ◌==◌, nat_lt, ◌||◌, ◌&&◌, not, Bool, true, false}
+use Rattle.std.specs.Prelude.{◌≡◌, ◌≤◌, ◌<◌, ℕ, ◌==◌, ◌||◌, ◌&&◌, not, Bool, true, false}
 use Rattle.std.specs.Prelude.{List, [], ◌∷◌, ◌++◌, map, length, codes}
 use Rattle.std.specs.List.{list_all, list_any}
 use Rattle.vcode_base.specs.declared.kind.Kind.{Kind}
 use Rattle.vcode_base.specs.declared.kind.Kind.TheVariants.{Int, Bool as BoolKind, Segdes}
 use Rattle.vcode_base.specs.declared.limits.TheConstants.{LONGEST_NAME, MOST_FUNCTIONS, MOST_KINDS}
+use Rattle.vcode_base.specs.Bytes.{is_visible}
 use Rattle.vcode_base.specs.LineWords.{is_separator, is_parenthesis}
 use Rattle.vcode_base.specs.Lines.{is_line_feed}
 use Rattle.signatures.specs.Lines.{line_words}
@@ -27,9 +28,9 @@ arrow_words operands results = list_words operands (codes "->" ∷ list_words re
 abbrev pub signature_words : Signature → List (List ℕ)
 signature_words s = s.name ∷ arrow_words s.operands s.results
 
--- above the blank and below DEL, without parentheses and braces
+-- visible, without parentheses and braces
 abbrev pub is_name_byte : ℕ → Bool
-is_name_byte b = nat_lt 32 b && nat_lt b 127 && not (is_parenthesis b || b == 123 || b == 125)
+is_name_byte b = is_visible b && not (is_parenthesis b || b == 123 || b == 125)
 
 abbrev pub is_name : List ℕ → Bool
 is_name = list_all is_name_byte

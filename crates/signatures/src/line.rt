@@ -8,7 +8,7 @@ ghost use Rattle.signatures.specs.Spelling.{is_name, is_name_byte};
 use crate::fault::{EntryFault, SignatureFault};
 use crate::function_type::FunctionType;
 use std::alloc::Allocator;
-use vcode_base::{Kind, LineWords};
+use vcode_base::{Kind, LineWords, is_visible};
 
 /// The kind of this word.
 fn kind_of(word: &[u8]) -> Option<Kind>
@@ -29,7 +29,7 @@ fn kind_of(word: &[u8]) -> Option<Kind>
 fn is_name_byte(byte: u8) -> bool
     ensures { result ≡ is_name_byte byte }
 {
-    32 < byte && byte < 127 && !matches!(byte, b'(' | b')' | b'{' | b'}')
+    is_visible(byte) && !matches!(byte, b'(' | b')' | b'{' | b'}')
 }
 
 /// Whether a word may be a name.

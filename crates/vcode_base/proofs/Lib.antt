@@ -1,3 +1,4 @@
+mod Digits
 pub mod KindTests
 mod Lengths
 mod LineFeeds

@@ -1,4 +1,6 @@
+pub mod Bytes
 pub mod Choices
+pub mod DigitLaws
 pub mod Elements
 pub mod Instructions
 pub mod Kinds

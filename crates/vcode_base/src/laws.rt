@@ -1,6 +1,7 @@
 //! Laws over the definitions alone: each is the contract of a function that does nothing.
 
 ghost use Rattle.vcode_base.specs.Laws.{ResultsHaveNeededLengths, EachElementAtItsIndex};
+ghost use Rattle.vcode_base.specs.DigitLaws.{FewDigitsFit};
 ghost use Rattle.vcode_base.specs.LineLaws.{LineFeedsAreFew};
 
 /// If an instruction has no fault, its results have the lengths that `need` gives.
@@ -17,4 +18,9 @@ pub fn each_element_at_its_index()
 /// A text has no more LFs than bytes.
 pub fn line_feeds_are_few()
     ensures { LineFeedsAreFew }
+{}
+
+/// The value of fewer than 20 decimal digits fits into 64 bits.
+pub fn few_digits_fit()
+    ensures { FewDigitsFit }
 {}

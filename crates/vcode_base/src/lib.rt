@@ -4,6 +4,7 @@
 //! `Kinds`, the shapes that it takes, the lengths, the faults and the results in `Meaning`.
 #![tactic(auto)]
 
+mod bytes;
 pub mod element;
 mod fault;
 mod instr;
@@ -19,6 +20,7 @@ mod sequence;
 mod shared_words;
 mod value;
 
+pub use bytes::{decimal, is_visible, number_at_front};
 pub use fault::{DataFault, MemoryFault, TextFault};
 pub use instr::{FunctionName, Instr, Instruction};
 pub use kind::{Kind, Scalar, have_kinds};

@@ -29,7 +29,7 @@ feeds-class_of b =
     (other_feeds ((b == 32) || (b == 9) || (b == 13)) Blank _ refl
     (other_feeds (b == 123) OpenBrace _ refl
     (other_feeds (b == 125) CloseBrace _ refl
-    (other_feeds ((b == 40) || (b == 41)) Parenthesis _ refl (other_feeds _ Refused Plain refl refl)))))
+    (other_feeds ((b == 40) || (b == 41)) Parenthesis _ refl (other_feeds _ Plain Refused refl refl)))))
 
 ends_word-line : {P : Type 0} (emit : Emit P) (t : List ℕ) (r : Scan P) → (ends_word emit t r).line ≡ r.line
 ends_word-line emit [] r = refl

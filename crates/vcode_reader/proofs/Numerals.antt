@@ -1,10 +1,11 @@
 -- Numbers at the front of a text.
-use Rattle.std.proofs.Common.{◌≡◌, ◌∙◌, ℕ, ℤ, zero, suc, ◌+◌, ◌-◌, ◌*◌, ◌==◌, ◌<◌, ◌≤◌, Bool, true, false, ◌&&◌, List, [], ◌∷◌}
+use Rattle.std.proofs.Common.{◌≡◌, ◌∙◌, ℕ, ℤ, zero, suc, ◌+◌, ◌-◌, ◌*◌, ◌==◌, ◌<◌, ◌≤◌, Bool, true, false, cond, ◌&&◌, List, [], ◌∷◌}
 use Rattle.std.proofs.Common.{◌++◌, Option, Some, None, refl, arith, ap, sym, add-one, length, take, drop, get_or}
 use Rattle.std.specs.Prelude.{if◌then◌else◌, codes, nat_le, nat_lt, is_some}
 use Rattle.std.specs.Str.{bytes_eq}
 use Rattle.std.proofs.lemmas.Bool.Decides.{nat_tests}
 use Rattle.std.proofs.lemmas.List.{append-nil}
+use Rattle.vcode_base.specs.Bytes.{IsNumberAtFront, decimal, digit_count, digits_from, is_digit}
 use Rattle.vcode_base.specs.declared.kind.Scalar.{Scalar}
 use Rattle.vcode_base.specs.declared.kind.Scalar.TheVariants as scalar
 use Rattle.vcode_base.specs.declared.limits.TheConstants.{MOST_ELEMENTS}
@@ -12,57 +13,54 @@ use Rattle.vcode_reader.specs.declared.fault.CodeFault.TheVariants.{TooLarge}
 use Rattle.vcode_reader.specs.declared.place.Place.{Place}
 use Rattle.vcode_reader.specs.declared.place.Place.TheVariants.{Outside, Name, Inside, InsideOrInt, Words, Elements}
 use Rattle.vcode_reader.specs.Ahead.{HasDigits, HasNumber, awaits_number}
-use Rattle.vcode_reader.specs.Classes.{plain_length}
-use Rattle.vcode_reader.specs.Numbers.{decimal, digits_from, negative, number_of, positive}
+use Rattle.vcode_reader.specs.Classes.{class_of, is_plain, plain_length}
+use Rattle.vcode_reader.specs.Numbers.{negative, number_of, positive}
 use Rattle.vcode_reader.specs.Parsing.{Parse, at_place, one_element, take as take_word, with_fault}
 use Rattle.vcode_reader.specs.Scan.{Scan, scan_all}
-use Rattle.vcode_reader.proofs.Digits.{decimal_is, with_digit}
-use Rattle.vcode_reader.proofs.Pieces.{dropped, none_at, plain_at, plain_range, separates, whole_word}
+use Rattle.vcode_reader.proofs.Pieces.{dropped, plain_range, separates, whole_word}
 
--- ---- digit by digit
-
-take_next : (t : List ℕ) (i : ℕ) (rest : List ℕ) → i < length t → take (suc i) t ++ rest ≡ take i t ++ (get_or t i 0 ∷ rest)
-take_next [] i rest lt = absurd (omega arith)
-take_next (x ∷ t) zero rest lt = refl
-take_next (x ∷ t) (suc i) rest lt = ap (λ z. x ∷ z) (take_next t i rest (omega arith))
-
--- the first digits have this value, whatever follows them
-abbrev pub HaveValue : List ℕ → ℕ → ℕ → Type 0
-HaveValue t i value = (rest : List ℕ) → digits_from 0 (take i t ++ rest) ≡ digits_from value rest
-
-pub digit_more : (t : List ℕ) (i v d : ℕ) → i < length t → 48 ≤ get_or t i 0 → get_or t i 0 ≤ 57
-    → d ≡ get_or t i 0 - 48 → HaveValue t i v → HaveValue t (i + 1) (10 * v + d)
-digit_more t i v d lt low high same h rest =
-    rw add-one (ap (digits_from 0) (take_next t i rest lt)
-    ∙ (h (get_or t i 0 ∷ rest) ∙ with_digit v (get_or t i 0) d (get_or t i 0 ∷ rest) rest refl low high same))
-
-pub plain_more : (t : List ℕ) (i : ℕ) → i < length t → 48 ≤ get_or t i 0 → get_or t i 0 ≤ 57
-    → plain_length t ≡ i + plain_length (drop i t) → plain_length t ≡ (i + 1) + plain_length (drop (i + 1) t)
-plain_more t i lt low high h =
-    omega (arith, h, plain_at t i lt (plain_range (get_or t i 0) (omega arith) (omega arith)))
+-- ---- digits at the front of a text
 
 some_taken : (i : ℕ) (t : List ℕ) → 1 ≤ i → i < length t → 1 ≤ length (take i t)
 some_taken zero t some lt = absurd (omega arith)
 some_taken (suc i) [] some lt = absurd (omega arith)
 some_taken (suc i) (x ∷ t) some lt = omega arith
 
-pub digits_found : (t : List ℕ) (i v : ℕ) → 1 ≤ i → i < length t → get_or t i 0 ≤ 32 → HaveValue t i v
-    → plain_length t ≡ i + plain_length (drop i t) → HasDigits t v i
-digits_found t i v some more low digits plain =
+digit_plain : (b : ℕ) → is_digit b ≡ true → is_plain (class_of b) ≡ true
+digit_plain b h = plain_range b (grind (arith, nat_tests)) (grind (arith, nat_tests))
+
+by_digit : (d : Bool) (b : ℕ) (bs : List ℕ) → is_digit b ≡ d → cond d (suc (digit_count bs)) 0 < suc (length bs)
+    → get_or (b ∷ bs) (cond d (suc (digit_count bs)) 0) 0 ≤ 32
+    → (digit_count bs < length bs → get_or bs (digit_count bs) 0 ≤ 32 → plain_length bs ≡ digit_count bs)
+    → plain_length (b ∷ bs) ≡ cond d (suc (digit_count bs)) 0
+by_digit true b bs is lt low h = rw (digit_plain b is) (ap suc (h (omega arith) low))
+by_digit false b bs is lt low h = rw (separates b low) refl
+
+-- the digits at the front are the plain bytes there, if a blank or a control byte follows them
+digits_plain : (t : List ℕ) → digit_count t < length t → get_or t (digit_count t) 0 ≤ 32 → plain_length t ≡ digit_count t
+digits_plain [] lt low = refl
+digits_plain (b ∷ bs) lt low = by_digit (is_digit b) b bs refl lt low (digits_plain bs)
+
+value_some : (k v : ℕ) (t : List ℕ) → decimal (take k t) ≡ Some v → 1 ≤ k
+value_some zero v t e = cc
+value_some (suc k) v t e = omega arith
+
+pub digits_found : (m v k : ℕ) (t : List ℕ) → IsNumberAtFront m t v k → k < length t → get_or t k 0 ≤ 32
+    → HasDigits t v k
+digits_found m v k t h more low =
     record {
-      some = some;
+      some = value_some k v t h.value_is;
       more = more;
-      plain = omega (arith, plain, none_at t i more (separates (get_or t i 0) low));
-      value_is = decimal_is (take i t) (some_taken i t some more)
-          ∙ (ap (digits_from 0) (sym (append-nil (take i t))) ∙ digits []);
+      plain = digits_plain t (omega (arith, more, h.count_is)) (rw h.count_is at low) ∙ sym h.count_is;
+      value_is = h.value_is;
     }
 
 -- ---- digits as a number
 
-digit_no_minus : (c : ℕ) → (nat_le 48 c && nat_lt c 58) ≡ true → (c == 45) ≡ false
+digit_no_minus : (c : ℕ) → is_digit c ≡ true → (c == 45) ≡ false
 digit_no_minus c h = grind (arith, nat_tests)
 
-first_digit : (b : Bool) (c v : ℕ) (o : Option ℕ) → (nat_le 48 c && nat_lt c 58) ≡ b
+first_digit : (b : Bool) (c v : ℕ) (o : Option ℕ) → is_digit c ≡ b
     → (if b then o else None) ≡ Some v → (c == 45) ≡ false
 first_digit true c v o is e = digit_no_minus c is
 first_digit false c v o is e = cc
@@ -72,7 +70,7 @@ unfolding number_of
 positive_is [] v n e h = cc
 positive_is (c ∷ cs) v n e h =
     let isnt : (c == 45) ≡ false =
-    first_digit (nat_le 48 c && nat_lt c 58) c v (digits_from (10 * 0 + (c - 48)) cs) refl e in
+    first_digit (is_digit c) c v (digits_from (10 * 0 + (c - 48)) cs) refl e in
     rw isnt (ap positive e ∙ h)
 
 pub positive_found : (t : List ℕ) (v d : ℕ) (n : ℤ) → HasDigits t v d → positive (Some v) ≡ Some n → HasNumber t n d

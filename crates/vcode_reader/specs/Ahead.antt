@@ -1,11 +1,12 @@
 -- Words at the front of a text.
 use Rattle.std.specs.Prelude.{◌≡◌, ℕ, ℤ, suc, ◌<◌, ◌≤◌, Bool, true, false, List, length, take, drop, get_or, Some}
+use Rattle.vcode_base.specs.Bytes.{decimal}
 use Rattle.vcode_base.specs.declared.kind.Scalar.{Scalar}
 use Rattle.vcode_base.specs.declared.kind.Scalar.TheVariants as scalar
 use Rattle.vcode_reader.specs.declared.place.Place.{Place}
 use Rattle.vcode_reader.specs.declared.place.Place.TheVariants.{Outside, Name, Inside, InsideOrInt, Words, Elements}
 use Rattle.vcode_reader.specs.Classes.{plain_length}
-use Rattle.vcode_reader.specs.Numbers.{decimal, number_of}
+use Rattle.vcode_reader.specs.Numbers.{number_of}
 
 abbrev pub IsDigit : ℕ → Type 0
 IsDigit d = (48 ≤ d) × (d ≤ 57)

@@ -1,5 +1,6 @@
 -- What a byte does in a text.
-use Rattle.std.specs.Prelude.{ℕ, suc, Bool, true, false, if◌then◌else◌, ◌==◌, ◌||◌, nat_lt, List, [], ◌∷◌}
+use Rattle.std.specs.Prelude.{ℕ, suc, Bool, true, false, if◌then◌else◌, ◌==◌, ◌||◌, List, [], ◌∷◌}
+use Rattle.vcode_base.specs.Bytes.{is_visible}
 use Rattle.vcode_reader.specs.declared.class.Class.{Class}
 use Rattle.vcode_reader.specs.declared.class.Class.TheVariants.{LineFeed, Blank, OpenBrace, CloseBrace, Parenthesis}
 use Rattle.vcode_reader.specs.declared.class.Class.TheVariants.{Plain, Refused}
@@ -11,8 +12,8 @@ class_of b =
     else if b == 123 then OpenBrace
     else if b == 125 then CloseBrace
     else if (b == 40) || (b == 41) then Parenthesis
-    else if nat_lt b 33 || nat_lt 126 b then Refused
-    else Plain
+    else if is_visible b then Plain
+    else Refused
 
 -- a byte of this class is a part of a word
 abbrev pub is_plain : Class → Bool

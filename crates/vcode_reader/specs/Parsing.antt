@@ -1,7 +1,8 @@
 -- The table of refusals: what is open after the words so far, and what one word more does to it.
-use Rattle.std.specs.Prelude.{ℕ, ℤ, Bool, true, false, ◌||◌, ◌==◌, nat_lt, List, [], ◌∷◌, ◌++◌, length, Option, Some}
+use Rattle.std.specs.Prelude.{ℕ, ℤ, Bool, true, false, not, ◌||◌, ◌==◌, nat_lt, List, [], ◌∷◌, ◌++◌, length, Option, Some}
 use Rattle.std.specs.Prelude.{None, is_some, Result, Ok, Err, if◌then◌else◌, codes}
 use Rattle.std.specs.Str.{bytes_eq}
+use Rattle.vcode_base.specs.Bytes.{is_visible}
 use Rattle.vcode_base.specs.declared.kind.Scalar.{Scalar}
 use Rattle.vcode_base.specs.declared.kind.Scalar.TheVariants as scalar
 use Rattle.vcode_base.specs.declared.limits.TheConstants.{LONGEST_NAME, MOST_FUNCTIONS, MOST_OPEN_IFS, MOST_ELEMENTS}
@@ -57,7 +58,7 @@ with_fault r l p = record p { fault = Some (r, l) }
 
 -- a byte that is part of no word
 abbrev pub is_bad_byte : ℕ → Bool
-is_bad_byte b = nat_lt b 33 || nat_lt 126 b || b == 123 || b == 125
+is_bad_byte b = not (is_visible b) || b == 123 || b == 125
 
 abbrev pub is_bad : List ℕ → Bool
 is_bad [] = false

@@ -4,6 +4,7 @@ ghost use Rattle.std.specs.Prelude.{[], ◌∷◌, codes, IsTrue, IfSome};
 ghost use Rattle.vcode_reader.specs.Ahead.{HasDigits, HasNumber, HasWord, IsDigit};
 
 use crate::number::{negative, positive};
+use vcode_base::number_at_front;
 
 /// The digit, if a blank and a word of one digit are at the front of a text, before a blank or a control byte.
 #[inline(always)]
@@ -75,31 +76,18 @@ pub(crate) fn number_ahead(text: &[u8]) -> Option<(i64, usize)>
     Some((number, len))
 }
 
-/// The value of the digits at the front of a text, and how many they are, if there is one, a blank or a control byte
-/// follows them, and they are no more than a number may have.
+/// The value of the digits at the front of a text, and how many they are, if there is one, its value fits, and a blank
+/// or a control byte follows.
 #[inline(always)]
 fn digits_ahead(text: &[u8]) -> Option<(u64, usize)>
     ensures { IfSome result (λ found. HasDigits text.now found.0 found.1) }
 {
-    let mut value: u64 = 0;
-    for (place, byte) in text.iter().enumerate() {
-        if *byte <= b' ' {
-            if place == 0 {
-                return None;
-            }
-            return Some((value, place));
-        }
-        if *byte < b'0' {
-            return None;
-        }
-        if *byte > b'9' {
-            return None;
-        }
-        // So 18 digits fit, and each number of 19.
-        if value >= 1_800_000_000_000_000_000 {
-            return None;
-        }
-        value = 10 * value + u64::from(*byte - b'0');
+    let (value, len) = number_at_front(text)?;
+    if len >= text.len() {
+        return None;
     }
-    None
+    if text[len] > b' ' {
+        return None;
+    }
+    Some((value, len))
 }

@@ -1,49 +1,9 @@
 //! Numbers and truth values.
 
-ghost use Rattle.std.specs.Prelude.{◌≡◌, ◌<◌, ◌≤◌, ◌^◌, Some, length};
-ghost use Rattle.vcode_reader.specs.Numbers.{below, decimal, natural_of, negative, number_of, positive, truth_of, value_of};
+ghost use Rattle.std.specs.Prelude.{◌≡◌, Some};
+ghost use Rattle.vcode_reader.specs.Numbers.{natural_of, negative, number_of, positive, truth_of, value_of};
 
-use vcode_base::Scalar;
-
-/// The value of one decimal digit or more, if it fits.
-fn decimal(digits: &[u8]) -> Option<u64>
-    ensures { result ≡ below (2 ^ 64) (decimal digits.now) }
-{
-    if digits.is_empty() {
-        return None;
-    }
-    if digits.len() < 20 {
-        return short_decimal(digits);
-    }
-    let mut value: u64 = 0;
-    for c in digits {
-        if *c < b'0' || *c > b'9' {
-            return None;
-        }
-        let digit = u64::from(*c - b'0');
-        if value > (u64::MAX - digit) / 10 {
-            return None;
-        }
-        value = 10 * value + digit;
-    }
-    Some(value)
-}
-
-/// The value of one to 19 decimal digits, which always fits.
-fn short_decimal(digits: &[u8]) -> Option<u64>
-    requires some { 1 ≤ length digits.now }
-    requires few { length digits.now < 20 }
-    ensures { result ≡ below (2 ^ 64) (decimal digits.now) }
-{
-    let mut value: u64 = 0;
-    for c in digits {
-        if *c < b'0' || *c > b'9' {
-            return None;
-        }
-        value = 10 * value + u64::from(*c - b'0');
-    }
-    Some(value)
-}
+use vcode_base::{Scalar, decimal};
 
 /// The number of this value, if it fits.
 #[inline(always)]

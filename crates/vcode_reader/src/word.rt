@@ -7,13 +7,13 @@ ghost use Rattle.vcode_reader.specs.Parsing.{no_value, int_of, kind_of, count_in
 
 use crate::fault::CodeFault;
 use crate::number::natural_of;
-use vcode_base::Scalar;
 use vcode_base::limits::MOST_MOVED;
+use vcode_base::{Scalar, is_visible};
 
 fn is_bad_byte(byte: u8) -> bool
     ensures { result ≡ is_bad_byte byte }
 {
-    byte < 33 || byte > 126 || byte == b'{' || byte == b'}'
+    !is_visible(byte) || byte == b'{' || byte == b'}'
 }
 
 /// Is the word a byte that no text has?
