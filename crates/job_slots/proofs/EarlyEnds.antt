@@ -5,6 +5,7 @@ use Rattle.std.proofs.Common.{refl, sym, ◌∙◌, ap, subst, arith}
 use Rattle.std.specs.Prelude.{◌&&◌, IfNone, MatchOption}
 use Rattle.std.proofs.lemmas.Bool.{eq-eqb}
 use Rattle.std.proofs.lemmas.Bool.Decides.{nat_tests}
+use Rattle.std.proofs.lemmas.Option.{none-some}
 use Rattle.vcode_base.specs.declared.fault.DataFault.{DataFault}
 use Rattle.vcode_base.specs.declared.fault.MemoryFault.{MemoryFault}
 use Rattle.vcode_base.specs.declared.fault.MemoryFault.TheVariants as memory
@@ -30,7 +31,7 @@ use Rattle.job_steps.specs.Steps.{held_at, is_call}
 use Rattle.job_steps.specs.StepLaws.{CanBegin, StepsCanBegin, StepsCanAdvance}
 use Rattle.job_steps.specs.Tickets.{CanAnswer, question_by}
 use Rattle.job_steps.specs.Tracks.{TrackState, IsAt, functions_of}
-use Rattle.job_slots.specs.Answers.{early_end_at, IsNext, IsEnding, CanAsk}
+use Rattle.job_slots.specs.Answers.{demand_before, demand_in, early_end_at, IsNext, IsEnding, CanAsk}
 use Rattle.job_slots.specs.Commits.{held_under, taken_ids}
 use Rattle.job_slots.specs.Executions.{IsCounted, HeldIsCounted}
 use Rattle.job_slots.specs.Slots.{IsRunningSlot, IsReturned}
@@ -180,6 +181,60 @@ module _ (law : StepsCanBegin ℕ) (counted : HeldIsCounted) (number : ℕ) (blo
       let held_is : held ≡ held_at task.rule (next_item can.call).item run.state =
       held_here ∙ (ap (λ (o : Op). held_under task.rule number o t.cells blocks) (sym op_is) ∙ is_counted.held) in
       early_end_is task t run.state op line sources held run.running run.at can next held_is unspent ∙ sym told
+
+-- ---- what the next instruction holds and needs
+
+no_ending : (line : ℕ) (fault : Option DataFault) (refusal : Option MemoryFault) →
+    ending_by line fault refusal ≡ None → (fault ≡ None) × (refusal ≡ None)
+no_ending line (Some fault) refusal e = absurd (none-some _ (sym e))
+no_ending line None (Some refusal) e = absurd (none-some _ (sym e))
+no_ending line None None e = (refl, refl)
+
+within_words : (limits : Limits) (op : Op) (words depth calls : ℕ) → memory_fault limits op words depth calls ≡ None →
+    words ≤ limits.words
+unfolding memory_fault
+within_words limits op words depth calls e = by (ltb limits.words words) refl e
+  where
+    by : (b : Bool) → ltb limits.words words ≡ b →
+        cond b (Some memory.Words)
+        (cond (ltb limits.cells depth) (Some memory.Cells)
+        (cond (is_call op && ltb limits.calls (calls + 1)) (Some memory.Calls) None)) ≡ None → words ≤ limits.words
+    by true is e = absurd (none-some _ (sym e))
+    by false is e = grind (arith, nat_tests)
+
+module _ (law : StepsCanBegin ℕ) (counted : HeldIsCounted) (number : ℕ) (blocks : JobBlocks) (task : Task)
+    (t : TrackState ℕ)
+    (run : IsRunningSlot (own_slots number blocks) task t) (verified : IsVerified task) (tidy : IsTidy blocks.memory)
+    (op : Op) (line : ℕ) (sources : List (List ℤ)) (next : IsNext task t.executed op line sources) (held : ℕ)
+    (held_here : held ≡ held_under task.rule number op t.cells blocks) where
+  at_next : CanBegin task t.executed run.state t
+  at_next = can_begin law (own_slots number blocks) task t run verified
+
+  asked : question_of (next_item at_next.call).item run.state.stack ≡ question_by op sources
+  asked = same_question task t run.state op line sources run.running at_next next
+
+  counts : held ≡ held_at task.rule (next_item at_next.call).item run.state
+  counts =
+      held_here
+      ∙ (ap (λ (o : Op). held_under task.rule number o t.cells blocks) (sym (ap (λ (q : Question). q.op) asked))
+      ∙ (counted task.rule number blocks (next_item at_next.call).item run.state t.cells run.holds tidy).held)
+
+  -- the words of the results and those that are held are its demand
+  pub demand_is : held + need_words (question_by op sources) ≡ demand_in task.rule (state_after task t.executed)
+  demand_is =
+      ap (λ (h : ℕ). h + need_words (question_by op sources)) counts
+      ∙ ap (λ (q : Question). held_at task.rule (next_item at_next.call).item run.state + need_words q) (sym asked)
+      ∙ sym (ap (demand_in task.rule) run.running ∙ ap (demand_before task.rule run.state) at_next.calls)
+
+  -- if nothing ends the job before it, its operands fit one another, and its demand is within the limit
+  pub demand_fits : early_end_at task t.executed ≡ None →
+      (shape op sources ≡ None) × (held + need_words (question_by op sources) ≤ t.limits.words)
+  demand_fits none =
+      let ending =
+      early_end_is task t run.state op line sources held run.running run.at at_next next counts
+      (λ e. none-some _ (sym none ∙ budget_end task t run.state run.running run.at e)) in
+      let both = no_ending line (shape op sources) _ (sym ending ∙ none) in
+      (both.0, within_words t.limits op _ _ _ both.1)
 
 -- ---- if nothing ends the job
 

@@ -1,6 +1,7 @@
 -- What a begin and a finish answer, and in which standing they leave the job.
 use Rattle.std.specs.Prelude.{◌≡◌, ℕ, ℤ, ◌+◌, ◌<◌, ◌≤◌, Bool, true, false, ⊤, List, [], ◌∷◌, Option, Some, None}
 use Rattle.vcode_base.specs.declared.op.Op.{Op}
+use Rattle.vcode_base.specs.declared.rule.Rule.{Rule}
 use Rattle.job_steps.specs.declared.event.Event.TheVariants as event
 use Rattle.job_steps.specs.Buffers.{HaveAtMost}
 use Rattle.job_steps.specs.Events.{early_end, next_standing}
@@ -8,7 +9,7 @@ use Rattle.job_steps.specs.Questions.{Question}
 use Rattle.job_steps.specs.Runs.{state_after, outcome, executed_count, peak}
 use Rattle.job_steps.specs.Standings.{Standing, Live, InFlight, Ended}
 use Rattle.job_steps.specs.States.{Task, Active, State}
-use Rattle.job_steps.specs.Steps.{Ending, Progress, Running, Over, Stuck, next_item, question_of, flag_of}
+use Rattle.job_steps.specs.Steps.{Ending, Progress, Running, Over, Stuck, next_item, question_of, flag_of, words_at}
 use Rattle.job_steps.specs.Tickets.{Asked, AreResults, CanAnswer, question_by}
 use Rattle.job_slots.specs.declared.answer.Begun.{Begun}
 use Rattle.job_slots.specs.declared.answer.Begun.TheVariants as begun
@@ -45,6 +46,17 @@ line_in Stuck = None
 -- the line of that instruction
 unfoldable pub line_at : Task → ℕ → Option ℕ
 line_at task n = line_in (state_after task n)
+
+-- the words that the next instruction of these calls holds and needs
+abbrev pub demand_before : Rule → State → List Active → ℕ
+demand_before rule s [] = 0
+demand_before rule s (call ∷ outer) = words_at rule (next_item call).item s
+
+-- the words that the next instruction holds and needs
+abbrev pub demand_in : Rule → Progress → ℕ
+demand_in rule (Running s) = demand_before rule s s.calls
+demand_in rule (Over ending executed peak) = 0
+demand_in rule Stuck = 0
 
 abbrev pub early_end_of : Task → Progress → Option Ending
 early_end_of task (Running s) = early_end task s

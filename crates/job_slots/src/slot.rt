@@ -10,12 +10,12 @@ ghost use Rattle.job_memory.specs.JobBlocks.{HasGrant, ChangesOnlyOf, granted_wo
 ghost use Rattle.job_steps.specs.declared.event.Event.TheVariants as event;
 ghost use Rattle.job_steps.specs.EventLaws.{IsVerified};
 ghost use Rattle.job_steps.specs.Events.{next_standing};
-ghost use Rattle.job_steps.specs.Runs.{outcome, executed_count, peak};
+ghost use Rattle.job_steps.specs.Runs.{outcome, executed_count, peak, state_after};
 ghost use Rattle.job_steps.specs.Standings.{Live, InFlight, Ended};
 ghost use Rattle.job_steps.specs.States.{ruled};
 ghost use Rattle.job_steps.specs.Frames.{instruction_in};
 ghost use Rattle.vcode_base.specs.Instructions.{op_of};
-ghost use Rattle.job_slots.specs.Answers.{IsAnswered, early_end_at, line_at};
+ghost use Rattle.job_slots.specs.Answers.{IsAnswered, demand_in, early_end_at, line_at};
 ghost use Rattle.job_slots.specs.Lines.{IsLineOf};
 ghost use Rattle.job_slots.specs.declared.status.Status.TheVariants as status;
 ghost use Rattle.job_slots.specs.declared.answer.Finished.TheVariants as finished;
@@ -33,7 +33,7 @@ use crate::commit::execute;
 use crate::in_place::{Placement, execute_in_place, placement_of};
 use crate::next::{is_asked, line_of_next, next_at, next_line, op_of};
 use crate::status::Status;
-use crate::ticket::{Halted, early_end, ticket_of};
+use crate::ticket::{Halted, demand_of, early_end, ticket_of};
 use block_memory::BlockId;
 use job_memory::laws::{
     changes_join, grants_change_only_their_job, releases_change_only_their_job,
@@ -106,6 +106,18 @@ impl<A: Allocator> Slot<A> {
         ensures { result ≡ self.now.trace.peak }
     {
         self.track.peak()
+    }
+
+    /// The words that the job, which is live, holds and needs at its next instruction.
+    ///
+    /// It says nothing of an instruction that isn't executed, since the job ends before it.
+    pub fn demand(&self, rule: Rule, job: &Job<A>, number: usize, blocks: &JobMemory<A>) -> usize
+        requires shows { Shows number blocks.now (ruled rule job.now) self.now }
+        requires live { self.now.status ≡ status.Live }
+        ensures { early_end_at (ruled rule job.now) self.now.trace.executed ≡ None
+            → result ≡ demand_in rule (state_after (ruled rule job.now) self.now.trace.executed) }
+    {
+        demand_of(rule, job, &self.track, number, blocks)
     }
 
     /// How it ended, if it is collected.

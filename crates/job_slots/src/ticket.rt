@@ -1,6 +1,6 @@
 //! The ticket of a job's next step.
 
-ghost use Rattle.std.specs.Prelude.{◌≡◌, ◌+◌, ◌≤◌, ℕ, length, take, IfNone, MatchResult, None, Some};
+ghost use Rattle.std.specs.Prelude.{◌≡◌, ◌+◌, ◌<◌, ◌≤◌, ◌^◌, ℕ, length, take, IfNone, MatchResult, None, Some};
 ghost use Rattle.vcode_base.specs.declared.limits.TheConstants.{MOST_WORDS};
 ghost use Rattle.vcode_base.specs.Kinds.{HaveKinds, source_kinds};
 ghost use Rattle.vcode_base.specs.Meaning.{shape};
@@ -9,11 +9,12 @@ ghost use Rattle.job_memory.specs.JobBlocks.{HasGrant, own_slots};
 ghost use Rattle.job_steps.specs.EventLaws.{IsVerified};
 ghost use Rattle.job_steps.specs.Motions.{depth_after};
 ghost use Rattle.job_steps.specs.Questions.{need_words};
+ghost use Rattle.job_steps.specs.Runs.{state_after};
 ghost use Rattle.job_steps.specs.States.{ruled};
 ghost use Rattle.job_steps.specs.Steps.{ending_by, memory_fault};
 ghost use Rattle.job_steps.specs.Tickets.{question_by};
 ghost use Rattle.job_slots.specs.Slots.{IsRunningSlot};
-ghost use Rattle.job_slots.specs.Answers.{CanAsk, IsAskedOf, IsNext, early_end_at};
+ghost use Rattle.job_slots.specs.Answers.{CanAsk, IsAskedOf, IsNext, demand_in, early_end_at};
 
 use crate::commit::held_under;
 use crate::execution::held_is_counted;
@@ -131,4 +132,46 @@ fn limit_ending<A: Allocator>(
     let words = (held as u64).saturating_add(first).saturating_add(second);
     let fault = track.memory_fault(next.op, words)?;
     Some(Outcome::Memory(fault, next.line))
+}
+
+/// The words that a job that runs holds and needs at its next instruction, if nothing ends the job before it.
+pub(crate) fn demand_of<A: Allocator>(
+    rule: Rule,
+    job: &Job<A>,
+    track: &Track<BlockId, A>,
+    number: usize,
+    blocks: &JobMemory<A>,
+) -> usize
+    requires running { IsRunningSlot (own_slots number blocks.now) (ruled rule job.now) track.now }
+    requires verified { IsVerified (ruled rule job.now) }
+    requires has_grant { HasGrant blocks.now number }
+    ensures { early_end_at (ruled rule job.now) track.now.executed ≡ None
+        → result ≡ demand_in rule (state_after (ruled rule job.now) track.now.executed) }
+{
+    steps_can_begin::<BlockId>();
+    held_is_counted();
+    let next = read_next(rule, job, track, number, blocks);
+    // By its type a memory has no block that no reference names.
+    let _used = blocks.used();
+    let op = next.op;
+    let held = held_under(rule, track, number, blocks, op);
+    demand_by(held, &next)
+}
+
+/// The words of the results of an instruction whose operands fit one another, and `held` words.
+fn demand_by(held: usize, next: &Next<'_>) -> usize
+    requires kinds { HaveKinds (source_kinds next.now.op)
+        (contents (take next.now.operands.count next.now.operands.lists)) }
+    ensures { let sources = contents (take next.now.operands.count next.now.operands.lists) in
+        shape next.now.op sources ≡ None → held + need_words (question_by next.now.op sources) < 2 ^ 64
+        → result ≡ held + need_words (question_by next.now.op sources) }
+{
+    match shape(next.op, next.operands.as_slice()) {
+        Err(_) => held,
+        Ok(()) => {
+            let (first, second) = need(next.op, next.operands.as_slice());
+            let words = (held as u64).saturating_add(first).saturating_add(second);
+            words as usize
+        }
+    }
 }

@@ -1,24 +1,28 @@
 -- What a run keeps, in the words of its job's progress.
-use Rattle.std.proofs.Common.{◌≡◌, ℕ, ℤ, suc, zero, Bool, true, List, [], ◌∷◌, length, map}
-use Rattle.std.proofs.Common.{Option, Some, slice_get, refl, sym, ◌∙◌, ap, subst, arith}
+use Rattle.std.proofs.Common.{add-one, ◌≡◌, ℕ, ℤ, ◌+◌, suc, zero, Bool, true, List, [], ◌∷◌, length, map}
+use Rattle.std.proofs.Common.{Option, None, Some, slice_get, refl, sym, ◌∙◌, ap, subst, arith}
 use Rattle.std.proofs.lemmas.Bool.{false≢true}
 use Rattle.std.proofs.lemmas.List.Elements.{All-head, All-tail}
 use Rattle.std.proofs.lemmas.Option.{none-some, same_Some}
 use Rattle.std.specs.Prelude.{◌↔◌, All}
 use Rattle.refcounts.specs.SharedState.{Slot, slot_at}
 use Rattle.job_memory.specs.JobBlocks.{JobBlocks, own_slots}
+use Rattle.job_steps.specs.EventLaws.{EarlyEndsEnd}
+use Rattle.job_steps.specs.Events.{early_end}
 use Rattle.job_steps.specs.Frames.{StandAll, next_line}
 use Rattle.job_steps.specs.LeastLimits.{calls_in}
+use Rattle.job_steps.specs.Runs.{executed_count_in, progress_from, state_after}
 use Rattle.job_steps.specs.Standings as standing
 use Rattle.job_steps.specs.Standings.{Standing, held_in, held_by}
 use Rattle.job_steps.specs.StepLaws.{CanBegin, StepsCanBegin}
-use Rattle.job_steps.specs.States.{Task, Active, StackEntry}
-use Rattle.job_steps.specs.Steps.{Ending, Progress, Running}
+use Rattle.job_steps.specs.States.{Task, Active, StackEntry, State}
+use Rattle.job_steps.specs.Steps.{Ending, Progress, Running, Over}
 use Rattle.job_steps.specs.Tracks.{TrackState, functions_of}
 use Rattle.job_steps.specs.declared.frame.Frame.{Frame}
 use Rattle.vcode_reader.specs.Trees.{Function}
 use Rattle.job_slots.specs.declared.status.Status.{Status}
 use Rattle.job_slots.specs.declared.status.Status.TheVariants.{Waiting, Live, InFlight, Ended, Collected}
+use Rattle.job_slots.specs.Answers.{demand_in, early_end_at, early_end_of}
 use Rattle.job_slots.specs.Laws.{ShownAreReached}
 use Rattle.job_slots.specs.Holdings.{Cell, AreAlike, HoldStack, entries_of}
 use Rattle.job_slots.specs.Slots.{SlotState, ShowsAs, IsRunningSlot, standing_of, standing_by}
@@ -185,3 +189,49 @@ line_at task blocks slot desk sound on call outer calls =
 pub on_by : (task : Task) (slot : SlotState) (r : RunState) (b : Bool) → run_by task slot ≡ r →
     b ≡ goes_on (progress_of r) → b ≡ true → goes_on (progress_at task (standing_of slot)) ≡ true
 on_by task slot r b view is on = ap (λ (x : RunState). goes_on (progress_of x)) view ∙ sym is ∙ on
+
+-- ---- what the next instruction holds and needs
+
+-- an instruction is executed only if nothing ends the job before it
+pub goes_past : EarlyEndsEnd → (task : Task) (blocks : JobBlocks) (slot : SlotState) (desk : ℕ) →
+    IsSound task blocks slot desk → goes_on (progress_at task (standing_of slot)) ≡ true →
+    executed_count_in (progress_from task (progress_at task (standing_of slot)))
+    ≡ executed_count_in (progress_at task (standing_of slot)) + 1 → early_end_at task slot.trace.executed ≡ None
+unfolding early_end_at
+goes_past law task blocks slot desk sound on more =
+    let h = running_at task blocks slot desk sound on in
+    let runs : state_after task slot.trace.executed ≡ Running h.run.state = h.run.running in
+    ap (early_end_of task) runs ∙ by h.run.state slot.trace.executed runs h.run.at.executed h.progress (early_end task h.run.state) refl
+  where
+    by : (s : State) (n : ℕ) → state_after task n ≡ Running s → n ≡ s.executed →
+        progress_at task (standing_of slot) ≡ Running s → (o : Option Ending) → early_end task s ≡ o →
+        early_end task s ≡ None
+    by s n runs count progress None is = is
+    by s n runs count progress (Some ending) is =
+        let over = (law sound.shows.verified.0 task sound.shows.verified.1 n s ending runs is).over in
+        let next : progress_from task (progress_at task (standing_of slot)) ≡ Over ending n s.peak =
+        ap (progress_from task) (progress ∙ sym runs) ∙ ap (state_after task) (sym (add-one n)) ∙ over in
+        absurd (omega (arith, ap executed_count_in next, ap executed_count_in progress, more, count))
+
+-- the demand there, in the words of the contract
+pub demand_there : (task : Task) (blocks : JobBlocks) (slot : SlotState) (desk words : ℕ) →
+    IsSound task blocks slot desk → goes_on (progress_at task (standing_of slot)) ≡ true →
+    words ≡ demand_in task.rule (state_after task slot.trace.executed) →
+    words ≡ demand_in task.rule (progress_at task (standing_of slot))
+demand_there task blocks slot desk words sound on is =
+    let h = running_at task blocks slot desk sound on in
+    is ∙ ap (demand_in task.rule) (h.run.running ∙ sym h.progress)
+
+pub demand_at : EarlyEndsEnd → (task : Task) (blocks : JobBlocks) (slot : SlotState) (desk words : ℕ) (r : RunState) →
+    IsSound task blocks slot desk → goes_on (progress_at task (standing_of slot)) ≡ true → run_by task slot ≡ r →
+    (early_end_at task slot.trace.executed ≡ None →
+    words ≡ demand_in task.rule (state_after task slot.trace.executed)) →
+    executed_count_in (progress_from r.task (progress_of r)) ≡ executed_count_in (progress_of r) + 1 →
+    words ≡ demand_in r.task.rule (progress_of r)
+demand_at law task blocks slot desk words r sound on view is more =
+    let here =
+    subst
+    (λ (x : RunState).
+    executed_count_in (progress_from x.task (progress_of x)) ≡ executed_count_in (progress_of x) + 1) (sym view) more in
+    subst (λ (x : RunState). words ≡ demand_in x.task.rule (progress_of x)) view
+    (demand_there task blocks slot desk words sound on (is (goes_past law task blocks slot desk sound on here)))

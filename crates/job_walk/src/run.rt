@@ -1,10 +1,11 @@
 //! The run of one job, in one go.
 
-ghost use Rattle.std.specs.Prelude.{◌≡◌, ◌↔◌, IsTrue, IfOk, OnOk, OnErr, option_copied, slice_get};
+ghost use Rattle.std.specs.Prelude.{◌≡◌, ◌+◌, ◌↔◌, IsTrue, IfOk, OnOk, OnErr, option_copied, slice_get};
 ghost use Rattle.job_steps.specs.LeastLimits.{cells_in, calls_in};
 ghost use Rattle.job_steps.specs.Runs.{executed_count_in, peak_in, progress_from};
 ghost use Rattle.job_steps.specs.Standings.{held_in};
 ghost use Rattle.job_steps.specs.States.{ruled};
+ghost use Rattle.job_slots.specs.Answers.{demand_in};
 ghost use Rattle.job_walk.specs.Walks.{AreSame, HasCome, StandAt, ending_at, ending_of, first_run, goes_on};
 ghost use Rattle.job_walk.specs.Walks.{lists_in, next_line_in, progress_of, tags_in};
 
@@ -12,7 +13,7 @@ use block_memory::BlockId;
 use job_memory::JobMemory;
 use job_slots::laws::{new_is_shown, shown_are_live, shown_are_reached, shown_is_alone};
 use job_slots::{Slot, Status};
-use job_steps::laws::{ended_are_over, steps_can_begin};
+use job_steps::laws::{early_ends_end, ended_are_over, steps_can_begin};
 use job_steps::{Desk, Frame, Job};
 use std::alloc::{AllocError, Allocator};
 use std::marker::Model;
@@ -147,6 +148,23 @@ impl<A: Allocator> Run<A> {
         let _used = self.blocks.used();
         if self.goes_on() {
             self.blocks.held(ONLY_JOB)
+        } else {
+            0
+        }
+    }
+
+    /// The words that it holds and needs at its next instruction.
+    ///
+    /// It says nothing of an instruction that isn't executed, since the run ends before it.
+    pub fn demand(&self) -> usize
+        ensures { executed_count_in (progress_from self.now.task (progress_of self.now))
+            ≡ executed_count_in (progress_of self.now) + 1
+            → result ≡ demand_in self.now.task.rule (progress_of self.now) }
+    {
+        early_ends_end();
+        if self.goes_on() {
+            self.slot
+                .demand(self.rule, &self.job, ONLY_JOB, &self.blocks)
         } else {
             0
         }
