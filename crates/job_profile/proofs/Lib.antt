@@ -1,3 +1,5 @@
 pub mod Counted
+pub mod Drawn
 pub mod Lists
+pub mod Strips
 pub mod Whole

@@ -1,2 +1,4 @@
+pub mod Columns
 pub mod Counts
 pub mod Sound
+pub mod Strips

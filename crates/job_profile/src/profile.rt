@@ -45,7 +45,7 @@ impl<A: Allocator> Model for Profile<A> {
 }
 
 /// The number of the line of the next instruction, and 0 if the run is over.
-fn next_place<A: Allocator>(run: &Run<A>) -> usize
+pub(crate) fn next_place<A: Allocator>(run: &Run<A>) -> usize
     ensures { result ≡ line_in (progress_of run.now) }
 {
     match run.next_line() {

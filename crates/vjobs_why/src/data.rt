@@ -116,8 +116,12 @@ fn push_calls(text: &mut String, chains: &Chains) -> Result<(), AllocError> {
     text.push_str(",\"calls\":[")?;
     for (place, chain) in chains.chains().iter().enumerate() {
         push_comma(text, place)?;
-        let (outer, function, calls, count) =
-            (chain.outer, chain.function, chain.calls, chain.count);
+        let (outer, function, calls, count) = (
+            chain.outer,
+            chain.function,
+            chain.calls,
+            chain.count,
+        );
         write!(text, "[{outer},{function},{calls},{count}]")?;
     }
     text.push(']')
@@ -223,7 +227,13 @@ fn push_counts(
     push_lines(text, alloc, profile)?;
     push_calls(text, &survey.chains)?;
     let program = profile.run().job().verified().program();
-    push_code(text, alloc, lines, program.first_line(), last_line_of(program))
+    push_code(
+        text,
+        alloc,
+        lines,
+        program.first_line(),
+        last_line_of(program),
+    )
 }
 
 /// The object of a job of this place and this name that has run to its end, up to what is said of its end.

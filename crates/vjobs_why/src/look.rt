@@ -371,7 +371,11 @@ fn least_of(end: End, wide: Option<Wide>) -> Option<End> {
         Some(wide) => wide.end,
         None => end,
     };
-    if end.ending == Ending::Returned { Some(end) } else { None }
+    if end.ending == Ending::Returned {
+        Some(end)
+    } else {
+        None
+    }
 }
 
 /// The words that the last instruction of a job wanted, if they passed its limit.

@@ -107,9 +107,9 @@ function steps_up_to(most, count) {
 
 // The columns as points: where each begins and ends, and the words in it.
 function columns_of(job) {
-  const {each, most, least, 'function': places} = job.columns;
+  const {each, most, least, line: lines, 'function': places} = job.columns;
   return most.map((top, place) => ({from: place * each, to: Math.min((place + 1) * each, Math.max(job.instructions, 1)),
-    most: top, least: least[place], place: places ? places[place] : null}));
+    most: top, least: least[place], line: lines ? lines[place] : null, place: places ? places[place] : null}));
 }
 const is_refused_word = (job) => job.end.startsWith('MEMORY M1');
 function top_of(job) {
@@ -176,7 +176,8 @@ function marks(job, frame) {
 }
 const span_text = ({from, to}) => to - from > 1 ? `${number(from + 1)} to ${number(to)}` : number(to);
 function column_text(job, column) {
-  const inside = column.place === null ? '' : `, in ${job.functions[column.place].name}`;
+  const inside = (column.place === null ? '' : `, in ${job.functions[column.place].name}`)
+    + (column.line === null ? '' : `, line ${column.line}`);
   const words = column.least === column.most ? number(column.most) : `${number(column.least)} to ${number(column.most)}`;
   return `instruction ${span_text(column)}: ${words} words${inside}`;
 }

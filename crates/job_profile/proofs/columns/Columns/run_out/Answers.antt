@@ -1,0 +1,27 @@
+use Rattle.std.proofs.Common.{◌≡◌, ◌+◌, ◌<◌, inr, ◌∙◌, ap, subst, arith}
+use Rattle.vcode_base.specs.declared.limits.Limits.{Limits}
+use Rattle.job_steps.specs.Reached.{IsVerifiedBySome}
+use Rattle.job_steps.specs.States.{Task}
+use Rattle.job_walk.specs.Walks.{RunState}
+use Rattle.job_profile.proofs.Whole.{past_by, whole_by}
+use Rattle.job_profile.proofs.columns.Columns.run_out.Goals as goal
+
+pub loop-preserved : goal.loop-preserved
+loop-preserved g c =
+    past_by c.args.self.now.task c.loop.counter c.loop.self c.step.new.self c.loop.invariant c.in_ok-step.ensures.run
+
+pub returns : goal.returns
+returns g c =
+    let task = c.args.self.now.task in
+    let past =
+    past_by task c.loop.counter c.loop.self c.step-2.new.self c.loop.invariant c.in_ok-step-2.ensures.run in
+    let budget : c.limits-budget.result.budget ≡ task.limits.budget =
+    ap (λ (l : Limits). l.budget) c.limits-budget.ensures
+    ∙ ap (λ (t : Task). t.limits.budget) c.job.ensures
+    ∙ ap (λ (r : RunState). r.task.limits.budget) c.run.ensures
+    ∙ ap (λ (r : RunState). r.task.limits.budget) c.self.view_is in
+    let far : task.limits.budget < past.steps = omega (arith, past.least_is, budget, c.loop-test.false) in
+    let verified =
+    subst (λ (r : RunState). IsVerifiedBySome r.task.verified) c.self.view_is c.self.invariant.verified in
+    whole_by c.never_stuck.ensures c.reached.ensures c.each_ends.ensures c.end_is_own.ensures task verified
+    (c.loop.counter + 1) c.step-2.new.self past (inr far)

@@ -1,0 +1,10 @@
+use Rattle.std.proofs.Common.{◌∙◌, ◌/◌, arith}
+use Rattle.job_profile.specs.declared.strip.TheConstants.{MOST_COLUMNS}
+use Rattle.job_profile.proofs.Strips.{first_half}
+use Rattle.job_profile.proofs.strip.Strip.fold.Goals as goal
+
+pub returns-clause-columns : goal.returns-clause-columns
+returns-clause-columns g c =
+    c.truncate.ensures.items
+    ∙ first_half c.args.self.now.columns.items c.join_pairs.new.columns.items (MOST_COLUMNS / 2)
+    (omega (arith, c.requires.full)) c.join_pairs.ensures.joined

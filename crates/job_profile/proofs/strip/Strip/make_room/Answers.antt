@@ -1,0 +1,26 @@
+use Rattle.std.proofs.Common.{◌∙◌, ◌*◌, ◌/◌, ap, length, arith, subst}
+use Rattle.job_profile.specs.declared.strip.TheConstants.{MOST_COLUMNS}
+use Rattle.job_profile.specs.Columns.{halved, highest}
+use Rattle.job_profile.proofs.Strips.{folded, highest_halved, length_halved, strip_as}
+use Rattle.job_profile.proofs.strip.Strip.make_room.Goals as goal
+
+pub returns-then-len-eq-MOST_COLUMNS-clause-strip : goal.returns-then-len-eq-MOST_COLUMNS-clause-strip
+returns-then-len-eq-MOST_COLUMNS-clause-strip g c = λ of n s.
+    let old = c.args.self.now in
+    strip_as of n (halved old.columns.items) _ (old.each * 2) _ 0 _ c.fold.ensures.columns c.fold.ensures.each
+    (c.fold.ensures.room ∙ c.requires.room)
+    (folded of n old.columns.items old.each old.room s (MOST_COLUMNS / 2)
+    (omega (arith, c.if-len-eq-MOST_COLUMNS.true, c.len.ensures)) c.requires.room)
+
+pub returns-then-len-eq-MOST_COLUMNS-clause-highest : goal.returns-then-len-eq-MOST_COLUMNS-clause-highest
+returns-then-len-eq-MOST_COLUMNS-clause-highest g c =
+    ap highest c.fold.ensures.columns ∙ highest_halved c.args.self.now.columns.items
+
+pub returns-then-len-eq-MOST_COLUMNS-clause-few : goal.returns-then-len-eq-MOST_COLUMNS-clause-few
+returns-then-len-eq-MOST_COLUMNS-clause-few g c =
+    omega (
+      arith,
+      ap length c.fold.ensures.columns,
+      length_halved c.args.self.now.columns.items (MOST_COLUMNS / 2)
+          (omega (arith, c.if-len-eq-MOST_COLUMNS.true, c.len.ensures)),
+    )
