@@ -8,19 +8,49 @@ from faults import Fault
 from runs import Limits
 
 
+# The most columns of the words over time.
+MOST_COLUMNS = 2048
+
+
 class Counted(runs.Run):
-    """A run that counts how often each line is executed, and knows after which instruction it first had its peak."""
+    """A run that counts how often each line is executed, and knows after which instruction it first had its peak. Of
+    each instruction it keeps the words that it held and needed, those that were held after it, and its line."""
 
     def __init__(self, *job):
         super().__init__(*job)
-        self.times, self.peak_at = Counter(), 0
+        self.times, self.peak_at, self.samples = Counter(), 0, []
+
+    def executes(self, operands=0, need_words=0):
+        super().executes(operands, need_words)
+        # No entry that a motion moves is an operand: all of them are held.
+        self.demand = self.words(0 if self.moves else operands, need_words)
 
     def step(self):
-        line, executed, peak = self.calls[-1][0].line, self.executed, self.peak
+        item, executed, peak = self.calls[-1][0], self.executed, self.peak
+        self.moves = item.what == "Move"
         super().step()
-        self.times[line] += self.executed - executed
+        self.times[item.line] += self.executed - executed
+        if self.executed > executed:
+            self.samples.append((self.demand, runs.held(self.stack) if self.calls else 0, item.line))
         if self.peak > peak:
             self.peak_at = self.executed
+
+
+def columns_of(samples, functions):
+    """The words over time: the columns are of the least power of 2 of instructions of which few enough are enough."""
+    each = 1
+    while len(samples) > MOST_COLUMNS * each:
+        each *= 2
+    parts = [samples[first : first + each] for first in range(0, len(samples), each)]
+    # max takes the first of the greatest.
+    lines = [max(part, key=lambda sample: sample[0])[2] for part in parts]
+    return {
+        "each": each,
+        "most": [max(most for most, _, _ in part) for part in parts],
+        "least": [min(least for _, least, _ in part) for part in parts],
+        "line": lines,
+        "function": [sum(function.line <= line for function in functions) - 1 for line in lines],
+    }
 
 
 def end_of(job):
@@ -57,6 +87,7 @@ def profile(functions, limits, is_second):
             for function in functions
         ],
         "lines": [[line, times] for line, times in sorted(job.times.items()) if times],
+        "columns": columns_of(job.samples, functions),
     }
 
 

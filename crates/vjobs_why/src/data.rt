@@ -1,9 +1,9 @@
 //! The profile of a job as data: one JSON object.
 
 use crate::end::Ending;
-use crate::profile::{functions_of, lines_of};
+use crate::profile::{function_places, functions_of, lines_of};
 use batch_reader::JobFault;
-use job_profile::Profile;
+use job_profile::{Column, Columns, Profile};
 use std::alloc::{AllocError, Global};
 use std::io;
 use vcode_base::Limits;
@@ -92,14 +92,54 @@ fn print_lines(rt: &HostRuntime, profile: &Profile<Global>) -> io::Result<()> {
     print!(rt; "]")
 }
 
+/// Prints a member that is a list of numbers.
+fn print_numbers(rt: &HostRuntime, name: &str, numbers: &[usize]) -> io::Result<()> {
+    print!(rt; ",\"{name}\":[")?;
+    for (place, number) in numbers.iter().enumerate() {
+        if place > 0 {
+            print!(rt; ",")?;
+        }
+        print!(rt; "{number}")?;
+    }
+    print!(rt; "]")
+}
+
+/// Of each column the most words, the least, and the line of the most.
+fn numbers_of(
+    alloc: Global,
+    columns: &[Column],
+) -> Result<(Vec<usize>, Vec<usize>, Vec<usize>), AllocError> {
+    let (mut most, mut least, mut lines) = (Vec::new(alloc), Vec::new(alloc), Vec::new(alloc));
+    for column in columns {
+        most.push(column.most)?;
+        least.push(column.least)?;
+        lines.push(column.line)?;
+    }
+    Ok((most, least, lines))
+}
+
+/// Prints the member for the words over time.
+fn print_columns(rt: &HostRuntime, columns: &Columns<Global>) -> io::Result<()> {
+    let (each, list) = columns.columns();
+    let (most, least, lines) = numbers_of(rt.alloc(), list)?;
+    let functions = function_places(rt.alloc(), columns.profile(), lines.as_slice())?;
+    print!(rt; ",\"columns\":{{\"each\":{each}")?;
+    print_numbers(rt, "most", most.as_slice())?;
+    print_numbers(rt, "least", least.as_slice())?;
+    print_numbers(rt, "line", lines.as_slice())?;
+    print_numbers(rt, "function", functions.as_slice())?;
+    print!(rt; "}}")
+}
+
 /// Prints the object of a job of this place and this name that has ended so.
 pub fn print_data(
     rt: &HostRuntime,
     place: u64,
     name: &str,
     ending: Ending,
-    profile: &Profile<Global>,
+    columns: &Columns<Global>,
 ) -> io::Result<()> {
+    let profile = columns.profile();
     let name = quoted(rt.alloc(), name)?;
     let ending = ending_text(rt.alloc(), ending)?;
     let (executed, peak) = (profile.run().executed(), profile.run().peak());
@@ -109,5 +149,6 @@ pub fn print_data(
     print_limits(rt, profile.run().job().limits())?;
     print_functions(rt, profile)?;
     print_lines(rt, profile)?;
+    print_columns(rt, columns)?;
     println!(rt; "}}")
 }

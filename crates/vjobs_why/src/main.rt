@@ -3,8 +3,10 @@
 
 mod command;
 mod data;
+mod drawing;
 mod end;
 mod folded;
+mod holders;
 mod lines;
 mod look;
 mod meanings;
@@ -13,6 +15,7 @@ mod profile;
 mod reading;
 mod reasons;
 mod stack;
+mod tally;
 mod watch;
 
 use batch_reader::{Batch, Entry, Fate, Feed, JobEntries, JobEntry};
@@ -54,12 +57,15 @@ fn show_entry(
             match look {
                 Look::Data => print_refusal(rt, place, name.as_str(), line, fault),
                 Look::Folded => Ok(()),
-                Look::End | Look::After(_) | Look::At { .. } | Look::Steps { .. } | Look::Profile =>
-                    {
-                        let text = fault.text();
-                        println!(rt; "JOB {place} {name} REFUSED line {line} {text}")?;
-                        batch.lines.print_around(rt, line, job_meaning(fault))
-                    }
+                Look::End
+                | Look::After(_)
+                | Look::At { .. }
+                | Look::Steps { .. }
+                | Look::Profile { .. } => {
+                    let text = fault.text();
+                    println!(rt; "JOB {place} {name} REFUSED line {line} {text}")?;
+                    batch.lines.print_around(rt, line, job_meaning(fault))
+                }
             }
         }
     }
