@@ -8,25 +8,38 @@ from faults import Fault
 from runs import Limits
 
 
+# The most columns of the words over time.
+MOST_COLUMNS = 2048
+
+
 class Counted(runs.Run):
     """A run that counts how often each line is executed, and knows after which instruction it first had its peak.
 
-    It also knows the line that was next last, the most entries and calls, and for each path of functions that run inside
-    one another how often its last function was called and how many instructions it executed. A function that runs
-    already goes on in its path."""
+    Of each instruction it keeps the words that it held and needed, those that were held after it, and its line. It also
+    knows the line that was next last, the most entries and calls, and for each path of functions that run inside one
+    another how often its last function was called and how many instructions it executed. A function that runs already
+    goes on in its path."""
 
     def __init__(self, *job):
         super().__init__(*job)
         self.times, self.peak_at, self.last, self.cells, self.most_calls = Counter(), 0, 0, 0, 1
+        self.samples = []
         self.active = [("MAIN",)]
         self.paths = {("MAIN",): [1, 0]}
 
+    def executes(self, operands=0, need_words=0):
+        super().executes(operands, need_words)
+        # No entry that a motion moves is an operand: all of them are held.
+        self.demand = self.words(0 if self.moves else operands, need_words)
+
     def step(self):
         item, executed, peak, calls = self.calls[-1][0], self.executed, self.peak, len(self.calls)
-        self.last = item.line
+        self.last, self.moves = item.line, item.what == "Move"
         super().step()
         self.times[item.line] += self.executed - executed
         self.paths[self.active[-1]][1] += self.executed - executed
+        if self.executed > executed:
+            self.samples.append((self.demand, runs.held(self.stack) if self.calls else 0, item.line))
         if self.peak > peak:
             self.peak_at = self.executed
         self.cells, self.most_calls = max(self.cells, len(self.stack)), max(self.most_calls, len(self.calls))
@@ -57,6 +70,23 @@ def shown_code(functions, first, text):
     """The lines of a code up to its last RET."""
     last = functions[-1].items[-1].line if functions else 0
     return {"first": first, "lines": [shown(line) for line in text.split(b"\n")[: max(last - first + 1, 0)]]}
+
+
+def columns_of(samples, functions):
+    """The words over time: the columns are of the least power of 2 of instructions of which few enough are enough."""
+    each = 1
+    while len(samples) > MOST_COLUMNS * each:
+        each *= 2
+    parts = [samples[first : first + each] for first in range(0, len(samples), each)]
+    # max takes the first of the greatest.
+    lines = [max(part, key=lambda sample: sample[0])[2] for part in parts]
+    return {
+        "each": each,
+        "most": [max(most for most, _, _ in part) for part in parts],
+        "least": [min(least for _, least, _ in part) for part in parts],
+        "line": lines,
+        "function": [sum(function.line <= line for function in functions) - 1 for line in lines],
+    }
 
 
 def end_of(job):
@@ -95,6 +125,7 @@ def profile(functions, limits, is_second):
             for function in functions
         ],
         "lines": [[line, times] for line, times in sorted(job.times.items()) if times],
+        "columns": columns_of(job.samples, functions),
         "calls": job.chains(functions),
     }
 

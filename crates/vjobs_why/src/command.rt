@@ -16,8 +16,8 @@ pub enum Look {
     At { line: u64, time: u64 },
     /// A line for each instruction from one number to another.
     Steps { from: u64, to: u64 },
-    /// How often its functions and lines were executed.
-    Profile,
+    /// The words over time, what held the most, and what its functions and lines did: all lines, or the first of them.
+    Profile { all: bool },
     /// How many instructions its functions executed, by the functions that run inside one another.
     Folded,
 }
@@ -137,8 +137,9 @@ fn command<'a>(alloc: Global) -> Result<Command<'a>, clap::Error> {
             .arg(flag_option(
                 alloc,
                 "profile",
-                "Shows how often functions and lines were executed",
+                "Shows the words over time, and what functions and lines did",
             ))?
+            .arg(flag_option(alloc, "all", "Shows all lines of --profile"))?
             .arg(flag_option(
                 alloc,
                 "json",
@@ -193,7 +194,9 @@ fn look_of(matches: &ArgMatches<'_>) -> Option<Look> {
         });
     }
     if matches.get_flag("profile") {
-        return Some(Look::Profile);
+        return Some(Look::Profile {
+            all: matches.get_flag("all"),
+        });
     }
     if matches.get_flag("folded") {
         return Some(Look::Folded);

@@ -4,14 +4,16 @@ use crate::command::Look;
 use crate::data::{Told, job_object, push_told};
 use crate::end::{End, Ending, Wide, ending_of, run_through, run_wide};
 use crate::folded::print_folded;
+use crate::holders::Holdings;
 use crate::lines::{Lines, printable};
 use crate::operands::operand_names;
-use crate::profile::print_profile;
+use crate::profile::{Shown, print_profile};
 use crate::reasons::reason;
 use crate::stack::{function_name, print_calls, print_stack};
 use crate::survey::Survey;
+use crate::tally::Tally;
 use crate::watch::Watch;
-use job_profile::Profile;
+use job_profile::Columns;
 use job_steps::Job;
 use std::alloc::{AllocError, Global};
 use std::io;
@@ -310,7 +312,7 @@ fn print_state(rt: &HostRuntime, batch: Batch<'_>, watch: &Watch) -> io::Result<
 /// Shows what was asked for of a run that has executed nothing.
 fn show_run(rt: &HostRuntime, batch: Batch<'_>, watch: &mut Watch, look: Look) -> io::Result<()> {
     match look {
-        Look::End | Look::Profile | Look::Folded => Ok(()),
+        Look::End | Look::Profile { .. } | Look::Folded => Ok(()),
         Look::After(count) => {
             watch.go_to(count)?;
             print_state(rt, batch, watch)
@@ -330,24 +332,31 @@ fn show_run(rt: &HostRuntime, batch: Batch<'_>, watch: &mut Watch, look: Look) -
     }
 }
 
-/// The profile of a job that has run to its end, and how it ended.
-fn profile_of(
+/// The columns of a job that has run to its end, and how it ended.
+fn columns_of(
     alloc: Global,
     rule: Rule,
     job: Job<Global>,
-) -> Result<(Profile<Global>, Ending), AllocError> {
-    let mut profile = Profile::new(alloc, rule, job)?;
-    profile.run_out()?;
-    profile.collect()?;
-    let ending = ending_of(profile.run());
-    Ok((profile, ending))
+) -> Result<(Columns<Global>, Ending), AllocError> {
+    let mut columns = Columns::new(alloc, rule, job)?;
+    columns.run_out()?;
+    columns.collect()?;
+    let ending = ending_of(columns.profile().run());
+    Ok((columns, ending))
 }
 
 /// Prints how a job ended and its profile, on the line of its name.
-fn show_profile(rt: &HostRuntime, batch: Batch<'_>, job: Job<Global>) -> io::Result<()> {
-    let (profile, ending) = profile_of(rt.alloc(), batch.rule, job)?;
-    print_ending(rt, ending, profile.run().executed())?;
-    print_profile(rt, batch.lines, &profile)
+fn show_profile(rt: &HostRuntime, batch: Batch<'_>, job: Job<Global>, all: bool) -> io::Result<()> {
+    let (tally, job) = Tally::of(rt.alloc(), batch.rule, job)?;
+    let (holdings, job) = Holdings::before(rt.alloc(), batch.rule, job, tally.peak_after)?;
+    let (columns, ending) = columns_of(rt.alloc(), batch.rule, job)?;
+    print_ending(rt, ending, columns.profile().run().executed())?;
+    let shown = Shown {
+        columns,
+        tally,
+        holdings,
+    };
+    print_profile(rt, batch.lines, &shown, all)
 }
 
 /// The note at the last line of a job that ended so.
@@ -424,7 +433,7 @@ fn show_named(
 ) -> io::Result<()> {
     match look {
         Look::End => print_end(rt, batch, job, name),
-        Look::Profile => show_profile(rt, batch, job),
+        Look::Profile { all } => show_profile(rt, batch, job, all),
         Look::After(_) | Look::At { .. } | Look::Steps { .. } | Look::Folded => {
             let mut watch = Watch::new(rt.alloc(), batch.rule, job)?;
             show_run(rt, batch, &mut watch, look)
@@ -443,9 +452,10 @@ pub fn show(
     let name = printable(rt.alloc(), job.name())?;
     match look {
         Look::Folded => print_folded(rt, batch.rule, job),
-        Look::End | Look::Profile | Look::After(_) | Look::At { .. } | Look::Steps { .. } => {
-            print!(rt; "JOB {place} {name} ")?;
-            show_named(rt, batch, job, name.as_str(), look)
-        }
+        Look::End | Look::Profile { .. } | Look::After(_) | Look::At { .. } | Look::Steps { .. } =>
+            {
+                print!(rt; "JOB {place} {name} ")?;
+                show_named(rt, batch, job, name.as_str(), look)
+            }
     }
 }

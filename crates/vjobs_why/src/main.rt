@@ -4,8 +4,10 @@
 mod chains;
 mod command;
 mod data;
+mod drawing;
 mod end;
 mod folded;
+mod holders;
 mod lines;
 mod look;
 mod meanings;
@@ -18,6 +20,7 @@ mod reading;
 mod reasons;
 mod stack;
 mod survey;
+mod tally;
 mod watch;
 
 use batch_reader::{Batch, Entry, Fate, Feed, JobEntries, JobEntry};

@@ -1,13 +1,19 @@
 //! The profile of a job: how often its functions and lines were executed, as a text.
 
+use crate::drawing::print_drawing;
+use crate::holders::Holdings;
 use crate::lines::{Lines, printable};
-use job_profile::Profile;
+use crate::tally::{LineTally, Tally};
+use job_profile::{Column, Columns, Profile};
 use std::alloc::{AllocError, Global};
 use std::io;
 use vcode_reader::{Function, Program};
 
-/// The most lines that are shown.
+/// The most lines that are shown, unless all are.
 const MOST_LINES: usize = 20;
+
+/// The most lines that are shown of what they hold.
+const MOST_HOLDERS: usize = 12;
 
 /// A function of a job: its name, the line of its `FUNC`, and how many instructions of its lines were executed.
 #[derive(Drop)]
@@ -63,6 +69,22 @@ pub fn functions_of(
     Ok(functions)
 }
 
+/// Of the line of each column the place of its function in the code, counted from 0: the last that begins there or before.
+pub fn function_places(
+    alloc: Global,
+    profile: &Profile<Global>,
+    columns: &[Column],
+) -> Result<Vec<usize>, AllocError> {
+    let functions = profile.run().job().verified().program().functions();
+    let mut places = Vec::new(alloc);
+    for column in columns {
+        let number = column.line as u64;
+        let count = functions.partition_point(|function| function.line() <= number);
+        places.push(count.saturating_sub(1))?;
+    }
+    Ok(places)
+}
+
 /// The lines that were executed, in the order of the code.
 pub fn lines_of(alloc: Global, profile: &Profile<Global>) -> Result<Vec<LineCount>, AllocError> {
     let mut lines = Vec::new(alloc);
@@ -86,48 +108,113 @@ fn share_text(alloc: Global, part: u64, whole: u64) -> Result<String, AllocError
 }
 
 /// Prints the functions, those with the most instructions first.
-fn print_functions(rt: &HostRuntime, profile: &Profile<Global>) -> io::Result<()> {
+fn print_functions(rt: &HostRuntime, profile: &Profile<Global>, tally: &Tally) -> io::Result<()> {
     let whole = profile.run().executed();
-    let mut functions = functions_of(rt.alloc(), profile)?;
-    functions.sort_by_key(|function| u64::MAX - function.instructions)?;
-    println!(rt; "\nthe functions\n  instructions   share     line  name")?;
-    for function in &functions {
-        let (count, line) = (function.instructions, function.line);
-        let share = share_text(rt.alloc(), count, whole)?;
-        println!(rt; "  {count:>12} {share:>7} {line:>8}  {}", function.name)?;
+    let mut functions = Vec::new(rt.alloc());
+    for (place, function) in functions_of(rt.alloc(), profile)?.into_iter().enumerate() {
+        functions.push((function, tally.function(place)))?;
+    }
+    functions.sort_by_key(|row| u64::MAX - row.0.instructions)?;
+    println!(rt; "\nthe functions, by their own instructions")?;
+    println!(rt;
+        "       calls           own   share  with callees   share   most words     line  name"
+    )?;
+    for (function, tally) in &functions {
+        let (own, line, calls) = (function.instructions, function.line, tally.calls);
+        let share = share_text(rt.alloc(), own, whole)?;
+        let all = tally.whole;
+        let all_share = share_text(rt.alloc(), all, whole)?;
+        let (most, name) = (tally.most, function.name.as_str());
+        print!(rt; "  {calls:>10}  {own:>12} {share:>7}  {all:>12} {all_share:>7}")?;
+        println!(rt; " {most:>12} {line:>8}  {name}")?;
     }
     Ok(())
 }
 
-/// Prints the lines that were executed most often.
-fn print_lines(rt: &HostRuntime, lines: &Lines, profile: &Profile<Global>) -> io::Result<()> {
-    let whole = profile.run().executed();
-    let mut counts = lines_of(rt.alloc(), profile)?;
-    counts.sort_by_key(|count| u64::MAX - count.times)?;
-    println!(rt; "\nthe lines\n         times   share     line  instruction")?;
-    for (place, count) in counts.iter().enumerate() {
-        if place == MOST_LINES {
-            let more = counts.len() - place;
+/// The lines that were executed, those of the most elements first, and of these those that were executed most often.
+fn sorted_lines(
+    alloc: Global,
+    profile: &Profile<Global>,
+    tally: &Tally,
+) -> Result<Vec<(LineCount, LineTally)>, AllocError> {
+    let mut rows = Vec::new(alloc);
+    for count in lines_of(alloc, profile)? {
+        rows.push((count, tally.line(count.line)))?;
+    }
+    rows.sort_by_key(|row| u64::MAX - row.0.times)?;
+    rows.sort_by_key(|row| u64::MAX - row.1.elements)?;
+    Ok(rows)
+}
+
+/// Prints the lines that were executed, or the first of them.
+fn print_lines(
+    rt: &HostRuntime,
+    lines: &Lines,
+    rows: &[(LineCount, LineTally)],
+    most: usize,
+) -> io::Result<()> {
+    println!(rt; "\nthe lines, by the elements of their operands and results")?;
+    println!(rt; "         times      elements   most words     line  instruction")?;
+    for (place, row) in rows.iter().enumerate() {
+        if place == most {
+            let more = rows.len() - place;
             return println!(rt; "  .. and {more} more");
         }
-        let (times, line) = (count.times, count.line);
-        let share = share_text(rt.alloc(), times, whole)?;
+        let (times, line) = (row.0.times, row.0.line);
+        let (elements, words) = (row.1.elements, row.1.most);
         let code = lines.code(rt.alloc(), line as u64)?;
-        println!(rt; "  {times:>12} {share:>7} {line:>8}  {code}")?;
+        println!(rt; "  {times:>12}  {elements:>12} {words:>12} {line:>8}  {code}")?;
     }
     Ok(())
 }
 
-/// Prints the most words that a job held and needed.
-fn print_peak(rt: &HostRuntime, profile: &Profile<Global>) -> io::Result<()> {
+/// Prints the most words that a job held and needed, and what it held before it, by the lines that made it.
+fn print_peak(
+    rt: &HostRuntime,
+    lines: &Lines,
+    profile: &Profile<Global>,
+    holdings: &Holdings,
+) -> io::Result<()> {
     let (peak, limit) = (profile.run().peak(), profile.run().job().limits().words);
-    let after = profile.peak_after();
-    println!(rt; "\nthe peak is {peak} of {limit} words, first at instruction {after}")
+    let (after, line, held) = (profile.peak_after(), holdings.line, holdings.words);
+    if after == 0 {
+        return println!(rt; "\nthe peak is {peak} of {limit} words");
+    }
+    println!(rt;
+        "\nthe peak is {peak} of {limit} words, first at instruction {after}, line {line}"
+    )?;
+    println!(rt; "held before it are {held} words, by the lines that made them")?;
+    println!(rt; "         words   share  vectors  entries     line  instruction")?;
+    for (place, holder) in holdings.holders.iter().enumerate() {
+        if place == MOST_HOLDERS {
+            let more = holdings.holders.len() - place;
+            return println!(rt; "  .. and {more} more");
+        }
+        let (words, vectors, entries) = (holder.words, holder.vectors, holder.entries);
+        let share = share_text(rt.alloc(), words as u64, held as u64)?;
+        let code = lines.code(rt.alloc(), holder.line)?;
+        let line = holder.line;
+        println!(rt; "  {words:>12} {share:>7} {vectors:>8} {entries:>8} {line:>8}  {code}")?;
+    }
+    Ok(())
 }
 
-/// Prints the profile of a job that has ended, after how it ended.
-pub fn print_profile(rt: &HostRuntime, lines: &Lines, profile: &Profile<Global>) -> io::Result<()> {
-    print_peak(rt, profile)?;
-    print_functions(rt, profile)?;
-    print_lines(rt, lines, profile)
+/// What is shown of a job that has ended, beside how it ended.
+#[derive(Drop)]
+pub struct Shown {
+    pub columns: Columns<Global>,
+    pub tally: Tally,
+    pub holdings: Holdings,
+}
+
+/// Prints the profile of a job that has ended, after how it ended; all lines, or the first of them.
+pub fn print_profile(rt: &HostRuntime, lines: &Lines, shown: &Shown, all: bool) -> io::Result<()> {
+    let profile = shown.columns.profile();
+    let (each, columns) = shown.columns.columns();
+    print_drawing(rt, columns, each, profile.run().job().limits().words)?;
+    print_peak(rt, lines, profile, &shown.holdings)?;
+    print_functions(rt, profile, &shown.tally)?;
+    let rows = sorted_lines(rt.alloc(), profile, &shown.tally)?;
+    let most = if all { rows.len() } else { MOST_LINES };
+    print_lines(rt, lines, rows.as_slice(), most)
 }

@@ -6,11 +6,13 @@ use std::alloc::{AllocError, Global};
 use vcode_base::{Kind, Op, Rule, StackMove};
 use vcode_reader::{CodeItem, CodeLine};
 
-/// Where an entry of the stack comes from: its kind, and the line that made it.
+/// Where an entry of the stack comes from: its kind, the line that made it, and how many entries were made before it.
+/// Copies have one origin.
 #[derive(Clone, Copy, Drop)]
 pub struct Origin {
     pub kind: Kind,
     pub line: u64,
+    pub before: u64,
 }
 
 /// An instruction without its list and its name, and its line.
@@ -27,12 +29,13 @@ pub struct Watch {
     pub run: Run<Global>,
     origins: Vec<Origin>,
     callers: Vec<u64>,
+    made: u64,
     pub most_cells: usize,
     pub most_calls: usize,
 }
 
 /// The instruction of a line.
-fn op_of(line: &CodeLine<'_>) -> Op {
+pub fn op_of(line: &CodeLine<'_>) -> Op {
     match &line.item {
         CodeItem::Do(instruction) => instruction.op(),
         CodeItem::If | CodeItem::Else | CodeItem::Endif => Op::If,
@@ -90,6 +93,7 @@ impl Watch {
             run,
             origins: Vec::new(alloc),
             callers: Vec::new(alloc),
+            made: 0,
             most_cells: 0,
             most_calls: 1,
         })
@@ -188,7 +192,9 @@ impl Watch {
             self.origins.push(Origin {
                 kind: *kind,
                 line: next.line,
+                before: self.made,
             })?;
+            self.made = self.made.saturating_add(1);
         }
         Ok(())
     }
