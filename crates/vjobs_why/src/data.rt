@@ -220,7 +220,11 @@ fn push_end(text: &mut String, survey: &Survey) -> Result<(), AllocError> {
         text,
         ",\"instructions\":{executed},\"peak\":{peak},\"peak_at\":{after},\"last\":{last}"
     )?;
-    push_limits(text, "limits", survey.columns.profile().run().job().limits())?;
+    push_limits(
+        text,
+        "limits",
+        survey.columns.profile().run().job().limits(),
+    )?;
     push_limits(text, "used", used(survey.end))
 }
 

@@ -53,7 +53,8 @@ impl Survey {
         let (executed, calls) = (run.executed(), run.calls());
         self.last_line = next_number(run, self.last_line);
         let goes_on = self.columns.step()?;
-        self.chains.follow(executed, calls, self.columns.profile().run())?;
+        self.chains
+            .follow(executed, calls, self.columns.profile().run())?;
         if goes_on {
             self.end.steps = self.end.steps.saturating_add(1);
             self.end.cells = self.end.cells.max(self.columns.profile().run().depth());
