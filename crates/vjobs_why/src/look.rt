@@ -8,6 +8,7 @@ use crate::lines::{Lines, printable};
 use crate::operands::operand_names;
 use crate::profile::print_profile;
 use crate::reasons::reason;
+use crate::selection::{Picker, Selection};
 use crate::stack::{function_name, print_calls, print_stack};
 use crate::watch::Watch;
 use job_profile::Profile;
@@ -99,6 +100,15 @@ fn print_least(rt: &HostRuntime, name: &str, end: End) -> io::Result<()> {
     )
 }
 
+/// Prints how a job that a limit ended ends within the widest limits.
+fn print_wide(rt: &HostRuntime, name: &str, end: End) -> io::Result<()> {
+    if end.ending == Ending::Returned {
+        return print_least(rt, name, end);
+    }
+    print!(rt; "\nWithin the widest limits it ends so: ")?;
+    print_ending(rt, end.ending, end.executed)
+}
+
 /// Executes the next instruction. `None` if it isn't executed, since it ends the job, or if there is none.
 fn step_of(watch: &mut Watch) -> Result<Option<Step>, AllocError> {
     let before = watch.run.executed();
@@ -130,21 +140,79 @@ fn print_step(rt: &HostRuntime, batch: Batch<'_>, step: Step) -> io::Result<()> 
     println!(rt; "  {number:>9} {line:>8} {entries:>8} {held:>10}  {code}")
 }
 
-/// Prints the instructions of a run from the next one on, this many at most.
-fn print_steps(
+/// How many instructions of a run that has executed nothing are chosen, but for the first and the last ones.
+fn count_chosen(watch: &mut Watch, selection: Selection) -> Result<u64, AllocError> {
+    let mut picker = Picker::new(selection);
+    let before = selection.from.saturating_sub(1);
+    watch.go_to(before)?;
+    for _ in before..selection.to {
+        match step_of(watch)? {
+            Some(step) => picker.takes(step.line),
+            None => break,
+        };
+    }
+    Ok(picker.taken)
+}
+
+/// Prints an instruction that was chosen, if it is listed, or how many are left out from it on, if it is the first of these.
+fn print_listed(
+    rt: &HostRuntime,
+    batch: Batch<'_>,
+    step: Step,
+    picker: Picker,
+    total: u64,
+) -> io::Result<()> {
+    if picker.is_listed(total) {
+        return print_step(rt, batch, step);
+    }
+    match picker.left_out(total) {
+        Some(count) => println!(rt; "  .. and {count} more"),
+        None => Ok(()),
+    }
+}
+
+/// Prints the instructions of a run that has executed nothing, if this many are chosen in all.
+fn print_chosen(
     rt: &HostRuntime,
     batch: Batch<'_>,
     watch: &mut Watch,
-    count: u64,
+    selection: Selection,
+    total: u64,
 ) -> io::Result<()> {
+    println!(rt; "step by step")?;
     print_head(rt)?;
-    for _ in 0..count {
-        match step_of(watch)? {
-            Some(step) => print_step(rt, batch, step)?,
-            None => break,
+    let mut picker = Picker::new(selection);
+    let before = selection.from.saturating_sub(1);
+    watch.go_to(before)?;
+    for _ in before..selection.to {
+        let Some(step) = step_of(watch)? else {
+            break;
+        };
+        if picker.takes(step.line) {
+            print_listed(rt, batch, step, picker, total)?;
+        }
+        if picker.is_done() {
+            break;
         }
     }
     Ok(())
+}
+
+/// Prints the instructions of a job that are chosen, on the line of its name. If the last ones are wanted, it is run once
+/// more to count them.
+fn show_steps(
+    rt: &HostRuntime,
+    batch: Batch<'_>,
+    job: Job<Global>,
+    selection: Selection,
+) -> io::Result<()> {
+    let mut watch = Watch::new(rt.alloc(), batch.rule, job)?;
+    if selection.last.is_none() {
+        return print_chosen(rt, batch, &mut watch, selection, u64::MAX);
+    }
+    let total = count_chosen(&mut watch, selection)?;
+    let mut watch = Watch::new(rt.alloc(), batch.rule, watch.into_job())?;
+    print_chosen(rt, batch, &mut watch, selection, total)
 }
 
 /// Executes this many instructions, which are there.
@@ -158,6 +226,53 @@ fn steps_of(alloc: Global, watch: &mut Watch, count: u64) -> Result<Vec<Step>, A
     Ok(steps)
 }
 
+/// The words of the operand at this depth, if no entry below it is a copy of it.
+fn freed_at(watch: &Watch, depth: usize) -> usize {
+    for below in depth.saturating_add(1)..watch.run.depth() {
+        if watch.run.are_copies(depth, below) {
+            return 0;
+        }
+    }
+    match watch.run.words(depth) {
+        Some(words) => words.len(),
+        None => 0,
+    }
+}
+
+/// The words that count as held while the next instruction of a run makes its results.
+fn held_at(watch: &Watch, op: Op) -> usize {
+    let mut held = watch.run.held();
+    if watch.run.rule() == Rule::Second {
+        for depth in 0..op.operand_kinds().len() {
+            held = held.saturating_sub(freed_at(watch, depth));
+        }
+    }
+    held
+}
+
+/// Why the words would be too many at the next instruction of a run.
+fn words_note(
+    alloc: Global,
+    watch: &Watch,
+    op: Op,
+    wide: Option<Wide>,
+) -> Result<String, AllocError> {
+    let limit = watch.run.job().limits().words;
+    let held = held_at(watch, op);
+    match wide {
+        Some(wide) if wide.wanted > limit => {
+            let wanted = wide.wanted;
+            let needed = wanted.saturating_sub(held);
+            format!(in alloc;
+                "{held} words held and {needed} needed are {wanted}, and the limit is {limit}"
+            )
+        }
+        Some(_) | None => format!(in alloc;
+            "{held} words held and those needed are more than the limit, which is {limit}"
+        ),
+    }
+}
+
 /// Why a limit would be passed at the next instruction of a run.
 fn memory_note(
     alloc: Global,
@@ -165,33 +280,22 @@ fn memory_note(
     fault: MemoryFault,
     wide: Option<Wide>,
 ) -> Result<String, AllocError> {
-    let limits = watch.run.job().limits();
+    let Some(next) = watch.next() else {
+        return Ok(String::new(alloc));
+    };
     match fault {
-        MemoryFault::Words => {
-            let limit = limits.words;
-            match wide {
-                Some(wide) if wide.wanted > limit => {
-                    let wanted = wide.wanted;
-                    format!(in alloc; "{wanted} words with the result, and the limit is {limit}")
-                }
-                Some(_) | None => format!(in alloc;
-                    "with the result more words than the limit, which is {limit}"
-                ),
-            }
-        }
+        MemoryFault::Words => words_note(alloc, watch, next.op, wide),
         MemoryFault::Cells => {
-            let limit = limits.cells;
-            match watch.next() {
-                Some(next) => {
-                    let cells = depth_after(next.op, watch.run.depth());
-                    format!(in alloc; "{cells} entries with it, and the limit is {limit}")
-                }
-                None => Ok(String::new(alloc)),
-            }
+            let (limit, depth) = (watch.run.job().limits().cells, watch.run.depth());
+            let wanted = depth_after(next.op, depth);
+            format!(in alloc; "{depth} entries now and {wanted} after it, and the limit is {limit}")
         }
         MemoryFault::Calls => {
-            let limit = limits.calls;
-            format!(in alloc; "{limit} calls are active, and that is the limit")
+            let (limit, calls) = (watch.run.job().limits().calls, watch.run.calls());
+            let wanted = calls.saturating_add(1);
+            format!(in alloc;
+                "{calls} calls are active now and {wanted} in it, and the limit is {limit}"
+            )
         }
     }
 }
@@ -289,7 +393,7 @@ fn print_all(
     print_last(rt, batch, watch, end, wide)?;
     print_used(rt, end, watch.run.job().limits())?;
     match wide {
-        Some(wide) => print_least(rt, name, wide.end),
+        Some(wide) => print_wide(rt, name, wide.end),
         None => print_least(rt, name, end),
     }
 }
@@ -309,7 +413,7 @@ fn print_state(rt: &HostRuntime, batch: Batch<'_>, watch: &Watch) -> io::Result<
 /// Shows what was asked for of a run that has executed nothing.
 fn show_run(rt: &HostRuntime, batch: Batch<'_>, watch: &mut Watch, look: Look) -> io::Result<()> {
     match look {
-        Look::End | Look::Profile | Look::Data | Look::Folded => Ok(()),
+        Look::End | Look::Profile | Look::Data | Look::Folded | Look::Steps(_) => Ok(()),
         Look::After(count) => {
             watch.go_to(count)?;
             print_state(rt, batch, watch)
@@ -319,12 +423,6 @@ fn show_run(rt: &HostRuntime, batch: Batch<'_>, watch: &mut Watch, look: Look) -
                 return print_state(rt, batch, watch);
             }
             println!(rt; "line {line} is not next {time} times")
-        }
-        Look::Steps { from, to } => {
-            println!(rt; "step by step")?;
-            let before = from.saturating_sub(1);
-            watch.go_to(before)?;
-            print_steps(rt, batch, watch, to.saturating_sub(before))
         }
     }
 }
@@ -372,7 +470,8 @@ fn show_named(
     match look {
         Look::End => print_end(rt, batch, job, name),
         Look::Profile => show_profile(rt, batch, job),
-        Look::After(_) | Look::At { .. } | Look::Steps { .. } | Look::Data | Look::Folded => {
+        Look::Steps(selection) => show_steps(rt, batch, job, selection),
+        Look::After(_) | Look::At { .. } | Look::Data | Look::Folded => {
             let mut watch = Watch::new(rt.alloc(), batch.rule, job)?;
             show_run(rt, batch, &mut watch, look)
         }
@@ -391,7 +490,7 @@ pub fn show(
     match look {
         Look::Data => show_data(rt, batch, place, job, name.as_str()),
         Look::Folded => print_folded(rt, batch.rule, job),
-        Look::End | Look::Profile | Look::After(_) | Look::At { .. } | Look::Steps { .. } => {
+        Look::End | Look::Profile | Look::After(_) | Look::At { .. } | Look::Steps(_) => {
             print!(rt; "JOB {place} {name} ")?;
             show_named(rt, batch, job, name.as_str(), look)
         }

@@ -1,27 +1,39 @@
 //! Shows why a job of a batch ended, and what there was on the way.
 #![tactic(auto)]
 
+mod batch_notes;
 mod command;
 mod data;
 mod end;
+mod expected;
 mod folded;
+mod kind_notes;
+mod kind_walk;
 mod lines;
 mod look;
 mod meanings;
 mod operands;
+mod parts;
 mod profile;
 mod reading;
 mod reasons;
+mod refusals;
+mod selection;
+mod signature_notes;
 mod stack;
+mod text_notes;
 mod watch;
+mod words;
 
+use batch_notes::print_batch_note;
 use batch_reader::{Batch, Entry, Fate, Feed, JobEntries, JobEntry};
 use command::{Asked, Line, LineFault, Look, read_line};
 use data::print_refusal;
 use lines::{Lines, printable};
 use look::show;
-use meanings::{batch_meaning, job_meaning};
+use meanings::batch_meaning;
 use reading::read_batch;
+use refusals::print_refused;
 use std::alloc::Global;
 use std::process::ExitCode;
 use std::{env, io};
@@ -54,12 +66,8 @@ fn show_entry(
             match look {
                 Look::Data => print_refusal(rt, place, name.as_str(), line, fault),
                 Look::Folded => Ok(()),
-                Look::End | Look::After(_) | Look::At { .. } | Look::Steps { .. } | Look::Profile =>
-                    {
-                        let text = fault.text();
-                        println!(rt; "JOB {place} {name} REFUSED line {line} {text}")?;
-                        batch.lines.print_around(rt, line, job_meaning(fault))
-                    }
+                Look::End | Look::After(_) | Look::At { .. } | Look::Steps(_) | Look::Profile =>
+                    print_refused(rt, batch.lines, place, name.as_str(), line, fault),
             }
         }
     }
@@ -95,6 +103,7 @@ fn show_asked(rt: &HostRuntime, asked: &Asked) -> io::Result<u8> {
             let text = fault.text();
             println!(rt; "BATCH line {line} {text}")?;
             lines.print_around(rt, line, batch_meaning(fault))?;
+            print_batch_note(rt, &lines, line, fault)?;
             Ok(1)
         }
         Batch::Jobs(rule, entries) => {
