@@ -2,7 +2,7 @@
 
 use crate::lines::{Lines, printable};
 use crate::parts::{Scan, Stage, begins_with, is_only, scan_before};
-use batch_reader::BatchFault;
+use batch_reader::{Batch, BatchFault, Feed};
 use std::alloc::{AllocError, Global};
 use std::io;
 use vcode_base::limits::{
@@ -12,9 +12,6 @@ use vcode_base::{LineWords, Parentheses};
 
 /// The words of a JOB line.
 const JOB_WORDS: usize = 6;
-
-/// The most digits of a limit.
-const MOST_DIGITS: usize = 10;
 
 /// A limit of a JOB line.
 #[derive(Clone, Copy)]
@@ -48,27 +45,20 @@ const RANGES: &[Range] = &[
     },
 ];
 
-/// The number that a word is of at most 10 digits.
-fn number(word: &[u8]) -> Option<u64> {
-    if word.len() > MOST_DIGITS {
-        return None;
+/// Whether a JOB line with this word as the limit at a place, and 1 as the other limits, is refused.
+fn is_bad_limit(alloc: Global, place: usize, word: &[u8]) -> Result<bool, AllocError> {
+    let mut text = b"JOB t".to_vec(alloc)?;
+    for other in 0..RANGES.len() {
+        let limit = if other == place { word } else { b"1" };
+        text.push(b' ')?;
+        text.extend_from_slice(limit)?;
     }
-    let mut value: u64 = 0;
-    for byte in word {
-        if *byte < b'0' || *byte > b'9' {
-            return None;
-        }
-        let digit = u64::from(*byte - b'0');
-        value = value.saturating_mul(10).saturating_add(digit);
-    }
-    Some(value)
-}
-
-/// Whether a word is a number within a range.
-fn is_within(word: &[u8], range: Range) -> bool {
-    match number(word) {
-        Some(value) => value >= range.least && value <= range.most,
-        None => false,
+    text.extend_from_slice(b"\nSIGNATURES\nCODE\nEND\n")?;
+    let mut feed = Feed::new(alloc, MOST_WORDS)?;
+    feed.feed(&text)?;
+    match feed.end()? {
+        Batch::Refused(..) => Ok(true),
+        Batch::Jobs(..) => Ok(false),
     }
 }
 
@@ -92,8 +82,8 @@ fn name_note(alloc: Global, name: &[u8]) -> Result<Option<String>, AllocError> {
 
 /// What is wrong with the first limit that is outside its range.
 fn limits_note(alloc: Global, limits: &[&[u8]]) -> Result<String, AllocError> {
-    for (word, range) in limits.iter().zip(RANGES.iter()) {
-        if !is_within(word, *range) {
+    for (place, (word, range)) in limits.iter().zip(RANGES.iter()).enumerate() {
+        if is_bad_limit(alloc, place, word)? {
             let word = printable(alloc, word)?;
             let Range { name, least, most } = *range;
             return format!(in alloc;

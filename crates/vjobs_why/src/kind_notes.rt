@@ -130,6 +130,10 @@ fn print_misfit(
 ) -> io::Result<()> {
     match &misfit.clash {
         Clash::Operands(wanted, names) => {
+            if misfit.before > 0 {
+                let number = misfit.before.saturating_add(1);
+                println!(rt; "it is instruction {number} of its line")?;
+            }
             let count = wanted.len();
             let there = misfit.stack.len();
             println!(rt;

@@ -9,6 +9,9 @@ use std::mem;
 use vcode_base::{Instr, Kind, StackMove};
 use vcode_reader::{CodeItem, CodeLine, Function, Program};
 
+/// The most entries of a stack that is walked further.
+const MOST_ENTRIES: usize = 65_536;
+
 /// What is wanted at a place of the stack: entries of this kind, or of any.
 #[derive(Clone, Copy, Drop)]
 pub enum Wanted {
@@ -25,11 +28,13 @@ pub enum Clash {
     Parts(Vec<Origin>),
 }
 
-/// The first place where the kinds of a program don't fit: the function, the line, the stack there, and why.
+/// The first place where the kinds of a program don't fit: the function, the line, how many instructions of the line come
+/// before it, the stack there, and why.
 #[derive(Drop)]
 pub struct Misfit {
     pub function: usize,
     pub line: u64,
+    pub before: usize,
     pub stack: Vec<Origin>,
     pub clash: Clash,
 }
@@ -245,7 +250,24 @@ fn callee_kinds<'a>(
     }
 }
 
-/// The first place where the kinds of a function don't fit. It is that of this place in the program.
+/// How many instructions of this line are in a function before a place.
+fn count_before(function: &Function<Global>, place: usize, number: u64) -> usize {
+    let mut count: usize = 0;
+    for earlier in 0..place {
+        match function.item(earlier) {
+            Some(line) if line.number == number => {
+                if matches!(&line.item, CodeItem::Do(_) | CodeItem::If) {
+                    count = count.saturating_add(1);
+                }
+            }
+            _ => {}
+        }
+    }
+    count
+}
+
+/// The first place where the kinds of a function don't fit, unless its stack is too high before that. It is the function
+/// of this place in the program.
 fn misfit_in(
     alloc: Global,
     program: &Program<Global>,
@@ -261,12 +283,16 @@ fn misfit_in(
         let Some(line) = function.item(at) else {
             return Ok(None);
         };
+        if walk.stack.len() > MOST_ENTRIES {
+            return Ok(None);
+        }
         let callee = callee_kinds(program, signatures, place, at);
         if let Some(clash) = walk.step(&line, gives, callee)? {
             let line = line.number;
             return Ok(Some(Misfit {
                 function: place,
                 line,
+                before: count_before(function, at, line),
                 stack: walk.stack,
                 clash,
             }));
@@ -275,7 +301,7 @@ fn misfit_in(
     Ok(None)
 }
 
-/// The first place where the kinds of a program don't fit.
+/// The first place where the kinds of a program don't fit, but for functions whose stacks are too high.
 pub fn misfit_of(
     alloc: Global,
     program: &Program<Global>,

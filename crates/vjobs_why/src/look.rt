@@ -5,17 +5,18 @@ use crate::data::print_data;
 use crate::end::{End, Ending, Wide, ending_of, run_through, run_wide};
 use crate::folded::print_folded;
 use crate::lines::{Lines, printable};
+use crate::memory_notes::memory_note;
 use crate::operands::operand_names;
 use crate::profile::print_profile;
 use crate::reasons::reason;
-use crate::selection::{Picker, Selection};
-use crate::stack::{function_name, print_calls, print_stack};
+use crate::stack::{print_calls, print_stack};
+use crate::steps::show_steps;
 use crate::watch::Watch;
 use job_profile::Profile;
 use job_steps::Job;
 use std::alloc::{AllocError, Global};
 use std::io;
-use vcode_base::{Limits, MemoryFault, Op, Rule, StackMove};
+use vcode_base::{Limits, Op, Rule};
 
 /// The last instructions that are shown of a job.
 const LAST: u64 = 6;
@@ -29,21 +30,11 @@ pub struct Batch<'a> {
 
 /// An instruction that was executed, and what there was after it.
 #[derive(Clone, Copy, Drop)]
-struct Step {
+pub struct Step {
     number: u64,
-    line: u64,
+    pub line: u64,
     entries: usize,
     held: usize,
-}
-
-/// How many entries there would be after an instruction of a stack of this depth.
-fn depth_after(op: Op, depth: usize) -> usize {
-    match op {
-        Op::Move(StackMove::Copy, lower, _) => depth.saturating_add(usize::from(lower)),
-        _ => depth
-            .saturating_sub(op.operand_kinds().len())
-            .saturating_add(op.result_kinds().len()),
-    }
 }
 
 /// The names of the operands of an instruction, the top first.
@@ -110,7 +101,7 @@ fn print_wide(rt: &HostRuntime, name: &str, end: End) -> io::Result<()> {
 }
 
 /// Executes the next instruction. `None` if it isn't executed, since it ends the job, or if there is none.
-fn step_of(watch: &mut Watch) -> Result<Option<Step>, AllocError> {
+pub fn step_of(watch: &mut Watch) -> Result<Option<Step>, AllocError> {
     let before = watch.run.executed();
     let Some(next) = watch.next() else {
         return Ok(None);
@@ -129,90 +120,15 @@ fn step_of(watch: &mut Watch) -> Result<Option<Step>, AllocError> {
 }
 
 /// Prints the head of a list of instructions.
-fn print_head(rt: &HostRuntime) -> io::Result<()> {
+pub fn print_head(rt: &HostRuntime) -> io::Result<()> {
     println!(rt; "       step     line  entries       held  instruction")
 }
 
 /// Prints an instruction that was executed.
-fn print_step(rt: &HostRuntime, batch: Batch<'_>, step: Step) -> io::Result<()> {
+pub fn print_step(rt: &HostRuntime, batch: Batch<'_>, step: Step) -> io::Result<()> {
     let (number, line, entries, held) = (step.number, step.line, step.entries, step.held);
     let code = batch.lines.code(rt.alloc(), line)?;
     println!(rt; "  {number:>9} {line:>8} {entries:>8} {held:>10}  {code}")
-}
-
-/// How many instructions of a run that has executed nothing are chosen, but for the first and the last ones.
-fn count_chosen(watch: &mut Watch, selection: Selection) -> Result<u64, AllocError> {
-    let mut picker = Picker::new(selection);
-    let before = selection.from.saturating_sub(1);
-    watch.go_to(before)?;
-    for _ in before..selection.to {
-        match step_of(watch)? {
-            Some(step) => picker.takes(step.line),
-            None => break,
-        };
-    }
-    Ok(picker.taken)
-}
-
-/// Prints an instruction that was chosen, if it is listed, or how many are left out from it on, if it is the first of these.
-fn print_listed(
-    rt: &HostRuntime,
-    batch: Batch<'_>,
-    step: Step,
-    picker: Picker,
-    total: u64,
-) -> io::Result<()> {
-    if picker.is_listed(total) {
-        return print_step(rt, batch, step);
-    }
-    match picker.left_out(total) {
-        Some(count) => println!(rt; "  .. and {count} more"),
-        None => Ok(()),
-    }
-}
-
-/// Prints the instructions of a run that has executed nothing, if this many are chosen in all.
-fn print_chosen(
-    rt: &HostRuntime,
-    batch: Batch<'_>,
-    watch: &mut Watch,
-    selection: Selection,
-    total: u64,
-) -> io::Result<()> {
-    println!(rt; "step by step")?;
-    print_head(rt)?;
-    let mut picker = Picker::new(selection);
-    let before = selection.from.saturating_sub(1);
-    watch.go_to(before)?;
-    for _ in before..selection.to {
-        let Some(step) = step_of(watch)? else {
-            break;
-        };
-        if picker.takes(step.line) {
-            print_listed(rt, batch, step, picker, total)?;
-        }
-        if picker.is_done() {
-            break;
-        }
-    }
-    Ok(())
-}
-
-/// Prints the instructions of a job that are chosen, on the line of its name. If the last ones are wanted, it is run once
-/// more to count them.
-fn show_steps(
-    rt: &HostRuntime,
-    batch: Batch<'_>,
-    job: Job<Global>,
-    selection: Selection,
-) -> io::Result<()> {
-    let mut watch = Watch::new(rt.alloc(), batch.rule, job)?;
-    if selection.last.is_none() {
-        return print_chosen(rt, batch, &mut watch, selection, u64::MAX);
-    }
-    let total = count_chosen(&mut watch, selection)?;
-    let mut watch = Watch::new(rt.alloc(), batch.rule, watch.into_job())?;
-    print_chosen(rt, batch, &mut watch, selection, total)
 }
 
 /// Executes this many instructions, which are there.
@@ -224,80 +140,6 @@ fn steps_of(alloc: Global, watch: &mut Watch, count: u64) -> Result<Vec<Step>, A
         }
     }
     Ok(steps)
-}
-
-/// The words of the operand at this depth, if no entry below it is a copy of it.
-fn freed_at(watch: &Watch, depth: usize) -> usize {
-    for below in depth.saturating_add(1)..watch.run.depth() {
-        if watch.run.are_copies(depth, below) {
-            return 0;
-        }
-    }
-    match watch.run.words(depth) {
-        Some(words) => words.len(),
-        None => 0,
-    }
-}
-
-/// The words that count as held while the next instruction of a run makes its results.
-fn held_at(watch: &Watch, op: Op) -> usize {
-    let mut held = watch.run.held();
-    if watch.run.rule() == Rule::Second {
-        for depth in 0..op.operand_kinds().len() {
-            held = held.saturating_sub(freed_at(watch, depth));
-        }
-    }
-    held
-}
-
-/// Why the words would be too many at the next instruction of a run.
-fn words_note(
-    alloc: Global,
-    watch: &Watch,
-    op: Op,
-    wide: Option<Wide>,
-) -> Result<String, AllocError> {
-    let limit = watch.run.job().limits().words;
-    let held = held_at(watch, op);
-    match wide {
-        Some(wide) if wide.wanted > limit => {
-            let wanted = wide.wanted;
-            let needed = wanted.saturating_sub(held);
-            format!(in alloc;
-                "{held} words held and {needed} needed are {wanted}, and the limit is {limit}"
-            )
-        }
-        Some(_) | None => format!(in alloc;
-            "{held} words held and those needed are more than the limit, which is {limit}"
-        ),
-    }
-}
-
-/// Why a limit would be passed at the next instruction of a run.
-fn memory_note(
-    alloc: Global,
-    watch: &Watch,
-    fault: MemoryFault,
-    wide: Option<Wide>,
-) -> Result<String, AllocError> {
-    let Some(next) = watch.next() else {
-        return Ok(String::new(alloc));
-    };
-    match fault {
-        MemoryFault::Words => words_note(alloc, watch, next.op, wide),
-        MemoryFault::Cells => {
-            let (limit, depth) = (watch.run.job().limits().cells, watch.run.depth());
-            let wanted = depth_after(next.op, depth);
-            format!(in alloc; "{depth} entries now and {wanted} after it, and the limit is {limit}")
-        }
-        MemoryFault::Calls => {
-            let (limit, calls) = (watch.run.job().limits().calls, watch.run.calls());
-            let wanted = calls.saturating_add(1);
-            format!(in alloc;
-                "{calls} calls are active now and {wanted} in it, and the limit is {limit}"
-            )
-        }
-    }
 }
 
 /// The note at the last line of a job.
