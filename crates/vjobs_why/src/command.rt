@@ -1,5 +1,6 @@
 //! The command line.
 
+use crate::selection::{Selection, line_range};
 use clap::error::ErrorKind;
 use clap::{Arg, ArgAction, ArgMatches, Command, value_parser};
 use std::alloc::{AllocError, Global};
@@ -14,8 +15,8 @@ pub enum Look {
     After(u64),
     /// What there is before a line is next for the K-th time.
     At { line: u64, time: u64 },
-    /// A line for each instruction from one number to another.
-    Steps { from: u64, to: u64 },
+    /// A line for each instruction of a selection.
+    Steps(Selection),
     /// The words over time, what held the most, and what its functions and lines did: all lines, or the first of them.
     Profile { all: bool },
     /// How many instructions its functions executed, by the functions that run inside one another.
@@ -87,6 +88,21 @@ fn number_option<'a>(alloc: Global, name: &'a str, value: &'a str, help: &'a str
         .help(help)
 }
 
+/// An option for a number from 1 on.
+fn count_option<'a>(alloc: Global, name: &'a str, value: &'a str, help: &'a str) -> Arg<'a> {
+    number_option(alloc, name, value, help).value_parser(value_parser!(u32).range(
+        1..=i64::from(MOST),
+    ))
+}
+
+/// The option for lines.
+fn lines_option<'a>(alloc: Global) -> Arg<'a> {
+    Arg::new(alloc, "lines")
+        .long("lines")
+        .value_name("A-B")
+        .help("Of --steps only those on the lines A to B")
+}
+
 /// The option for a line.
 fn at_option<'a>(alloc: Global) -> Arg<'a> {
     Arg::new(alloc, "at").long("at").value_name("LINE[:K]").help(
@@ -134,6 +150,15 @@ fn command<'a>(alloc: Global) -> Result<Command<'a>, clap::Error> {
             .arg(flag_option(alloc, "steps", "Shows a line for each instruction"))?
             .arg(number_option(alloc, "from", "N", "The first instruction of --steps"))?
             .arg(number_option(alloc, "to", "N", "The last instruction of --steps"))?
+            .arg(lines_option(alloc))?
+            .arg(count_option(
+                alloc,
+                "every",
+                "K",
+                "Of these every K-th, from the first on",
+            ))?
+            .arg(count_option(alloc, "first", "N", "Of these the first N"))?
+            .arg(count_option(alloc, "last", "N", "Of these the last N"))?
             .arg(flag_option(
                 alloc,
                 "profile",
@@ -179,52 +204,65 @@ fn line_and_time(text: &str) -> Option<Look> {
     }
 }
 
-/// What is to be shown of a job on a terminal, by the options: `None` if that of `--at` is wrong.
-fn look_of(matches: &ArgMatches<'_>) -> Option<Look> {
+/// The instructions that are to be listed.
+fn selection_of(matches: &ArgMatches<'_>) -> Result<Selection, &'static str> {
+    let lines = match matches.get_str("lines") {
+        Some(text) => Some(line_range(text).ok_or("--lines takes A-B or A")?),
+        None => None,
+    };
+    Ok(Selection {
+        from: number(matches, "from").unwrap_or(1),
+        to: number(matches, "to").unwrap_or(MOST_BUDGET),
+        lines,
+        every: number(matches, "every").unwrap_or(1),
+        first: number(matches, "first"),
+        last: number(matches, "last"),
+    })
+}
+
+/// What is to be shown of a job: the first of the options that was given, or why its value can't be taken.
+fn look_of(matches: &ArgMatches<'_>) -> Result<Look, &'static str> {
     if let Some(count) = number(matches, "after") {
-        return Some(Look::After(count));
+        return Ok(Look::After(count));
     }
     if let Some(text) = matches.get_str("at") {
-        return line_and_time(text);
+        return line_and_time(text).ok_or("--at takes LINE or LINE:K");
     }
     if matches.get_flag("steps") {
-        return Some(Look::Steps {
-            from: number(matches, "from").unwrap_or(1),
-            to: number(matches, "to").unwrap_or(MOST_BUDGET),
-        });
+        return Ok(Look::Steps(selection_of(matches)?));
     }
     if matches.get_flag("profile") {
-        return Some(Look::Profile {
+        return Ok(Look::Profile {
             all: matches.get_flag("all"),
         });
     }
     if matches.get_flag("folded") {
-        return Some(Look::Folded);
+        return Ok(Look::Folded);
     }
-    Some(Look::End)
+    Ok(Look::End)
 }
 
-/// How jobs are to be shown, if that of `--at` isn't wrong: texts before data, and data before a page.
-fn form_of(alloc: Global, matches: &ArgMatches<'_>) -> Result<Option<Form>, AllocError> {
-    let Some(look) = look_of(matches) else {
-        return Ok(None);
-    };
+/// How jobs are to be shown: texts before data, data before a page, and a page before stacks of functions.
+fn form_of(alloc: Global, matches: &ArgMatches<'_>, look: Look) -> Result<Form, AllocError> {
     if let Look::End | Look::Folded = look {
         if matches.get_flag("json") {
-            return Ok(Some(Form::Data));
+            return Ok(Form::Data);
         }
         if let Some(file) = matches.get_str("html") {
-            return Ok(Some(Form::Page(String::from_str(alloc, file)?)));
+            return Ok(Form::Page(String::from_str(alloc, file)?));
         }
     }
-    Ok(Some(Form::Texts(look)))
+    Ok(Form::Texts(look))
 }
 
 /// What was matched.
 fn asked_of(alloc: Global, matches: &ArgMatches<'_>) -> Result<Line, LineFault> {
-    let Some(form) = form_of(alloc, matches)? else {
-        let text = String::from_str(alloc, "vjobs-why: --at takes LINE or LINE:K\n")?;
-        return Err(LineFault::Usage(text));
+    let look = match look_of(matches) {
+        Ok(look) => look,
+        Err(reason) => {
+            let text = format!(in alloc; "vjobs-why: {reason}\n")?;
+            return Err(LineFault::Usage(text));
+        }
     };
     let file = String::from_str(alloc, matches.get_str("file").unwrap_or("-"))?;
     Ok(Line::Show(Asked {

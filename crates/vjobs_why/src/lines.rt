@@ -1,5 +1,6 @@
 //! The lines of a batch, as they may be shown on a terminal.
 
+use crate::words::Word;
 use std::alloc::{AllocError, Global};
 use std::io;
 
@@ -54,6 +55,15 @@ fn carets(alloc: Global, line: &str) -> Result<String, AllocError> {
     Ok(text)
 }
 
+/// Carets from one column to another.
+fn carets_between(alloc: Global, begin: usize, end: usize) -> Result<String, AllocError> {
+    let mut text = String::new(alloc);
+    for column in 0..end {
+        text.push(if column < begin { ' ' } else { '^' })?;
+    }
+    Ok(text)
+}
+
 impl Lines {
     /// The lines of a text.
     pub fn of(alloc: Global, text: Vec<u8>) -> Result<Lines, AllocError> {
@@ -75,11 +85,8 @@ impl Lines {
     }
 
     /// The bytes of a line without its LF, if there is a line of this number, counted from 1.
-    fn bytes(&self, number: u64) -> Option<&[u8]> {
-        let Ok(place) = usize::try_from(number.checked_sub(1)?) else {
-            return None;
-        };
-        let begin = *self.begins.get(place)?;
+    pub fn bytes(&self, number: u64) -> Option<&[u8]> {
+        let begin = self.begin(number)?;
         let rest = self.text.get(begin..)?;
         match rest.iter().position(|byte| *byte == b'\n') {
             Some(end) => rest.get(..end),
@@ -90,6 +97,22 @@ impl Lines {
     /// The number of the last line.
     pub fn count(&self) -> u64 {
         self.begins.len() as u64
+    }
+
+    /// The place in the text at which a line of this number begins.
+    fn begin(&self, number: u64) -> Option<usize> {
+        let Ok(place) = usize::try_from(number.checked_sub(1)?) else {
+            return None;
+        };
+        Some(*self.begins.get(place)?)
+    }
+
+    /// The lines from one number on up to another, with their LFs.
+    pub fn between(&self, first: u64, end: u64) -> &[u8] {
+        let (Some(begin), Some(end)) = (self.begin(first), self.begin(end)) else {
+            return &[];
+        };
+        self.text.get(begin..end).unwrap_or(&[])
     }
 
     /// A line as it may be shown, without its LF. Two dots end one that is cut. It is empty if there is none of this number.
@@ -124,11 +147,52 @@ impl Lines {
 
     /// Prints a line between those beside it, with carets below its code and a note after them.
     pub fn print_around(&self, rt: &HostRuntime, number: u64, note: &str) -> io::Result<()> {
+        let line = self.line(rt.alloc(), number)?;
+        let carets = carets(rt.alloc(), line.as_str())?;
+        self.print_marked(rt, number, carets.as_str(), note)
+    }
+
+    /// The same with carets below a word alone, whose first byte and the byte after whose last are at these places of the
+    /// lines from `first` on. If that isn't a part of the line that is shown, they are below its code.
+    pub fn print_word(
+        &self,
+        rt: &HostRuntime,
+        number: u64,
+        first: u64,
+        word: Word,
+        note: &str,
+    ) -> io::Result<()> {
+        match self.columns(number, first, word) {
+            Some((begin, end)) => {
+                let carets = carets_between(rt.alloc(), begin, end)?;
+                self.print_marked(rt, number, carets.as_str(), note)
+            }
+            None => self.print_around(rt, number, note),
+        }
+    }
+
+    /// The columns of a line at which a word of the lines from `first` on begins and ends.
+    fn columns(&self, number: u64, first: u64, word: Word) -> Option<(usize, usize)> {
+        let (line, origin) = (self.begin(number)?, self.begin(first)?);
+        let begin = origin.checked_add(word.begin)?.checked_sub(line)?;
+        let end = origin.checked_add(word.end)?.checked_sub(line)?;
+        if end > MOST_COLUMNS || end > self.bytes(number)?.len() {
+            return None;
+        }
+        Some((begin, end))
+    }
+
+    /// Prints a line between those beside it, with these carets below it and a note after them.
+    fn print_marked(
+        &self,
+        rt: &HostRuntime,
+        number: u64,
+        carets: &str,
+        note: &str,
+    ) -> io::Result<()> {
         println!(rt; "")?;
         self.print(rt, number.saturating_sub(1))?;
         self.print(rt, number)?;
-        let line = self.line(rt.alloc(), number)?;
-        let carets = carets(rt.alloc(), line.as_str())?;
         println!(rt; "        | {carets} {note}")?;
         self.print(rt, number.saturating_add(1))?;
         println!(rt; "")

@@ -6,10 +6,12 @@ use crate::end::{End, Ending, Wide, ending_of, run_through, run_wide};
 use crate::folded::print_folded;
 use crate::holders::Holdings;
 use crate::lines::{Lines, printable};
+use crate::memory_notes::memory_note;
 use crate::operands::operand_names;
 use crate::profile::{Shown, print_profile};
 use crate::reasons::reason;
-use crate::stack::{function_name, print_calls, print_stack};
+use crate::stack::{print_calls, print_stack};
+use crate::steps::show_steps;
 use crate::survey::Survey;
 use crate::tally::Tally;
 use crate::watch::Watch;
@@ -17,7 +19,7 @@ use job_profile::Columns;
 use job_steps::Job;
 use std::alloc::{AllocError, Global};
 use std::io;
-use vcode_base::{Limits, MemoryFault, Op, Rule, StackMove};
+use vcode_base::{Limits, Op, Rule};
 
 /// The last instructions that are shown of a job.
 const LAST: u64 = 6;
@@ -31,21 +33,11 @@ pub struct Batch<'a> {
 
 /// An instruction that was executed, and what there was after it.
 #[derive(Clone, Copy, Drop)]
-struct Step {
+pub struct Step {
     number: u64,
-    line: u64,
+    pub line: u64,
     entries: usize,
     held: usize,
-}
-
-/// How many entries there would be after an instruction of a stack of this depth.
-fn depth_after(op: Op, depth: usize) -> usize {
-    match op {
-        Op::Move(StackMove::Copy, lower, _) => depth.saturating_add(usize::from(lower)),
-        _ => depth
-            .saturating_sub(op.operand_kinds().len())
-            .saturating_add(op.result_kinds().len()),
-    }
 }
 
 /// The names of the operands of an instruction, the top first.
@@ -102,8 +94,17 @@ fn print_least(rt: &HostRuntime, name: &str, end: End) -> io::Result<()> {
     )
 }
 
+/// Prints how a job that a limit ended ends within the widest limits.
+fn print_wide(rt: &HostRuntime, name: &str, end: End) -> io::Result<()> {
+    if end.ending == Ending::Returned {
+        return print_least(rt, name, end);
+    }
+    print!(rt; "\nWithin the widest limits it ends so: ")?;
+    print_ending(rt, end.ending, end.executed)
+}
+
 /// Executes the next instruction. `None` if it isn't executed, since it ends the job, or if there is none.
-fn step_of(watch: &mut Watch) -> Result<Option<Step>, AllocError> {
+pub fn step_of(watch: &mut Watch) -> Result<Option<Step>, AllocError> {
     let before = watch.run.executed();
     let Some(next) = watch.next() else {
         return Ok(None);
@@ -122,32 +123,15 @@ fn step_of(watch: &mut Watch) -> Result<Option<Step>, AllocError> {
 }
 
 /// Prints the head of a list of instructions.
-fn print_head(rt: &HostRuntime) -> io::Result<()> {
+pub fn print_head(rt: &HostRuntime) -> io::Result<()> {
     println!(rt; "       step     line  entries       held  instruction")
 }
 
 /// Prints an instruction that was executed.
-fn print_step(rt: &HostRuntime, batch: Batch<'_>, step: Step) -> io::Result<()> {
+pub fn print_step(rt: &HostRuntime, batch: Batch<'_>, step: Step) -> io::Result<()> {
     let (number, line, entries, held) = (step.number, step.line, step.entries, step.held);
     let code = batch.lines.code(rt.alloc(), line)?;
     println!(rt; "  {number:>9} {line:>8} {entries:>8} {held:>10}  {code}")
-}
-
-/// Prints the instructions of a run from the next one on, this many at most.
-fn print_steps(
-    rt: &HostRuntime,
-    batch: Batch<'_>,
-    watch: &mut Watch,
-    count: u64,
-) -> io::Result<()> {
-    print_head(rt)?;
-    for _ in 0..count {
-        match step_of(watch)? {
-            Some(step) => print_step(rt, batch, step)?,
-            None => break,
-        }
-    }
-    Ok(())
 }
 
 /// Executes this many instructions, which are there.
@@ -159,44 +143,6 @@ fn steps_of(alloc: Global, watch: &mut Watch, count: u64) -> Result<Vec<Step>, A
         }
     }
     Ok(steps)
-}
-
-/// Why a limit would be passed at the next instruction of a run.
-fn memory_note(
-    alloc: Global,
-    watch: &Watch,
-    fault: MemoryFault,
-    wide: Option<Wide>,
-) -> Result<String, AllocError> {
-    let limits = watch.run.job().limits();
-    match fault {
-        MemoryFault::Words => {
-            let limit = limits.words;
-            match wide {
-                Some(wide) if wide.wanted > limit => {
-                    let wanted = wide.wanted;
-                    format!(in alloc; "{wanted} words with the result, and the limit is {limit}")
-                }
-                Some(_) | None => format!(in alloc;
-                    "with the result more words than the limit, which is {limit}"
-                ),
-            }
-        }
-        MemoryFault::Cells => {
-            let limit = limits.cells;
-            match watch.next() {
-                Some(next) => {
-                    let cells = depth_after(next.op, watch.run.depth());
-                    format!(in alloc; "{cells} entries with it, and the limit is {limit}")
-                }
-                None => Ok(String::new(alloc)),
-            }
-        }
-        MemoryFault::Calls => {
-            let limit = limits.calls;
-            format!(in alloc; "{limit} calls are active, and that is the limit")
-        }
-    }
 }
 
 /// The note at the last line of a job.
@@ -292,7 +238,7 @@ fn print_all(
     print_last(rt, batch, watch, end, wide)?;
     print_used(rt, end, watch.run.job().limits())?;
     match wide {
-        Some(wide) => print_least(rt, name, wide.end),
+        Some(wide) => print_wide(rt, name, wide.end),
         None => print_least(rt, name, end),
     }
 }
@@ -312,7 +258,7 @@ fn print_state(rt: &HostRuntime, batch: Batch<'_>, watch: &Watch) -> io::Result<
 /// Shows what was asked for of a run that has executed nothing.
 fn show_run(rt: &HostRuntime, batch: Batch<'_>, watch: &mut Watch, look: Look) -> io::Result<()> {
     match look {
-        Look::End | Look::Profile { .. } | Look::Folded => Ok(()),
+        Look::End | Look::Profile { .. } | Look::Folded | Look::Steps(_) => Ok(()),
         Look::After(count) => {
             watch.go_to(count)?;
             print_state(rt, batch, watch)
@@ -322,12 +268,6 @@ fn show_run(rt: &HostRuntime, batch: Batch<'_>, watch: &mut Watch, look: Look) -
                 return print_state(rt, batch, watch);
             }
             println!(rt; "line {line} is not next {time} times")
-        }
-        Look::Steps { from, to } => {
-            println!(rt; "step by step")?;
-            let before = from.saturating_sub(1);
-            watch.go_to(before)?;
-            print_steps(rt, batch, watch, to.saturating_sub(before))
         }
     }
 }
@@ -434,7 +374,8 @@ fn show_named(
     match look {
         Look::End => print_end(rt, batch, job, name),
         Look::Profile { all } => show_profile(rt, batch, job, all),
-        Look::After(_) | Look::At { .. } | Look::Steps { .. } | Look::Folded => {
+        Look::Steps(selection) => show_steps(rt, batch, job, selection),
+        Look::After(_) | Look::At { .. } | Look::Folded => {
             let mut watch = Watch::new(rt.alloc(), batch.rule, job)?;
             show_run(rt, batch, &mut watch, look)
         }
@@ -452,10 +393,9 @@ pub fn show(
     let name = printable(rt.alloc(), job.name())?;
     match look {
         Look::Folded => print_folded(rt, batch.rule, job),
-        Look::End | Look::Profile { .. } | Look::After(_) | Look::At { .. } | Look::Steps { .. } =>
-            {
-                print!(rt; "JOB {place} {name} ")?;
-                show_named(rt, batch, job, name.as_str(), look)
-            }
+        Look::End | Look::Profile { .. } | Look::After(_) | Look::At { .. } | Look::Steps(_) => {
+            print!(rt; "JOB {place} {name} ")?;
+            show_named(rt, batch, job, name.as_str(), look)
+        }
     }
 }

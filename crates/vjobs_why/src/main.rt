@@ -1,28 +1,41 @@
 //! Shows why a job of a batch ended, and what there was on the way.
 #![tactic(auto)]
 
+mod batch_notes;
 mod chains;
 mod command;
 mod data;
 mod drawing;
 mod end;
+mod expected;
 mod folded;
 mod holders;
+mod kind_notes;
+mod kind_walk;
 mod lines;
 mod look;
 mod meanings;
+mod memory_notes;
 mod operands;
 mod page;
 mod page_script;
 mod page_style;
+mod parts;
 mod profile;
 mod reading;
 mod reasons;
+mod refusals;
+mod selection;
+mod signature_notes;
 mod stack;
+mod steps;
 mod survey;
 mod tally;
+mod text_notes;
 mod watch;
+mod words;
 
+use batch_notes::print_batch_note;
 use batch_reader::{Batch, Entry, Fate, Feed, JobEntries, JobEntry};
 use command::{Asked, Form, Line, LineFault, Look, read_line};
 use data::refusal_object;
@@ -31,6 +44,7 @@ use look::{object_of, show};
 use meanings::{batch_meaning, job_meaning};
 use page::page_of;
 use reading::read_batch;
+use refusals::print_refused;
 use std::alloc::{AllocError, Global};
 use std::process::ExitCode;
 use std::{env, fs, io};
@@ -63,9 +77,7 @@ fn show_entry(
                 return Ok(());
             }
             let name = printable(rt.alloc(), name.as_slice())?;
-            let text = fault.text();
-            println!(rt; "JOB {place} {name} REFUSED line {line} {text}")?;
-            batch.lines.print_around(rt, line, job_meaning(fault))
+            print_refused(rt, batch.lines, place, name.as_str(), line, fault)
         }
     }
 }
@@ -177,6 +189,7 @@ fn show_asked(rt: &HostRuntime, asked: &Asked) -> io::Result<u8> {
             let text = fault.text();
             println!(rt; "BATCH line {line} {text}")?;
             lines.print_around(rt, line, batch_meaning(fault))?;
+            print_batch_note(rt, &lines, line, fault)?;
             Ok(1)
         }
         Batch::Jobs(rule, entries) => {

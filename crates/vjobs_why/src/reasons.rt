@@ -233,13 +233,20 @@ fn index_twice(alloc: Global, watch: &Watch, op: Op) -> Result<String, AllocErro
 fn bad_length(alloc: Global, watch: &Watch, op: Op) -> Result<String, AllocError> {
     let lengths = named(watch, op, "I");
     let count = lengths.len();
+    let mut total: u64 = 0;
     for place in 0..count {
-        if lengths[place] < 0 {
-            let length = lengths[place];
+        let length = lengths[place];
+        let Ok(size) = u64::try_from(length) else {
             return format!(in alloc; "at place {place} of {count}, the length is {length}");
+        };
+        total = total.saturating_add(size);
+        if total > MOST_TOTAL {
+            return format!(in alloc;
+                "at place {place} of {count}, the total is {total}, and at most {MOST_TOTAL} are allowed"
+            );
         }
     }
-    format!(in alloc; "the total of the lengths is more than {MOST_TOTAL}")
+    Ok(String::new(alloc))
 }
 
 /// Why the next instruction of a run has this fault.

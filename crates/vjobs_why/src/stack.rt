@@ -8,7 +8,7 @@ use std::io;
 use vcode_base::Kind;
 
 /// The most entries that are shown.
-const MOST_ENTRIES: usize = 24;
+pub const MOST_ENTRIES: usize = 24;
 
 /// The most calls that are shown.
 const MOST_SHOWN_CALLS: usize = 16;
@@ -17,7 +17,7 @@ const MOST_SHOWN_CALLS: usize = 16;
 const MOST_VALUES: usize = 6;
 
 /// The word of a kind.
-fn kind_text(kind: Kind) -> &'static str {
+pub fn kind_text(kind: Kind) -> &'static str {
     match kind {
         Kind::Int => "INT",
         Kind::Bool => "BOOL",

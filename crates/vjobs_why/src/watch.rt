@@ -63,7 +63,7 @@ fn raise_origins(origins: &mut Vec<Origin>, from: usize, count: usize) {
 }
 
 /// Moves the origins as a motion of the stack moves the entries.
-fn move_origins(
+pub fn move_origins(
     origins: &mut Vec<Origin>,
     motion: StackMove,
     lower: usize,

@@ -1,0 +1,116 @@
+//! Where the parts of a job are among the lines of a batch.
+
+use crate::lines::Lines;
+use vcode_base::{LineWords, Parentheses};
+
+/// Lines one after another: the number of the first, and the number of the line after the last.
+#[derive(Clone, Copy, Drop)]
+pub struct LineSpan {
+    pub first: u64,
+    pub end: u64,
+}
+
+/// A JOB line, and the lines of the signatures and of the code that follow it.
+#[derive(Clone, Copy, Drop)]
+pub struct Parts {
+    pub job: u64,
+    pub signatures: LineSpan,
+    pub code: LineSpan,
+}
+
+/// What the next line of a batch is a part of.
+#[derive(Clone, Copy, PartialEq, Eq, Drop)]
+pub enum Stage {
+    Between,
+    Signatures,
+    Code,
+}
+
+/// What the lines so far have shown: how many jobs they begin, the parts of the last one, and what the next line is a
+/// part of.
+#[derive(Clone, Copy, Drop)]
+pub struct Scan {
+    pub stage: Stage,
+    pub jobs: u64,
+    pub parts: Parts,
+}
+
+/// Whether the first word of a line is this one.
+pub fn begins_with(line: &[u8], word: &[u8]) -> bool {
+    let mut words = LineWords::new(line, Parentheses::StandInWords);
+    match words.next() {
+        Some(first) => first == word,
+        None => false,
+    }
+}
+
+/// Whether the only word of a line is this one.
+pub fn is_only(line: &[u8], word: &[u8]) -> bool {
+    let mut words = LineWords::new(line, Parentheses::StandInWords);
+    match words.next() {
+        Some(first) => first == word && words.next().is_none(),
+        None => false,
+    }
+}
+
+impl Scan {
+    /// A scan of no line.
+    pub fn new() -> Scan {
+        let none = LineSpan { first: 0, end: 0 };
+        Scan {
+            stage: Stage::Between,
+            jobs: 0,
+            parts: Parts {
+                job: 0,
+                signatures: none,
+                code: none,
+            },
+        }
+    }
+
+    /// Takes the next line, which has this number.
+    pub fn take(&mut self, number: u64, line: &[u8]) {
+        match self.stage {
+            Stage::Between if begins_with(line, b"JOB") => {
+                self.jobs = self.jobs.saturating_add(1);
+                self.parts.job = number;
+                self.parts.signatures.first = number.saturating_add(2);
+                self.stage = Stage::Signatures;
+            }
+            Stage::Signatures if is_only(line, b"CODE") => {
+                self.parts.signatures.end = number;
+                self.parts.code.first = number.saturating_add(1);
+                self.stage = Stage::Code;
+            }
+            Stage::Code if is_only(line, b"END") => {
+                self.parts.code.end = number;
+                self.stage = Stage::Between;
+            }
+            _ => {}
+        }
+    }
+}
+
+/// What the lines before the one of this number have shown.
+pub fn scan_before(lines: &Lines, number: u64) -> Scan {
+    let mut scan = Scan::new();
+    for earlier in 1..number {
+        let Some(line) = lines.bytes(earlier) else {
+            return scan;
+        };
+        scan.take(earlier, line);
+    }
+    scan
+}
+
+/// The parts of the job at this place of a batch, counted from 1.
+pub fn parts_of(lines: &Lines, place: u64) -> Option<Parts> {
+    let mut scan = Scan::new();
+    for number in 1..u64::MAX {
+        scan.take(number, lines.bytes(number)?);
+        if scan.jobs == place && scan.stage == Stage::Between {
+            return Some(scan.parts);
+        }
+    }
+    None
+}

@@ -1,0 +1,104 @@
+//! Which of the instructions that were executed are listed.
+
+/// A choice of instructions: those from one number to another that are on these lines, of these every K-th, and of
+/// these the first and the last ones.
+#[derive(Clone, Copy, Drop)]
+pub struct Selection {
+    pub from: u64,
+    pub to: u64,
+    pub lines: Option<LineRange>,
+    pub every: u64,
+    pub first: Option<u64>,
+    pub last: Option<u64>,
+}
+
+/// Lines from one number to another.
+#[derive(Clone, Copy, Drop)]
+pub struct LineRange {
+    pub first: u64,
+    pub last: u64,
+}
+
+/// The lines `A-B`, or `A` alone.
+pub fn line_range(text: &str) -> Option<LineRange> {
+    let (first, last) = match text.split_once('-') {
+        Some((first, last)) => (first, last),
+        None => (text, text),
+    };
+    let (Ok(first), Ok(last)) = (first.parse::<u64>(), last.parse::<u64>()) else {
+        return None;
+    };
+    Some(LineRange { first, last })
+}
+
+/// Counts the instructions that are chosen, but for the first and the last ones.
+#[derive(Clone, Copy, Drop)]
+pub struct Picker {
+    selection: Selection,
+    /// How many more instructions on the lines are left out before the next one.
+    wait: u64,
+    /// How many were chosen.
+    pub taken: u64,
+}
+
+impl Picker {
+    /// A picker that has seen no instruction.
+    pub fn new(selection: Selection) -> Picker {
+        Picker {
+            selection,
+            wait: 0,
+            taken: 0,
+        }
+    }
+
+    /// Whether an instruction on this line is on the lines that are chosen.
+    fn has_line(self, line: u64) -> bool {
+        match self.selection.lines {
+            Some(range) => line >= range.first && line <= range.last,
+            None => true,
+        }
+    }
+
+    /// Whether the next instruction, which is on this line, is chosen.
+    pub fn takes(&mut self, line: u64) -> bool {
+        if !self.has_line(line) {
+            return false;
+        }
+        if self.wait > 0 {
+            self.wait -= 1;
+            return false;
+        }
+        self.wait = self.selection.every.saturating_sub(1);
+        self.taken = self.taken.saturating_add(1);
+        true
+    }
+
+    /// Whether the instruction that was chosen last is listed, if this many are chosen in all.
+    pub fn is_listed(self, total: u64) -> bool {
+        match (self.selection.first, self.selection.last) {
+            (None, None) => true,
+            (first, last) => {
+                let before_last = total.saturating_sub(last.unwrap_or(0));
+                self.taken <= first.unwrap_or(0) || self.taken > before_last
+            }
+        }
+    }
+
+    /// How many are left out from the instruction that was chosen last up to the last ones, if that is the first of them.
+    pub fn left_out(self, total: u64) -> Option<u64> {
+        let last = self.selection.last?;
+        let first = self.selection.first.unwrap_or(0);
+        if self.taken.checked_sub(1)? == first {
+            return Some(total.saturating_sub(first).saturating_sub(last));
+        }
+        None
+    }
+
+    /// Whether no later instruction is listed.
+    pub fn is_done(self) -> bool {
+        match (self.selection.first, self.selection.last) {
+            (Some(first), None) => self.taken >= first,
+            _ => false,
+        }
+    }
+}

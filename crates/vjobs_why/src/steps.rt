@@ -1,0 +1,83 @@
+//! The instructions of a job that were executed, one by one.
+
+use crate::look::{Batch, Step, print_head, print_step, step_of};
+use crate::selection::{Picker, Selection};
+use crate::watch::Watch;
+use job_steps::Job;
+use std::alloc::{AllocError, Global};
+use std::io;
+
+/// How many instructions of a run that has executed nothing are chosen, but for the first and the last ones.
+fn count_chosen(watch: &mut Watch, selection: Selection) -> Result<u64, AllocError> {
+    let mut picker = Picker::new(selection);
+    let before = selection.from.saturating_sub(1);
+    watch.go_to(before)?;
+    for _ in before..selection.to {
+        match step_of(watch)? {
+            Some(step) => picker.takes(step.line),
+            None => break,
+        };
+    }
+    Ok(picker.taken)
+}
+
+/// Prints an instruction that was chosen, if it is listed, or how many are left out from it on, if it is the first of these.
+fn print_listed(
+    rt: &HostRuntime,
+    batch: Batch<'_>,
+    step: Step,
+    picker: Picker,
+    total: u64,
+) -> io::Result<()> {
+    if picker.is_listed(total) {
+        return print_step(rt, batch, step);
+    }
+    match picker.left_out(total) {
+        Some(count) => println!(rt; "  .. and {count} more"),
+        None => Ok(()),
+    }
+}
+
+/// Prints the instructions of a run that has executed nothing, if this many are chosen in all.
+fn print_chosen(
+    rt: &HostRuntime,
+    batch: Batch<'_>,
+    watch: &mut Watch,
+    selection: Selection,
+    total: u64,
+) -> io::Result<()> {
+    println!(rt; "step by step")?;
+    print_head(rt)?;
+    let mut picker = Picker::new(selection);
+    let before = selection.from.saturating_sub(1);
+    watch.go_to(before)?;
+    for _ in before..selection.to {
+        let Some(step) = step_of(watch)? else {
+            break;
+        };
+        if picker.takes(step.line) {
+            print_listed(rt, batch, step, picker, total)?;
+        }
+        if picker.is_done() {
+            break;
+        }
+    }
+    Ok(())
+}
+
+/// Prints the instructions of a job that are chosen, on the line of its name. If the last ones are wanted, it is run once
+/// more to count them.
+pub fn show_steps(
+    rt: &HostRuntime,
+    batch: Batch<'_>,
+    job: Job<Global>,
+    selection: Selection,
+) -> io::Result<()> {
+    let mut watch = Watch::new(rt.alloc(), batch.rule, job)?;
+    if selection.last.is_none() {
+        return print_chosen(rt, batch, &mut watch, selection, u64::MAX);
+    }
+    let total = count_chosen(&mut watch, selection)?;
+    let mut watch = Watch::new(rt.alloc(), batch.rule, watch.into_job())?;
+    print_chosen(rt, batch, &mut watch, selection, total)
+}
