@@ -130,6 +130,13 @@ impl<A: Allocator> Columns<A> {
         &self.profile
     }
 
+    /// The job, of which another run may be made.
+    pub fn into_job(self) -> Job<A>
+        ensures { ruled self.task.rule result ≡ self.task }
+    {
+        self.profile.into_job()
+    }
+
     /// Of how many instructions each column is, and the columns. The last is of what is left.
     pub fn columns(&self) -> (u64, &[Column])
         ensures columns { AreColumns self.now.task (executed_count_in (progress_of self.now)) result.0 result.1.now }

@@ -63,6 +63,22 @@ pub fn functions_of(
     Ok(functions)
 }
 
+/// Of each of these lines the place of its function in the code, counted from 0: the last that begins there or before.
+pub fn function_places(
+    alloc: Global,
+    profile: &Profile<Global>,
+    lines: &[usize],
+) -> Result<Vec<usize>, AllocError> {
+    let functions = profile.run().job().verified().program().functions();
+    let mut places = Vec::new(alloc);
+    for line in lines {
+        let number = *line as u64;
+        let count = functions.partition_point(|function| function.line() <= number);
+        places.push(count.saturating_sub(1))?;
+    }
+    Ok(places)
+}
+
 /// The lines that were executed, in the order of the code.
 pub fn lines_of(alloc: Global, profile: &Profile<Global>) -> Result<Vec<LineCount>, AllocError> {
     let mut lines = Vec::new(alloc);

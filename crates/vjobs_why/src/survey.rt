@@ -2,19 +2,20 @@
 
 use crate::chains::Chains;
 use crate::end::{End, Ending, ending_of};
-use job_profile::Profile;
+use job_profile::{Columns, Profile};
 use job_steps::Job;
 use job_walk::Run;
 use std::alloc::{AllocError, Global};
 use vcode_base::Rule;
 use vcode_base::limits::MOST_BUDGET;
 
-/// A run of a job: its end, the line of the last instruction that was next, its counts, and its chains of functions.
+/// A run of a job: its end, the line of the last instruction that was next, its words and counts, and its chains of
+/// functions.
 #[derive(Drop)]
 pub struct Survey {
     pub end: End,
     pub last_line: u64,
-    pub profile: Profile<Global>,
+    pub columns: Columns<Global>,
     pub chains: Chains,
 }
 
@@ -29,8 +30,8 @@ fn next_number(run: &Run<Global>, earlier: u64) -> u64 {
 impl Survey {
     /// The survey of a job that has executed nothing.
     fn new(alloc: Global, rule: Rule, job: Job<Global>) -> Result<Survey, AllocError> {
-        let profile = Profile::new(alloc, rule, job)?;
-        let chains = Chains::new(alloc, profile.run())?;
+        let columns = Columns::new(alloc, rule, job)?;
+        let chains = Chains::new(alloc, columns.profile().run())?;
         Ok(Survey {
             end: End {
                 ending: Ending::Budget,
@@ -41,22 +42,28 @@ impl Survey {
                 calls: 1,
             },
             last_line: 0,
-            profile,
+            columns,
             chains,
         })
     }
 
+    /// The counts.
+    pub fn profile(&self) -> &Profile<Global> {
+        self.columns.profile()
+    }
+
     /// Executes and counts the next instruction; true if the job goes on.
     fn step(&mut self) -> Result<bool, AllocError> {
-        let run = self.profile.run();
+        let run = self.columns.profile().run();
         let (executed, calls) = (run.executed(), run.calls());
         self.last_line = next_number(run, self.last_line);
-        let goes_on = self.profile.step()?;
-        self.chains.follow(executed, calls, self.profile.run())?;
+        let goes_on = self.columns.step()?;
+        let run = self.columns.profile().run();
+        self.chains.follow(executed, calls, run)?;
         if goes_on {
             self.end.steps = self.end.steps.saturating_add(1);
-            self.end.cells = self.end.cells.max(self.profile.run().depth());
-            self.end.calls = self.end.calls.max(self.profile.run().calls());
+            self.end.cells = self.end.cells.max(run.depth());
+            self.end.calls = self.end.calls.max(run.calls());
         }
         Ok(goes_on)
     }
@@ -68,16 +75,17 @@ impl Survey {
                 break;
             }
         }
-        self.profile.collect()?;
-        self.end.ending = ending_of(self.profile.run());
-        self.end.executed = self.profile.run().executed();
-        self.end.words = self.profile.run().peak();
+        self.columns.collect()?;
+        let run = self.columns.profile().run();
+        self.end.ending = ending_of(run);
+        self.end.executed = run.executed();
+        self.end.words = run.peak();
         Ok(())
     }
 
     /// How the job ended, and the job.
     pub fn into_end(self) -> (End, Job<Global>) {
-        (self.end, self.profile.into_job())
+        (self.end, self.columns.into_job())
     }
 
     /// The survey of a job that has run to its end.
