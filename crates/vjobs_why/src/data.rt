@@ -6,7 +6,7 @@ use crate::lines::Lines;
 use crate::profile::{function_places, functions_of, last_line_of, lines_of};
 use crate::survey::Survey;
 use batch_reader::JobFault;
-use job_profile::{Columns, Profile};
+use job_profile::{Column, Columns, Profile};
 use std::alloc::{AllocError, Global};
 use std::fmt::Write;
 use vcode_base::Limits;
@@ -111,18 +111,28 @@ fn push_lines(
     text.push(']')
 }
 
-/// Adds the member of this name for numbers of the columns.
-fn push_numbers<I: Iterator<Item = usize>>(
-    text: &mut String,
-    name: &str,
-    numbers: I,
-) -> Result<(), AllocError> {
-    write!(text, ",\"{name}\":[")?;
-    for (place, number) in numbers.enumerate() {
+/// Adds a member that is a list of numbers.
+fn push_numbers(text: &mut String, member: &str, numbers: &[usize]) -> Result<(), AllocError> {
+    write!(text, ",\"{member}\":[")?;
+    for (place, number) in numbers.iter().enumerate() {
         push_comma(text, place)?;
         write!(text, "{number}")?;
     }
     text.push(']')
+}
+
+/// Of each column the most words, the least, and the line of the most.
+fn numbers_of(
+    alloc: Global,
+    columns: &[Column],
+) -> Result<(Vec<usize>, Vec<usize>, Vec<usize>), AllocError> {
+    let (mut most, mut least, mut lines) = (Vec::new(alloc), Vec::new(alloc), Vec::new(alloc));
+    for column in columns {
+        most.push(column.most)?;
+        least.push(column.least)?;
+        lines.push(column.line)?;
+    }
+    Ok((most, least, lines))
 }
 
 /// Adds the member for the words over time.
@@ -132,12 +142,13 @@ fn push_columns(
     columns: &Columns<Global>,
 ) -> Result<(), AllocError> {
     let (each, list) = columns.columns();
-    let functions = function_places(alloc, columns.profile(), list)?;
+    let (most, least, lines) = numbers_of(alloc, list)?;
+    let functions = function_places(alloc, columns.profile(), lines.as_slice())?;
     write!(text, ",\"columns\":{{\"each\":{each}")?;
-    push_numbers(text, "most", list.iter().map(|column| column.most))?;
-    push_numbers(text, "least", list.iter().map(|column| column.least))?;
-    push_numbers(text, "line", list.iter().map(|column| column.line))?;
-    push_numbers(text, "function", functions.iter().copied())?;
+    push_numbers(text, "most", most.as_slice())?;
+    push_numbers(text, "least", least.as_slice())?;
+    push_numbers(text, "line", lines.as_slice())?;
+    push_numbers(text, "function", functions.as_slice())?;
     text.push('}')
 }
 
@@ -214,17 +225,13 @@ fn used(end: End) -> Limits {
 /// Adds the members for how a job ended and what it used.
 fn push_end(text: &mut String, survey: &Survey) -> Result<(), AllocError> {
     let (executed, peak) = (survey.end.executed, survey.end.words);
-    let (after, last) = (survey.columns.profile().peak_after(), survey.last_line);
+    let (after, last) = (survey.profile().peak_after(), survey.last_line);
     push_ending(text, survey.end.ending)?;
     write!(
         text,
         ",\"instructions\":{executed},\"peak\":{peak},\"peak_at\":{after},\"last\":{last}"
     )?;
-    push_limits(
-        text,
-        "limits",
-        survey.columns.profile().run().job().limits(),
-    )?;
+    push_limits(text, "limits", survey.profile().run().job().limits())?;
     push_limits(text, "used", used(survey.end))
 }
 
@@ -256,7 +263,7 @@ fn push_counts(
     lines: &Lines,
     survey: &Survey,
 ) -> Result<(), AllocError> {
-    let profile = survey.columns.profile();
+    let profile = survey.profile();
     push_functions(text, alloc, profile)?;
     push_lines(text, alloc, profile)?;
     push_columns(text, alloc, &survey.columns)?;

@@ -325,8 +325,9 @@ function functions(job, colours) {
 function chosen_lines(job, times) {
   const all = job.code.lines.map((_, place) => job.code.first + place);
   if (all.length <= MOST_ROWS) return all;
-  const last = last_of(job);
-  return all.filter((line) => times.has(line) || Math.abs(line - last) <= 20).slice(0, MOST_ROWS);
+  const is_near = (line) => Math.abs(line - last_of(job)) <= 20, near = all.filter(is_near);
+  const ran = all.filter((line) => times.has(line) && !is_near(line)).slice(0, MOST_ROWS - near.length);
+  return [...ran, ...near].sort((left, right) => left - right);
 }
 function code(job) {
   const times = new Map(job.lines ?? []), most = [...times.values()].reduce((left, right) => Math.max(left, right), 1), last = last_of(job);

@@ -4,7 +4,7 @@ use crate::drawing::print_drawing;
 use crate::holders::Holdings;
 use crate::lines::{Lines, printable};
 use crate::tally::{LineTally, Tally};
-use job_profile::{Column, Columns, Profile};
+use job_profile::{Columns, Profile};
 use std::alloc::{AllocError, Global};
 use std::io;
 use vcode_reader::{Function, Program};
@@ -69,16 +69,16 @@ pub fn functions_of(
     Ok(functions)
 }
 
-/// Of the line of each column the place of its function in the code, counted from 0: the last that begins there or before.
+/// Of each of these lines the place of its function in the code, counted from 0: the last that begins there or before.
 pub fn function_places(
     alloc: Global,
     profile: &Profile<Global>,
-    columns: &[Column],
+    lines: &[usize],
 ) -> Result<Vec<usize>, AllocError> {
     let functions = profile.run().job().verified().program().functions();
     let mut places = Vec::new(alloc);
-    for column in columns {
-        let number = column.line as u64;
+    for line in lines {
+        let number = *line as u64;
         let count = functions.partition_point(|function| function.line() <= number);
         places.push(count.saturating_sub(1))?;
     }

@@ -2,15 +2,15 @@
 
 use crate::chains::Chains;
 use crate::end::{End, Ending, ending_of};
-use job_profile::Columns;
+use job_profile::{Columns, Profile};
 use job_steps::Job;
 use job_walk::Run;
 use std::alloc::{AllocError, Global};
 use vcode_base::Rule;
 use vcode_base::limits::MOST_BUDGET;
 
-/// A run of a job: its end, the line of the last instruction that was next, its counts and the words over time, and its
-/// chains of functions.
+/// A run of a job: its end, the line of the last instruction that was next, its words and counts, and its chains of
+/// functions.
 #[derive(Drop)]
 pub struct Survey {
     pub end: End,
@@ -47,18 +47,23 @@ impl Survey {
         })
     }
 
+    /// The counts.
+    pub fn profile(&self) -> &Profile<Global> {
+        self.columns.profile()
+    }
+
     /// Executes and counts the next instruction; true if the job goes on.
     fn step(&mut self) -> Result<bool, AllocError> {
         let run = self.columns.profile().run();
         let (executed, calls) = (run.executed(), run.calls());
         self.last_line = next_number(run, self.last_line);
         let goes_on = self.columns.step()?;
-        self.chains
-            .follow(executed, calls, self.columns.profile().run())?;
+        let run = self.columns.profile().run();
+        self.chains.follow(executed, calls, run)?;
         if goes_on {
             self.end.steps = self.end.steps.saturating_add(1);
-            self.end.cells = self.end.cells.max(self.columns.profile().run().depth());
-            self.end.calls = self.end.calls.max(self.columns.profile().run().calls());
+            self.end.cells = self.end.cells.max(run.depth());
+            self.end.calls = self.end.calls.max(run.calls());
         }
         Ok(goes_on)
     }
@@ -71,9 +76,10 @@ impl Survey {
             }
         }
         self.columns.collect()?;
-        self.end.ending = ending_of(self.columns.profile().run());
-        self.end.executed = self.columns.profile().run().executed();
-        self.end.words = self.columns.profile().run().peak();
+        let run = self.columns.profile().run();
+        self.end.ending = ending_of(run);
+        self.end.executed = run.executed();
+        self.end.words = run.peak();
         Ok(())
     }
 
