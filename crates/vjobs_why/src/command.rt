@@ -268,7 +268,7 @@ fn asked_of(alloc: Global, matches: &ArgMatches<'_>) -> Result<Line, LineFault> 
     Ok(Line::Show(Asked {
         file,
         job: number(matches, "job"),
-        form,
+        form: form_of(alloc, matches, look)?,
     }))
 }
 

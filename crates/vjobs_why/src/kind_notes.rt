@@ -1,11 +1,10 @@
 //! What was expected where kinds don't fit.
 
-use crate::kind_walk::{Clash, Misfit, Wanted, misfit_of};
+use crate::kind_walk::{Clash, Misfit, StackEntry, Wanted, misfit_of};
 use crate::lines::{Lines, printable};
 use crate::parts::Parts;
 use crate::stack::{MOST_ENTRIES, kind_text};
 use crate::text_notes::absolute;
-use crate::watch::Origin;
 use signatures::Signatures;
 use std::alloc::{AllocError, Global};
 use std::io;
@@ -67,13 +66,13 @@ fn name_at(names: &'static [&'static str], depth: usize) -> &'static str {
 }
 
 /// The entry at this depth of a stack.
-fn entry_at(stack: &[Origin], depth: usize) -> Option<Origin> {
+fn entry_at(stack: &[StackEntry], depth: usize) -> Option<StackEntry> {
     let place = stack.len().checked_sub(depth.checked_add(1)?)?;
     stack.get(place).copied()
 }
 
 /// Prints the kind of an entry, and the line that makes it with its code; or that there is none.
-fn print_made(rt: &HostRuntime, source: Source<'_>, entry: Option<Origin>) -> io::Result<()> {
+fn print_made(rt: &HostRuntime, source: Source<'_>, entry: Option<StackEntry>) -> io::Result<()> {
     let Some(entry) = entry else {
         return println!(rt; "    none");
     };
@@ -84,7 +83,7 @@ fn print_made(rt: &HostRuntime, source: Source<'_>, entry: Option<Origin>) -> io
 }
 
 /// Prints the entries of a stack, the top first.
-fn print_entries(rt: &HostRuntime, source: Source<'_>, stack: &[Origin]) -> io::Result<()> {
+fn print_entries(rt: &HostRuntime, source: Source<'_>, stack: &[StackEntry]) -> io::Result<()> {
     if stack.is_empty() {
         return println!(rt; "  nothing");
     }
@@ -103,7 +102,7 @@ fn print_entries(rt: &HostRuntime, source: Source<'_>, stack: &[Origin]) -> io::
 fn print_wanted(
     rt: &HostRuntime,
     source: Source<'_>,
-    stack: &[Origin],
+    stack: &[StackEntry],
     wanted: &[Wanted],
     names: &'static [&'static str],
 ) -> io::Result<()> {

@@ -2,12 +2,19 @@
 //! the first instruction that they don't fit.
 
 use crate::operands::operand_names;
-use crate::watch::{Origin, move_origins};
+use crate::watch::move_entries;
 use signatures::Signatures;
 use std::alloc::{AllocError, Global};
 use std::mem;
 use vcode_base::{Instr, Kind, StackMove};
 use vcode_reader::{CodeItem, CodeLine, Function, Program};
+
+/// An entry of the stack before a job runs: its kind, and the line that makes it.
+#[derive(Clone, Copy, Drop, PartialEq)]
+pub struct StackEntry {
+    pub kind: Kind,
+    pub line: u64,
+}
 
 /// The most entries of a stack that is walked further.
 const MOST_ENTRIES: usize = 65_536;
@@ -25,7 +32,7 @@ pub enum Clash {
     /// The entries that an instruction takes, from the bottom up, with their names if they have some.
     Operands(Vec<Wanted>, &'static [&'static str]),
     /// What the other part of an IF leaves, from the bottom up. What the stack has is left by the first.
-    Parts(Vec<Origin>),
+    Parts(Vec<StackEntry>),
 }
 
 /// The first place where the kinds of a program don't fit: the function, the line, how many instructions of the line come
@@ -35,7 +42,7 @@ pub struct Misfit {
     pub function: usize,
     pub line: u64,
     pub before: usize,
-    pub stack: Vec<Origin>,
+    pub stack: Vec<StackEntry>,
     pub clash: Clash,
 }
 
@@ -43,9 +50,9 @@ pub struct Misfit {
 #[derive(Drop)]
 struct Walk {
     alloc: Global,
-    stack: Vec<Origin>,
+    stack: Vec<StackEntry>,
     /// For each open IF the stack with which its other part begins, or with which it ended.
-    kept: Vec<Vec<Origin>>,
+    kept: Vec<Vec<StackEntry>>,
 }
 
 /// Entries of these kinds.
@@ -67,7 +74,7 @@ fn any_entries(alloc: Global, count: usize) -> Result<Vec<Wanted>, AllocError> {
 }
 
 /// Whether these entries have these kinds, one for one.
-fn have_kinds(entries: &[Origin], kinds: &[Kind]) -> bool {
+fn have_kinds(entries: &[StackEntry], kinds: &[Kind]) -> bool {
     if entries.len() != kinds.len() {
         return false;
     }
@@ -80,7 +87,7 @@ fn have_kinds(entries: &[Origin], kinds: &[Kind]) -> bool {
 }
 
 /// Whether two stacks have the same kinds.
-fn are_alike(first: &[Origin], second: &[Origin]) -> bool {
+fn are_alike(first: &[StackEntry], second: &[StackEntry]) -> bool {
     if first.len() != second.len() {
         return false;
     }
@@ -94,7 +101,7 @@ fn are_alike(first: &[Origin], second: &[Origin]) -> bool {
 
 /// The stack after an IF whose parts leave these, which are alike: an entry that they make at different lines is made
 /// at the line of the ENDIF.
-fn merge(stack: &mut Vec<Origin>, other: &[Origin], line: u64) {
+fn merge(stack: &mut Vec<StackEntry>, other: &[StackEntry], line: u64) {
     for (entry, other) in stack.iter_mut().zip(other.iter()) {
         if entry.line != other.line {
             entry.line = line;
@@ -117,13 +124,13 @@ impl Walk {
     /// Pushes entries of these kinds that this line makes.
     fn push_all(&mut self, kinds: &[Kind], line: u64) -> Result<(), AllocError> {
         for kind in kinds {
-            self.stack.push(Origin { kind: *kind, line })?;
+            self.stack.push(StackEntry { kind: *kind, line })?;
         }
         Ok(())
     }
 
     /// The entries at the top of the stack, if there are this many.
-    fn top(&self, count: usize) -> Option<&[Origin]> {
+    fn top(&self, count: usize) -> Option<&[StackEntry]> {
         let below = self.stack.len().checked_sub(count)?;
         self.stack.get(below..)
     }
@@ -163,7 +170,7 @@ impl Walk {
             let wanted = any_entries(self.alloc, count)?;
             return Ok(Some(Clash::Operands(wanted, &[])));
         }
-        move_origins(&mut self.stack, motion, lower, upper)?;
+        move_entries(&mut self.stack, motion, lower, upper)?;
         Ok(None)
     }
 

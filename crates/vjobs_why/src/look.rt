@@ -19,7 +19,7 @@ use job_profile::Columns;
 use job_steps::Job;
 use std::alloc::{AllocError, Global};
 use std::io;
-use vcode_base::{Limits, Op, Rule};
+use vcode_base::{Limits, MemoryFault, Op, Rule};
 
 /// The last instructions that are shown of a job.
 const LAST: u64 = 6;

@@ -42,44 +42,48 @@ pub fn op_of(line: &CodeLine<'_>) -> Op {
     }
 }
 
-/// Pushes the origins from a place on, this many of them, once more.
-fn copy_origins(origins: &mut Vec<Origin>, from: usize, count: usize) -> Result<(), AllocError> {
+/// Pushes the entries from a place on, this many of them, once more.
+fn copy_entries<T: Copy>(
+    entries: &mut Vec<T>,
+    from: usize,
+    count: usize,
+) -> Result<(), AllocError> {
     for place in from..from.saturating_add(count) {
-        let Some(origin) = origins.get(place) else {
+        let Some(entry) = entries.get(place) else {
             return Ok(());
         };
-        let origin = *origin;
-        origins.push(origin)?;
+        let entry = *entry;
+        entries.push(entry)?;
     }
     Ok(())
 }
 
-/// Moves the first `count` of the origins from a place on to the top.
-fn raise_origins(origins: &mut Vec<Origin>, from: usize, count: usize) {
-    if from <= origins.len() {
-        let part = &mut origins[from..];
+/// Moves the first `count` of the entries from a place on to the top.
+fn raise_entries<T: Copy>(entries: &mut Vec<T>, from: usize, count: usize) {
+    if from <= entries.len() {
+        let part = &mut entries[from..];
         part.rotate_left(count.min(part.len()));
     }
 }
 
-/// Moves the origins as a motion of the stack moves the entries.
-pub fn move_origins(
-    origins: &mut Vec<Origin>,
+/// Moves what is kept of the entries of a stack as a motion moves the entries.
+pub fn move_entries<T: Copy>(
+    entries: &mut Vec<T>,
     motion: StackMove,
     lower: usize,
     upper: usize,
 ) -> Result<(), AllocError> {
-    let depth = origins.len();
+    let depth = entries.len();
     let below = depth.saturating_sub(lower.saturating_add(upper));
     match motion {
-        StackMove::Copy => copy_origins(origins, below, lower),
+        StackMove::Copy => copy_entries(entries, below, lower),
         StackMove::Pop => {
-            raise_origins(origins, below, lower);
-            origins.truncate(depth.saturating_sub(lower));
+            raise_entries(entries, below, lower);
+            entries.truncate(depth.saturating_sub(lower));
             Ok(())
         }
         StackMove::MoveToTop => {
-            raise_origins(origins, below, lower);
+            raise_entries(entries, below, lower);
             Ok(())
         }
     }
@@ -177,7 +181,7 @@ impl Watch {
         match next.op {
             Op::Move(motion, lower, upper) => {
                 let (lower, upper) = (usize::from(lower), usize::from(upper));
-                return move_origins(&mut self.origins, motion, lower, upper);
+                return move_entries(&mut self.origins, motion, lower, upper);
             }
             Op::Call => self.callers.push(next.line)?,
             Op::Return => {
