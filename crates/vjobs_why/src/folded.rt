@@ -25,7 +25,7 @@ struct Chains {
 }
 
 /// The function of the innermost call.
-fn innermost(run: &Run<Global>) -> usize {
+pub fn innermost(run: &Run<Global>) -> usize {
     match run.frames().last() {
         Some(frame) => frame.function,
         None => 0,
