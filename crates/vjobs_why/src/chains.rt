@@ -26,7 +26,7 @@ pub struct Chains {
 }
 
 /// The function of the innermost call.
-fn innermost(run: &Run<Global>) -> usize {
+pub fn innermost(run: &Run<Global>) -> usize {
     match run.frames().last() {
         Some(frame) => frame.function,
         None => 0,

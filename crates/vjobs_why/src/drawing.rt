@@ -40,6 +40,19 @@ fn greatest(columns: &[Column]) -> usize {
     joined(columns).most
 }
 
+/// The mark of a column in the row of the words above `below`.
+fn mark(column: Column, below: usize, peak: usize, blank: char) -> char {
+    if column.most <= below {
+        blank
+    } else if column.most == peak {
+        '*'
+    } else if column.least > below {
+        '#'
+    } else {
+        ':'
+    }
+}
+
 impl Drawing {
     /// The drawing of columns of so many instructions: those that follow one another are drawn as one, so that there are
     /// few.
@@ -77,19 +90,6 @@ impl Drawing {
         }
     }
 
-    /// The character of a column in the row of words from `below` on.
-    fn mark(&self, column: Column, below: usize, peak: usize, blank: char) -> char {
-        if column.most <= below {
-            blank
-        } else if column.most == peak {
-            '*'
-        } else if column.least > below {
-            '#'
-        } else {
-            ':'
-        }
-    }
-
     /// The row of words above `below`, up to `words`.
     fn row(&self, alloc: Global, below: usize, words: usize) -> Result<String, AllocError> {
         let peak = greatest(self.columns.as_slice());
@@ -97,7 +97,7 @@ impl Drawing {
         let blank = if is_limit { '-' } else { ' ' };
         let mut row = String::new(alloc);
         for column in &self.columns {
-            row.push(self.mark(*column, below, peak, blank))?;
+            row.push(mark(*column, below, peak, blank))?;
         }
         if is_limit {
             row.push_str(" the limit")?;
@@ -137,13 +137,8 @@ pub fn print_drawing(
 ) -> io::Result<()> {
     let drawing = Drawing::of(rt.alloc(), columns, each, limit)?;
     let each = drawing.each;
-    let noun = if each == 1 {
-        "instruction"
-    } else {
-        "instructions"
-    };
-    println!(rt; "\nthe words over time: a column is {each} {noun}")?;
-    println!(rt; "at every one of them #, at some :, and * where the peak is")?;
+    println!(rt; "\nthe words over time; instructions to a column: {each}")?;
+    println!(rt; "# held after each, : held and needed at one, * the column of the peak")?;
     drawing.print_rows(rt)?;
     drawing.print_axis(rt)
 }

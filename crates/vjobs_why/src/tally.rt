@@ -1,5 +1,6 @@
 //! What the functions and the lines of a job did, counted in a run of its own.
 
+use crate::chains::innermost;
 use crate::watch::op_of;
 use job_steps::Job;
 use job_walk::Run;
@@ -72,14 +73,6 @@ fn elements_of(run: &Run<Global>, count: usize) -> u64 {
         }
     }
     elements
-}
-
-/// The function of the innermost call.
-fn innermost(run: &Run<Global>) -> usize {
-    match run.frames().last() {
-        Some(frame) => frame.function,
-        None => 0,
-    }
 }
 
 impl Tally {
