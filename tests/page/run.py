@@ -151,6 +151,24 @@ def checked(browser: Browser, page: Path, wanted: Wanted, pictures: Path) -> lis
     return found
 
 
+def wrong_exits(program: str, folder: Path) -> list[str]:
+    """What is wrong with where pages go and how the program ends."""
+    batch, page, found = folder / "four_ends.vcode", folder / "four_ends.html", []
+    missing, shut = folder / "none.html", folder / "no-folder" / "page.html"
+    refused = folder / "refused.vcode"
+    refused.write_text("JOB a 1\n")
+    cases = [(["--html", "-", batch], 0, page.read_bytes()), (["--html", missing, "--job", "99", batch], 1, b""),
+             (["--html", shut, batch], 3, b""), (["--html", missing, refused], 1, None)]
+    for words, status, shown in cases:
+        ran = subprocess.run([program, *words], capture_output=True, check=False, timeout=60)
+        if ran.returncode != status or shown not in (None, ran.stdout):
+            found.append(f"{words}: exit {ran.returncode}, {len(ran.stdout)} bytes")
+    alone = json.loads(said_by(program, batch, "--json", "--job", "3"))
+    if alone["job"] != 3 or missing.exists():
+        found.append("a job alone isn't that job, or a page was written where none was wanted")
+    return found
+
+
 def test(browser: Browser, program: str, folder: Path, pictures: Path) -> list[str]:
     """What is wrong with all pages."""
     found = []
@@ -162,6 +180,7 @@ def test(browser: Browser, program: str, folder: Path, pictures: Path) -> list[s
         pages[name] = page, wanted
         count = sum(job.get("instructions", 0) for job in wanted.jobs)
         print(f"{name}: {count:,} instructions, a page of {page.stat().st_size:,} bytes, {time.monotonic() - began:.1f} seconds")
+    found += wrong_exits(program, folder)
     pages["columns"] = made_up(folder, "columns", *pages["quicksort"], {})
     pages["cross"] = made_up(folder, "cross", *pages["quicksort"], {"end": "MEMORY M1 WORDS", "line": 17, "wanted": 70})
     found += broken_pages(browser, folder, pages)

@@ -80,7 +80,13 @@ tr.last.good td { background: color-mix(in srgb, var(--good) 16%, transparent); 
 tr:target td { box-shadow: inset 0 2px var(--focus), inset 0 -2px var(--focus); }
 td.heat { print-color-adjust: exact; }
 @media print {
-  body { background: #fff; font-size: 11px; }
+  :root {
+    color-scheme: light;
+    --back: #fff; --card: #fff; --edge: #dcdfe3; --text: #16191d; --dim: #59616b; --code: #f3f4f6;
+    --bad: #b3201b; --good: #116b34; --accent: #3b6ea5;
+  }
+  body { font-size: 11px; }
+  pre, code, td.text { font-size: 10px; }
   .scroll { max-height: none; overflow: visible; }
   .pick, nav { display: none; }
   .cards > div, section { break-inside: avoid; }
