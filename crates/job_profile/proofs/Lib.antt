@@ -1,3 +1,4 @@
 pub mod Counted
 pub mod Lists
+pub mod Used
 pub mod Whole
