@@ -21,7 +21,7 @@ use Rattle.job_profile.proofs.Lists.{IsMore}
 -- ---- how a step goes
 
 -- the run ends without another instruction, or one is executed
-abbrev Goes : State → Progress → Type 0
+abbrev pub Goes : State → Progress → Type 0
 Goes s p =
     ((executed_count_in p ≡ s.executed) × (peak_in p ≡ s.peak))
     ⊎ ((executed_count_in p ≡ s.executed + 1) × (s.peak ≤ peak_in p))
@@ -40,7 +40,7 @@ by_fault : (rule : Rule) (o : Option DataFault) (line : Numbered Item) (s : Stat
 by_fault rule (Some fault) line s calls = inl (refl, refl)
 by_fault rule None line s calls = inr (past rule line.item s calls)
 
-goes_by : EarlyEndsEnd → OthersAreReady → (signatures : List Signature) (task : Task) →
+pub goes_by : EarlyEndsEnd → OthersAreReady → (signatures : List Signature) (task : Task) →
     IsVerifiedTask signatures task → (n : ℕ) (s : State) → state_after task n ≡ Running s → s.executed ≡ n →
     (o : Option Ending) → early_end task s ≡ o → Goes s (state_after task (n + 1))
 goes_by ends ready signatures task verified n s runs count (Some ending) is =

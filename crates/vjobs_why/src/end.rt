@@ -16,7 +16,8 @@ pub enum Ending {
     Budget,
 }
 
-/// How a job ended, how many instructions lead to the last state before its end, and the most that it used.
+/// How a job ended, how many instructions lead to the last state before its end, the most that it used, and the least
+/// limits within which it returns, if it returned.
 #[derive(Clone, Copy, Drop)]
 pub struct End {
     pub ending: Ending,
@@ -25,6 +26,7 @@ pub struct End {
     pub words: usize,
     pub cells: usize,
     pub calls: usize,
+    pub least: Option<Limits>,
 }
 
 /// How a job that a limit ended goes on within the widest limits.
@@ -55,14 +57,16 @@ fn run_out(watch: &mut Watch) -> Result<End, AllocError> {
         }
         steps = steps.saturating_add(1);
     }
-    watch.run.collect()?;
+    let uses = &mut watch.uses;
+    uses.collect()?;
     Ok(End {
-        ending: ending_of(&watch.run),
+        ending: ending_of(uses.run()),
         steps,
-        executed: watch.run.executed(),
-        words: watch.run.peak(),
-        cells: watch.most_cells,
-        calls: watch.most_calls,
+        executed: uses.executed(),
+        words: uses.words(),
+        cells: uses.cells(),
+        calls: uses.calls(),
+        least: uses.least_limits(),
     })
 }
 
@@ -92,7 +96,7 @@ fn wide_limits(executed: u64) -> Limits {
 fn wide_of(watch: &mut Watch, steps: u64) -> Result<Wide, AllocError> {
     watch.go_to(steps)?;
     watch.step()?;
-    let wanted = watch.run.peak();
+    let wanted = watch.uses.words();
     let end = run_out(watch)?;
     Ok(Wide { end, wanted })
 }

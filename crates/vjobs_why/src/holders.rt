@@ -25,8 +25,8 @@ pub struct Holder {
 /// The entries of a run, those of one line together, and of these the copies of one vector.
 fn entries_of(alloc: Global, watch: &Watch) -> Result<Vec<Held>, AllocError> {
     let mut entries = Vec::new(alloc);
-    for depth in 0..watch.run.depth() {
-        if let (Some(words), Some(origin)) = (watch.run.words(depth), watch.origin(depth)) {
+    for depth in 0..watch.run().depth() {
+        if let (Some(words), Some(origin)) = (watch.run().words(depth), watch.origin(depth)) {
             entries.push(Held {
                 line: origin.line,
                 before: origin.before,
@@ -94,7 +94,7 @@ impl Holdings {
         watch.go_to(number.saturating_sub(1))?;
         let holdings = Holdings {
             holders: holders_at(alloc, &watch)?,
-            words: watch.run.held(),
+            words: watch.run().held(),
             line: match watch.next() {
                 Some(next) => next.line,
                 None => 0,

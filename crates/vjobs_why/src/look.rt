@@ -85,10 +85,15 @@ fn print_used(rt: &HostRuntime, end: End, limits: Limits) -> io::Result<()> {
 
 /// Prints the least limits within which a job returns, if it returned so.
 fn print_least(rt: &HostRuntime, name: &str, end: End) -> io::Result<()> {
-    if end.ending != Ending::Returned {
+    let Some(least) = end.least else {
         return Ok(());
-    }
-    let (words, cells, calls, budget) = (end.words, end.cells.max(1), end.calls, end.executed);
+    };
+    let Limits {
+        words,
+        cells,
+        calls,
+        budget,
+    } = least;
     println!(rt;
         "\nWithin these limits, and no less, it returns: JOB {name} {words} {cells} {calls} {budget}"
     )
@@ -105,20 +110,20 @@ fn print_wide(rt: &HostRuntime, name: &str, end: End) -> io::Result<()> {
 
 /// Executes the next instruction. `None` if it isn't executed, since it ends the job, or if there is none.
 pub fn step_of(watch: &mut Watch) -> Result<Option<Step>, AllocError> {
-    let before = watch.run.executed();
+    let before = watch.run().executed();
     let Some(next) = watch.next() else {
         return Ok(None);
     };
     watch.step()?;
-    let number = watch.run.executed();
+    let number = watch.run().executed();
     if number == before {
         return Ok(None);
     }
     Ok(Some(Step {
         number,
         line: next.line,
-        entries: watch.run.depth(),
-        held: watch.run.held(),
+        entries: watch.run().depth(),
+        held: watch.run().held(),
     }))
 }
 
@@ -236,7 +241,7 @@ fn print_all(
 ) -> io::Result<()> {
     print_ending(rt, end.ending, end.executed)?;
     print_last(rt, batch, watch, end, wide)?;
-    print_used(rt, end, watch.run.job().limits())?;
+    print_used(rt, end, watch.run().job().limits())?;
     match wide {
         Some(wide) => print_wide(rt, name, wide.end),
         None => print_least(rt, name, end),
@@ -245,11 +250,11 @@ fn print_all(
 
 /// Prints what there is at a state of a run.
 fn print_state(rt: &HostRuntime, batch: Batch<'_>, watch: &Watch) -> io::Result<()> {
-    let executed = watch.run.executed();
-    if !watch.run.goes_on() {
+    let executed = watch.run().executed();
+    if !watch.run().goes_on() {
         return println!(rt; "is over after {executed} instructions");
     }
-    let peak = watch.run.peak();
+    let peak = watch.run().peak();
     println!(rt; "after {executed} instructions, with a peak of {peak} words")?;
     print_place(rt, batch, watch, "is next")?;
     print_picture(rt, watch)

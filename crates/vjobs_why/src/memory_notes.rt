@@ -17,12 +17,12 @@ fn depth_after(op: Op, depth: usize) -> usize {
 
 /// The words of the operand at this depth, if no entry below it is a copy of it.
 fn freed_at(watch: &Watch, depth: usize) -> usize {
-    for below in depth.saturating_add(1)..watch.run.depth() {
-        if watch.run.are_copies(depth, below) {
+    for below in depth.saturating_add(1)..watch.run().depth() {
+        if watch.run().are_copies(depth, below) {
             return 0;
         }
     }
-    match watch.run.words(depth) {
+    match watch.run().words(depth) {
         Some(words) => words.len(),
         None => 0,
     }
@@ -30,8 +30,8 @@ fn freed_at(watch: &Watch, depth: usize) -> usize {
 
 /// The words that count as held while the next instruction of a run makes its results.
 fn held_at(watch: &Watch, op: Op) -> usize {
-    let mut held = watch.run.held();
-    if watch.run.rule() == Rule::Second {
+    let mut held = watch.run().held();
+    if watch.run().rule() == Rule::Second {
         for depth in 0..op.operand_kinds().len() {
             held = held.saturating_sub(freed_at(watch, depth));
         }
@@ -46,7 +46,7 @@ fn words_note(
     op: Op,
     wide: Option<Wide>,
 ) -> Result<String, AllocError> {
-    let limit = watch.run.job().limits().words;
+    let limit = watch.run().job().limits().words;
     let held = held_at(watch, op);
     match wide {
         Some(wide) if wide.wanted > limit => {
@@ -75,12 +75,12 @@ pub fn memory_note(
     match fault {
         MemoryFault::Words => words_note(alloc, watch, next.op, wide),
         MemoryFault::Cells => {
-            let (limit, depth) = (watch.run.job().limits().cells, watch.run.depth());
+            let (limit, depth) = (watch.run().job().limits().cells, watch.run().depth());
             let wanted = depth_after(next.op, depth);
             format!(in alloc; "{depth} entries now and {wanted} after it, and the limit is {limit}")
         }
         MemoryFault::Calls => {
-            let (limit, calls) = (watch.run.job().limits().calls, watch.run.calls());
+            let (limit, calls) = (watch.run().job().limits().calls, watch.run().calls());
             let wanted = calls.saturating_add(1);
             format!(in alloc;
                 "{calls} calls are active now and {wanted} in it, and the limit is {limit}"

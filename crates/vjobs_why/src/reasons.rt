@@ -21,7 +21,7 @@ fn operand(watch: &Watch, place: usize, count: usize) -> &[i64] {
     if place >= count {
         return &[];
     }
-    match watch.run.words(count - 1 - place) {
+    match watch.run().words(count - 1 - place) {
         Some(words) => words,
         None => &[],
     }

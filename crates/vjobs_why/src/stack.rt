@@ -57,7 +57,7 @@ fn values_text(alloc: Global, kind: Kind, words: &[i64]) -> Result<String, Alloc
 /// The depth of the first entry that the entry at this depth is a copy of, above it.
 fn copy_above(watch: &Watch, depth: usize) -> Option<usize> {
     for above in 0..depth {
-        if watch.run.are_copies(above, depth) {
+        if watch.run().are_copies(above, depth) {
             return Some(above);
         }
     }
@@ -66,7 +66,7 @@ fn copy_above(watch: &Watch, depth: usize) -> Option<usize> {
 
 /// Prints the entry at a depth.
 fn print_entry(rt: &HostRuntime, watch: &Watch, depth: usize, name: &str) -> io::Result<()> {
-    let (Some(words), Some(origin)) = (watch.run.words(depth), watch.origin(depth)) else {
+    let (Some(words), Some(origin)) = (watch.run().words(depth), watch.origin(depth)) else {
         return Ok(());
     };
     let kind = kind_text(origin.kind);
@@ -84,8 +84,8 @@ fn print_entry(rt: &HostRuntime, watch: &Watch, depth: usize, name: &str) -> io:
 
 /// Prints the entries at the top of the stack; the first of them, from the top down, have these names.
 pub fn print_stack(rt: &HostRuntime, watch: &Watch, names: &[&str]) -> io::Result<()> {
-    let depth = watch.run.depth();
-    let held = watch.run.held();
+    let depth = watch.run().depth();
+    let held = watch.run().held();
     println!(rt; "\nthe stack, its top first: {depth} entries, {held} words")?;
     for place in 0..depth {
         if place == MOST_ENTRIES {
@@ -103,8 +103,8 @@ pub fn print_stack(rt: &HostRuntime, watch: &Watch, names: &[&str]) -> io::Resul
 
 /// The name of the function of the call at this place, that of `MAIN` at 0.
 pub fn function_name(alloc: Global, watch: &Watch, place: usize) -> Result<String, AllocError> {
-    let program = watch.run.job().verified().program();
-    let Some(frame) = watch.run.frames().get(place) else {
+    let program = watch.run().job().verified().program();
+    let Some(frame) = watch.run().frames().get(place) else {
         return Ok(String::new(alloc));
     };
     match program.functions().get(frame.function) {
@@ -115,7 +115,7 @@ pub fn function_name(alloc: Global, watch: &Watch, place: usize) -> Result<Strin
 
 /// Prints the calls that are active, the innermost first.
 pub fn print_calls(rt: &HostRuntime, watch: &Watch) -> io::Result<()> {
-    let calls = watch.run.calls();
+    let calls = watch.run().calls();
     println!(rt; "the calls, the innermost first")?;
     for before in 0..calls {
         if before == MOST_SHOWN_CALLS {

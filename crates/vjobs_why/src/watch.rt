@@ -1,5 +1,6 @@
 //! A run that is watched: for each entry of its stack where it comes from, and for each call where it was made.
 
+use job_profile::Uses;
 use job_steps::Job;
 use job_walk::Run;
 use std::alloc::{AllocError, Global};
@@ -22,16 +23,13 @@ pub struct Next {
     pub line: u64,
 }
 
-/// A run, with the origins of its entries, the lines of the CALLs of its active calls, and the most entries and calls
-/// that it had.
+/// A run and what it uses, with the origins of its entries and the lines of the CALLs of its active calls.
 #[derive(Drop)]
 pub struct Watch {
-    pub run: Run<Global>,
+    pub uses: Uses<Global>,
     origins: Vec<Origin>,
     callers: Vec<u64>,
     made: u64,
-    pub most_cells: usize,
-    pub most_calls: usize,
 }
 
 /// The instruction of a line.
@@ -92,20 +90,23 @@ pub fn move_entries<T: Copy>(
 impl Watch {
     /// A run that has executed nothing.
     pub fn new(alloc: Global, rule: Rule, job: Job<Global>) -> Result<Watch, AllocError> {
-        let run = Run::new(alloc, rule, job)?;
+        let uses = Uses::new(alloc, rule, job)?;
         Ok(Watch {
-            run,
+            uses,
             origins: Vec::new(alloc),
             callers: Vec::new(alloc),
             made: 0,
-            most_cells: 0,
-            most_calls: 1,
         })
+    }
+
+    /// The run.
+    pub fn run(&self) -> &Run<Global> {
+        self.uses.run()
     }
 
     /// The next instruction, if the job goes on.
     pub fn next(&self) -> Option<Next> {
-        let line = self.run.next_line()?;
+        let line = self.run().next_line()?;
         Some(Next {
             op: op_of(&line),
             line: line.number,
@@ -124,7 +125,7 @@ impl Watch {
     pub fn call_line(&self, place: usize) -> Option<u64> {
         match self.callers.get(place) {
             Some(line) => Some(*line),
-            None => Some(self.run.next_line()?.number),
+            None => Some(self.run().next_line()?.number),
         }
     }
 
@@ -133,12 +134,10 @@ impl Watch {
         let Some(next) = self.next() else {
             return Ok(false);
         };
-        if !self.run.step() {
+        if !self.uses.step() {
             return Ok(false);
         }
         self.follow(next)?;
-        self.most_cells = self.most_cells.max(self.run.depth());
-        self.most_calls = self.most_calls.max(self.run.calls());
         Ok(true)
     }
 
@@ -173,7 +172,7 @@ impl Watch {
 
     /// The job.
     pub fn into_job(self) -> Job<Global> {
-        self.run.into_job()
+        self.uses.into_job()
     }
 
     /// The origins and the callers after an instruction.

@@ -1,0 +1,146 @@
+//! What a run uses of each limit.
+
+ghost use Rattle.std.specs.Prelude.{◌≡◌, IfOk, MatchOption, OnErr, OnOk};
+ghost use Rattle.job_steps.specs.LeastLimits.{calls_in, cells_in};
+ghost use Rattle.job_steps.specs.Runs.{executed_count_in, peak_in, progress_from};
+ghost use Rattle.job_steps.specs.States.{ruled};
+ghost use Rattle.job_walk.specs.Walks.{HasCome, ending_at, ending_of, first_run, goes_on, progress_of};
+ghost use Rattle.job_profile.specs.Used.{AreLeast, HasNotReturned, most_so_far};
+
+use job_steps::Job;
+use job_steps::laws::{early_ends_end, never_stuck, others_are_ready, reached, used_are_least};
+use job_walk::Run;
+use std::alloc::{AllocError, Allocator};
+use std::marker::Model;
+use vcode_base::{Limits, Outcome, Rule};
+
+/// A run of one job alone, with the most entries that its stack had and the most calls that were active.
+///
+/// In a contract it is its run, from which both numbers follow.
+#[derive(Drop)]
+pub struct Uses<A: Allocator> {
+    run: Run<A>,
+    cells: usize,
+    calls: usize,
+}
+
+impl<A: Allocator> Model for Uses<A> {
+    ghost use Rattle.job_walk.specs.Walks.{RunState, progress_of};
+    ghost use Rattle.job_profile.specs.Used.{AreUses};
+
+    ghost Value = { RunState };
+
+    ghost use Rattle.std.specs.Coded.{codes};
+    ghost use Rattle.job_steps.specs.Jobs.{job_code};
+    ghost use Rattle.job_walk.specs.Walks.{run_code};
+
+    ghost coded = { run_code (Prim.hlevel codes)
+        (job_code (Prim.hlevel codes) (Prim.hlevel codes) (Prim.hlevel codes)) (Prim.hlevel codes) };
+
+    ghost view = { λ u. u.run };
+
+    ghost invariant = { λ u. AreUses u.run.task (progress_of u.run) u.cells u.calls };
+}
+
+impl<A: Allocator + Clone> Uses<A> {
+    /// A job that hasn't executed anything. Takes memory for the run, and an error means that the allocator refused it.
+    pub fn new(alloc: A, rule: Rule, job: Job<A>) -> Result<Uses<A>, AllocError>
+        ensures { IfOk result (λ uses. uses ≡ first_run (ruled rule job)) }
+    {
+        let _verified = job.verified();
+        let run = Run::new(alloc, rule, job)?;
+        let (cells, calls) = (run.depth(), run.calls());
+        Ok(Uses { run, cells, calls })
+    }
+
+    /// Stores how the job ended, with copies of its results, if its run is over. Else nothing changes.
+    ///
+    /// # Errors
+    ///
+    /// [`AllocError`] if memory for the results was refused. Nothing changes then.
+    pub fn collect(&mut self) -> Result<(), AllocError>
+        ensures run { HasCome self.old.task (progress_of self.old) self.new }
+        ensures collected { OnOk result (ending_of self.new ≡ ending_at (progress_of self.old)) }
+        ensures unchanged { OnErr result (self.new ≡ self.old) }
+    {
+        self.run.collect()
+    }
+}
+
+impl<A: Allocator> Uses<A> {
+    /// Executes the next instruction; true if the job goes on. A job whose run is over stays as it is. Takes no memory.
+    pub fn step(&mut self) -> bool
+        ensures run { HasCome self.old.task (progress_from self.old.task (progress_of self.old)) self.new }
+        ensures goes_on { result ≡ goes_on (progress_of self.new) }
+    {
+        early_ends_end();
+        others_are_ready();
+        never_stuck();
+        reached();
+        let goes_on = self.run.step();
+        self.cells = self.cells.max(self.run.depth());
+        self.calls = self.calls.max(self.run.calls());
+        goes_on
+    }
+
+    /// The run.
+    pub fn run(&self) -> &Run<A>
+        ensures { result.now ≡ self.now }
+    {
+        &self.run
+    }
+
+    /// The most words that it held and needed at an instruction that it executed.
+    pub fn words(&self) -> usize
+        ensures { result ≡ peak_in (progress_of self.now) }
+    {
+        self.run.peak()
+    }
+
+    /// The most entries that its stack had.
+    pub fn cells(&self) -> usize
+        ensures { result ≡ most_so_far cells_in self.now.task (progress_of self.now) }
+    {
+        self.cells
+    }
+
+    /// The most calls that were active.
+    pub fn calls(&self) -> usize
+        ensures { result ≡ most_so_far calls_in self.now.task (progress_of self.now) }
+    {
+        self.calls
+    }
+
+    /// How many instructions it executed.
+    pub fn executed(&self) -> u64
+        ensures { result ≡ executed_count_in (progress_of self.now) }
+    {
+        self.run.executed()
+    }
+
+    /// The least limits within which the job returns; `None` if it isn't collected that it returned.
+    ///
+    /// Within limits that are at least these the job returns by the same run. Within others it doesn't return.
+    pub fn least_limits(&self) -> Option<Limits>
+        ensures { MatchOption result (HasNotReturned (ending_of self.now)) (λ least. AreLeast self.now.task least) }
+    {
+        used_are_least();
+        reached();
+        match self.run.ending() {
+            Some(Outcome::Returned(_)) => Some(Limits {
+                words: self.run.peak(),
+                cells: self.cells.max(1),
+                calls: self.calls,
+                budget: self.run.executed(),
+            }),
+            Some(Outcome::Fault(..) | Outcome::Memory(..) | Outcome::Budget) | None => None,
+        }
+    }
+
+    /// The job, of which another run may be made.
+    pub fn into_job(self) -> Job<A>
+        ensures { ruled self.task.rule result ≡ self.task }
+    {
+        self.run.into_job()
+    }
+}
