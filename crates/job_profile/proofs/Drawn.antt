@@ -1,6 +1,6 @@
 -- The columns of a run after a step.
-use Rattle.std.proofs.Common.{add-one, List, ◌≡◌, ℕ, zero, suc, ◌+◌, ◌*◌, ◌<◌, ◌≤◌, Bool, true, false, cond, [], ◌∷◌}
-use Rattle.std.proofs.Common.{Option, Some, None, get_or, length, max, refl, sym, ◌∙◌, ap, subst, inl, inr, arith}
+use Rattle.std.proofs.Common.{add-one, List, ◌≡◌, ℕ, suc, ◌+◌, [], ◌∷◌}
+use Rattle.std.proofs.Common.{Option, Some, None, max, refl, sym, ◌∙◌, ap, subst, inl, inr, arith}
 use Rattle.std.specs.Prelude.{◌⊎◌}
 use Rattle.vcode_base.specs.declared.fault.DataFault.{DataFault}
 use Rattle.vcode_base.specs.declared.rule.Rule.{Rule}

@@ -1,13 +1,13 @@
 -- Columns after an instruction, and after each two became one.
-use Rattle.std.proofs.Common.{◌≡◌, ◌≢◌, ℕ, zero, suc, ◌+◌, ◌-◌, ◌*◌, ◌<◌, ◌≤◌, ◌^◌, Bool, true, false, cond, ltb, List, [], ◌∷◌, ◌++◌}
+use Rattle.std.proofs.Common.{◌≡◌, ◌≢◌, ℕ, zero, suc, ◌+◌, ◌-◌, ◌*◌, ◌<◌, ◌≤◌, ◌^◌, Bool, cond, ltb, List, [], ◌∷◌, ◌++◌}
 use Rattle.std.proofs.Common.{length, take, get_or, max, min, refl, sym, ◌∙◌, ap, subst, inl, inr, arith, add-one}
-use Rattle.std.proofs.Common.{add-mul, mul_assoc, mul-add, mul-one, mul_comm, one-mul, pow-suc, length-append, length-set}
+use Rattle.std.proofs.Common.{add-mul, mul-add, mul_comm, one-mul, pow-suc, length-append, length-set}
 use Rattle.std.proofs.Common.{get_or-set_same, get_or-set_other, get_or-take, ext_get_or, length-take-le}
 use Rattle.std.proofs.Math.ListN.{set}
 use Rattle.std.proofs.lemmas.Bool.Decides.{nat_tests}
 use Rattle.std.proofs.lemmas.List.{get_or_append_left, get_or_at}
 use Rattle.std.proofs.lemmas.Nat.{mul-le}
-use Rattle.std.specs.Prelude.{◌⊎◌, nat_lt}
+use Rattle.std.specs.Prelude.{◌⊎◌}
 use Rattle.job_profile.specs.declared.strip.Column.{Column}
 use Rattle.job_profile.specs.declared.strip.TheConstants.{MOST_COLUMNS}
 use Rattle.job_profile.specs.Columns.{joined, no_column, column_over, column_of, highest, halved}

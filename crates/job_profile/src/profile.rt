@@ -7,6 +7,7 @@ ghost use Rattle.job_walk.specs.Walks.{HasCome, ending_at, ending_of, first_run,
 ghost use Rattle.job_profile.specs.Counts.{IsFirstPeak, line_in, times_of, times_until};
 
 use crate::times::{add, grow, part, sum_of};
+use crate::uses::Uses;
 use job_steps::Job;
 use job_steps::laws::{
     each_ends, early_ends_end, end_is_own, never_stuck, others_are_ready, reached,
@@ -21,7 +22,7 @@ use vcode_base::Rule;
 /// In a contract it is its run, from which the counts follow.
 #[derive(Drop)]
 pub struct Profile<A: Allocator> {
-    run: Run<A>,
+    uses: Uses<A>,
     times: Vec<u64, A>,
     peak_after: u64,
 }
@@ -39,9 +40,9 @@ impl<A: Allocator> Model for Profile<A> {
     ghost coded = { run_code (Prim.hlevel codes)
         (job_code (Prim.hlevel codes) (Prim.hlevel codes) (Prim.hlevel codes)) (Prim.hlevel codes) };
 
-    ghost view = { λ p. p.run };
+    ghost view = { λ p. p.uses };
 
-    ghost invariant = { λ p. IsCounted p.run.task (progress_of p.run) p.times.items p.peak_after };
+    ghost invariant = { λ p. IsCounted p.uses.task (progress_of p.uses) p.times.items p.peak_after };
 }
 
 /// The number of the line of the next instruction, and 0 if the run is over.
@@ -69,9 +70,9 @@ impl<A: Allocator + Clone> Profile<A> {
     {
         let _verified = job.verified();
         let times = Vec::new(alloc.clone()?);
-        let run = Run::new(alloc, rule, job)?;
+        let uses = Uses::new(alloc, rule, job)?;
         Ok(Profile {
-            run,
+            uses,
             times,
             peak_after: 0,
         })
@@ -87,7 +88,7 @@ impl<A: Allocator + Clone> Profile<A> {
         ensures collected { OnOk result (ending_of self.new ≡ ending_at (progress_of self.old)) }
         ensures unchanged { OnErr result (self.new ≡ self.old) }
     {
-        self.run.collect()
+        self.uses.collect()
     }
 }
 
@@ -106,13 +107,13 @@ impl<A: Allocator> Profile<A> {
         others_are_ready();
         never_stuck();
         reached();
-        let place = next_place(&self.run);
+        let place = next_place(self.uses.run());
         grow(&mut self.times, place)?;
-        let (executed, peak) = (self.run.executed(), self.run.peak());
-        let goes_on = self.run.step();
-        let now = self.run.executed();
+        let (executed, peak) = (self.uses.executed(), self.uses.words());
+        let goes_on = self.uses.step();
+        let now = self.uses.executed();
         add(&mut self.times, place, now - executed);
-        self.peak_after = first_reached(peak, self.run.peak(), self.peak_after, now);
+        self.peak_after = first_reached(peak, self.uses.words(), self.peak_after, now);
         Ok(goes_on)
     }
 
@@ -128,7 +129,7 @@ impl<A: Allocator> Profile<A> {
         reached();
         each_ends();
         end_is_own();
-        let budget = self.run.job().limits().budget;
+        let budget = self.uses.run().job().limits().budget;
         for _ in 0..budget {
             if !self.step()? {
                 return Ok(());
@@ -138,18 +139,25 @@ impl<A: Allocator> Profile<A> {
         Ok(())
     }
 
+    /// What the run uses of its limits.
+    pub fn uses(&self) -> &Uses<A>
+        ensures { result.now ≡ self.now }
+    {
+        &self.uses
+    }
+
     /// The run.
     pub fn run(&self) -> &Run<A>
         ensures { result.now ≡ self.now }
     {
-        &self.run
+        self.uses.run()
     }
 
     /// The job, of which another run may be made.
     pub fn into_job(self) -> Job<A>
         ensures { ruled self.task.rule result ≡ self.task }
     {
-        self.run.into_job()
+        self.uses.into_job()
     }
 
     /// How often each line of the batch was executed, by its number. A line that isn't there was never executed.
@@ -165,7 +173,7 @@ impl<A: Allocator> Profile<A> {
     pub fn instructions(&self, first: usize, count: usize) -> u64
         ensures { result ≡ times_of self.now.task first count (executed_count_in (progress_of self.now)) }
     {
-        let _executed = self.run.executed();
+        let _executed = self.uses.executed();
         sum_of(part(&self.times, first, count))
     }
 

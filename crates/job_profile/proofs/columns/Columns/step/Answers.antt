@@ -1,4 +1,4 @@
-use Rattle.std.proofs.Common.{◌≡◌, ℕ, ◌+◌, sym, ◌∙◌, ap, subst}
+use Rattle.std.proofs.Common.{◌≡◌, ◌+◌, sym, ◌∙◌, ap, subst}
 use Rattle.job_steps.specs.Runs.{executed_count_in, progress_from}
 use Rattle.job_steps.specs.Standings.{held_in}
 use Rattle.job_steps.specs.States.{Task}
@@ -8,7 +8,7 @@ use Rattle.job_profile.specs.declared.strip.Column.{Column}
 use Rattle.job_profile.specs.Columns.{column_at}
 use Rattle.job_profile.specs.Counts.{line_in}
 use Rattle.job_profile.specs.Strips.{IsDrawn}
-use Rattle.job_profile.proofs.Drawn.{HasGone, column_is, gone, grows, stays}
+use Rattle.job_profile.proofs.Drawn.{column_is, gone, grows, stays}
 use Rattle.job_profile.proofs.columns.Columns.step.Goals as goal
 
 pub invariant_of-self-then-executed : goal.invariant_of-self-then-executed

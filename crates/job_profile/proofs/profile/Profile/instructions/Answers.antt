@@ -23,8 +23,8 @@ sum_of-requires g c =
 pub returns : goal.returns
 returns g c =
     let times = c.self.inside.times.items in
-    let task = c.self.inside.run.task in
-    let count = executed_count_in (progress_of c.self.inside.run) in
+    let task = c.self.inside.uses.task in
+    let count = executed_count_in (progress_of c.self.inside.uses) in
     let part : c.part.result.now ≡ take c.args.count (drop c.args.first times) =
     c.part.ensures ∙ ap (λ (l : List ℕ). take c.args.count (drop c.args.first l)) c.deref.ensures.value in
     c.sum_of.ensures

@@ -10,6 +10,6 @@ pub invariant_of-result : goal.invariant_of-result
 invariant_of-result g c =
     let task = ruled c.args.rule c.args.job in
     let times = c.new-times.result.items in
-    subst (λ (r : RunState). IsCounted r.task (progress_of r) times 0) (sym c.in_ok-run.ensures)
+    subst (λ (r : RunState). IsCounted r.task (progress_of r) times 0) (sym c.in_ok-uses.ensures)
     (subst (λ (l : List ℕ). IsCounted task (state_after task 0) l 0) (sym c.new-times.ensures.items)
     (first_counted task c.verified-verified.ensures.verified_program))

@@ -18,6 +18,7 @@ returns g c =
     let budget : c.limits-budget.result.budget ≡ task.limits.budget =
     ap (λ (l : Limits). l.budget) c.limits-budget.ensures
     ∙ ap (λ (t : Task). t.limits.budget) c.job.ensures
+    ∙ ap (λ (r : RunState). r.task.limits.budget) c.run.ensures
     ∙ ap (λ (r : RunState). r.task.limits.budget) c.self.view_is in
     let far : task.limits.budget < past.steps = omega (arith, past.least_is, budget, c.loop-test.false) in
     let verified =

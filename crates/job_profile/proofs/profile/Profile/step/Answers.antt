@@ -1,17 +1,18 @@
 use Rattle.std.proofs.Common.{◌≡◌, ◌+◌, ◌-◌, ℕ, List, get_or, refl, ◌∙◌, ap}
 use Rattle.std.proofs.Math.ListN.{set}
 use Rattle.job_steps.specs.Runs.{peak_in}
-use Rattle.job_walk.specs.Walks.{progress_of}
+use Rattle.job_walk.specs.Walks.{RunState, progress_of}
+use Rattle.job_profile.specs.Counts.{line_in}
 use Rattle.job_profile.proofs.Lists.{given_back}
 use Rattle.job_profile.proofs.Whole.{StepCounts, counted_after, no_less}
 use Rattle.job_profile.proofs.profile.Profile.step.Goals as goal
 
 pub overflow_sub-now : goal.overflow_sub-now
 overflow_sub-now g c =
-    let counts : StepCounts c.self.inside.run c.step-goes_on.new.self = record {
+    let counts : StepCounts c.self.inside.uses c.step-goes_on.new.self = record {
       executed = c.executed-executed.result;
       now = c.executed-now.result;
-      peak = peak_in (progress_of c.self.inside.run);
+      peak = peak_in (progress_of c.self.inside.uses);
       next = peak_in (progress_of c.step-goes_on.new.self);
       executed_is = c.executed-executed.ensures;
       now_is = c.executed-now.ensures;
@@ -19,20 +20,20 @@ overflow_sub-now g c =
       next_is = refl;
     } in
     no_less c.early_ends_end.ensures c.others_are_ready.ensures c.never_stuck.ensures c.reached.ensures
-    c.self.inside.run c.step-goes_on.new.self c.self.inside.times.items c.self.inside.peak_after c.self.invariant
+    c.self.inside.uses c.step-goes_on.new.self c.self.inside.times.items c.self.inside.peak_after c.self.invariant
     c.step-goes_on.ensures.run counts
 
 pub invariant_of-self-2 : goal.invariant_of-self-2
 invariant_of-self-2 g c =
-    let counts : StepCounts c.self.inside.run c.step-goes_on.new.self = record {
+    let counts : StepCounts c.self.inside.uses c.step-goes_on.new.self = record {
       executed = c.executed-executed.result;
       now = c.executed-now.result;
-      peak = c.peak-peak.result;
-      next = c.peak.result;
+      peak = c.words-peak.result;
+      next = c.words.result;
       executed_is = c.executed-executed.ensures;
       now_is = c.executed-now.ensures;
-      peak_is = c.peak-peak.ensures;
-      next_is = c.peak.ensures;
+      peak_is = c.words-peak.ensures;
+      next_is = c.words.ensures;
     } in
     let place = c.next_place-place.result in
     let more = c.executed-now.result - c.executed-executed.result in
@@ -40,8 +41,9 @@ invariant_of-self-2 g c =
     let added : c.add.new.times ≡ set grown place (get_or grown place 0 + more) =
     c.add.ensures ∙ ap (λ (l : List ℕ). set l place (get_or l place 0 + more)) c.deref_mut.ensures.value in
     counted_after c.early_ends_end.ensures c.others_are_ready.ensures c.never_stuck.ensures c.reached.ensures
-    c.self.inside.run c.step-goes_on.new.self c.self.inside.times.items c.self.inside.peak_after c.self.invariant
+    c.self.inside.uses c.step-goes_on.new.self c.self.inside.times.items c.self.inside.peak_after c.self.invariant
     c.step-goes_on.ensures.run counts grown _ place c.first_reached-self-inside.result c.grow.ensures.same
-    c.in_ok-grow.ensures.long c.next_place-place.ensures
+    c.in_ok-grow.ensures.long
+    (c.next_place-place.ensures ∙ ap (λ (r : RunState). line_in (progress_of r)) c.run.ensures)
     (given_back c.grow.new.times.len place (get_or grown place 0 + more) grown c.add.new.times c.grow.new.times.ok.0
     added) c.first_reached-self-inside.ensures

@@ -1,4 +1,4 @@
-use Rattle.std.proofs.Common.{◌≡◌, ℕ, ◌+◌, ◌-◌, ◌*◌, ◌∷◌, ◌++◌, [], ◌∙◌, ap, length, sym, subst, arith, get_or, List}
+use Rattle.std.proofs.Common.{ℕ, ◌+◌, ◌-◌, ◌∷◌, ◌++◌, [], ◌∙◌, ap, length, arith, get_or}
 use Rattle.std.specs.Prelude.{max}
 use Rattle.std.proofs.Math.ListN.{set}
 use Rattle.job_profile.specs.declared.strip.Column.{Column}

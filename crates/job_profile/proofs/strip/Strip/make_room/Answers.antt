@@ -1,4 +1,4 @@
-use Rattle.std.proofs.Common.{◌∙◌, ◌*◌, ◌/◌, ap, length, arith, subst}
+use Rattle.std.proofs.Common.{◌∙◌, ◌*◌, ◌/◌, ap, length, arith}
 use Rattle.job_profile.specs.declared.strip.TheConstants.{MOST_COLUMNS}
 use Rattle.job_profile.specs.Columns.{halved, highest}
 use Rattle.job_profile.proofs.Strips.{folded, highest_halved, length_halved, strip_as}
