@@ -3,6 +3,7 @@
 use crate::chains::Chains;
 use crate::end::{End, Ending};
 use crate::lines::Lines;
+use crate::meanings::job_meaning;
 use crate::profile::{function_places, functions_of, last_line_of, lines_of};
 use crate::survey::Survey;
 use batch_reader::JobFault;
@@ -192,19 +193,20 @@ fn push_code(
     text.push_str("]}")
 }
 
-/// The object of a job of this place and this name that was refused at a line, where this is wrong.
+/// The object of a job of this place and this name that was refused at a line for a fault.
 pub fn refusal_object(
     alloc: Global,
     lines: &Lines,
     place: u64,
     name: &str,
-    (line, fault, meaning): (u64, JobFault, &str),
+    line: u64,
+    fault: JobFault,
 ) -> Result<String, AllocError> {
     let mut text = String::new(alloc);
     push_job(&mut text, place, name)?;
-    let fault = fault.text();
-    write!(text, ",\"end\":\"REFUSED {fault}\",\"line\":{line}")?;
-    push_note(&mut text, meaning)?;
+    let word = fault.text();
+    write!(text, ",\"end\":\"REFUSED {word}\",\"line\":{line}")?;
+    push_note(&mut text, job_meaning(fault))?;
     let first = line.saturating_sub(LINES_BESIDE).max(1);
     let last = line.saturating_add(LINES_BESIDE).min(lines.count());
     push_code(&mut text, alloc, lines, first, last)?;

@@ -94,8 +94,7 @@ fn entry_object(
         Fate::Ready(job) => object_of(alloc, batch, place, job),
         Fate::Refused(line, fault) => {
             let name = printable(alloc, name.as_slice())?;
-            let refusal = (line, fault, job_meaning(fault));
-            refusal_object(alloc, batch.lines, place, name.as_str(), refusal)
+            refusal_object(alloc, batch.lines, place, name.as_str(), line, fault)
         }
     }
 }
