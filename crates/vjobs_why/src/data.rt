@@ -15,12 +15,12 @@ use vcode_base::Limits;
 /// How many lines are given before and after that of a refusal.
 const LINES_BESIDE: u64 = 8;
 
-/// What is said of the end of a job: the note at its last line, how it ends within wider limits, and the words that its last
-/// instruction wanted in all, if these are known.
+/// What is said of the end of a job: the note at its last line, the least limits within which it returns, and the words that
+/// its last instruction wanted in all, if these are known.
 #[derive(Drop)]
 pub struct Told {
     pub note: String,
-    pub least: Option<End>,
+    pub least: Option<Limits>,
     pub wanted: Option<usize>,
 }
 
@@ -226,15 +226,16 @@ fn used(end: End) -> Limits {
 
 /// Adds the members for how a job ended and what it used.
 fn push_end(text: &mut String, survey: &Survey) -> Result<(), AllocError> {
-    let (executed, peak) = (survey.end.executed, survey.end.words);
+    let end = survey.end();
+    let (executed, peak) = (end.executed, end.words);
     let (after, last) = (survey.profile().peak_after(), survey.last_line);
-    push_ending(text, survey.end.ending)?;
+    push_ending(text, end.ending)?;
     write!(
         text,
         ",\"instructions\":{executed},\"peak\":{peak},\"peak_at\":{after},\"last\":{last}"
     )?;
     push_limits(text, "limits", survey.profile().run().job().limits())?;
-    push_limits(text, "used", used(survey.end))
+    push_limits(text, "used", used(end))
 }
 
 /// Adds the members for what is said of the end of a job, and ends its object.
@@ -243,19 +244,10 @@ pub fn push_told(text: &mut String, told: &Told) -> Result<(), AllocError> {
     if let Some(wanted) = told.wanted {
         write!(text, ",\"wanted\":{wanted}")?;
     }
-    push_least(text, told.least)?;
-    text.push('}')
-}
-
-/// Adds the member for the least limits within which a job returns, if they are known.
-fn push_least(text: &mut String, least: Option<End>) -> Result<(), AllocError> {
-    match least {
-        Some(mut least) => {
-            least.cells = least.cells.max(1);
-            push_limits(text, "least", used(least))
-        }
-        None => Ok(()),
+    if let Some(least) = told.least {
+        push_limits(text, "least", least)?;
     }
+    text.push('}')
 }
 
 /// Adds the members for what was counted of a job.

@@ -1,6 +1,7 @@
 //! The end of a job, and what it used.
 
 use crate::watch::Watch;
+use job_profile::Uses;
 use job_steps::Job;
 use job_walk::Run;
 use std::alloc::{AllocError, Global};
@@ -48,6 +49,19 @@ pub fn ending_of(run: &Run<Global>) -> Ending {
     }
 }
 
+/// The end of a run, whose results are collected, with the number of instructions that lead to the last state before it.
+pub fn end_of(uses: &Uses<Global>, steps: u64) -> End {
+    End {
+        ending: ending_of(uses.run()),
+        steps,
+        executed: uses.executed(),
+        words: uses.words(),
+        cells: uses.cells(),
+        calls: uses.calls(),
+        least: uses.least_limits(),
+    }
+}
+
 /// Runs a job to its end.
 fn run_out(watch: &mut Watch) -> Result<End, AllocError> {
     let mut steps: u64 = 0;
@@ -57,17 +71,8 @@ fn run_out(watch: &mut Watch) -> Result<End, AllocError> {
         }
         steps = steps.saturating_add(1);
     }
-    let uses = &mut watch.uses;
-    uses.collect()?;
-    Ok(End {
-        ending: ending_of(uses.run()),
-        steps,
-        executed: uses.executed(),
-        words: uses.words(),
-        cells: uses.cells(),
-        calls: uses.calls(),
-        least: uses.least_limits(),
-    })
+    watch.uses.collect()?;
+    Ok(end_of(&watch.uses, steps))
 }
 
 /// How a job ends, and the job.

@@ -319,16 +319,11 @@ fn last_note(
     note_of(alloc, &watch, end.ending, wide)
 }
 
-/// The end within the least limits, if a job returns within wider ones.
-fn least_of(end: End, wide: Option<Wide>) -> Option<End> {
-    let end = match wide {
-        Some(wide) => wide.end,
-        None => end,
-    };
-    if end.ending == Ending::Returned {
-        Some(end)
-    } else {
-        None
+/// The least limits within which a job returns, if it returned, or returns within wider ones.
+fn least_of(end: End, wide: Option<Wide>) -> Option<Limits> {
+    match wide {
+        Some(wide) => wide.end.least,
+        None => end.least,
     }
 }
 
@@ -363,7 +358,7 @@ pub fn object_of(
     let name = printable(alloc, job.name())?;
     let survey = Survey::of(alloc, batch.rule, job)?;
     let mut text = job_object(alloc, batch.lines, place, name.as_str(), &survey)?;
-    let (end, job) = survey.into_end();
+    let (end, job) = (survey.end(), survey.into_job());
     push_told(&mut text, &told_of(alloc, batch.rule, job, end)?)?;
     Ok(text)
 }
