@@ -9,6 +9,9 @@ import subprocess
 import tempfile
 import time
 
+# How long an answer may take.
+SECONDS = 30
+
 
 class Browser:
     """A running Chromium. Use it by `with`; it is ended whatever happens."""
@@ -55,7 +58,7 @@ class Browser:
         if session:
             call["sessionId"] = session
         os.write(self.to_browser, json.dumps(call).encode() + b"\0")
-        until = time.monotonic() + 60
+        until = time.monotonic() + SECONDS
         while message := self._message(until):
             if message.get("id") == self.count:
                 if "error" in message:
@@ -66,12 +69,21 @@ class Browser:
 
     def wait_for(self, method: str, session: str) -> None:
         """Waits until something has happened, which may be among what is kept."""
-        until = time.monotonic() + 60
+        until = time.monotonic() + SECONDS
         while not any(event.get("method") == method and event.get("sessionId") == session for event in self.events):
             message = self._message(until)
             if message is None:
                 raise TimeoutError(f"no {method}")
             self.events.append(message)
+
+    def answers(self) -> bool:
+        """Whether a page with nothing in it answers."""
+        try:
+            target = self.ask("Target.createTarget", url="about:blank")["targetId"]
+            session = self.ask("Target.attachToTarget", targetId=target, flatten=True)["sessionId"]
+            return self.ask("Runtime.evaluate", session, expression="6 * 7")["result"]["value"] == 42
+        except TimeoutError:
+            return False
 
 
 class Page:

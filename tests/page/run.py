@@ -185,15 +185,23 @@ def test(browser: Browser, program: str, folder: Path, pictures: Path) -> list[s
     pages["cross"] = made_up(folder, "cross", *pages["quicksort"], {"end": "MEMORY M1 WORDS", "line": 17, "wanted": 70})
     found += broken_pages(browser, folder, pages)
     for page, wanted in pages.values():
-        found += checked(browser, page, wanted, pictures)
+        try:
+            found += checked(browser, page, wanted, pictures)
+        except TimeoutError as error:
+            if not browser.answers():
+                raise
+            found.append(f"{page.stem} doesn't answer: {error}")
     return found
 
 
 def main() -> int:
     program, pictures = sys.argv[1], Path(sys.argv[2])
     pictures.mkdir(parents=True, exist_ok=True)
-    with tempfile.TemporaryDirectory() as room, Browser(chromium()) as browser:
-        found = test(browser, os.path.abspath(program), Path(room), pictures)
+    try:
+        with tempfile.TemporaryDirectory() as room, Browser(chromium()) as browser:
+            found = test(browser, os.path.abspath(program), Path(room), pictures)
+    except (TimeoutError, ConnectionError) as error:
+        skip(f"the browser doesn't answer: {error}")
     for text in found:
         print(text)
     print(f"{len(found)} faults of pages; their pictures are in {pictures}")
