@@ -334,14 +334,14 @@ function code(job) {
   const heads = new Set((job.functions ?? []).map(({line}) => line)), lines = chosen_lines(job, times);
   const rows = lines.map((line) => {
     const count = times.get(line), text = line_of(job, line);
-    const node = make('tr', {id: line_id(job, line), class: count || heads.has(line) ? '' : 'never'},
+    const node = make('tr', {id: line_id(job, line), class: count || heads.has(line) || !job.lines ? '' : 'never'},
       make('td', {class: 'number dim'}, String(line)), count ? heat(count, most) : make('td', {class: 'number'}),
       make('td', {class: 'text'}, text || ' '));
     if (line === last) node.className = is_good(job) ? 'last good' : 'last';
     return node;
   });
   const remark = lines.length < job.code.lines.length ? `${number(lines.length)} of ${number(job.code.lines.length)} lines`
-    : 'how often each line was executed; dim lines never were';
+    : job.lines ? 'how often each line was executed; dim lines never were' : 'the lines around the refused one';
   return section(job.functions ? 'code' : 'code wide', 'Code', remark,
     scroll('code', table('Lines of the batch', [['line', 'number'], ['times', 'number'], ['text', '']], rows)));
 }

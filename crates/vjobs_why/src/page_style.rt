@@ -70,9 +70,10 @@ section > .scroll > table { width: 100%; }
 th { padding: 2px 10px 4px; border-bottom: 1px solid var(--edge); color: var(--dim); text-align: left; font-weight: 600; }
 .scroll thead th { position: sticky; top: 0; background: var(--card); }
 td { padding: 1px 10px; vertical-align: top; }
+.functions td, .functions th { padding-inline: 6px; }
 td.number, th.number { text-align: right; white-space: nowrap; }
 td.text { white-space: pre; width: 99%; }
-td.name { min-width: 8.5em; overflow-wrap: anywhere; }
+td.name { min-width: 7.5em; overflow-wrap: anywhere; }
 td.name a { display: inline-block; max-width: calc(100% - 20px); vertical-align: top; }
 tr.never td { color: var(--dim); }
 tr.last td { background: color-mix(in srgb, var(--bad) 16%, transparent); }
