@@ -1,19 +1,19 @@
 -- What a step makes of the most that was used, and the least limits.
-use Rattle.std.proofs.Common.{add-one, ◌≡◌, ℕ, zero, suc, ◌+◌, ◌≤◌, Option, Some, None, refl, sym, ◌∙◌, ap, subst, inl, inr}
-use Rattle.std.proofs.Common.{arith, List}
-use Rattle.std.specs.Prelude.{◌⊎◌, max}
+use Rattle.std.proofs.Common.{add-one, ◌≡◌, ℕ, zero, suc, ◌≤◌, Option, Some, None, refl, sym, ◌∙◌, ap, subst, inl, inr}
+use Rattle.std.proofs.Common.{arith}
+use Rattle.std.specs.Prelude.{max}
 use Rattle.vcode_base.specs.declared.limits.Limits.{Limits}
 use Rattle.job_steps.specs.EventLaws.{EarlyEndsEnd, OthersAreReady}
 use Rattle.job_steps.specs.Events.{early_end}
-use Rattle.job_steps.specs.LeastLimits.{AreEnough, IsReturn, RunAlike, UsedAreLeast, calls_in, cells_in, most_calls}
-use Rattle.job_steps.specs.LeastLimits.{most_cells, most_until, with_limits}
+use Rattle.job_steps.specs.LeastLimits.{AreEnough, IsReturn, UsedAreLeast, calls_in, cells_in, most_calls}
+use Rattle.job_steps.specs.LeastLimits.{most_cells, most_until}
 use Rattle.job_steps.specs.Reached.{IsVerifiedBySome, NeverStuck, Reaches}
 use Rattle.job_steps.specs.Runs.{executed_count, executed_count_in, outcome, peak, peak_in, progress_from, state_after}
 use Rattle.job_steps.specs.Standings.{Standing, Waiting, Live, InFlight, Ended, Collected, outcome_at}
 use Rattle.job_steps.specs.States.{Task, State}
 use Rattle.job_steps.specs.Steps.{Ending, Progress, Running, Over, Stuck}
 use Rattle.job_walk.specs.Walks.{HasCome, RunState, ending_of, progress_at, progress_of}
-use Rattle.job_profile.specs.Used.{AreLeast, AreNoLess, AreUses, HasNotReturned, most_so_far}
+use Rattle.job_profile.specs.Used.{AreLeast, AreUses, most_so_far}
 use Rattle.job_profile.proofs.Counted.{Goes, goes_by}
 
 -- ---- a step
