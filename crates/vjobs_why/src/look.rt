@@ -88,12 +88,7 @@ fn print_least(rt: &HostRuntime, name: &str, end: End) -> io::Result<()> {
     let Some(least) = end.least else {
         return Ok(());
     };
-    let Limits {
-        words,
-        cells,
-        calls,
-        budget,
-    } = least;
+    let (words, cells, calls, budget) = (least.words, least.cells, least.calls, least.budget);
     println!(rt;
         "\nWithin these limits, and no less, it returns: JOB {name} {words} {cells} {calls} {budget}"
     )
