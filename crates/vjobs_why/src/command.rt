@@ -133,12 +133,10 @@ fn file_argument<'a>(alloc: Global) -> Arg<'a> {
         .help("The batch; - is standard input")
 }
 
-/// The command.
-fn command<'a>(alloc: Global) -> Result<Command<'a>, clap::Error> {
+/// A command with the options for a state.
+fn with_states<'a>(alloc: Global, command: Command<'a>) -> Result<Command<'a>, clap::Error> {
     Ok(
-        Command::new(alloc, "vjobs-why")
-            .about("Shows why a VCODE job ended, and what there was on the way")
-            .version("0.1.0")
+        command
             .arg(number_option(alloc, "job", "K", "Shows the K-th job of the batch alone"))?
             .arg(number_option(
                 alloc,
@@ -146,11 +144,25 @@ fn command<'a>(alloc: Global) -> Result<Command<'a>, clap::Error> {
                 "N",
                 "Shows what there is after N instructions",
             ))?
-            .arg(at_option(alloc))?
+            .arg(at_option(alloc))?,
+    )
+}
+
+/// A command with the options for a list of instructions.
+fn with_steps<'a>(alloc: Global, command: Command<'a>) -> Result<Command<'a>, clap::Error> {
+    Ok(
+        command
             .arg(flag_option(alloc, "steps", "Shows a line for each instruction"))?
             .arg(number_option(alloc, "from", "N", "The first instruction of --steps"))?
             .arg(number_option(alloc, "to", "N", "The last instruction of --steps"))?
-            .arg(lines_option(alloc))?
+            .arg(lines_option(alloc))?,
+    )
+}
+
+/// A command with the options that thin out a list of instructions.
+fn with_filters<'a>(alloc: Global, command: Command<'a>) -> Result<Command<'a>, clap::Error> {
+    Ok(
+        command
             .arg(count_option(
                 alloc,
                 "every",
@@ -158,7 +170,14 @@ fn command<'a>(alloc: Global) -> Result<Command<'a>, clap::Error> {
                 "Of these every K-th, from the first on",
             ))?
             .arg(count_option(alloc, "first", "N", "Of these the first N"))?
-            .arg(count_option(alloc, "last", "N", "Of these the last N"))?
+            .arg(count_option(alloc, "last", "N", "Of these the last N"))?,
+    )
+}
+
+/// A command with the options for a profile.
+fn with_profiles<'a>(alloc: Global, command: Command<'a>) -> Result<Command<'a>, clap::Error> {
+    Ok(
+        command
             .arg(flag_option(
                 alloc,
                 "profile",
@@ -175,9 +194,20 @@ fn command<'a>(alloc: Global) -> Result<Command<'a>, clap::Error> {
                 alloc,
                 "folded",
                 "Shows instructions by stacks of functions, for flame graph tools",
-            ))?
-            .arg(file_argument(alloc))?,
+            ))?,
     )
+}
+
+/// The command.
+fn command<'a>(alloc: Global) -> Result<Command<'a>, clap::Error> {
+    let command = Command::new(alloc, "vjobs-why")
+        .about("Shows why a VCODE job ended, and what there was on the way")
+        .version("0.1.0");
+    let command = with_states(alloc, command)?;
+    let command = with_steps(alloc, command)?;
+    let command = with_filters(alloc, command)?;
+    let command = with_profiles(alloc, command)?;
+    Ok(command.arg(file_argument(alloc))?)
 }
 
 /// The number of an option, if it was given.
