@@ -4,7 +4,7 @@ ghost use Rattle.std.specs.Prelude.{◌≡◌, ◌+◌, ◌≤◌, Ok, Err, Some
 ghost use Rattle.vcode_base.specs.declared.instr.Instr.TheVariants.{Call};
 ghost use Rattle.vcode_base.specs.declared.kind.Kind.TheVariants as kind;
 ghost use Rattle.vcode_reader.specs.declared.line.CodeItem.TheVariants.{Do};
-ghost use Rattle.vcode_reader.specs.Callees.{callee_of};
+ghost use Rattle.vcode_reader.specs.Callees.{callee_at, callee_of};
 ghost use Rattle.verifier.specs.First.{stack_after_arrow, stack_after_move, stack_after_call, stack_with_move};
 ghost use Rattle.verifier.specs.First.{arrow_of, stack_after_instruction};
 ghost use Rattle.verifier.specs.Walk.{state_with, state_after_if, state_after_endif};
@@ -126,17 +126,21 @@ fn call<A: Allocator + Clone>(
 fn apply<A: Allocator + Clone>(
     stack: &mut KindStack<A>,
     scope: &Scope<A>,
-    callee: Option<usize>,
+    function: usize,
+    place: usize,
     instruction: &Instruction<'_>,
     line: u64,
 ) -> Result<(), VerifyFault>
-    requires { callee ≡ callee_of scope.now.functions (Do instruction.now) }
+    requires { callee_at scope.now.functions function place ≡ callee_of scope.now.functions (Do instruction.now) }
     ensures { Goes result stack.new
         (state_with stack.old.kept (stack_after_instruction scope.now instruction.now line stack.old.kinds)) }
 {
     match instruction {
         Instr::Move(motion, lower, upper) => shift(stack, *motion, *lower, *upper, line),
-        Instr::Call(name) => call(stack, scope, callee, name.as_slice(), line),
+        Instr::Call(name) => {
+            let callee = scope.callee(function, place);
+            call(stack, scope, callee, name.as_slice(), line)
+        }
         _ => {
             let op = instruction.op();
             replace(stack, op.operand_kinds(), op.result_kinds(), line)
@@ -164,18 +168,21 @@ fn end_if<A: Allocator + Clone>(stack: &mut KindStack<A>, line: u64) -> Result<(
     }
 }
 
-/// A line, with the place of the function that it calls, if it calls one.
+/// The line at this place of the function at that place of the program.
 fn check_line<A: Allocator + Clone>(
     stack: &mut KindStack<A>,
     scope: &Scope<A>,
-    callee: Option<usize>,
+    function: usize,
+    place: usize,
     line: &CodeLine<'_>,
 ) -> Result<(), VerifyFault>
-    requires { callee ≡ callee_of scope.now.functions line.now.item }
+    requires { callee_at scope.now.functions function place ≡ callee_of scope.now.functions line.now.item }
     ensures { Goes result stack.new (state_after_line scope.now line.now.item line.now.number stack.old) }
 {
     match &line.item {
-        CodeItem::Do(instruction) => apply(stack, scope, callee, instruction, line.number),
+        CodeItem::Do(instruction) => {
+            apply(stack, scope, function, place, instruction, line.number)
+        }
         CodeItem::If => begin_if(stack, line.number),
         CodeItem::Else => {
             stack.swap()?;
@@ -198,7 +205,7 @@ pub(crate) fn check_lines<A: Allocator + Clone>(
     let last = function.line_count() - 1;
     for place in 0..last {
         let line = function.item(place).unwrap();
-        match check_line(stack, scope, scope.callee(number, place), &line) {
+        match check_line(stack, scope, number, place, &line) {
             Ok(()) => {}
             Err(fault) => return Err(fault),
         }

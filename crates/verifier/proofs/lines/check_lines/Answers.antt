@@ -11,9 +11,8 @@ overflow_sub-last g c = omega (arith, some_line c.args.function.now, c.line_coun
 
 pub check_line-requires : goal.check_line-requires
 check_line-requires g c =
-    c.callee.ensures
-    ∙ callee_is c.args.scope.now.functions c.args.number c.loop-place.place c.args.function.now c.unwrap-line.result
-    c.requires (sym c.item.ensures ∙ c.unwrap-line.ensures)
+    callee_is c.args.scope.now.functions c.args.number c.loop-place.place c.args.function.now
+    c.unwrap-line.result c.requires (sym c.item.ensures ∙ c.unwrap-line.ensures)
 
 pub loop-place-preserved : goal.loop-place-preserved
 loop-place-preserved g c =
