@@ -5,11 +5,15 @@ from collections import Counter
 import batches
 import runs
 from faults import Fault
+from notes import GREATEST_WORDS, note_of
 from runs import Limits
-
 
 # The most columns of the words over time.
 MOST_COLUMNS = 2048
+GREATEST_CELLS, GREATEST_CALLS, GREATEST_BUDGET = 4096, 1024, 1_000_000_000
+# A run within wide limits that executes more instructions is given up, and then least limits are not compared.
+LONGEST_RUN = 3_000
+UNKNOWN = "unknown"
 
 
 class Counted(runs.Run):
@@ -34,7 +38,7 @@ class Counted(runs.Run):
 
     def step(self):
         item, executed, peak, calls = self.calls[-1][0], self.executed, self.peak, len(self.calls)
-        self.last, self.moves = item.line, item.what == "Move"
+        self.item, self.last, self.moves = item, item.line, item.what == "Move"
         super().step()
         self.times[item.line] += self.executed - executed
         self.paths[self.active[-1]][1] += self.executed - executed
@@ -89,10 +93,12 @@ def columns_of(samples, functions):
     }
 
 
-def end_of(job):
-    """How a job ends, and the line that its end has."""
+def end_of(job, most=None):
+    """How a job ends, and the line that its end has. If it executes more than the most instructions, it is LONG."""
     try:
         while job.calls:
+            if job.executed == most:
+                return "LONG", None
             job.step()
     except runs.Ended as end:
         what, *where = str(end).split(" line ")
@@ -103,9 +109,25 @@ def end_of(job):
     return "RETURNED", None
 
 
+def limits_shown(words, cells, calls, budget):
+    return {"words": words, "cells": cells, "calls": calls, "budget": budget}
+
+
+def least(job, end, functions):
+    """The least limits within which a job returns, if it returned, or a limit ended it and it returns within wide ones."""
+    if end.startswith(("MEMORY", "BUDGET")):
+        budget = min(16 * job.executed + 1_000_000, GREATEST_BUDGET)
+        job = Counted(functions, Limits(GREATEST_WORDS, GREATEST_CELLS, GREATEST_CALLS, budget), job.is_second)
+        end, _ = end_of(job, LONGEST_RUN)
+    if end == "RETURNED":
+        return limits_shown(job.peak, max(job.cells, 1), job.most_calls, job.executed)
+    return UNKNOWN if end == "LONG" else None
+
+
 def profile(functions, limits, is_second):
     job = Counted(functions, limits, is_second)
     end, line = end_of(job)
+    note, wanted = note_of(job, job.item, end)
     return {
         "end": end,
         "line": line,
@@ -113,8 +135,11 @@ def profile(functions, limits, is_second):
         "peak": job.peak,
         "peak_at": job.peak_at,
         "last": job.last,
-        "limits": {"words": limits.words, "cells": limits.cells, "calls": limits.calls, "budget": limits.budget},
-        "used": {"words": job.peak, "cells": job.cells, "calls": job.most_calls, "budget": job.executed},
+        "limits": limits_shown(limits.words, limits.cells, limits.calls, limits.budget),
+        "used": limits_shown(job.peak, job.cells, job.most_calls, job.executed),
+        "note": note,
+        "wanted": wanted,
+        "least": least(job, end, functions),
         "functions": [
             {
                 "name": function.name,
@@ -156,5 +181,6 @@ def differences(shown, data):
     found = [json.loads(line) for line in shown.splitlines()]
     if len(found) != len(wanted):
         return [f"{len(found)} of {len(wanted)} jobs are shown"]
+    wanted = [{member: value for member, value in want.items() if value != UNKNOWN} for want in wanted]
     found = [{member: got.get(member) for member in want} for got, want in zip(found, wanted)]
     return [f"shown as {got}, and not as {want}" for got, want in zip(found, wanted) if got != want]
