@@ -432,6 +432,9 @@ summary_all (suc n) false some =
     (widest (replicate (suc n) false)) 0 (all_free (replicate (suc n) false)) false (front_none (suc n))
     (back_none (suc n)) (widest_none (suc n)) refl
 
+pub summary_of_zero : summary (words_of_bits 0) ≡ nothing_free
+summary_of_zero = ap summary words_of_zero ∙ summary_all 64 false (omega arith)
+
 -- the lowest free word of a bitmap, or its end
 pub trailing_most : (bits : ℕ) → bits < 2 ^ 64 → trailing_zeros w64 bits ≤ 64
 unfolding lib.Count.count_trailing_zeros

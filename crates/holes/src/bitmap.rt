@@ -1,6 +1,7 @@
 //! Bitmaps of 64 words. The lowest bit is the first word, and a set bit is a free word.
 
-ghost use Rattle.std.specs.Prelude.{◌≡◌, ◌≢◌, ℕ, ◌+◌, ◌-◌, ◌<◌, ◌≤◌, true, false, if◌then◌else◌, nat_le, nat_lt};
+ghost use Rattle.std.specs.Prelude.{◌≡◌, ◌≢◌, ℕ, ◌+◌, ◌-◌, ◌<◌, ◌≤◌, ◌↔◌, IsTrue, true, false, if◌then◌else◌, nat_le};
+ghost use Rattle.std.specs.Prelude.{nat_lt};
 ghost use Rattle.holes.specs.FreeWords.{front_run, widest};
 ghost use Rattle.holes.specs.Tree.{lowest_fit, summary, is_set, words_of_bits, back_run};
 
@@ -53,6 +54,14 @@ pub(crate) fn summary(bits: u64) -> Summary
         longest: longest(bits),
         whole: bits == u64::MAX,
     }
+}
+
+/// Whether a bitmap has a hole of at least `len` words. The free words are counted first, which is quick.
+#[inline(always)]
+pub(crate) fn fits(bits: u64, len: usize) -> bool
+    ensures { IsTrue result ↔ (len ≤ widest (words_of_bits bits)) }
+{
+    len <= bits.count_ones() as usize && len <= longest(bits) as usize
 }
 
 /// Answers where the lowest hole of at least `len` words begins in a bitmap that has one.

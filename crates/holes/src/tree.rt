@@ -22,7 +22,10 @@ pub(crate) const LEAF: usize = 4;
 pub(crate) const LEAF_WORDS: usize = LEAF * WORDS;
 
 /// How many leaves may have changed before nodes are joined. A range of words over more leaves is long.
-const NEAR: usize = 2;
+const NEAR: usize = 3;
+
+/// The bitmaps that are looked at before nodes are joined.
+const LOOK: usize = 8;
 
 /// Writes a node at the indices `first..end`.
 fn write(nodes: &mut [Summary], first: usize, end: usize, node: Summary)
@@ -138,7 +141,12 @@ pub(crate) fn summary(bits: &[u64], first: usize, end: usize) -> Summary
 {
     let mut all = Summary::EMPTY;
     for index in first..end {
-        all = all.join(bitmap::summary(bits[index]));
+        let bitmap = bits[index];
+        all = if bitmap == 0 {
+            all.join(Summary::TAKEN)
+        } else {
+            all.join(bitmap::summary(bitmap))
+        };
     }
     all
 }
@@ -381,7 +389,7 @@ fn find_in(bits: &[u64], first: usize, end: usize, len: usize) -> Option<usize>
         if len <= run + bitmap::front(bitmap) as usize {
             return Some(index * WORDS - run);
         }
-        if len <= bitmap::longest(bitmap) as usize {
+        if bitmap::fits(bitmap, len) {
             return Some(index * WORDS + bitmap::lowest_fit(bitmap, len));
         }
         run = if bitmap == u64::MAX {
@@ -393,8 +401,7 @@ fn find_in(bits: &[u64], first: usize, end: usize, len: usize) -> Option<usize>
     None
 }
 
-/// Answers where the lowest hole of at least `len` words begins, if some bitmaps from `near` on show it. They are as
-/// many as a leaf has.
+/// Answers where the lowest hole of at least `len` words begins, if the first few bitmaps from `near` on show it.
 pub(crate) fn find_near(bits: &[u64], near: usize, len: usize) -> Option<usize>
     requires some { 1 ≤ len }
     requires index { near < length bits.now }
@@ -403,7 +410,7 @@ pub(crate) fn find_near(bits: &[u64], near: usize, len: usize) -> Option<usize>
     ensures fits { IfSome result (λ place. len ≤ widest (words_of bits.now)) }
     ensures lowest { IfSome result (λ place. place ≡ lowest_fit len (words_of bits.now)) }
 {
-    find_in(bits, near, bits.len().min(near + LEAF), len)
+    find_in(bits, near, bits.len().min(near + LOOK), len)
 }
 
 /// Answers where the lowest hole of at least `len` words begins.

@@ -1,5 +1,5 @@
-use Rattle.std.proofs.Common.{rules, ℕ, ◌≡◌, ◌+◌, ◌-◌, ◌*◌, ◌<◌, ◌≤◌, ◌^◌, get_or, arith, sym, ap, ◌∙◌}
-use Rattle.std.proofs.lemmas.Bool.{true≢false, cond-true, cond-false, ne_eqb}
+use Rattle.std.proofs.Common.{rules, ℕ, ◌≡◌, ◌+◌, ◌-◌, ◌*◌, ◌<◌, ◌≤◌, ◌^◌, get_or, arith, sym, ap, ◌∙◌, inl, inr}
+use Rattle.std.proofs.lemmas.Bool.{true≢false, cond-true, cond-false, ne_eqb, cases_lt}
 use Rattle.holes.specs.FreeWords.{front_run, widest}
 use Rattle.holes.specs.Tree.{words_of_bits, all_free, back_run, lowest_fit}
 use Rattle.holes.proofs.Runs.{front-le-length}
@@ -73,16 +73,16 @@ inside c place apart fits is =
     found_inside c.args.bits.now c.args.len c.args.first c.args.end c.loop-index.index c.loop-index.run place
     c.requires.some h.from h.lt c.loop-index.invariant apart fits is
 
-pub returns-then-len-longest-clause-none : goal.returns-then-len-longest-clause-none
-returns-then-len-longest-clause-none c =
-    let found = inside (goal.at.returns-then-len-longest-clause-none c).In-loop-index c.lowest_fit.result
-    (omega (arith, c.front.ensures)) (omega (arith, c.longest.ensures)) c.lowest_fit.ensures.value in
+pub returns-then-fits-clause-none : goal.returns-then-fits-clause-none
+returns-then-fits-clause-none c =
+    let found = inside (goal.at.returns-then-fits-clause-none c).In-loop-index c.lowest_fit.result
+    (omega (arith, c.front.ensures)) (c.fits.ensures.0 c.if-fits.true) c.lowest_fit.ensures.value in
     ((λ e. absurd (true≢false e)), (λ short. absurd (omega (arith, short, found.fits))))
 
-pub returns-then-len-longest-clause-lowest : goal.returns-then-len-longest-clause-lowest
-returns-then-len-longest-clause-lowest c =
-    let found = inside (goal.at.returns-then-len-longest-clause-lowest c).In-loop-index c.lowest_fit.result
-    (omega (arith, c.front.ensures)) (omega (arith, c.longest.ensures)) c.lowest_fit.ensures.value in
+pub returns-then-fits-clause-lowest : goal.returns-then-fits-clause-lowest
+returns-then-fits-clause-lowest c =
+    let found = inside (goal.at.returns-then-fits-clause-lowest c).In-loop-index c.lowest_fit.result
+    (omega (arith, c.front.ensures)) (c.fits.ensures.0 c.if-fits.true) c.lowest_fit.ensures.value in
     omega (arith, found.lowest)
 
 pub overflow_add-run-then-bitmap : goal.overflow_add-run-then-bitmap
@@ -98,9 +98,13 @@ loop-index-preserved c =
     let bitmap = get_or c.args.bits.now c.loop-index.index 0 in
     let words = words_of_bits bitmap in
     let small : bitmap < 2 ^ 64 = search rules in
+    let short : widest words < c.args.len = elim (cases_lt (widest words) c.args.len) [
+      | inl lt ↦ lt
+      | inr wide ↦ absurd (true≢false (sym (c.fits.ensures.1 wide) ∙ c.if-fits.false))
+    ] in
     let whole_run = back_run words + c.loop-index.run in
     passed_more c.args.bits.now c.args.len c.args.first c.loop-index.index c.loop-index.run c.if-bitmap.run h.from
-    c.loop-index.invariant (omega (arith, c.front.ensures)) (omega (arith, c.longest.ensures))
+    c.loop-index.invariant (omega (arith, c.front.ensures)) short
     (elim c.if-bitmap.branch [
       | then-bitmap w ↦
           let all = w.if-bitmap.true in

@@ -4,12 +4,12 @@ use Rattle.holes.proofs.tree.find_near.Goals as goal
 
 pub returns-clause-fits : goal.returns-clause-fits
 returns-clause-fits c =
-    let least : c.min.result ≡ min (length c.args.bits.now) (c.args.near + 4) = search rules in
+    let least : c.min.result ≡ min (length c.args.bits.now) (c.args.near + 8) = search rules in
     (found_near_if c.find_in.result c.args.bits.now c.args.len c.args.near c.min.result c.requires.some (omega arith)
     (omega arith) c.requires.none_below c.find_in.ensures.none.1 c.find_in.ensures.lowest).0
 
 pub returns-clause-lowest : goal.returns-clause-lowest
 returns-clause-lowest c =
-    let least : c.min.result ≡ min (length c.args.bits.now) (c.args.near + 4) = search rules in
+    let least : c.min.result ≡ min (length c.args.bits.now) (c.args.near + 8) = search rules in
     (found_near_if c.find_in.result c.args.bits.now c.args.len c.args.near c.min.result c.requires.some (omega arith)
     (omega arith) c.requires.none_below c.find_in.ensures.none.1 c.find_in.ensures.lowest).1
