@@ -70,14 +70,23 @@ fn push_ending(text: &mut String, ending: Ending) -> Result<(), AllocError> {
     Ok(())
 }
 
-/// Adds a member of this name for words, cells, calls and instructions.
-fn push_limits(text: &mut String, member: &str, limits: Limits) -> Result<(), AllocError> {
-    let (words, cells, calls, budget) = (limits.words, limits.cells, limits.calls, limits.budget);
+/// Adds a member of this name for numbers of words, cells, calls and instructions.
+fn push_amounts(
+    text: &mut String,
+    member: &str,
+    (words, cells, calls, budget): (usize, usize, usize, u64),
+) -> Result<(), AllocError> {
     write!(
         text,
         ",\"{member}\":{{\"words\":{words},\"cells\":{cells},\"calls\":{calls},\"budget\":{budget}}}"
     )?;
     Ok(())
+}
+
+/// Adds a member of this name for limits.
+fn push_limits(text: &mut String, member: &str, limits: Limits) -> Result<(), AllocError> {
+    let amounts = (limits.words, limits.cells, limits.calls, limits.budget);
+    push_amounts(text, member, amounts)
 }
 
 /// Adds the member for the functions.
@@ -214,16 +223,6 @@ pub fn refusal_object(
     Ok(text)
 }
 
-/// The most that a job used.
-fn used(end: End) -> Limits {
-    Limits {
-        words: end.words,
-        cells: end.cells,
-        calls: end.calls,
-        budget: end.executed,
-    }
-}
-
 /// Adds the members for how a job ended and what it used.
 fn push_end(text: &mut String, survey: &Survey) -> Result<(), AllocError> {
     let end = survey.end();
@@ -235,7 +234,8 @@ fn push_end(text: &mut String, survey: &Survey) -> Result<(), AllocError> {
         ",\"instructions\":{executed},\"peak\":{peak},\"peak_at\":{after},\"last\":{last}"
     )?;
     push_limits(text, "limits", survey.profile().run().job().limits())?;
-    push_limits(text, "used", used(end))
+    let used = (end.words, end.cells, end.calls, end.executed);
+    push_amounts(text, "used", used)
 }
 
 /// Adds the members for what is said of the end of a job, and ends its object.
