@@ -193,8 +193,9 @@ def keyboard(page: Page, wanted: Wanted) -> Iterator[str]:
     missed = page.run("document.querySelectorAll('[data-wanted]:not([data-reached])').length")
     if missed:
         yield f"{missed} of {count} elements can't be reached"
-    if any("columns" in job for job in wanted.jobs):
-        before = page.run("(() => { const pick = document.querySelector('.pick input'); pick.value = 0; pick.focus(); return document.querySelector('.pick output').textContent; })()")
+    drawn = [job["columns"]["most"] for job in wanted.jobs if job.get("columns", {}).get("most")]
+    if drawn and len(drawn[0]) > 1:
+        before = page.run("(() => { const pick = document.querySelector('.pick input'); pick.value = 0; pick.dispatchEvent(new Event('input')); pick.focus(); return document.querySelector('.pick output').textContent; })()")
         page.press("ArrowRight", 39)
         if before == page.run("document.querySelector('.pick output').textContent"):
             yield "an arrow key picks no other column"
