@@ -25,6 +25,10 @@ fn with_digit(value: u64, digit: u8) -> Option<u64>
     requires { 48 ≤ digit }
     ensures { result ≡ below (2 ^ 64) (Some (10 * value + (digit - 48))) }
 {
+    // So there is room for a digit more, without a test of the product.
+    if value < 1_800_000_000_000_000_000 {
+        return Some(10 * value + u64::from(digit - b'0'));
+    }
     value.checked_mul(10)?.checked_add(u64::from(digit - b'0'))
 }
 

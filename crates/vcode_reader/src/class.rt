@@ -3,8 +3,6 @@
 ghost use Rattle.std.specs.Prelude.{◌≡◌};
 ghost use Rattle.vcode_reader.specs.Classes.{class_of, is_plain, plain_length};
 
-use vcode_base::is_visible;
-
 /// What a byte does in a text.
 #[derive(Clone, Copy)]
 pub enum Class {
@@ -35,7 +33,7 @@ pub(crate) fn class_of(byte: u8) -> Class
         b'{' => Class::OpenBrace,
         b'}' => Class::CloseBrace,
         b'(' | b')' => Class::Parenthesis,
-        _ if is_visible(byte) => Class::Plain,
+        33..=126 => Class::Plain,
         _ => Class::Refused,
     }
 }
