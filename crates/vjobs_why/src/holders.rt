@@ -1,11 +1,13 @@
-//! What a job holds at a state, by the lines that made it.
+//! What a job holds at a state, by the lines that made it, and what of it is read later.
 
-use crate::watch::Watch;
+use crate::end::{Ending, ending_of};
+use crate::watch::{Next, Watch};
 use job_steps::Job;
 use std::alloc::{AllocError, Global};
-use vcode_base::Rule;
+use vcode_base::limits::MOST_BUDGET;
+use vcode_base::{Op, Rule};
 
-/// A vector that is held, the line that made it, and how many entries were made before it.
+/// An entry that is held: the line that made its vector, how many entries were made before that, and its words.
 #[derive(Clone, Copy, Drop)]
 struct Held {
     line: u64,
@@ -13,13 +15,93 @@ struct Held {
     words: usize,
 }
 
-/// What is held of the vectors that a line made.
+/// What is held of the vectors that a line made, and how many words of it are never read again.
 #[derive(Clone, Copy, Drop)]
 pub struct Holder {
     pub line: u64,
     pub words: usize,
     pub vectors: usize,
     pub entries: usize,
+    pub unread: usize,
+}
+
+/// The vectors that were read from a state on, of those that were held there. They are named by how many entries were made
+/// before each, the least first.
+#[derive(Drop)]
+struct Reads {
+    vectors: Vec<u64>,
+    are_read: Vec<bool>,
+}
+
+/// How many entries from the top an instruction reads. The last RET reads all, since they are the results.
+fn read_count(watch: &Watch, next: Next) -> usize {
+    match next.op {
+        Op::Return if watch.run().calls() == 1 => watch.run().depth(),
+        _ => next.op.operand_kinds().len(),
+    }
+}
+
+impl Reads {
+    /// None of the vectors of these entries was read yet.
+    fn new(alloc: Global, entries: &[Held]) -> Result<Reads, AllocError> {
+        let (mut vectors, mut are_read) = (Vec::new(alloc), Vec::new(alloc));
+        for entry in entries {
+            vectors.push(entry.before)?;
+            are_read.push(false)?;
+        }
+        vectors.sort()?;
+        Ok(Reads { vectors, are_read })
+    }
+
+    /// The place of a vector.
+    fn place(&self, vector: u64) -> usize {
+        self.vectors.partition_point(|other| *other < vector)
+    }
+
+    /// Notes that a vector is read, if it is one of these.
+    fn note(&mut self, vector: u64) {
+        let place = self.place(vector);
+        if self.vectors.get(place) != Some(&vector) {
+            return;
+        }
+        if let Some(is_read) = self.are_read.get_mut(place) {
+            *is_read = true;
+        }
+    }
+
+    /// Whether a vector was read.
+    fn has(&self, vector: u64) -> bool {
+        match self.are_read.get(self.place(vector)) {
+            Some(is_read) => *is_read,
+            None => false,
+        }
+    }
+
+    /// Notes what the next instruction of a run reads.
+    fn note_next(&mut self, watch: &Watch, next: Next) {
+        for depth in 0..read_count(watch, next) {
+            if let Some(origin) = watch.origin(depth) {
+                self.note(origin.before);
+            }
+        }
+    }
+
+    /// Runs a job to its end, and notes what it reads. `None` if it doesn't return.
+    fn to_end(mut self, watch: &mut Watch) -> Result<Option<Reads>, AllocError> {
+        for _ in 0..=MOST_BUDGET {
+            let Some(next) = watch.next() else {
+                break;
+            };
+            self.note_next(watch, next);
+            watch.step()?;
+        }
+        watch.uses.collect()?;
+        if ending_of(watch.run()) == Ending::Returned {
+            Ok(Some(self))
+        } else {
+            Ok(None)
+        }
+    }
 }
 
 /// The entries of a run, those of one line together, and of these the copies of one vector.
@@ -38,18 +120,21 @@ fn entries_of(alloc: Global, watch: &Watch) -> Result<Vec<Held>, AllocError> {
     Ok(entries)
 }
 
-/// Adds an entry to what its line holds; its words only if it is no copy of the one before it.
-fn add_entry(holders: &mut Vec<Holder>, entry: Held, last: Option<Held>) -> Result<(), AllocError> {
-    let is_copy = match last {
-        Some(last) => last.before == entry.before,
-        None => false,
-    };
+/// Adds a vector to what its line holds, and how many of its words are never read again; or a copy of the vector before it.
+fn add_entry(
+    holders: &mut Vec<Holder>,
+    entry: Held,
+    is_copy: bool,
+    is_read: bool,
+) -> Result<(), AllocError> {
     let (words, vectors) = if is_copy { (0, 0) } else { (entry.words, 1) };
+    let unread = if is_read { 0 } else { words };
     if let Some(holder) = holders.last_mut() {
         if holder.line == entry.line {
             holder.words = holder.words.saturating_add(words);
             holder.vectors = holder.vectors.saturating_add(vectors);
             holder.entries = holder.entries.saturating_add(1);
+            holder.unread = holder.unread.saturating_add(unread);
             return Ok(());
         }
     }
@@ -58,28 +143,39 @@ fn add_entry(holders: &mut Vec<Holder>, entry: Held, last: Option<Held>) -> Resu
         words,
         vectors,
         entries: 1,
+        unread,
     })?;
     Ok(())
 }
 
-/// What the lines hold, those with the most words first.
-fn holders_at(alloc: Global, watch: &Watch) -> Result<Vec<Holder>, AllocError> {
+/// What the lines hold of these entries, those with the most words first.
+fn holders_of(
+    alloc: Global,
+    entries: &[Held],
+    reads: &Option<Reads>,
+) -> Result<Vec<Holder>, AllocError> {
     let mut holders = Vec::new(alloc);
     let mut last = None;
-    for entry in &entries_of(alloc, watch)? {
-        add_entry(&mut holders, *entry, last)?;
-        last = Some(*entry);
+    for entry in entries {
+        let is_read = match reads {
+            Some(reads) => reads.has(entry.before),
+            None => true,
+        };
+        add_entry(&mut holders, *entry, last == Some(entry.before), is_read)?;
+        last = Some(entry.before);
     }
     holders.sort_by_key(|holder| usize::MAX - holder.words)?;
     Ok(holders)
 }
 
-/// What is held before an instruction of a job, and the line of the instruction.
+/// What is held before an instruction of a job, the line of the instruction, and how many words of it this run never reads
+/// again, if it returns.
 #[derive(Drop)]
 pub struct Holdings {
     pub holders: Vec<Holder>,
     pub words: usize,
     pub line: u64,
+    pub unread: Option<usize>,
 }
 
 impl Holdings {
@@ -92,14 +188,33 @@ impl Holdings {
     ) -> Result<(Holdings, Job<Global>), AllocError> {
         let mut watch = Watch::new(alloc, rule, job)?;
         watch.go_to(number.saturating_sub(1))?;
+        let entries = entries_of(alloc, &watch)?;
+        let words = watch.run().held();
+        let line = match watch.next() {
+            Some(next) => next.line,
+            None => 0,
+        };
+        let reads = Reads::new(alloc, entries.as_slice())?.to_end(&mut watch)?;
+        let holders = holders_of(alloc, entries.as_slice(), &reads)?;
+        let unread = match reads {
+            Some(_) => Some(unread_words(holders.as_slice())),
+            None => None,
+        };
         let holdings = Holdings {
-            holders: holders_at(alloc, &watch)?,
-            words: watch.run().held(),
-            line: match watch.next() {
-                Some(next) => next.line,
-                None => 0,
-            },
+            holders,
+            words,
+            line,
+            unread,
         };
         Ok((holdings, watch.into_job()))
     }
+}
+
+/// How many words are never read again.
+fn unread_words(holders: &[Holder]) -> usize {
+    let mut words: usize = 0;
+    for holder in holders {
+        words = words.saturating_add(holder.unread);
+    }
+    words
 }

@@ -1,7 +1,7 @@
 //! The profile of a job: how often its functions and lines were executed, as a text.
 
 use crate::drawing::print_drawing;
-use crate::holders::Holdings;
+use crate::holders::{Holder, Holdings};
 use crate::lines::{Lines, printable};
 use crate::tally::{LineTally, Tally};
 use job_profile::{Columns, Profile};
@@ -168,6 +168,17 @@ fn print_lines(
     Ok(())
 }
 
+/// How many words of a line are not read again, or a dash if that isn't known, since the job doesn't return.
+fn unread_text(alloc: Global, holdings: &Holdings, holder: Holder) -> Result<String, AllocError> {
+    match holdings.unread {
+        Some(_) => {
+            let unread = holder.unread;
+            format!(in alloc; "{unread}")
+        }
+        None => String::from_str(alloc, "-"),
+    }
+}
+
 /// Prints the most words that a job held and needed, and what it held before it, by the lines that made it.
 fn print_peak(
     rt: &HostRuntime,
@@ -184,7 +195,7 @@ fn print_peak(
         "\nthe peak is {peak} of {limit} words, first at instruction {after}, line {line}"
     )?;
     println!(rt; "held before it are {held} words, by the lines that made them")?;
-    println!(rt; "         words   share  vectors  entries     line  instruction")?;
+    println!(rt; "         words   share  vectors  entries  not read     line  instruction")?;
     for (place, holder) in holdings.holders.iter().enumerate() {
         if place == MOST_HOLDERS {
             let more = holdings.holders.len() - place;
@@ -193,10 +204,16 @@ fn print_peak(
         let (words, vectors, entries) = (holder.words, holder.vectors, holder.entries);
         let share = share_text(rt.alloc(), words as u64, held as u64)?;
         let code = lines.code(rt.alloc(), holder.line)?;
-        let line = holder.line;
-        println!(rt; "  {words:>12} {share:>7} {vectors:>8} {entries:>8} {line:>8}  {code}")?;
+        let (unread, line) = (unread_text(rt.alloc(), holdings, *holder)?, holder.line);
+        print!(rt; "  {words:>12} {share:>7} {vectors:>8} {entries:>8} {unread:>9}")?;
+        println!(rt; " {line:>8}  {code}")?;
     }
-    Ok(())
+    match holdings.unread {
+        Some(unread) if unread > 0 => println!(rt;
+            "{unread} words of these are not read again in this run"
+        ),
+        Some(_) | None => Ok(()),
+    }
 }
 
 /// What is shown of a job that has ended, beside how it ended.
