@@ -179,6 +179,21 @@ pub struct Holdings {
 }
 
 impl Holdings {
+    /// What is held at the state of a run, which is run to its end.
+    fn at(alloc: Global, watch: &mut Watch) -> Result<Holdings, AllocError> {
+        let entries = entries_of(alloc, watch)?;
+        let (words, line) = (watch.run().held(), next_line(watch));
+        let reads = Reads::new(alloc, entries.as_slice())?.to_end(watch)?;
+        let holders = holders_of(alloc, entries.as_slice(), &reads)?;
+        let unread = unread_words(holders.as_slice());
+        Ok(Holdings {
+            holders,
+            words,
+            line,
+            unread: if reads.is_some() { Some(unread) } else { None },
+        })
+    }
+
     /// What is held before the instruction of this number of a job, and the job.
     pub fn before(
         alloc: Global,
@@ -188,25 +203,16 @@ impl Holdings {
     ) -> Result<(Holdings, Job<Global>), AllocError> {
         let mut watch = Watch::new(alloc, rule, job)?;
         watch.go_to(number.saturating_sub(1))?;
-        let entries = entries_of(alloc, &watch)?;
-        let words = watch.run().held();
-        let line = match watch.next() {
-            Some(next) => next.line,
-            None => 0,
-        };
-        let reads = Reads::new(alloc, entries.as_slice())?.to_end(&mut watch)?;
-        let holders = holders_of(alloc, entries.as_slice(), &reads)?;
-        let unread = match reads {
-            Some(_) => Some(unread_words(holders.as_slice())),
-            None => None,
-        };
-        let holdings = Holdings {
-            holders,
-            words,
-            line,
-            unread,
-        };
+        let holdings = Holdings::at(alloc, &mut watch)?;
         Ok((holdings, watch.into_job()))
+    }
+}
+
+/// The line of the next instruction, and 0 if the run is over.
+fn next_line(watch: &Watch) -> u64 {
+    match watch.next() {
+        Some(next) => next.line,
+        None => 0,
     }
 }
 

@@ -179,6 +179,35 @@ fn unread_text(alloc: Global, holdings: &Holdings, holder: Holder) -> Result<Str
     }
 }
 
+/// Prints what a line holds.
+fn print_holder(
+    rt: &HostRuntime,
+    lines: &Lines,
+    holdings: &Holdings,
+    holder: Holder,
+) -> io::Result<()> {
+    let (words, vectors, entries) = (holder.words, holder.vectors, holder.entries);
+    let share = share_text(rt.alloc(), words as u64, holdings.words as u64)?;
+    print!(rt; "  {words:>12} {share:>7} {vectors:>8} {entries:>8}")?;
+    let (unread, line) = (unread_text(rt.alloc(), holdings, holder)?, holder.line);
+    print!(rt; " {unread:>9} {line:>8}")?;
+    let code = lines.code(rt.alloc(), line)?;
+    println!(rt; "  {code}")
+}
+
+/// Prints what is held at the peak by the lines that made it.
+fn print_holders(rt: &HostRuntime, lines: &Lines, holdings: &Holdings) -> io::Result<()> {
+    println!(rt; "         words   share  vectors  entries  not read     line  instruction")?;
+    for (place, holder) in holdings.holders.iter().enumerate() {
+        if place == MOST_HOLDERS {
+            let more = holdings.holders.len() - place;
+            return println!(rt; "  .. and {more} more");
+        }
+        print_holder(rt, lines, holdings, *holder)?;
+    }
+    Ok(())
+}
+
 /// Prints the most words that a job held and needed, and what it held before it, by the lines that made it.
 fn print_peak(
     rt: &HostRuntime,
@@ -195,19 +224,7 @@ fn print_peak(
         "\nthe peak is {peak} of {limit} words, first at instruction {after}, line {line}"
     )?;
     println!(rt; "held before it are {held} words, by the lines that made them")?;
-    println!(rt; "         words   share  vectors  entries  not read     line  instruction")?;
-    for (place, holder) in holdings.holders.iter().enumerate() {
-        if place == MOST_HOLDERS {
-            let more = holdings.holders.len() - place;
-            return println!(rt; "  .. and {more} more");
-        }
-        let (words, vectors, entries) = (holder.words, holder.vectors, holder.entries);
-        let share = share_text(rt.alloc(), words as u64, held as u64)?;
-        let code = lines.code(rt.alloc(), holder.line)?;
-        let (unread, line) = (unread_text(rt.alloc(), holdings, *holder)?, holder.line);
-        print!(rt; "  {words:>12} {share:>7} {vectors:>8} {entries:>8} {unread:>9}")?;
-        println!(rt; " {line:>8}  {code}")?;
-    }
+    print_holders(rt, lines, holdings)?;
     match holdings.unread {
         Some(unread) if unread > 0 => println!(rt;
             "{unread} words of these are not read again in this run"
