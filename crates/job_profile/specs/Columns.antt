@@ -49,7 +49,7 @@ halved [] = []
 halved (a ∷ []) = a ∷ []
 halved (a ∷ b ∷ columns) = joined a b ∷ halved columns
 
--- Columns of the first n instructions of a job, of so many each, and the last of what is left.
+-- The columns of the first n instructions of a job: each is of `each` instructions, and the last of what is left.
 pub record AreColumns (task : Task) (n each : ℕ) (columns : List Column) : Type 0 where
   pub power : (k : ℕ) × (each ≡ 2 ^ k)
   pub few : length columns ≤ MOST_COLUMNS

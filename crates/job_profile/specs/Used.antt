@@ -11,7 +11,7 @@ use Rattle.job_steps.specs.Steps.{Ending, Progress}
 abbrev pub most_so_far : (Progress → ℕ) → Task → Progress → ℕ
 most_so_far f task p = most_until f task (executed_count_in p)
 
--- A verified job has come so far by a number of steps, and had at most so many entries and calls.
+-- A verified job has come here by a number of steps. Its most entries are `cells`, and its most calls are `calls`.
 pub record AreUses (task : Task) (p : Progress) (cells calls : ℕ) : Type 0 where
   pub steps : ℕ
   pub come : p ≡ state_after task steps

@@ -1,5 +1,5 @@
-//! How often each line of a job is executed, when the job first holds its peak, the words that it holds over time, and what
-//! it uses of its limits.
+//! How often each line of a job is executed, when the job first holds its peak, the words that it holds over time, and
+//! what it uses of its limits.
 //!
 //! A [`Profile`] runs one job alone to its end, by `job_walk`, and counts on the way. `specs/Counts.antt` says what is
 //! counted, over the states of the job's run. `specs/Sound.antt` says when what a profile keeps is that of its run.

@@ -54,8 +54,7 @@ fn mark(column: Column, below: usize, peak: usize, blank: char) -> char {
 }
 
 impl Drawing {
-    /// The drawing of columns of so many instructions: those that follow one another are drawn as one, so that there are
-    /// few.
+    /// The drawing of columns of `each` instructions: some that follow one another are drawn as one, so that there are few.
     fn of(
         alloc: Global,
         columns: &[Column],
@@ -128,7 +127,7 @@ impl Drawing {
     }
 }
 
-/// Prints the words that a job held over time, by columns of so many instructions.
+/// Prints the words that a job held over time, by columns of `each` instructions.
 pub fn print_drawing(
     rt: &HostRuntime,
     columns: &[Column],
