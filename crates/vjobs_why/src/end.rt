@@ -1,6 +1,5 @@
 //! The end of a job, and what it used.
 
-use crate::watch::Watch;
 use job_profile::Uses;
 use job_steps::Job;
 use job_walk::Run;
@@ -63,16 +62,16 @@ pub fn end_of(uses: &Uses<Global>, steps: u64) -> End {
 }
 
 /// Runs a job to its end.
-fn run_out(watch: &mut Watch) -> Result<End, AllocError> {
+fn run_out(uses: &mut Uses<Global>) -> Result<End, AllocError> {
     let mut steps: u64 = 0;
     for _ in 0..MOST_BUDGET {
-        if !watch.step()? {
+        if !uses.step() {
             break;
         }
         steps = steps.saturating_add(1);
     }
-    watch.uses.collect()?;
-    Ok(end_of(&watch.uses, steps))
+    uses.collect()?;
+    Ok(end_of(uses, steps))
 }
 
 /// How a job ends, and the job.
@@ -81,9 +80,9 @@ pub fn run_through(
     rule: Rule,
     job: Job<Global>,
 ) -> Result<(End, Job<Global>), AllocError> {
-    let mut watch = Watch::new(alloc, rule, job)?;
-    let end = run_out(&mut watch)?;
-    Ok((end, watch.into_job()))
+    let mut uses = Uses::new(alloc, rule, job)?;
+    let end = run_out(&mut uses)?;
+    Ok((end, uses.into_job()))
 }
 
 /// The widest limits, and a budget that is some times what was executed.
@@ -98,11 +97,12 @@ fn wide_limits(executed: u64) -> Limits {
 }
 
 /// How a run goes on that is within the widest limits, if the job's limits ended it after this number of instructions.
-fn wide_of(watch: &mut Watch, steps: u64) -> Result<Wide, AllocError> {
-    watch.go_to(steps)?;
-    watch.step()?;
-    let wanted = watch.uses.words();
-    let end = run_out(watch)?;
+fn wide_of(uses: &mut Uses<Global>, steps: u64) -> Result<Wide, AllocError> {
+    for _ in 0..=steps {
+        uses.step();
+    }
+    let wanted = uses.words();
+    let end = run_out(uses)?;
     Ok(Wide { end, wanted })
 }
 
@@ -114,7 +114,7 @@ pub fn run_wide(
     end: End,
 ) -> Result<(Wide, Job<Global>), AllocError> {
     let limits = job.limits();
-    let mut watch = Watch::new(alloc, rule, job.with_limits(wide_limits(end.executed)))?;
-    let wide = wide_of(&mut watch, end.steps)?;
-    Ok((wide, watch.into_job().with_limits(limits)))
+    let mut uses = Uses::new(alloc, rule, job.with_limits(wide_limits(end.executed)))?;
+    let wide = wide_of(&mut uses, end.steps)?;
+    Ok((wide, uses.into_job().with_limits(limits)))
 }
