@@ -17,3 +17,4 @@ pub mod Pooling
 pub mod Runs
 pub mod Sound
 pub mod Spelling
+pub mod Whole

@@ -5,6 +5,7 @@ use Rattle.std.specs.Prelude.{if◌then◌else◌, codes, nat_le, nat_lt, is_som
 use Rattle.std.specs.Str.{bytes_eq}
 use Rattle.std.proofs.lemmas.Bool.Decides.{nat_tests}
 use Rattle.std.proofs.lemmas.List.{append-nil}
+use Rattle.std.proofs.lemmas.Slice.Eq.{bytes_eq-Decides}
 use Rattle.vcode_base.specs.Bytes.{IsNumberAtFront, decimal, digit_count, digits_from, is_digit}
 use Rattle.vcode_base.specs.declared.kind.Scalar.{Scalar}
 use Rattle.vcode_base.specs.declared.kind.Scalar.TheVariants as scalar
@@ -103,27 +104,27 @@ negative_found [] rest v d n some minus behind h e = absurd (omega arith)
 negative_found (c ∷ t) rest v d n some minus behind h e =
     rw (minus, add-one) (minus_found t v d n (rw behind at h) e)
 
--- ---- a number as an element of a list
+-- ---- a number is no parenthesis
 
-no_close_by : (b : Bool) (c : ℕ) (n : ℤ) → (c == 41) ≡ b → number_of (c ∷ []) ≡ Some n → b ≡ false
-unfolding number_of
-no_close_by true c n is e = let same : c ≡ 41 = is_close c is in let none = rw same at e in absurd (cc)
+no_lone : (b : ℕ) (w : List ℕ) (n : ℤ) → number_of (b ∷ []) ≡ None → number_of w ≡ Some n →
+    bytes_eq w (b ∷ []) ≡ false
+no_lone b w n none e = by (bytes_eq w (b ∷ [])) refl
   where
-    is_close : (c : ℕ) → (c == 41) ≡ true → c ≡ 41
-    is_close c is = grind (arith, nat_tests)
-no_close_by false c n is e = refl
+    by : (same : Bool) → bytes_eq w (b ∷ []) ≡ same → same ≡ false
+    by true is = let it : w ≡ b ∷ [] = (bytes_eq-Decides w (b ∷ [])).0 is in
+        let no : None ≡ Some n = sym none ∙ (ap number_of (sym it) ∙ e) in
+        cc
+    by false is = refl
 
-both_false : (b : Bool) → (b && false) ≡ false
-both_false true = refl
-both_false false = refl
-
-both_true : (b : Bool) → b ≡ false → (b && true) ≡ false
-both_true b e = rw e refl
+pub no_open : (w : List ℕ) (n : ℤ) → number_of w ≡ Some n → bytes_eq w (codes "(") ≡ false
+unfolding number_of
+no_open w n e = no_lone 40 w n refl e
 
 no_close : (w : List ℕ) (n : ℤ) → number_of w ≡ Some n → bytes_eq w (codes ")") ≡ false
-no_close [] n e = refl
-no_close (c ∷ []) n e = both_true (c == 41) (no_close_by (c == 41) c n refl e)
-no_close (c ∷ d ∷ t) n e = both_false (c == 41)
+unfolding number_of
+no_close w n e = no_lone 41 w n refl e
+
+-- ---- a number as an element of a list
 
 in_numbers : (place : Place) (kind : Scalar) (p : Parse) (w : List ℕ) (n : ℤ) (l : ℕ) → p.parts.kind ≡ kind
     → awaits_number place kind ≡ true → number_of w ≡ Some n → at_place place w l p ≡ one_element (Some n) w l p

@@ -1,24 +1,21 @@
 -- Words at the front of a text.
-use Rattle.std.specs.Prelude.{◌≡◌, ℕ, ℤ, suc, ◌<◌, ◌≤◌, Bool, true, false, List, length, take, drop, get_or, Some}
+use Rattle.std.specs.Prelude.{◌≡◌, ℕ, ℤ, suc, ◌-◌, ◌<◌, ◌≤◌, Bool, true, false, List, length, take, drop, get_or, None, Some, codes}
 use Rattle.vcode_base.specs.Bytes.{decimal}
 use Rattle.vcode_base.specs.declared.kind.Scalar.{Scalar}
 use Rattle.vcode_base.specs.declared.kind.Scalar.TheVariants as scalar
 use Rattle.vcode_reader.specs.declared.place.Place.{Place}
 use Rattle.vcode_reader.specs.declared.place.Place.TheVariants.{Outside, Name, Inside, InsideOrInt, Words, Elements}
 use Rattle.vcode_reader.specs.Classes.{plain_length}
+use Rattle.vcode_reader.specs.declared.head.Head.{Head}
+use Rattle.vcode_reader.specs.declared.keyword.Keyword.{Keyword}
+use Rattle.vcode_reader.specs.Heads.{head_slots}
+use Rattle.vcode_reader.specs.Keywords.{keyword_slots}
 use Rattle.vcode_reader.specs.Numbers.{number_of}
+use Rattle.vcode_reader.specs.Parsing.{Parse, after_slot, inside, take as take_word}
+use Rattle.vcode_reader.specs.Scan.{Scan}
 
 abbrev pub IsDigit : ℕ → Type 0
 IsDigit d = (48 ≤ d) × (d ≤ 57)
-
--- the next word is one that belongs to a keyword
-abbrev pub awaits_part : Place → Bool
-awaits_part Outside = false
-awaits_part Name = false
-awaits_part Inside = false
-awaits_part InsideOrInt = false
-awaits_part (Words keyword slot begun) = true
-awaits_part (Elements keyword begun line) = false
 
 abbrev pub is_int : Scalar → Bool
 is_int scalar.Int = true
@@ -54,3 +51,20 @@ pub record HasNumber (t : List ℕ) (number : ℤ) (digits : ℕ) : Type 0 where
   pub more : digits < length t
   pub plain : plain_length t ≡ digits
   pub number_is : number_of (take digits t) ≡ Some number
+
+-- a blank, the word INT, a blank and this number are at the front of a text, in that many bytes, and a byte follows that
+-- is no part of the number's word
+pub record HasInt (t : List ℕ) (number : ℤ) (bytes : ℕ) : Type 0 where
+  pub kind : HasWord t (codes "INT")
+  pub blank : get_or (drop 4 t) 0 0 ≡ 32
+  pub more : 5 ≤ bytes
+  pub number_is : HasNumber (drop 5 t) number (bytes - 5)
+
+-- a word is at the place of an item, and begins this
+pub record BeginsItem (word : List ℕ) (head : Head) (p : Parse) : Type 0 where
+  pub good : p.fault ≡ None
+  pub takes : (line : ℕ) → take_word word line p ≡ inside head (head_slots head) line p
+
+-- a text after the first word of an instruction
+abbrev pub begun : Keyword → Scan Parse → Scan Parse
+begun k s = record s { found = after_slot k s.line (keyword_slots k) s.found }

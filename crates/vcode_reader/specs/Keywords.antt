@@ -56,6 +56,15 @@ keyword_slots keyword.Lengths = []
 keyword_slots (keyword.Move motion) = slot.Count entries.Lower ∷ slot.Count entries.Upper ∷ []
 keyword_slots keyword.Call = slot.Callee ∷ []
 
+-- whether one word must follow the first, and is a kind
+abbrev pub is_kind : List WordSlot → Bool
+is_kind (slot.Int ∷ []) = true
+is_kind (slot.Kind ∷ []) = true
+is_kind _ = false
+
+abbrev pub takes_kind : Keyword → Bool
+takes_kind k = is_kind (keyword_slots k)
+
 -- after these one word INT is allowed, which means nothing
 abbrev pub takes_int : Keyword → Bool
 takes_int keyword.Index = true

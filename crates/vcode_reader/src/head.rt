@@ -72,22 +72,15 @@ fn of_three(word: &[u8]) -> Head
 fn of_four(word: &[u8]) -> Head
     ensures { result ≡ head_of_length 4 word.now }
 {
-    if word == b"FUNC".as_slice() {
-        Head::Func
-    } else if word == b"ELSE".as_slice() {
-        Head::Else
-    } else if word == b"DIST".as_slice() {
-        Head::Start(Keyword::Distribute)
-    } else if word == b"PACK".as_slice() {
-        Head::Start(Keyword::Pack)
-    } else if word == b"COPY".as_slice() {
-        Head::Start(Keyword::Move(StackMove::Copy))
-    } else if word == b"CPOP".as_slice() {
-        Head::Start(Keyword::Move(StackMove::MoveToTop))
-    } else if word == b"CALL".as_slice() {
-        Head::Start(Keyword::Call)
-    } else {
-        Head::Other
+    match word {
+        b"FUNC" => Head::Func,
+        b"ELSE" => Head::Else,
+        b"DIST" => Head::Start(Keyword::Distribute),
+        b"PACK" => Head::Start(Keyword::Pack),
+        b"COPY" => Head::Start(Keyword::Move(StackMove::Copy)),
+        b"CPOP" => Head::Start(Keyword::Move(StackMove::MoveToTop)),
+        b"CALL" => Head::Start(Keyword::Call),
+        _ => Head::Other,
     }
 }
 
@@ -96,14 +89,11 @@ fn of_four(word: &[u8]) -> Head
 fn of_five(word: &[u8]) -> Head
     ensures { result ≡ head_of_length 5 word.now }
 {
-    if word == b"ENDIF".as_slice() {
-        Head::Endif
-    } else if word == b"CONST".as_slice() {
-        Head::Start(Keyword::Const)
-    } else if word == b"INDEX".as_slice() {
-        Head::Start(Keyword::Index)
-    } else {
-        Head::Other
+    match word {
+        b"ENDIF" => Head::Endif,
+        b"CONST" => Head::Start(Keyword::Const),
+        b"INDEX" => Head::Start(Keyword::Index),
+        _ => Head::Other,
     }
 }
 

@@ -2,7 +2,7 @@
 
 ghost use Rattle.std.specs.Prelude.{◌≡◌, []};
 ghost use Rattle.vcode_reader.specs.Firsts.{TakesOff};
-ghost use Rattle.vcode_reader.specs.Keywords.{fold_of, folding_slots, keyword_slots, takes_int, instruction_of};
+ghost use Rattle.vcode_reader.specs.Keywords.{fold_of, folding_slots, keyword_slots, takes_int, takes_kind, instruction_of};
 
 use crate::parts::InstructionParts;
 use std::alloc::Allocator;
@@ -127,6 +127,24 @@ impl Keyword {
             | Keyword::Pack => &[WordSlot::Kind],
         };
         Slots { left }
+    }
+
+    /// Is a kind the one word that must follow it?
+    #[inline(always)]
+    pub(crate) fn takes_kind(self) -> bool
+        ensures { result ≡ takes_kind self }
+    {
+        !matches!(
+            self,
+            Keyword::Const
+                | Keyword::IntToBool
+                | Keyword::BoolToInt
+                | Keyword::Index
+                | Keyword::MakeSegdes
+                | Keyword::Lengths
+                | Keyword::Move(_)
+                | Keyword::Call
+        )
     }
 
     /// Does a word `INT` after it mean nothing?

@@ -1,12 +1,13 @@
 //! A text, word by word.
 
-ghost use Rattle.std.specs.Prelude.{◌≡◌, ℕ, List, [], ◌∷◌, Some, true, false, codes, OnOk, IfOk};
+ghost use Rattle.std.specs.Prelude.{◌≡◌, ℕ, List, [], ◌∷◌, None, Some, true, false, codes, OnOk, IfOk, IfSome};
 ghost use Rattle.vcode_reader.specs.declared.head.Head.TheVariants.{Return, If, Else, Endif};
 ghost use Rattle.vcode_reader.specs.declared.place.Place.TheVariants.{Inside};
-ghost use Rattle.vcode_reader.specs.Ahead.{IsDigit, awaits_number, awaits_part};
+ghost use Rattle.vcode_reader.specs.declared.keyword.Keyword.TheVariants.{Const, Move};
+ghost use Rattle.vcode_reader.specs.Ahead.{BeginsItem, IsDigit, awaits_number};
 ghost use Rattle.vcode_reader.specs.Drafts.{is_open};
 ghost use Rattle.vcode_reader.specs.Heads.{head_slots};
-ghost use Rattle.vcode_reader.specs.Keywords.{ItemParts, keyword_slots};
+ghost use Rattle.vcode_reader.specs.Keywords.{ItemParts, keyword_slots, takes_kind};
 ghost use Rattle.vcode_reader.specs.Parsing.{start, with_fault, after_slot, item_place, after_part};
 ghost use Rattle.vcode_reader.specs.Parsing.{with_kind, with_value, counted_parts};
 ghost use Rattle.vcode_reader.specs.Parsing.{with_count, with_callee, in_slot, one_element, in_list, outside, has_name};
@@ -28,7 +29,7 @@ use std::alloc::{AllocError, Allocator};
 use std::marker::Model;
 use std::mem;
 use vcode_base::limits::{LONGEST_NAME, MOST_ELEMENTS, MOST_FUNCTIONS, MOST_OPEN_IFS};
-use vcode_base::{FunctionName, Scalar};
+use vcode_base::{FunctionName, Scalar, StackMove};
 
 /// The reading of the words so far, and what is open after them.
 #[derive(Drop)]
@@ -136,6 +137,15 @@ impl<A: Allocator + Clone> Parser<A> {
     /// An instruction whose words are all there goes after the others.
     #[inline(never)]
     fn end_instruction(&mut self, keyword: Keyword, begun: u64) -> Result<(), AllocError>
+        requires { self.old.slots ≡ [] }
+        ensures { OnOk result (self.new ≡ after_slot keyword begun [] self.old) }
+    {
+        self.add_instruction(keyword, begun)
+    }
+
+    /// The same, in line.
+    #[inline(always)]
+    fn add_instruction(&mut self, keyword: Keyword, begun: u64) -> Result<(), AllocError>
         requires { self.old.slots ≡ [] }
         ensures { OnOk result (self.new ≡ after_slot keyword begun [] self.old) }
     {
@@ -415,28 +425,22 @@ impl<A: Allocator + Clone> Parser<A> {
         Ok(())
     }
 
-    #[inline(always)]
-    fn inside(&mut self, head: Head, line: u64) -> Result<(), AllocError>
-        ensures { OnOk result (self.new ≡ inside head (head_slots head) line self.old) }
-    {
-        match head {
-            Head::Start(keyword) => self.begin_instruction(keyword, line),
-            _ => self.inside_otherwise(head, line),
-        }
-    }
-
     /// Takes the first word of an instruction.
     #[inline(always)]
-    fn begin_instruction(&mut self, keyword: Keyword, line: u64) -> Result<(), AllocError>
+    pub(crate) fn begin_instruction(
+        &mut self,
+        keyword: Keyword,
+        line: u64,
+    ) -> Result<(), AllocError>
         ensures { OnOk result (self.new ≡ after_slot keyword line (keyword_slots keyword) self.old) }
     {
         self.slots = keyword.slots();
         self.next_slot(keyword, line)
     }
 
-    /// Takes a word as `inside` does, out of line: most words there begin an instruction.
+    /// Takes a word that begins this, at the place of an item.
     #[inline(never)]
-    fn inside_otherwise(&mut self, head: Head, line: u64) -> Result<(), AllocError>
+    pub(crate) fn inside(&mut self, head: Head, line: u64) -> Result<(), AllocError>
         ensures { OnOk result (self.new ≡ inside head (head_slots head) line self.old) }
     {
         match head {
@@ -458,25 +462,73 @@ impl<A: Allocator + Clone> Parser<A> {
         self.fault
     }
 
-    /// Takes the next word, which is on this line.
+    /// What a word begins, if it is at the place of an item.
     #[inline(always)]
     #[tactic(auto, unfolding(crate::specs::Parsing::take), using(crate::proofs::Spelling::slots_by_head))]
-    pub(crate) fn take(&mut self, word: &[u8], line: u64) -> Result<(), AllocError>
-        ensures { OnOk result (self.new ≡ take word.now line self.old) }
+    pub(crate) fn head(&self, word: &[u8]) -> Option<Head>
+        ensures { IfSome result (λ head. BeginsItem word.now head self.now) }
     {
         if self.fault.is_some() {
-            return Ok(());
+            return None;
         }
-        match self.place {
-            Place::Inside => self.inside(head_of(word), line),
-            _ => self.take_anywhere(word, line),
+        if !matches!(self.place, Place::Inside) {
+            return None;
         }
+        Some(head_of(word))
     }
 
-    /// Takes a word as `take` does, out of line: it knows what to do at each place.
+    /// Takes the words of a motion of the stack, whose counts are these digits.
+    #[inline(always)]
+    pub(crate) fn take_move(
+        &mut self,
+        motion: StackMove,
+        lower: u8,
+        upper: u8,
+        line: u64,
+    ) -> Result<(), AllocError>
+        requires good { self.old.fault ≡ None }
+        requires lower { IsDigit lower }
+        requires upper { IsDigit upper }
+        ensures { let first = take (lower ∷ []) line (after_slot (Move motion) line (keyword_slots (Move motion)) self.old) in
+            OnOk result (self.new ≡ take (upper ∷ []) line first) }
+    {
+        self.parts.lower = u16::from(lower - b'0');
+        self.parts.upper = u16::from(upper - b'0');
+        self.slots = Slots::none();
+        self.add_instruction(Keyword::Move(motion), line)
+    }
+
+    /// Takes the words of a constant of one number.
+    #[inline(always)]
+    pub(crate) fn take_constant(&mut self, number: i64, line: u64) -> Result<(), AllocError>
+        requires good { self.old.fault ≡ None }
+        ensures { let kind = take (codes "INT") line (after_slot Const line (keyword_slots Const) self.old) in
+            OnOk result ((word : List ℕ) → number_of word ≡ Some number → self.new ≡ take word line kind) }
+    {
+        self.parts.kind = Scalar::Int;
+        self.parts.numbers.clear();
+        self.parts.numbers.push(number)?;
+        self.slots = Slots::none();
+        self.add_instruction(Keyword::Const, line)
+    }
+
+    /// Takes the words of an instruction of one kind, which is `INT`.
+    #[inline(always)]
+    pub(crate) fn take_of_int(&mut self, keyword: Keyword, line: u64) -> Result<(), AllocError>
+        requires good { self.old.fault ≡ None }
+        requires kind { takes_kind keyword ≡ true }
+        ensures { OnOk result (self.new
+            ≡ take (codes "INT") line (after_slot keyword line (keyword_slots keyword) self.old)) }
+    {
+        self.parts.kind = Scalar::Int;
+        self.slots = Slots::none();
+        self.end_instruction(keyword, line)
+    }
+
+    /// Takes the next word, which is on this line.
     #[inline(never)]
     #[tactic(auto, unfolding(crate::specs::Parsing::take), using(crate::proofs::Spelling::slots_by_head))]
-    fn take_anywhere(&mut self, word: &[u8], line: u64) -> Result<(), AllocError>
+    pub(crate) fn take(&mut self, word: &[u8], line: u64) -> Result<(), AllocError>
         ensures { OnOk result (self.new ≡ take word.now line self.old) }
     {
         if self.fault.is_some() {
@@ -499,53 +551,6 @@ impl<A: Allocator + Clone> Parser<A> {
             Place::Elements(keyword, begun, _) => self.in_list(keyword, begun, word, line)?,
         }
         Ok(())
-    }
-
-    /// Whether the next word is one that belongs to a keyword, as a kind or a count.
-    #[inline(always)]
-    pub(crate) fn awaits_part(&self) -> bool
-        ensures { result ≡ awaits_part self.now.place }
-    {
-        matches!(self.place, Place::Words(..))
-    }
-
-    /// Takes the next word, which is `INT` on this line.
-    #[inline(always)]
-    #[tactic(auto, unfolding(crate::specs::Parsing::take))]
-    pub(crate) fn take_int(&mut self, line: u64) -> Result<(), AllocError>
-        ensures { OnOk result (self.new ≡ take (codes "INT") line self.old) }
-    {
-        if self.fault.is_some() {
-            return Ok(());
-        }
-        match self.place {
-            Place::Words(keyword, WordSlot::Int, begun) => {
-                self.kind(Some(Scalar::Int), keyword, begun, line)
-            }
-            Place::Words(keyword, WordSlot::Kind, begun) => {
-                self.kind(Some(Scalar::Int), keyword, begun, line)
-            }
-            _ => self.take_anywhere(b"INT", line),
-        }
-    }
-
-    /// Takes the next word, which is this digit on this line.
-    #[inline(always)]
-    #[tactic(auto, unfolding(crate::specs::Parsing::take), using(crate::proofs::Digits::count_digit))]
-    pub(crate) fn take_digit(&mut self, digit: u8, line: u64) -> Result<(), AllocError>
-        requires { IsDigit digit }
-        ensures { OnOk result (self.new ≡ take (digit ∷ []) line self.old) }
-    {
-        if self.fault.is_some() {
-            return Ok(());
-        }
-        match self.place {
-            Place::Words(keyword, WordSlot::Count(entries), begun) => {
-                let count = u16::from(digit - b'0');
-                self.take_count(entries, count, keyword, begun)
-            }
-            _ => self.take_anywhere(&[digit], line),
-        }
     }
 
     /// Whether the next word is in a list of numbers.

@@ -6,7 +6,8 @@ ghost use Rattle.vcode_reader.specs.declared.class.Class.TheVariants.{LineFeed};
 ghost use Rattle.vcode_base.specs.Lines.{line_feeds};
 ghost use Rattle.vcode_base.specs.TextAnswers.{Answers};
 ghost use Rattle.vcode_base.specs.declared.fault.TextFault.TheVariants.{Memory};
-ghost use Rattle.vcode_reader.specs.Ahead.{awaits_number};
+ghost use Rattle.vcode_reader.specs.Ahead.{awaits_number, begun};
+ghost use Rattle.vcode_reader.specs.declared.keyword.Keyword.TheVariants.{Const, Move};
 ghost use Rattle.vcode_reader.specs.Classes.{class_of, plain_length};
 ghost use Rattle.vcode_reader.specs.First.{IsAnswer};
 ghost use Rattle.vcode_reader.specs.Parsing.{start, take};
@@ -14,13 +15,16 @@ ghost use Rattle.vcode_reader.specs.Reading.{outcome, reading, Gives, HasCome};
 ghost use Rattle.vcode_reader.specs.Refusals.{Fault};
 ghost use Rattle.vcode_reader.specs.Scan.{beginning, end_word, lone_word, in_text, in_comment, scan_byte, scan_all};
 
-use crate::ahead::{digit_ahead, is_int_ahead, number_ahead};
+use crate::ahead::{digits_ahead, int_ahead, is_int_ahead, number_ahead};
 use crate::class::{Class, class_of, is_plain, plain_length};
 use crate::fault::{CodeFault, ReadFault};
+use crate::head::Head;
+use crate::keyword::Keyword;
 use crate::parser::Parser;
 use crate::program::{Function, Program};
 use std::alloc::{AllocError, Allocator};
 use std::marker::Model;
+use vcode_base::StackMove;
 
 /// The state of a text that comes byte by byte.
 #[derive(Drop)]
@@ -138,7 +142,102 @@ impl<A: Allocator + Clone> Scanner<A> {
             self.word.extend_from_slice(plain)?;
             return Ok(rest);
         }
-        self.parser.take(plain, self.line)?;
+        match self.parser.head(plain) {
+            Some(Head::Start(keyword)) => self.instruction(keyword, rest),
+            Some(head) => {
+                self.parser.inside(head, self.line)?;
+                Ok(rest)
+            }
+            None => {
+                self.parser.take(plain, self.line)?;
+                Ok(rest)
+            }
+        }
+    }
+
+    /// Begins an instruction after its first word, and takes the words that belong to it if they are short and at the front
+    /// of a text. Answers what is after them.
+    #[inline(always)]
+    fn instruction<'p>(&mut self, keyword: Keyword, text: &'p [u8]) -> Result<&'p [u8], AllocError>
+        requires text { self.old.comment ≡ None }
+        requires word { self.old.word ≡ [] }
+        requires good { self.old.found.fault ≡ None }
+        ensures same { IfOk result (λ rest.
+            scan_all take (begun keyword self.old) text.now ≡ scan_all take self.new rest.now) }
+        ensures within { IfOk result (λ rest. length rest.now ≤ length text.now) }
+    {
+        match keyword {
+            Keyword::Move(motion) => self.motion(motion, text),
+            Keyword::Const => self.constant(text),
+            _ => self.of_int(keyword, text),
+        }
+    }
+
+    /// Begins an instruction after its first word, and takes no other.
+    #[inline(always)]
+    fn begin<'p>(&mut self, keyword: Keyword, text: &'p [u8]) -> Result<&'p [u8], AllocError>
+        ensures same { IfOk result (λ rest.
+            scan_all take (begun keyword self.old) text.now ≡ scan_all take self.new rest.now) }
+        ensures within { IfOk result (λ rest. length rest.now ≤ length text.now) }
+    {
+        self.parser.begin_instruction(keyword, self.line)?;
+        Ok(text)
+    }
+
+    /// The same for a motion of the stack, with its counts if they have one digit each.
+    #[inline(always)]
+    fn motion<'p>(&mut self, motion: StackMove, text: &'p [u8]) -> Result<&'p [u8], AllocError>
+        requires text { self.old.comment ≡ None }
+        requires word { self.old.word ≡ [] }
+        requires good { self.old.found.fault ≡ None }
+        ensures same { IfOk result (λ rest.
+            scan_all take (begun (Move motion) self.old) text.now ≡ scan_all take self.new rest.now) }
+        ensures within { IfOk result (λ rest. length rest.now ≤ length text.now) }
+    {
+        let Some((lower, upper)) = digits_ahead(text) else {
+            return self.begin(Keyword::Move(motion), text);
+        };
+        let (_, rest) = text.split_at(4);
+        self.parser.take_move(motion, lower, upper, self.line)?;
+        Ok(rest)
+    }
+
+    /// The same for a constant, with its words if they are `INT` and a number.
+    #[inline(always)]
+    fn constant<'p>(&mut self, text: &'p [u8]) -> Result<&'p [u8], AllocError>
+        requires text { self.old.comment ≡ None }
+        requires word { self.old.word ≡ [] }
+        requires good { self.old.found.fault ≡ None }
+        ensures same { IfOk result (λ rest.
+            scan_all take (begun Const self.old) text.now ≡ scan_all take self.new rest.now) }
+        ensures within { IfOk result (λ rest. length rest.now ≤ length text.now) }
+    {
+        let Some((number, len)) = int_ahead(text) else {
+            return self.begin(Keyword::Const, text);
+        };
+        let (_, rest) = text.split_at(len);
+        self.parser.take_constant(number, self.line)?;
+        Ok(rest)
+    }
+
+    /// The same for an instruction of one kind, with it if it is `INT`.
+    #[inline(always)]
+    fn of_int<'p>(&mut self, keyword: Keyword, text: &'p [u8]) -> Result<&'p [u8], AllocError>
+        requires text { self.old.comment ≡ None }
+        requires word { self.old.word ≡ [] }
+        requires good { self.old.found.fault ≡ None }
+        ensures same { IfOk result (λ rest.
+            scan_all take (begun keyword self.old) text.now ≡ scan_all take self.new rest.now) }
+        ensures within { IfOk result (λ rest. length rest.now ≤ length text.now) }
+    {
+        if !keyword.takes_kind() {
+            return self.begin(keyword, text);
+        }
+        if !is_int_ahead(text) {
+            return self.begin(keyword, text);
+        }
+        let (_, rest) = text.split_at(4);
+        self.parser.take_of_int(keyword, self.line)?;
         Ok(rest)
     }
 
@@ -162,65 +261,6 @@ impl<A: Allocator + Clone> Scanner<A> {
         let (_, rest) = text.split_at(len);
         self.parser.take_number(number, self.line)?;
         Ok(self.pass_separator(rest))
-    }
-
-    /// Takes short words that belong to a keyword, at the front of a text and each after a blank, and the separator
-    /// after them, and answers what is after it.
-    #[inline(always)]
-    fn short_words<'p>(&mut self, text: &'p [u8]) -> Result<&'p [u8], AllocError>
-        requires { self.old.line + line_feeds text.now < 2 ^ 64 }
-        ensures same { IfOk result (λ rest. scan_all take self.old text.now ≡ scan_all take self.new rest.now) }
-        ensures within { IfOk result (λ rest. length rest.now ≤ length text.now) }
-    {
-        if !self.parser.awaits_part() {
-            return Ok(self.pass_separator(text));
-        }
-        let first = self.int_word(text)?;
-        let second = self.digit_word(first)?;
-        let third = self.digit_word(second)?;
-        Ok(self.pass_separator(third))
-    }
-
-    /// Takes a blank and the word `INT` at the front of a text, if they are there and no word and no comment is open,
-    /// and answers what is after them.
-    #[inline(always)]
-    fn int_word<'p>(&mut self, text: &'p [u8]) -> Result<&'p [u8], AllocError>
-        ensures same { IfOk result (λ rest. scan_all take self.old text.now ≡ scan_all take self.new rest.now) }
-        ensures within { IfOk result (λ rest. length rest.now ≤ length text.now) }
-    {
-        if self.comment.is_some() {
-            return Ok(text);
-        }
-        if !self.word.is_empty() {
-            return Ok(text);
-        }
-        if !is_int_ahead(text) {
-            return Ok(text);
-        }
-        let (_, rest) = text.split_at(4);
-        self.parser.take_int(self.line)?;
-        Ok(rest)
-    }
-
-    /// Takes a blank and a word of one digit at the front of a text, if they are there and no word and no comment is
-    /// open, and answers what is after them.
-    #[inline(always)]
-    fn digit_word<'p>(&mut self, text: &'p [u8]) -> Result<&'p [u8], AllocError>
-        ensures same { IfOk result (λ rest. scan_all take self.old text.now ≡ scan_all take self.new rest.now) }
-        ensures within { IfOk result (λ rest. length rest.now ≤ length text.now) }
-    {
-        if self.comment.is_some() {
-            return Ok(text);
-        }
-        if !self.word.is_empty() {
-            return Ok(text);
-        }
-        let Some(digit) = digit_ahead(text) else {
-            return Ok(text);
-        };
-        let (_, rest) = text.split_at(2);
-        self.parser.take_digit(digit, self.line)?;
-        Ok(rest)
     }
 
     /// Passes over one blank or LF at the front of a text, if no word and no comment is open, and answers what is after
@@ -267,7 +307,7 @@ impl<A: Allocator + Clone> Scanner<A> {
                 return self.number(text);
             }
             let rest = self.plain_bytes(text)?;
-            return self.short_words(rest);
+            return Ok(self.pass_separator(rest));
         }
         let (_, rest) = text.split_at(1);
         self.byte(byte)?;

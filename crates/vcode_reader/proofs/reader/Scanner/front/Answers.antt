@@ -2,8 +2,8 @@ use Rattle.vcode_reader.specs.Parsing.{take}
 use Rattle.vcode_reader.proofs.Lines.{drop_next, later_same, next_room, same_room}
 use Rattle.vcode_reader.proofs.reader.Scanner.front.Goals as goal
 
-pub short_words-requires : goal.short_words-requires
-short_words-requires g c =
+pub pass_separator-requires : goal.pass_separator-requires
+pass_separator-requires g c =
     same_room take c.args.self.now c.plain_bytes.new.self _ _ _ c.in_ok-rest.ensures.same c.requires.room
 
 pub byte-requires : goal.byte-requires

@@ -1,5 +1,5 @@
 use Rattle.vcode_reader.proofs.Numerals.{digits_found}
-use Rattle.vcode_reader.proofs.ahead.digits_ahead.Goals as goal
+use Rattle.vcode_reader.proofs.ahead.value_ahead.Goals as goal
 
 pub returns : goal.returns
 returns c =

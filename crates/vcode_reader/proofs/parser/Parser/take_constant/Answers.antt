@@ -1,0 +1,26 @@
+use Rattle.std.proofs.Common.{◌≡◌, ◌∙◌, [], ◌∷◌, ◌++◌, None, ap, rules, to_z-of_z, w64}
+use Rattle.std.specs.Prelude.{FitsSigned}
+use Rattle.std.proofs.lemmas.Result.{on_ok_weaker}
+use Rattle.vcode_reader.specs.Parsing.{Parse}
+use Rattle.vcode_reader.proofs.Whole.{of_number}
+use Rattle.vcode_reader.proofs.parser.Parser.take_constant.Goals as goal
+
+pub returns : goal.returns
+returns g c =
+    let inside = c.self.inside in
+    let p : Parse = record {
+      functions = inside.functions.items;
+      place = inside.place;
+      name = inside.name;
+      line = inside.line;
+      draft = inside.draft;
+      slots = inside.slots;
+      parts = inside.parts;
+      fault = inside.fault;
+    } in
+    let good : p.fault ≡ None = rw (← c.self.view_is) at c.requires.good in
+    let fits : FitsSigned w64 c.args.number = search rules in
+    let pushed : c.push.new.self ≡ c.args.number ∷ [] =
+    (rw (to_z-of_z fits) at c.in_ok-push.ensures.pushed) ∙ ap (λ ns. ns ++ c.args.number ∷ []) c.clear.ensures in
+    rw (← c.self.view_is) (on_ok_weaker c.add_instruction.result
+    (λ e w h. (rw pushed at e) ∙ of_number w c.args.number c.args.line p good h) c.add_instruction.ensures)

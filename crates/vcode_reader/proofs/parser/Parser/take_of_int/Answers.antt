@@ -1,0 +1,20 @@
+use Rattle.std.proofs.Common.{◌≡◌, None}
+use Rattle.vcode_reader.specs.Parsing.{Parse}
+use Rattle.vcode_reader.proofs.Whole.{of_int}
+use Rattle.vcode_reader.proofs.parser.Parser.take_of_int.Goals as goal
+
+pub returns : goal.returns
+returns g c =
+    let inside = c.self.inside in
+    let p : Parse = record {
+      functions = inside.functions.items;
+      place = inside.place;
+      name = inside.name;
+      line = inside.line;
+      draft = inside.draft;
+      slots = inside.slots;
+      parts = inside.parts;
+      fault = inside.fault;
+    } in
+    let good : p.fault ≡ None = rw (← c.self.view_is) at c.requires.good in
+    rw (← c.self.view_is, ← of_int c.args.keyword c.args.line p good c.requires.kind) c.end_instruction.ensures

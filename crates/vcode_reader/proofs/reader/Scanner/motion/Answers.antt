@@ -1,0 +1,22 @@
+use Rattle.std.proofs.Common.{◌≡◌, ◌∙◌, ◌<◌, ◌≤◌, [], None, length, arith}
+use Rattle.vcode_reader.specs.declared.keyword.Keyword.TheVariants.{Move}
+use Rattle.vcode_reader.specs.Ahead.{begun}
+use Rattle.vcode_reader.specs.Parsing.{Parse}
+use Rattle.vcode_reader.specs.Scan.{Scan}
+use Rattle.vcode_reader.proofs.Whole.{digits_passed}
+use Rattle.vcode_reader.proofs.reader.Scanner.motion.Goals as goal
+
+pub returns-clause-same : goal.returns-clause-same
+returns-clause-same g c =
+    let inside = c.self.inside in
+    let s : Scan Parse = record {
+      found = inside.parser;
+      line = inside.line;
+      word = inside.word.items;
+      comment = inside.comment;
+    } in
+    let none : inside.comment ≡ None = rw (← c.self.view_is) at c.requires.text in
+    let empty : inside.word.items ≡ [] = rw (← c.self.view_is) at c.requires.word in
+    rw (← c.self.view_is, c.in_ok-take_move.ensures) (digits_passed (begun (Move c.args.motion) s) c.args.text.now
+    c.split_at.result.1.now c.in-Some.lower c.in-Some.upper none empty c.in-Some.ensures.first c.in-Some.ensures.second
+    c.split_at.ensures.back)
