@@ -99,6 +99,7 @@ fn of_five(word: &[u8]) -> Head
 
 /// Words of six bytes.
 #[tactic(auto, unfolding(crate::specs::Heads::head_of_length, crate::specs::Heads::rows))]
+#[inline(never)]
 fn of_six(word: &[u8]) -> Head
     ensures { result ≡ head_of_length 6 word.now }
 {
@@ -123,6 +124,7 @@ fn of_six(word: &[u8]) -> Head
 
 /// Words of seven bytes.
 #[tactic(auto, unfolding(crate::specs::Heads::head_of_length, crate::specs::Heads::rows))]
+#[inline(never)]
 fn of_seven(word: &[u8]) -> Head
     ensures { result ≡ head_of_length 7 word.now }
 {
@@ -143,6 +145,7 @@ fn of_seven(word: &[u8]) -> Head
 
 /// Words of eight bytes.
 #[tactic(auto, unfolding(crate::specs::Heads::head_of_length, crate::specs::Heads::rows))]
+#[inline(never)]
 fn of_eight(word: &[u8]) -> Head
     ensures { result ≡ head_of_length 8 word.now }
 {
@@ -169,6 +172,7 @@ fn of_eight(word: &[u8]) -> Head
 
 /// Words of nine to eleven bytes.
 #[tactic(auto, unfolding(crate::specs::Heads::head_longer, crate::specs::Heads::rows))]
+#[inline(never)]
 fn of_more(word: &[u8]) -> Head
     ensures { result ≡ head_longer 8 word.now }
 {
