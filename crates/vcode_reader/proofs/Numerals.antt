@@ -1,10 +1,9 @@
 -- Numbers at the front of a text.
-use Rattle.std.proofs.Common.{◌≡◌, ◌∙◌, ℕ, ℤ, zero, suc, ◌+◌, ◌-◌, ◌*◌, ◌==◌, ◌<◌, ◌≤◌, Bool, true, false, cond, ◌&&◌, List, [], ◌∷◌}
+use Rattle.std.proofs.Common.{◌≡◌, ◌∙◌, ℕ, ℤ, zero, suc, ◌+◌, ◌-◌, ◌*◌, ◌==◌, ◌<◌, ◌≤◌, Bool, true, false, cond, List, [], ◌∷◌}
 use Rattle.std.proofs.Common.{◌++◌, Option, Some, None, refl, arith, ap, sym, add-one, length, take, drop, get_or}
-use Rattle.std.specs.Prelude.{if◌then◌else◌, codes, nat_le, nat_lt, is_some}
+use Rattle.std.specs.Prelude.{if◌then◌else◌, codes, nat_lt, is_some}
 use Rattle.std.specs.Str.{bytes_eq}
 use Rattle.std.proofs.lemmas.Bool.Decides.{nat_tests}
-use Rattle.std.proofs.lemmas.List.{append-nil}
 use Rattle.std.proofs.lemmas.Slice.Eq.{bytes_eq-Decides}
 use Rattle.vcode_base.specs.Bytes.{IsNumberAtFront, decimal, digit_count, digits_from, is_digit}
 use Rattle.vcode_base.specs.declared.kind.Scalar.{Scalar}

@@ -1,8 +1,6 @@
 -- Instructions whose words are taken at once.
-use Rattle.std.proofs.Common.{◌≡◌, ◌∙◌, ℕ, ℤ, ◌+◌, ◌-◌, ◌≤◌, true, false, List, [], ◌∷◌, None, Some, refl, arith, ap, sym}
+use Rattle.std.proofs.Common.{◌≡◌, ◌∙◌, ℕ, ℤ, ◌+◌, ◌-◌, ◌≤◌, true, List, [], ◌∷◌, None, Some, refl, arith, ap, sym}
 use Rattle.std.proofs.Common.{codes, length, drop}
-use Rattle.std.specs.Prelude.{is_some}
-use Rattle.std.specs.Str.{bytes_eq}
 use Rattle.std.proofs.lemmas.List.{drop-drop}
 use Rattle.vcode_base.specs.declared.kind.Scalar.TheVariants as scalar
 use Rattle.vcode_base.specs.declared.op.StackMove.{StackMove}
@@ -10,7 +8,7 @@ use Rattle.vcode_reader.specs.declared.keyword.Keyword.{Keyword}
 use Rattle.vcode_reader.specs.declared.keyword.Keyword.TheVariants.{Const, Move}
 use Rattle.vcode_reader.specs.declared.keyword.WordSlot.{WordSlot}
 use Rattle.vcode_reader.specs.declared.keyword.WordSlot.TheVariants as slot
-use Rattle.vcode_reader.specs.Ahead.{HasInt, HasWord, IsDigit, begun}
+use Rattle.vcode_reader.specs.Ahead.{HasInt, HasWord, IsDigit}
 use Rattle.vcode_reader.specs.Keywords.{is_kind, keyword_slots, takes_kind}
 use Rattle.vcode_reader.specs.Numbers.{number_of}
 use Rattle.vcode_reader.specs.Parsing.{Parse, after_slot, take}

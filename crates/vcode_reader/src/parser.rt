@@ -568,7 +568,8 @@ impl<A: Allocator + Clone> Parser<A> {
     #[inline(always)]
     pub(crate) fn take_number(&mut self, number: i64, line: u64) -> Result<(), AllocError>
         requires { awaits_number self.old.place self.old.parts.kind ≡ true }
-        ensures { OnOk result ((word : List ℕ) → number_of word ≡ Some number → self.new ≡ take word line self.old) }
+        ensures taken { OnOk result ((word : List ℕ) → number_of word ≡ Some number → self.new ≡ take word line self.old) }
+        ensures number { awaits_number self.new.place self.new.parts.kind ≡ true }
     {
         if self.fault.is_some() {
             return Ok(());

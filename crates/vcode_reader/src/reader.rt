@@ -1,6 +1,6 @@
 //! A text, byte by byte.
 
-ghost use Rattle.std.specs.Prelude.{◌≡◌, ◌+◌, ◌<◌, ◌≤◌, ◌^◌, OnOk, OnErr, IsErr, IsErrOf, IfOk, IsTrue, true, false, ℕ};
+ghost use Rattle.std.specs.Prelude.{◌≡◌, ◌+◌, ◌<◌, ◌≤◌, ◌^◌, OnOk, OnErr, IsErr, IsErrOf, IfNone, IfOk, IfSome, IsTrue, true, false, ℕ};
 ghost use Rattle.std.specs.Prelude.{List, [], ◌++◌, length, None, Some, Err};
 ghost use Rattle.vcode_reader.specs.declared.class.Class.TheVariants.{LineFeed};
 ghost use Rattle.vcode_base.specs.Lines.{line_feeds};
@@ -241,8 +241,50 @@ impl<A: Allocator + Clone> Scanner<A> {
         Ok(rest)
     }
 
-    /// Takes a number of a list at the front of a text outside a comment, if it is whole, with the separator after it;
-    /// else the plain bytes there. Answers what is after them.
+    /// Takes a number of a list at the front of a text outside a comment, if it is whole, with the separator after it, and
+    /// answers what is after them. Else nothing changes.
+    #[inline(always)]
+    fn next_number<'p>(&mut self, text: &'p [u8]) -> Result<Option<&'p [u8]>, AllocError>
+        requires text { self.old.comment ≡ None }
+        requires number { awaits_number self.old.found.place self.old.found.parts.kind ≡ true }
+        requires room { self.old.line + line_feeds text.now < 2 ^ 64 }
+        ensures same { IfOk result (λ found. IfSome found (λ rest.
+            scan_all take self.old text.now ≡ scan_all take self.new rest.now)) }
+        ensures shorter { IfOk result (λ found. IfSome found (λ rest. length rest.now < length text.now)) }
+        ensures unchanged { IfOk result (λ found. IfNone found (self.new ≡ self.old)) }
+        ensures text { self.new.comment ≡ None }
+        ensures number { awaits_number self.new.found.place self.new.found.parts.kind ≡ true }
+    {
+        if !self.word.is_empty() {
+            return Ok(None);
+        }
+        let Some((number, len)) = number_ahead(text) else {
+            return Ok(None);
+        };
+        let (_, rest) = text.split_at(len);
+        self.parser.take_number(number, self.line)?;
+        Ok(Some(self.pass_separator(rest)))
+    }
+
+    /// Takes the numbers of a list at the front of a text outside a comment, as far as they are whole, each with the
+    /// separator after it, and answers what is after them.
+    #[inline(always)]
+    fn numbers<'p>(&mut self, text: &'p [u8]) -> Result<&'p [u8], AllocError>
+        requires text { self.old.comment ≡ None }
+        requires number { awaits_number self.old.found.place self.old.found.parts.kind ≡ true }
+        requires room { self.old.line + line_feeds text.now < 2 ^ 64 }
+        ensures same { IfOk result (λ rest. scan_all take self.old text.now ≡ scan_all take self.new rest.now) }
+        ensures within { IfOk result (λ rest. length rest.now ≤ length text.now) }
+    {
+        let mut rest = text;
+        'numbers: while let Some(behind) = self.next_number(rest)? {
+            rest = behind;
+        }
+        Ok(rest)
+    }
+
+    /// Takes numbers of a list at the front of a text outside a comment, if the first is whole; else the plain bytes
+    /// there. Answers what is after them.
     #[inline(always)]
     fn number<'p>(&mut self, text: &'p [u8]) -> Result<&'p [u8], AllocError>
         requires text { self.old.comment ≡ None }
@@ -252,15 +294,10 @@ impl<A: Allocator + Clone> Scanner<A> {
         ensures same { IfOk result (λ rest. scan_all take self.old text.now ≡ scan_all take self.new rest.now) }
         ensures shorter { IfOk result (λ rest. length rest.now < length text.now) }
     {
-        if !self.word.is_empty() {
-            return self.plain_bytes(text);
+        match self.next_number(text)? {
+            Some(rest) => self.numbers(rest),
+            None => self.plain_bytes(text),
         }
-        let Some((number, len)) = number_ahead(text) else {
-            return self.plain_bytes(text);
-        };
-        let (_, rest) = text.split_at(len);
-        self.parser.take_number(number, self.line)?;
-        Ok(self.pass_separator(rest))
     }
 
     /// Passes over one blank or LF at the front of a text, if no word and no comment is open, and answers what is after
@@ -270,6 +307,8 @@ impl<A: Allocator + Clone> Scanner<A> {
         requires { self.old.line + line_feeds text.now < 2 ^ 64 }
         ensures same { scan_all take self.old text.now ≡ scan_all take self.new result.now }
         ensures within { length result.now ≤ length text.now }
+        ensures found { self.new.found ≡ self.old.found }
+        ensures comment { self.new.comment ≡ self.old.comment }
     {
         if text.is_empty() {
             return text;

@@ -1,4 +1,4 @@
-use Rattle.std.proofs.Common.{◌≡◌, ◌∙◌, ℕ, ℤ, List, [], None, Some, codes, rules, subst, to_z-of_z, w64}
+use Rattle.std.proofs.Common.{◌≡◌, ℕ, ℤ, List, [], None, Some, codes, rules, subst, to_z-of_z, w64}
 use Rattle.std.specs.Prelude.{FitsSigned}
 use Rattle.vcode_reader.specs.declared.keyword.Keyword.TheVariants.{Const}
 use Rattle.vcode_reader.specs.Ahead.{begun}

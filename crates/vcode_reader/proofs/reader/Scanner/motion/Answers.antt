@@ -1,4 +1,4 @@
-use Rattle.std.proofs.Common.{◌≡◌, ◌∙◌, ◌<◌, ◌≤◌, [], None, length, arith}
+use Rattle.std.proofs.Common.{◌≡◌, [], None}
 use Rattle.vcode_reader.specs.declared.keyword.Keyword.TheVariants.{Move}
 use Rattle.vcode_reader.specs.Ahead.{begun}
 use Rattle.vcode_reader.specs.Parsing.{Parse}

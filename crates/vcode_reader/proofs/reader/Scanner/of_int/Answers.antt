@@ -1,4 +1,4 @@
-use Rattle.std.proofs.Common.{◌≡◌, ◌∙◌, ◌<◌, ◌≤◌, [], None, codes, length, arith}
+use Rattle.std.proofs.Common.{◌≡◌, [], None, codes}
 use Rattle.vcode_reader.specs.Ahead.{begun}
 use Rattle.vcode_reader.specs.Parsing.{Parse, take}
 use Rattle.vcode_reader.specs.Scan.{Scan}

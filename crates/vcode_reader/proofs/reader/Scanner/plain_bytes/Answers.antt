@@ -1,4 +1,4 @@
-use Rattle.std.proofs.Common.{◌≡◌, ◌∙◌, ◌<◌, ◌≤◌, [], length, vec_len, arith, sym}
+use Rattle.std.proofs.Common.{◌≡◌, ◌∙◌, ◌≤◌, [], length, vec_len, arith, sym}
 use Rattle.vcode_reader.specs.Parsing.{Parse, take}
 use Rattle.vcode_reader.specs.Scan.{Scan}
 use Rattle.vcode_reader.proofs.Pieces.{no_bytes, plain_run, plain_within, some_bytes, whole_word}
@@ -67,8 +67,13 @@ returns-in_ok-inside-in-Some g c =
     (rw c.plain_length.ensures at c.split_at.ensures.back) some more in
     record {
       same = rw (← c.self.view_is, c.in_ok-inside-in-Some.ensures ∙ sym (c.in-Some.ensures.takes inside.line)) whole;
-      shorter = omega (arith, c.split_at.ensures.back_len, c.plain_length.ensures, c.requires.some,
-      plain_within c.args.text.now);
+      shorter = omega (
+        arith,
+        c.split_at.ensures.back_len,
+        c.plain_length.ensures,
+        c.requires.some,
+        plain_within c.args.text.now,
+      );
     }
 
 pub returns-in_ok-take-in-None-clause-same : goal.returns-in_ok-take-in-None-clause-same
