@@ -18,9 +18,11 @@ use Rattle.vcode_base.specs.contracts.op.StackMove as motion
 use Rattle.vcode_base.specs.contracts.instr.Instr as instr
 use Rattle.vcode_base.specs.contracts.instr.InstrPartialEq.TheImpl as instr_eq
 use Rattle.vcode_base.specs.declared.instr.Instr.{Instr}
-use Rattle.vcode_reader.specs.contracts.line.CodeItem as parts
-use Rattle.vcode_reader.specs.contracts.line.CodeItemPartialEq.TheImpl as part_eq
-use Rattle.vcode_reader.specs.declared.line.CodeItem.{CodeItem}
+use Rattle.vcode_reader.specs.contracts.code_lines.LinkedItem as linked
+use Rattle.vcode_reader.specs.declared.code_lines.LinkedItem.{LinkedItem}
+use Rattle.vcode_reader.specs.Pools.{PooledItem}
+use Rattle.vcode_reader.proofs.Equal.{same_targets}
+use Rattle.std.specs.Option.{option_eq}
 use Rattle.std.specs.Prelude.{nat_eq}
 use Rattle.std.specs.declared.cmp.PartialEq.{Ghosts}
 use denote.RattleType.{RattleType}
@@ -240,11 +242,15 @@ module _ (L N : RattleType) (gl : Ghosts L.Denot) (dl : Dict) (gn : Ghosts N.Den
         ),
       )
 
-abbrev pub part_each : (I : RattleType) → (I.Denot → I.Denot → Bool) → Each Bool (parts.the_parts I)
-part_each I items = (λ x y. items x.0 y.0, (λ _ _. true, (λ _ _. true, (λ _ _. true, tt))))
+abbrev pub linked_each : (PooledItem → PooledItem → Bool) → Each Bool linked.the_parts
+linked_each items = (
+  λ x y. items x.0 y.0,
+  (λ x y. option_eq nat_eq x.0 y.0, (λ x y. option_eq nat_eq x.0 y.0, (λ _ _. true, tt))),
+)
 
-module _ (I : RattleType) (g : Ghosts I.Denot) (d : Dict) (items : (a b : I.Denot) → Decides (g.eq a b) (a ≡ b)) where
-  pub same_parts : (p q : CodeItem I.Denot) → Decides ((part_eq.ghosts I g d).eq p q) (p ≡ q)
-  same_parts =
-      same_values (parts.the_parts I) (parts.as_values I) (parts.the_make I) (parts.the_eta I) (part_each I g.eq)
-      (one_field items, (no_field, (no_field, (no_field, tt))))
+pub same_items : {items : PooledItem → PooledItem → Bool} → ((a b : PooledItem) → Decides (items a b) (a ≡ b)) →
+    (a b : LinkedItem) →
+    Decides (by false false linked.the_parts (linked_each items) (linked.as_values a) (linked.as_values b)) (a ≡ b)
+same_items {items} exact =
+    same_values linked.the_parts linked.as_values linked.the_make linked.the_eta (linked_each items)
+    (one_field exact, (one_field same_targets, (one_field same_targets, (no_field, tt))))

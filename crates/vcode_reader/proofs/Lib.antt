@@ -11,6 +11,7 @@ pub mod Fitting
 pub mod Fresh
 pub mod Good
 pub mod Lines
+pub mod Linking
 pub mod Numerals
 pub mod Pieces
 pub mod Pooling

@@ -1,20 +1,18 @@
 -- Lines whose lists and names lie in pools, one after another.
-use Rattle.std.proofs.Common.{◌≡◌, ◌∙◌, ℕ, ℤ, zero, suc, ◌+◌, ◌<◌, ◌≤◌, List, [], ◌∷◌, ◌++◌, length, take, drop, Some}
+use Rattle.std.proofs.Common.{◌≡◌, ◌∙◌, ℕ, ℤ, ◌+◌, ◌<◌, ◌≤◌, List, [], ◌∷◌, ◌++◌, length, take, drop, Some}
 use Rattle.std.proofs.Common.{None, true, false, refl, ap, sym, subst, append_assoc, length-append, arith, get_or}
-use Rattle.std.proofs.Common.{add-one, drop-cons}
 use Rattle.std.proofs.Math.Seq.{drop-append_seam, take-append_seam}
 use Rattle.std.proofs.lemmas.Bool.Decides.{nat_tests}
 use Rattle.std.proofs.lemmas.List.{append-nil, length-map, map-append, take_more}
-use Rattle.std.proofs.lemmas.Option.{none-some, same_Some, slice_get-map, slice_get_past, slice_get_read, slice_get_within}
+use Rattle.std.proofs.lemmas.Option.{slice_get-map, slice_get_past, slice_get_read, slice_get_within}
 use Rattle.std.proofs.lemmas.Option.{get_or_from_slice_get}
 use Rattle.std.specs.List.{slice_get}
 use Rattle.std.specs.Prelude.{map, nat_lt, option_map}
 use Rattle.vcode_base.specs.declared.instr.Instr.TheVariants as instr
 use Rattle.vcode_reader.specs.declared.line.CodeItem.{CodeItem}
 use Rattle.vcode_reader.specs.declared.line.CodeItem.TheVariants as code_item
-use Rattle.vcode_reader.specs.Pools.{PooledLine, PooledItem, list_of, name_of, all_lists, all_names, pooled_item}
-use Rattle.vcode_reader.specs.Pools.{pooled_line, pooled_lines, shown_item, shown_line, shown_lines, ItemLiesIn, ArePooled}
-use Rattle.vcode_reader.specs.Targets.{Jumps, jumps_before, jumps_from}
+use Rattle.vcode_reader.specs.Pools.{PooledLine, list_of, name_of, all_lists, all_names, pooled_item}
+use Rattle.vcode_reader.specs.Pools.{pooled_line, pooled_lines, shown_item, shown_line, shown_lines, ArePooled}
 use Rattle.vcode_reader.specs.Trees.{Item, CodeLine, line_of}
 
 -- a list that lies after these elements
@@ -42,7 +40,7 @@ item_back code_item.Else p r ls q s ns l n e f h k = refl
 item_back code_item.Endif p r ls q s ns l n e f h k = refl
 
 -- lines are what their pooled form shows
-lines_back : (xs : List CodeLine) (p ls : List ℤ) (q ns : List ℕ) (l n : ℕ) → ls ≡ p ++ all_lists xs →
+pub lines_back : (xs : List CodeLine) (p ls : List ℤ) (q ns : List ℕ) (l n : ℕ) → ls ≡ p ++ all_lists xs →
     ns ≡ q ++ all_names xs → l ≡ length p → n ≡ length q → shown_lines ls ns (pooled_lines l n xs) ≡ xs
 unfolding shown_lines pooled_lines all_lists all_names
 lines_back [] p ls q ns l n e f h k = refl
@@ -168,48 +166,6 @@ not_got ps qs place e past =
     let far : length qs ≤ place = grind (arith, nat_tests, past) in
     ap (λ z. slice_get z place) (sym e) ∙ slice_get_past qs place far
 
-pub lies_too : (i : CodeItem PooledItem) (ls ms : List ℤ) (ns os : List ℕ) → ms ≡ ls → os ≡ ns →
-    ItemLiesIn ls ns i → ItemLiesIn ms os i
-lies_too i ls ms ns os e f h =
-    subst (λ z. ItemLiesIn z os i) (sym e) (subst (λ z. ItemLiesIn ls z i) (sym f) h)
-
-item_lies : (i : CodeItem Item) (ls : List ℤ) (ns : List ℕ) (l n : ℕ) → l + length (list_of i) ≤ length ls →
-    n + length (name_of i) ≤ length ns → ItemLiesIn ls ns (pooled_item l n i)
-item_lies (code_item.Do (instr.Const kind list)) ls ns l n h k = h
-item_lies (code_item.Do (instr.Elementwise op)) ls ns l n h k = tt
-item_lies (code_item.Do (instr.Segmented op)) ls ns l n h k = tt
-item_lies (code_item.Do instr.If) ls ns l n h k = tt
-item_lies (code_item.Do (instr.Move motion lower upper)) ls ns l n h k = tt
-item_lies (code_item.Do (instr.Call name)) ls ns l n h k = k
-item_lies (code_item.Do instr.Return) ls ns l n h k = tt
-item_lies code_item.If ls ns l n h k = tt
-item_lies code_item.Else ls ns l n h k = tt
-item_lies code_item.Endif ls ns l n h k = tt
-
-line_lies : (xs : List CodeLine) (ls : List ℤ) (ns : List ℕ) (l n place : ℕ) (p : PooledLine) →
-    l + length (all_lists xs) ≤ length ls → n + length (all_names xs) ≤ length ns →
-    slice_get (pooled_lines l n xs) place ≡ Some p → ItemLiesIn ls ns p.item
-unfolding pooled_lines all_lists all_names
-line_lies [] ls ns l n place p h k e = absurd (none-some p e)
-line_lies (x ∷ xs) ls ns l n zero p h k e =
-    let long = length-append (list_of x.item) (all_lists xs) in
-    let wide = length-append (name_of x.item) (all_names xs) in
-    subst (λ z. ItemLiesIn ls ns z.item) (same_Some (pooled_line l n x) p e)
-    (item_lies x.item ls ns l n (omega (arith, h, long)) (omega (arith, k, wide)))
-line_lies (x ∷ xs) ls ns l n (suc place) p h k e =
-    let long = length-append (list_of x.item) (all_lists xs) in
-    let wide = length-append (name_of x.item) (all_names xs) in
-    line_lies xs ls ns _ _ place p (omega (arith, h, long)) (omega (arith, k, wide)) e
-
-pub item_there : (ps : List PooledLine) (ls : List ℤ) (ns : List ℕ) (place : ℕ) (p : PooledLine) → ArePooled ps ls ns →
-    slice_get ps place ≡ Some p → ItemLiesIn ls ns p.item
-item_there ps ls ns place p held e =
-    let xs : List CodeLine = shown_lines ls ns ps in
-    let lists = ap length held.lists in
-    let names = ap length held.names in
-    line_lies xs ls ns 0 0 place p (omega (arith, lists)) (omega (arith, names))
-    (ap (λ z. slice_get z place) (sym held.lines) ∙ e)
-
 pub line_there : (ps : List PooledLine) (ls : List ℤ) (ns : List ℕ) (place : ℕ) (p : PooledLine) →
     slice_get ps place ≡ Some p → slice_get (shown_lines ls ns ps) place ≡ Some (shown_line ls ns p)
 unfolding shown_lines
@@ -229,23 +185,6 @@ shown_too ps ls ms ns os place p i all e f is at same =
     is ∙ (ap (λ z. shown_item z os p.item) e ∙ ap (λ z. shown_item ls z p.item) f) in
     ap (λ (z : CodeItem Item). let here : CodeLine = line_of z p.number in Some here) shown
     ∙ (sym (line_there ps ls ns place p at) ∙ ap (λ z. slice_get z place) same)
-
--- ---- loops over lines by their places
-
-drop_at : {A : Type 0} (xs : List A) (i : ℕ) (x : A) → slice_get xs i ≡ Some x → drop i xs ≡ x ∷ drop (i + 1) xs
-drop_at xs i x h =
-    let within = slice_get_within xs i x h in
-    let first = get_or_from_slice_get xs i x x h in
-    rw (add-one i) (drop-cons xs i x within ∙ ap (λ z. z ∷ drop (suc i) xs) first)
-
--- the targets from the line before
-pub jumps_more : (lines : List CodeLine) (place p : ℕ) (x : CodeLine) (old new : Jumps) → place ≡ p + 1 →
-    Some x ≡ slice_get lines p → old ≡ jumps_from place (drop place lines) → new ≡ jumps_before x.item p old →
-    new ≡ jumps_from p (drop p lines)
-unfolding jumps_from
-jumps_more lines place p x old new same h before e =
-    e ∙ (ap (jumps_before x.item p) (before ∙ ap (λ n. jumps_from n (drop n lines)) same)
-    ∙ sym (ap (jumps_from p) (drop_at lines p x (sym h))))
 
 -- what is made of the lines up to a place, and of one line more
 pub map_more : {A B : Type 0} (f : A → B) (xs : List A) (p : ℕ) (x : A) (old new : List B) → Some x ≡ slice_get xs p →

@@ -1,11 +1,15 @@
--- The lines of a function whose lists and names lie in two pools: where each lies, and the lines that they are.
-use Rattle.std.specs.Prelude.{◌≡◌, ◌≤◌, ℕ, ℤ, ◌+◌, List, [], ◌∷◌, ◌++◌, length, map, take, drop}
+-- The lines of a function whose lists and names lie in two pools: where each lies, the lines that they are, and the
+-- targets that are put into them.
+use Rattle.std.specs.Prelude.{◌≡◌, ◌≤◌, ℕ, ℤ, ◌+◌, List, [], ◌∷◌, ◌++◌, length, map, take, drop, Option, None}
 use Rattle.vcode_base.specs.declared.instr.Instr.{Instr}
 use Rattle.vcode_base.specs.declared.instr.Instr.TheVariants as instr
+use Rattle.vcode_reader.specs.declared.code_lines.LinkedItem.{LinkedItem}
+use Rattle.vcode_reader.specs.declared.code_lines.LinkedItem.TheVariants as linked
 use Rattle.vcode_reader.specs.declared.code_lines.Span.{Span}
 use Rattle.vcode_reader.specs.declared.line.CodeItem.{CodeItem}
 use Rattle.vcode_reader.specs.declared.line.CodeItem.TheVariants as code_item
 use Rattle.vcode_reader.specs.declared.line.Numbered.{Numbered}
+use Rattle.vcode_reader.specs.Targets.{first_of, others_of, target_in, targets_of}
 use Rattle.vcode_reader.specs.Trees.{Item, CodeLine, line_of}
 
 -- an instruction with the place of its list or of its name
@@ -13,7 +17,7 @@ abbrev pub PooledItem : Type 0
 PooledItem = Instr Span Span
 
 abbrev pub PooledLine : Type 0
-PooledLine = Numbered (CodeItem PooledItem)
+PooledLine = Numbered LinkedItem
 
 -- the list, and the name, of an instruction that has one
 abbrev pub list_in : Item → List ℤ
@@ -55,11 +59,12 @@ pooled_instruction l n (instr.Move motion lower upper) = instr.Move motion lower
 pooled_instruction l n (instr.Call name) = instr.Call (span_of n name)
 pooled_instruction l n instr.Return = instr.Return
 
-abbrev pub pooled_item : ℕ → ℕ → CodeItem Item → CodeItem PooledItem
-pooled_item l n (code_item.Do i) = code_item.Do (pooled_instruction l n i)
-pooled_item l n code_item.If = code_item.If
-pooled_item l n code_item.Else = code_item.Else
-pooled_item l n code_item.Endif = code_item.Endif
+-- an IF and an ELSE have no target yet
+abbrev pub pooled_item : ℕ → ℕ → CodeItem Item → LinkedItem
+pooled_item l n (code_item.Do i) = linked.Do (pooled_instruction l n i)
+pooled_item l n code_item.If = linked.If None
+pooled_item l n code_item.Else = linked.Else None
+pooled_item l n code_item.Endif = linked.Endif
 
 abbrev pub pooled_line : ℕ → ℕ → CodeLine → PooledLine
 pooled_line l n x = line_of (pooled_item l n x.item) x.number
@@ -84,11 +89,11 @@ shown_instruction ls ns (instr.Move motion lower upper) = instr.Move motion lowe
 shown_instruction ls ns (instr.Call span) = instr.Call (part_of ns span)
 shown_instruction ls ns instr.Return = instr.Return
 
-abbrev pub shown_item : List ℤ → List ℕ → CodeItem PooledItem → CodeItem Item
-shown_item ls ns (code_item.Do i) = code_item.Do (shown_instruction ls ns i)
-shown_item ls ns code_item.If = code_item.If
-shown_item ls ns code_item.Else = code_item.Else
-shown_item ls ns code_item.Endif = code_item.Endif
+abbrev pub shown_item : List ℤ → List ℕ → LinkedItem → CodeItem Item
+shown_item ls ns (linked.Do i) = code_item.Do (shown_instruction ls ns i)
+shown_item ls ns (linked.If target) = code_item.If
+shown_item ls ns (linked.Else target) = code_item.Else
+shown_item ls ns linked.Endif = code_item.Endif
 
 abbrev pub shown_line : List ℤ → List ℕ → PooledLine → CodeLine
 shown_line ls ns x = line_of (shown_item ls ns x.item) x.number
@@ -106,12 +111,52 @@ InstructionLiesIn ls ns (instr.Const kind span) = LiesIn ls span
 InstructionLiesIn ls ns (instr.Call span) = LiesIn ns span
 InstructionLiesIn ls ns _ = Unit {0}
 
-abbrev pub ItemLiesIn : List ℤ → List ℕ → CodeItem PooledItem → Type 0
-ItemLiesIn ls ns (code_item.Do i) = InstructionLiesIn ls ns i
+abbrev pub ItemLiesIn : List ℤ → List ℕ → LinkedItem → Type 0
+ItemLiesIn ls ns (linked.Do i) = InstructionLiesIn ls ns i
 ItemLiesIn ls ns _ = Unit {0}
 
--- the lists and the names are those of the lines, one after another
+-- ---- their targets
+
+-- the target of an item that has one
+abbrev pub target_of : LinkedItem → Option ℕ
+target_of (linked.If target) = target
+target_of (linked.Else target) = target
+target_of _ = None
+
+-- an IF or an ELSE with this target
+abbrev pub with_target : Option ℕ → LinkedItem → LinkedItem
+with_target target (linked.If old) = linked.If target
+with_target target (linked.Else old) = linked.Else target
+with_target target i = i
+
+abbrev pub line_with_target : Option ℕ → PooledLine → PooledLine
+line_with_target target x = line_of (with_target target x.item) x.number
+
+-- the lines with the targets of a list, line by line
+unfoldable pub with_targets : List (Option ℕ) → List PooledLine → List PooledLine
+with_targets targets [] = []
+with_targets targets (x ∷ xs) =
+    line_with_target (target_in (first_of targets)) x ∷ with_targets (others_of targets) xs
+
+-- the places that earlier lines go on at, if this item is at this place in front of others
+abbrev pub waits_before : LinkedItem → ℕ → List ℕ → List ℕ
+waits_before (linked.Do i) place waits = waits
+waits_before (linked.If target) place waits = others_of waits
+waits_before (linked.Else target) place waits = (place + 1) ∷ others_of waits
+waits_before linked.Endif place waits = (place + 1) ∷ waits
+
+-- the lines of a function with their targets
+unfoldable pub linked_lines : List CodeLine → List PooledLine
+linked_lines xs = with_targets (targets_of xs) (pooled_lines 0 0 xs)
+
+-- the lists and the names are those of the lines, one after another; no line has a target
 pub record ArePooled (pooled : List PooledLine) (ls : List ℤ) (ns : List ℕ) : Type 0 where
   pub lines : pooled ≡ pooled_lines 0 0 (shown_lines ls ns pooled)
+  pub lists : ls ≡ all_lists (shown_lines ls ns pooled)
+  pub names : ns ≡ all_names (shown_lines ls ns pooled)
+
+-- the same, and the lines have their targets
+pub record AreLinked (pooled : List PooledLine) (ls : List ℤ) (ns : List ℕ) : Type 0 where
+  pub lines : pooled ≡ linked_lines (shown_lines ls ns pooled)
   pub lists : ls ≡ all_lists (shown_lines ls ns pooled)
   pub names : ns ≡ all_names (shown_lines ls ns pooled)

@@ -1,11 +1,15 @@
 //! The lines of a function, small and without a list of their own each.
 
-ghost use Rattle.std.specs.Prelude.{◌≡◌, ◌+◌, ◌≤◌, [], ◌∷◌, ◌++◌, length, map, slice_get, IfOk, MatchOption, OnOk, OnErr};
+ghost use Rattle.std.specs.Prelude.{◌≡◌, ◌+◌, ◌<◌, ◌≤◌, ◌^◌, ℕ, ℤ, List, [], ◌∷◌, ◌++◌, length, map, slice_get, IfOk};
+ghost use Rattle.std.specs.Prelude.{MatchOption, OnOk, OnErr};
 ghost use Rattle.vcode_base.specs.declared.instr.Instr.TheVariants as instr;
 ghost use Rattle.vcode_reader.specs.Pools.{list_in, name_in, list_of, name_of, part_of, pooled_instruction, pooled_item};
-ghost use Rattle.vcode_reader.specs.Pools.{pooled_line, shown_instruction, shown_item, span_of, InstructionLiesIn, ItemLiesIn, LiesIn};
+ghost use Rattle.vcode_reader.specs.Pools.{pooled_line, shown_instruction, shown_item, shown_lines, span_of, target_of};
+ghost use Rattle.vcode_reader.specs.Pools.{line_with_target, waits_before, with_targets, InstructionLiesIn, ItemLiesIn, LiesIn};
+ghost use Rattle.vcode_reader.specs.Targets.{first_of, target_at, targets_of};
 ghost use Rattle.vcode_reader.specs.Trees.{line_of};
 
+use crate::front_list::FrontList;
 use crate::line::{CodeItem, CodeLine, Numbered};
 use std::alloc::{AllocError, Allocator};
 use std::marker::Model;
@@ -21,10 +25,20 @@ pub struct Span {
 /// An instruction with the place of its list or of its name.
 type PooledInstruction = Instr<Span, Span>;
 
-/// A line of 24 bytes.
-type PooledLine = Numbered<CodeItem<PooledInstruction>>;
+/// An item with the place of its list or of its name. An IF and an ELSE have the place of the line that they go on at,
+/// once that is found.
+#[derive(PartialEq, Eq, Drop)]
+pub enum LinkedItem {
+    Do(PooledInstruction),
+    If(Option<u32>),
+    Else(Option<u32>),
+    Endif,
+}
 
-/// The lines of a function that is being read.
+/// A line of 24 bytes.
+type PooledLine = Numbered<LinkedItem>;
+
+/// The lines of a function that is being read, without their targets.
 #[derive(Drop)]
 pub struct GrowingLines<A: Allocator> {
     lines: Vec<PooledLine, A>,
@@ -78,27 +92,29 @@ impl<A: Allocator> GrowingLines<A> {
         self.names.clear();
     }
 
-    /// The lines, in no more memory than they need.
-    pub(crate) fn into_lines(self) -> CodeLines<A>
-        ensures { result ≡ self }
+    /// The lines with their targets, in no more memory than they need.
+    pub(crate) fn into_lines(self, alloc: A) -> Result<CodeLines<A>, AllocError>
+        ensures { IfOk result (λ lines. lines ≡ self) }
     {
         let GrowingLines {
             mut lines,
             mut lists,
             mut names,
         } = self;
+        set_targets(alloc, lines.as_mut_slice())?;
         lines.shrink_to_fit();
         lists.shrink_to_fit();
         names.shrink_to_fit();
-        CodeLines {
+        Ok(CodeLines {
             lines: Sequence::from_vec(lines),
             lists: Sequence::from_vec(lists),
             names: Sequence::from_vec(names),
-        }
+        })
     }
 }
 
-/// The lines of a function. The lists of its constants lie one after another, and so do the names of its CALLs.
+/// The lines of a function, with the target of each IF and ELSE. The lists of its constants lie one after another, and
+/// so do the names of its CALLs.
 #[derive(Drop)]
 #[derive_where(PartialEq, Eq)]
 pub struct CodeLines<A: Allocator> {
@@ -114,13 +130,13 @@ impl<A: Allocator> Model for CodeLines<A> {
 
     ghost Value = { List CodeLineOf };
 
-    ghost use Rattle.vcode_reader.specs.Pools.{ArePooled, PooledLine, pooled_lines, shown_lines, all_lists, all_names};
+    ghost use Rattle.vcode_reader.specs.Pools.{AreLinked, PooledLine, linked_lines, shown_lines, all_lists, all_names};
 
     ghost view = { λ c. shown_lines c.lists c.names c.lines };
 
-    ghost invariant = { λ c. ArePooled c.lines c.lists c.names };
+    ghost invariant = { λ c. AreLinked c.lines c.lists c.names };
 
-    ghost inverse = { λ xs. record { lines = pooled_lines 0 0 xs; lists = all_lists xs; names = all_names xs } };
+    ghost inverse = { λ xs. record { lines = linked_lines xs; lists = all_lists xs; names = all_names xs } };
 
     ghost inverse_ok = { λ c h. ap (λ (ps : List PooledLine). record c {
       lines = ps;
@@ -155,6 +171,15 @@ impl<A: Allocator> CodeLines<A> {
             number: line.number,
         })
     }
+
+    /// The target of the line at a place, if that isn't the next line.
+    pub(crate) fn target(&self, place: usize) -> Option<usize>
+        ensures { result ≡ target_at self.now place }
+    {
+        let line = self.lines.as_slice().get(place)?;
+        let target = target_of(&line.item)?;
+        Some(target as usize)
+    }
 }
 
 /// Adds a line, with its list or its name, after the others.
@@ -188,7 +213,7 @@ fn pooled_item<A: Allocator>(
     item: CodeItem<Instruction<'_>>,
     lists: &mut Vec<i64, A>,
     names: &mut Vec<u8, A>,
-) -> Result<CodeItem<PooledInstruction>, AllocError>
+) -> Result<LinkedItem, AllocError>
     ensures item { IfOk result (λ i. i ≡ pooled_item (length lists.old.items) (length names.old.items) item.entry) }
     ensures lists { OnOk result (lists.new.items ≡ lists.old.items ++ list_of item.entry) }
     ensures names { OnOk result (names.new.items ≡ names.old.items ++ name_of item.entry) }
@@ -196,14 +221,14 @@ fn pooled_item<A: Allocator>(
     ensures same_names { OnErr result (names.new.items ≡ names.old.items) }
 {
     match item {
-        CodeItem::Do(instruction) => Ok(CodeItem::Do(pooled_instruction(
+        CodeItem::Do(instruction) => Ok(LinkedItem::Do(pooled_instruction(
             instruction,
             lists,
             names,
         )?)),
-        CodeItem::If => Ok(CodeItem::If),
-        CodeItem::Else => Ok(CodeItem::Else),
-        CodeItem::Endif => Ok(CodeItem::Endif),
+        CodeItem::If => Ok(LinkedItem::If(None)),
+        CodeItem::Else => Ok(LinkedItem::Else(None)),
+        CodeItem::Endif => Ok(LinkedItem::Endif),
     }
 }
 
@@ -270,19 +295,15 @@ fn add_bytes<A: Allocator>(names: &mut Vec<u8, A>, name: &[u8]) -> Result<Span, 
 
 /// An item with its list or its name.
 #[inline(always)]
-fn shown_item<'a>(
-    item: &CodeItem<PooledInstruction>,
-    lists: &'a [i64],
-    names: &'a [u8],
-) -> CodeItem<Instruction<'a>>
+fn shown_item<'a>(item: &LinkedItem, lists: &'a [i64], names: &'a [u8]) -> CodeItem<Instruction<'a>>
     requires { ItemLiesIn lists.now names.now item.now }
     ensures { result ≡ shown_item lists.now names.now item.now }
 {
     match item {
-        CodeItem::Do(instruction) => CodeItem::Do(shown_instruction(instruction, lists, names)),
-        CodeItem::If => CodeItem::If,
-        CodeItem::Else => CodeItem::Else,
-        CodeItem::Endif => CodeItem::Endif,
+        LinkedItem::Do(instruction) => CodeItem::Do(shown_instruction(instruction, lists, names)),
+        LinkedItem::If(_) => CodeItem::If,
+        LinkedItem::Else(_) => CodeItem::Else,
+        LinkedItem::Endif => CodeItem::Endif,
     }
 }
 
@@ -315,4 +336,54 @@ fn part_of<T>(pool: &[T], span: Span) -> &[T]
 {
     let start = span.start as usize;
     &pool[start..start + span.len as usize]
+}
+
+/// The place that an item goes on at, if it has one.
+fn target_of(item: &LinkedItem) -> Option<u32>
+    ensures { result ≡ target_of item.now }
+{
+    match item {
+        LinkedItem::If(target) | LinkedItem::Else(target) => *target,
+        LinkedItem::Do(_) | LinkedItem::Endif => None,
+    }
+}
+
+/// Sets the targets of all lines, from the last to the first. Places take 32 bits: more lines than that are out of
+/// memory.
+fn set_targets<A: Allocator>(alloc: A, lines: &mut [PooledLine]) -> Result<(), AllocError>
+    ensures { OnOk result ((ls : List ℤ) (ns : List ℕ) →
+        lines.new ≡ with_targets (targets_of (shown_lines ls ns lines.old)) lines.old) }
+{
+    let mut waits = FrontList::new(alloc);
+    let Ok(mut place) = u32::try_from(lines.len()) else {
+        return Err(AllocError);
+    };
+    while place > 0 {
+        place -= 1;
+        set_target(&mut lines[place as usize], place, &mut waits)?;
+    }
+    Ok(())
+}
+
+/// Sets the target of the line at a place. The places that wait are those that earlier lines go on at.
+#[inline(always)]
+fn set_target<A: Allocator>(
+    line: &mut PooledLine,
+    place: u32,
+    waits: &mut FrontList<u32, A>,
+) -> Result<(), AllocError>
+    requires { place + 1 < 2 ^ 32 }
+    ensures line { OnOk result (line.new ≡ line_with_target (first_of waits.old) line.old) }
+    ensures waits { OnOk result (waits.new ≡ waits_before line.old.item place waits.old) }
+{
+    match &mut line.item {
+        LinkedItem::Do(_) => {}
+        LinkedItem::If(target) => *target = waits.pop(),
+        LinkedItem::Else(target) => {
+            *target = waits.pop();
+            waits.push(place + 1)?;
+        }
+        LinkedItem::Endif => waits.push(place + 1)?,
+    }
+    Ok(())
 }

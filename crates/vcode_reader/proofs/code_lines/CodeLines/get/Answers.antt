@@ -1,6 +1,7 @@
 use Rattle.std.proofs.Common.{◌∙◌, ap, sym}
 use Rattle.std.specs.List.{slice_get}
-use Rattle.vcode_reader.proofs.Pooling.{got, not_got, item_there, lies_too, no_line_there, shown_too}
+use Rattle.vcode_reader.proofs.Linking.{item_there, lies_too}
+use Rattle.vcode_reader.proofs.Pooling.{got, not_got, no_line_there, shown_too}
 use Rattle.vcode_reader.proofs.code_lines.CodeLines.get.Goals as goal
 
 pub returns-in_err-line : goal.returns-in_err-line
