@@ -9,7 +9,7 @@ use Rattle.std.proofs.lemmas.Bool.Decides.{Decides-and, Decides-like, Decides-eq
 use Rattle.std.proofs.lemmas.Slice.Eq.{slice_eq-Decides}
 use Rattle.vcode_reader.specs.declared.code_lines.Span.{Span}
 use Rattle.vcode_reader.specs.declared.code_lines.LinkedItem.{LinkedItem}
-use Rattle.vcode_reader.specs.Pools.{PooledLine, linked_lines, shown_lines, all_lists, all_names}
+use Rattle.vcode_reader.specs.Pools.{PooledLine, least_number, linked_lines, shown_lines, all_lists, all_names}
 use Rattle.vcode_reader.specs.Trees.{CodeLine, Function, Program, lines_of}
 use Rattle.vcode_reader.specs.Callees.{callees_of}
 use Rattle.vcode_reader.specs.Decode.{function_of, function_of-lines_of}
@@ -31,27 +31,29 @@ same_spans s t =
 -- lines are equal if their pooled lines and the pools are
 module _ {F : LinkedItem → LinkedItem → Bool}
     (exact : (i j : LinkedItem) → Decides (F i j) (i ≡ j)) where
-  same_line : (a b : PooledLine) → Decides (F a.item b.item && nat_eq a.number b.number) (a ≡ b)
+  same_line : (a b : PooledLine) → Decides (F a.item b.item && nat_eq a.distance b.distance) (a ≡ b)
   same_line a b =
       Decides-like _ (λ (i, n). ap
-      (λ (z : LinkedItem). let l : PooledLine = record { item = z; number = a.number } in l) i
-      ∙ ap (λ z. let l : PooledLine = record { item = b.item; number = z } in l) n)
-      (λ e. (ap (λ (x : PooledLine). x.item) e, ap (λ (x : PooledLine). x.number) e))
-      (Decides-and _ _ (exact a.item b.item) (Decides-eqb a.number b.number))
+      (λ (z : LinkedItem). let l : PooledLine = record { item = z; distance = a.distance } in l) i
+      ∙ ap (λ z. let l : PooledLine = record { item = b.item; distance = z } in l) n)
+      (λ e. (ap (λ (x : PooledLine). x.item) e, ap (λ (x : PooledLine). x.distance) e))
+      (Decides-and _ _ (exact a.item b.item) (Decides-eqb a.distance b.distance))
 
   pub same_lines : (xs ys : List CodeLine) →
-      Decides (pointwise (λ a b. F a.item b.item && nat_eq a.number b.number) (linked_lines xs)
-      (linked_lines ys) && (pointwise int_eq (all_lists xs) (all_lists ys) && pointwise nat_eq (all_names xs)
-      (all_names ys))) (xs ≡ ys)
+      Decides (nat_eq (least_number xs) (least_number ys) &&
+      (pointwise (λ a b. F a.item b.item && nat_eq a.distance b.distance) (linked_lines xs) (linked_lines ys) &&
+      (pointwise int_eq (all_lists xs) (all_lists ys) && pointwise nat_eq (all_names xs) (all_names ys)))) (xs ≡ ys)
   same_lines xs ys =
-      Decides-like _ (λ (e, (f, g)). sym (linked_again xs)
-      ∙ (ap (λ z. shown_lines (all_lists xs) (all_names xs) z) e
-      ∙ (ap (λ z. shown_lines z (all_names xs) (linked_lines ys)) f
-      ∙ (ap (λ z. shown_lines (all_lists ys) z (linked_lines ys)) g ∙ linked_again ys))))
-      (λ e. (ap linked_lines e, (ap all_lists e, ap all_names e)))
+      Decides-like _ (λ (n, (e, (f, g))). sym (linked_again xs)
+      ∙ (ap (λ z. shown_lines z (all_lists xs) (all_names xs) (linked_lines xs)) n
+      ∙ (ap (λ z. shown_lines (least_number ys) (all_lists xs) (all_names xs) z) e
+      ∙ (ap (λ z. shown_lines (least_number ys) z (all_names xs) (linked_lines ys)) f
+      ∙ (ap (λ z. shown_lines (least_number ys) (all_lists ys) z (linked_lines ys)) g ∙ linked_again ys)))))
+      (λ e. (ap least_number e, (ap linked_lines e, (ap all_lists e, ap all_names e))))
+      (Decides-and _ _ (Decides-eqb (least_number xs) (least_number ys))
       (Decides-and _ _ (slice_eq-Decides same_line (linked_lines xs) (linked_lines ys) _ refl)
       (Decides-and _ _ (slice_eq-Decides Decides-int_eq (all_lists xs) (all_lists ys) _ refl)
-      (slice_eq-Decides Decides-eqb (all_names xs) (all_names ys) _ refl)))
+      (slice_eq-Decides Decides-eqb (all_names xs) (all_names ys) _ refl))))
 
 module _ {L : List CodeLine → List CodeLine → Bool} {T : Option ℕ → Option ℕ → Bool}
     (exact_lines : (xs ys : List CodeLine) → Decides (L xs ys) (xs ≡ ys))

@@ -1,5 +1,5 @@
 -- Pooled lines with their targets.
-use Rattle.std.proofs.Common.{◌≡◌, ◌∙◌, ℕ, ℤ, suc, zero, ◌+◌, ◌<◌, ◌≤◌, List, [], ◌∷◌, ◌++◌, length, take, drop, Option, Some}
+use Rattle.std.proofs.Common.{◌≡◌, ◌∙◌, ℕ, ℤ, suc, zero, ◌+◌, ◌^◌, ◌<◌, ◌≤◌, List, [], ◌∷◌, ◌++◌, length, take, drop, Option, Some}
 use Rattle.std.proofs.Common.{None, refl, ap, sym, subst, length-append, arith, add-one, drop-cons, get_or, get_or-take}
 use Rattle.std.proofs.Common.{set}
 use Rattle.std.proofs.Math.Seq.{take-append_seam}
@@ -11,12 +11,13 @@ use Rattle.vcode_reader.specs.declared.code_lines.LinkedItem.{LinkedItem}
 use Rattle.vcode_reader.specs.declared.code_lines.LinkedItem.TheVariants as linked
 use Rattle.vcode_reader.specs.declared.line.CodeItem.{CodeItem}
 use Rattle.vcode_reader.specs.declared.line.CodeItem.TheVariants as code_item
-use Rattle.vcode_reader.specs.Pools.{PooledLine, list_of, name_of, all_lists, all_names, pooled_item, pooled_line}
+use Rattle.vcode_reader.specs.Pools.{PooledLine, least_number, list_of, name_of, all_lists, all_names, pooled_item, pooled_line}
 use Rattle.vcode_reader.specs.Pools.{pooled_lines, shown_item, shown_line, shown_lines, ItemLiesIn, ArePooled, AreLinked}
 use Rattle.vcode_reader.specs.Pools.{target_of, with_target, line_with_target, with_targets, waits_before, linked_lines}
 use Rattle.vcode_reader.specs.Targets.{Jumps, first_of, others_of, jumps_before, jumps_from, target_in, target_at}
 use Rattle.vcode_reader.specs.Targets.{targets_of}
 use Rattle.vcode_reader.specs.Trees.{Item, CodeLine, line_of}
+use Rattle.vcode_reader.proofs.Least.{are_from}
 use Rattle.vcode_reader.proofs.Pooling.{lines_back}
 
 -- ---- targets aren't shown
@@ -28,55 +29,65 @@ target_unseen ls ns target (linked.If old) = refl
 target_unseen ls ns target (linked.Else old) = refl
 target_unseen ls ns target linked.Endif = refl
 
-targets_unseen : (ls : List ℤ) (ns : List ℕ) (targets : List (Option ℕ)) (ps : List PooledLine) →
-    shown_lines ls ns (with_targets targets ps) ≡ shown_lines ls ns ps
+targets_unseen : (first : ℕ) (ls : List ℤ) (ns : List ℕ) (targets : List (Option ℕ)) (ps : List PooledLine) →
+    shown_lines first ls ns (with_targets targets ps) ≡ shown_lines first ls ns ps
 unfolding shown_lines with_targets
-targets_unseen ls ns targets [] = refl
-targets_unseen ls ns targets (p ∷ ps) =
-    ap (λ z. line_of z p.number ∷ shown_lines ls ns (with_targets (others_of targets) ps))
+targets_unseen first ls ns targets [] = refl
+targets_unseen first ls ns targets (p ∷ ps) =
+    ap (λ z. line_of z (first + p.distance) ∷ shown_lines first ls ns (with_targets (others_of targets) ps))
     (target_unseen ls ns (target_in (first_of targets)) p.item)
-    ∙ ap (λ z. shown_line ls ns p ∷ z) (targets_unseen ls ns (others_of targets) ps)
+    ∙ ap (λ z. shown_line first ls ns p ∷ z) (targets_unseen first ls ns (others_of targets) ps)
 
 -- pools of these lines, with their targets, show them
-module _ (ps : List PooledLine) (ls : List ℤ) (ns : List ℕ) (xs : List CodeLine) (e : ps ≡ linked_lines xs)
-    (f : ls ≡ all_lists xs) (g : ns ≡ all_names xs) where
-  pub linked_shown : shown_lines ls ns ps ≡ xs
+module _ (first : ℕ) (ps : List PooledLine) (ls : List ℤ) (ns : List ℕ) (xs : List CodeLine)
+    (least : first ≡ least_number xs) (e : ps ≡ linked_lines xs) (f : ls ≡ all_lists xs) (g : ns ≡ all_names xs) where
+  pub linked_shown : shown_lines first ls ns ps ≡ xs
   unfolding linked_lines
   linked_shown =
-      ap (shown_lines ls ns) e
-      ∙ (targets_unseen ls ns (targets_of xs) (pooled_lines 0 0 xs) ∙ lines_back xs [] ls [] ns 0 0 f g refl refl)
+      ap (shown_lines first ls ns) e
+      ∙ (ap (λ n. shown_lines first ls ns (with_targets (targets_of xs) (pooled_lines n 0 0 xs))) (sym least)
+      ∙ (targets_unseen first ls ns (targets_of xs) (pooled_lines first 0 0 xs)
+      ∙ lines_back first xs [] ls [] ns 0 0 (are_from first xs least) f g refl refl))
 
-  pub are_linked : AreLinked ps ls ns
-  are_linked = record {
+  pub are_linked : first + 2 ^ 32 ≤ 2 ^ 64 → AreLinked first ps ls ns
+  are_linked room = record {
+    least = least ∙ ap least_number (sym linked_shown);
+    room = room;
     lines = e ∙ ap linked_lines (sym linked_shown);
     lists = f ∙ ap all_lists (sym linked_shown);
     names = g ∙ ap all_names (sym linked_shown);
   }
 
-pub linked_again : (xs : List CodeLine) → shown_lines (all_lists xs) (all_names xs) (linked_lines xs) ≡ xs
-linked_again xs = linked_shown (linked_lines xs) (all_lists xs) (all_names xs) xs refl refl refl
+pub linked_again : (xs : List CodeLine) →
+    shown_lines (least_number xs) (all_lists xs) (all_names xs) (linked_lines xs) ≡ xs
+linked_again xs =
+    linked_shown (least_number xs) (linked_lines xs) (all_lists xs) (all_names xs) xs refl refl refl refl
 
--- pooled lines that were given their targets
-module _ (ps ps2 : List PooledLine) (ls ls2 : List ℤ) (ns ns2 : List ℕ) (held : ArePooled ps ls ns)
-    (e : ps2 ≡ with_targets (targets_of (shown_lines ls ns ps)) ps) (f : ls2 ≡ ls) (g : ns2 ≡ ns) where
-  linked_from : ps2 ≡ linked_lines (shown_lines ls ns ps)
+-- Pooled lines that were given their targets, in a slice of a vector of this length.
+module _ (first : ℕ) (ps slice new ps2 : List PooledLine) (ls ls2 : List ℤ) (ns ns2 : List ℕ) (len : ℕ)
+    (held : ArePooled first ps ls ns) (same : slice ≡ ps) (long : len ≡ length new)
+    (done : new ≡ with_targets (targets_of (shown_lines first ls ns slice)) slice)
+    (e : ps2 ≡ take len (new ++ drop (length new) ps)) (f : ls2 ≡ ls) (g : ns2 ≡ ns) where
+  linked_from : ps2 ≡ linked_lines (shown_lines first ls ns ps)
   unfolding linked_lines
-  linked_from = e ∙ ap (with_targets (targets_of (shown_lines ls ns ps))) held.lines
+  linked_from =
+      e ∙ (ap (λ n. take n (new ++ drop (length new) ps)) long
+      ∙ (take-append_seam new (drop (length new) ps)
+      ∙ (done
+      ∙ (ap (λ z. with_targets (targets_of (shown_lines first ls ns z)) z) same
+      ∙ (ap (with_targets (targets_of (shown_lines first ls ns ps))) held.lines
+      ∙ ap (λ n. with_targets (targets_of (shown_lines first ls ns ps))
+      (pooled_lines n 0 0 (shown_lines first ls ns ps))) held.least)))))
 
-  pub now_linked : AreLinked ps2 ls2 ns2
-  now_linked = are_linked ps2 ls2 ns2 (shown_lines ls ns ps) linked_from (f ∙ held.lists) (g ∙ held.names)
+  pub now_linked : AreLinked first ps2 ls2 ns2
+  now_linked =
+      are_linked first ps2 ls2 ns2 (shown_lines first ls ns ps) held.least linked_from (f ∙ held.lists)
+      (g ∙ held.names) held.room
 
-  pub now_shown : shown_lines ls2 ns2 ps2 ≡ shown_lines ls ns ps
-  now_shown = linked_shown ps2 ls2 ns2 (shown_lines ls ns ps) linked_from (f ∙ held.lists) (g ∙ held.names)
-
--- targets that were set in a slice of a vector of this length
-pub set_in_place : (ps slice new ps2 : List PooledLine) (ls : List ℤ) (ns : List ℕ) (len : ℕ) → slice ≡ ps →
-    len ≡ length new → new ≡ with_targets (targets_of (shown_lines ls ns slice)) slice →
-    ps2 ≡ take len (new ++ drop (length new) ps) → ps2 ≡ with_targets (targets_of (shown_lines ls ns ps)) ps
-set_in_place ps slice new ps2 ls ns len same long done e =
-    e ∙ (ap (λ n. take n (new ++ drop (length new) ps)) long
-    ∙ (take-append_seam new (drop (length new) ps)
-    ∙ (done ∙ ap (λ z. with_targets (targets_of (shown_lines ls ns z)) z) same)))
+  pub now_shown : shown_lines first ls2 ns2 ps2 ≡ shown_lines first ls ns ps
+  now_shown =
+      linked_shown first ps2 ls2 ns2 (shown_lines first ls ns ps) held.least linked_from (f ∙ held.lists)
+      (g ∙ held.names)
 
 -- ---- each item's list and name lie in the pools
 
@@ -99,30 +110,30 @@ item_lies code_item.If ls ns l n target h k = tt
 item_lies code_item.Else ls ns l n target h k = tt
 item_lies code_item.Endif ls ns l n target h k = tt
 
-line_lies : (xs : List CodeLine) (ls : List ℤ) (ns : List ℕ) (l n place : ℕ) (targets : List (Option ℕ))
+line_lies : (first : ℕ) (xs : List CodeLine) (ls : List ℤ) (ns : List ℕ) (l n place : ℕ) (targets : List (Option ℕ))
     (p : PooledLine) → l + length (all_lists xs) ≤ length ls → n + length (all_names xs) ≤ length ns →
-    slice_get (with_targets targets (pooled_lines l n xs)) place ≡ Some p → ItemLiesIn ls ns p.item
+    slice_get (with_targets targets (pooled_lines first l n xs)) place ≡ Some p → ItemLiesIn ls ns p.item
 unfolding pooled_lines all_lists all_names with_targets
-line_lies [] ls ns l n place targets p h k e = absurd (none-some p e)
-line_lies (x ∷ xs) ls ns l n zero targets p h k e =
+line_lies first [] ls ns l n place targets p h k e = absurd (none-some p e)
+line_lies first (x ∷ xs) ls ns l n zero targets p h k e =
     let long = length-append (list_of x.item) (all_lists xs) in
     let wide = length-append (name_of x.item) (all_names xs) in
     let target = target_in (first_of targets) in
-    subst (λ z. ItemLiesIn ls ns z.item) (same_Some (line_with_target target (pooled_line l n x)) p e)
+    subst (λ z. ItemLiesIn ls ns z.item) (same_Some (line_with_target target (pooled_line first l n x)) p e)
     (item_lies x.item ls ns l n target (omega (arith, h, long)) (omega (arith, k, wide)))
-line_lies (x ∷ xs) ls ns l n (suc place) targets p h k e =
+line_lies first (x ∷ xs) ls ns l n (suc place) targets p h k e =
     let long = length-append (list_of x.item) (all_lists xs) in
     let wide = length-append (name_of x.item) (all_names xs) in
-    line_lies xs ls ns _ _ place (others_of targets) p (omega (arith, h, long)) (omega (arith, k, wide)) e
+    line_lies first xs ls ns _ _ place (others_of targets) p (omega (arith, h, long)) (omega (arith, k, wide)) e
 
-pub item_there : (ps : List PooledLine) (ls : List ℤ) (ns : List ℕ) (place : ℕ) (p : PooledLine) →
-    AreLinked ps ls ns → slice_get ps place ≡ Some p → ItemLiesIn ls ns p.item
+pub item_there : (first : ℕ) (ps : List PooledLine) (ls : List ℤ) (ns : List ℕ) (place : ℕ) (p : PooledLine) →
+    AreLinked first ps ls ns → slice_get ps place ≡ Some p → ItemLiesIn ls ns p.item
 unfolding linked_lines
-item_there ps ls ns place p held e =
-    let xs : List CodeLine = shown_lines ls ns ps in
+item_there first ps ls ns place p held e =
+    let xs : List CodeLine = shown_lines first ls ns ps in
     let lists = ap length held.lists in
     let names = ap length held.names in
-    line_lies xs ls ns 0 0 place (targets_of xs) p (omega (arith, lists)) (omega (arith, names))
+    line_lies (least_number xs) xs ls ns 0 0 place (targets_of xs) p (omega (arith, lists)) (omega (arith, names))
     (ap (λ z. slice_get z place) (sym held.lines) ∙ e)
 
 -- ---- the target at a place
@@ -152,54 +163,55 @@ next_target code_item.If place k j = refl
 next_target code_item.Else place k j = refl
 next_target code_item.Endif place k j = refl
 
-target_from : (xs : List CodeLine) (l n from place : ℕ) →
-    target_of_line (slice_get (with_targets (jumps_from from xs).list (pooled_lines l n xs)) place)
+target_from : (first : ℕ) (xs : List CodeLine) (l n from place : ℕ) →
+    target_of_line (slice_get (with_targets (jumps_from from xs).list (pooled_lines first l n xs)) place)
     ≡ target_in (slice_get (jumps_from from xs).list place)
 unfolding pooled_lines with_targets jumps_from
-target_from [] l n from zero = refl
-target_from [] l n from (suc place) = refl
-target_from (x ∷ xs) l n from zero = first_target x.item l n from (jumps_from (from + 1) xs)
-target_from (x ∷ xs) l n from (suc place) =
+target_from first [] l n from zero = refl
+target_from first [] l n from (suc place) = refl
+target_from first (x ∷ xs) l n from zero = first_target x.item l n from (jumps_from (from + 1) xs)
+target_from first (x ∷ xs) l n from (suc place) =
     let j = jumps_from (from + 1) xs in
-    let rest = pooled_lines (l + length (list_of x.item)) (n + length (name_of x.item)) xs in
+    let rest = pooled_lines first (l + length (list_of x.item)) (n + length (name_of x.item)) xs in
     ap (λ z. target_of_line (slice_get (with_targets z rest) place)) (other_targets x.item from j)
-    ∙ (target_from xs (l + length (list_of x.item)) (n + length (name_of x.item)) (from + 1) place
+    ∙ (target_from first xs (l + length (list_of x.item)) (n + length (name_of x.item)) (from + 1) place
     ∙ ap target_in (sym (next_target x.item from place j)))
 
-pub target_there : (ps : List PooledLine) (ls : List ℤ) (ns : List ℕ) (place : ℕ) (found : Option PooledLine)
-    (all : List CodeLine) → AreLinked ps ls ns → slice_get ps place ≡ found → shown_lines ls ns ps ≡ all →
-    target_of_line found ≡ target_at all place
+pub target_there : (first : ℕ) (ps : List PooledLine) (ls : List ℤ) (ns : List ℕ) (place : ℕ)
+    (found : Option PooledLine) (all : List CodeLine) → AreLinked first ps ls ns → slice_get ps place ≡ found →
+    shown_lines first ls ns ps ≡ all → target_of_line found ≡ target_at all place
 unfolding linked_lines targets_of
-target_there ps ls ns place found all held at same =
+target_there first ps ls ns place found all held at same =
+    let xs : List CodeLine = shown_lines first ls ns ps in
     ap target_of_line (sym at ∙ ap (λ z. slice_get z place) held.lines)
-    ∙ (target_from (shown_lines ls ns ps) 0 0 0 place ∙ ap (λ z. target_at z place) same)
+    ∙ (target_from (least_number xs) xs 0 0 0 place ∙ ap (λ z. target_at z place) same)
 
 -- ---- the targets are set from the last line to the first
 
 -- the lines from a place on have their targets, the others are as they were, and these places wait
-pub record AreSetFrom (place : ℕ) (old lines : List PooledLine) (places : List ℕ) (ls : List ℤ) (ns : List ℕ) :
+pub record AreSetFrom (place : ℕ) (old lines : List PooledLine) (places : List ℕ) (first : ℕ) (ls : List ℤ) (ns : List ℕ) :
     Type 0 where
   pub front : take place lines ≡ take place old
   pub back :
-      drop place lines ≡ with_targets (jumps_from place (shown_lines ls ns (drop place old))).list (drop place old)
-  pub waits : places ≡ (jumps_from place (shown_lines ls ns (drop place old))).waits
+      drop place lines ≡ with_targets (jumps_from place (shown_lines first ls ns (drop place old))).list (drop place old)
+  pub waits : places ≡ (jumps_from place (shown_lines first ls ns (drop place old))).waits
 
-pub none_set : (place : ℕ) (old lines : List PooledLine) (places : List ℕ) (ls : List ℤ) (ns : List ℕ) →
-    place ≡ length old → lines ≡ old → places ≡ [] → AreSetFrom place old lines places ls ns
+pub none_set : (place : ℕ) (old lines : List PooledLine) (places : List ℕ) (first : ℕ) (ls : List ℤ) (ns : List ℕ) →
+    place ≡ length old → lines ≡ old → places ≡ [] → AreSetFrom place old lines places first ls ns
 unfolding with_targets shown_lines jumps_from
-none_set place old lines places ls ns all same none =
+none_set place old lines places first ls ns all same none =
     let end : drop place old ≡ [] = ap (λ n. drop n old) all ∙ drop_all (length old) old (omega arith) in
     record {
       front = ap (take place) same;
       back = ap (drop place) same ∙ (end
-          ∙ sym (ap (λ z. with_targets (jumps_from place (shown_lines ls ns z)).list z) end));
-      waits = none ∙ sym (ap (λ z. (jumps_from place (shown_lines ls ns z)).waits) end);
+          ∙ sym (ap (λ z. with_targets (jumps_from place (shown_lines first ls ns z)).list z) end));
+      waits = none ∙ sym (ap (λ z. (jumps_from place (shown_lines first ls ns z)).waits) end);
     }
 
-pub all_set : (old lines : List PooledLine) (places : List ℕ) (ls : List ℤ) (ns : List ℕ) →
-    AreSetFrom zero old lines places ls ns → lines ≡ with_targets (targets_of (shown_lines ls ns old)) old
+pub all_set : (old lines : List PooledLine) (places : List ℕ) (first : ℕ) (ls : List ℤ) (ns : List ℕ) →
+    AreSetFrom zero old lines places first ls ns → lines ≡ with_targets (targets_of (shown_lines first ls ns old)) old
 unfolding targets_of
-all_set old lines places ls ns set_all = set_all.back
+all_set old lines places first ls ns set_all = set_all.back
 
 jumps_first : (ls : List ℤ) (ns : List ℕ) (i : LinkedItem) (place : ℕ) (j : Jumps) →
     with_target (target_in (first_of (jumps_before (shown_item ls ns i) place j).list)) i
@@ -217,8 +229,8 @@ jumps_wait ls ns (linked.Else old) place j = refl
 jumps_wait ls ns linked.Endif place j = refl
 
 -- the line before has its target too
-module _ (place : ℕ) (old lines : List PooledLine) (places : List ℕ) (ls : List ℤ) (ns : List ℕ) (d y : PooledLine)
-    (done : AreSetFrom (place + 1) old lines places ls ns) (within : place < length lines)
+module _ (place : ℕ) (old lines : List PooledLine) (places : List ℕ) (first : ℕ) (ls : List ℤ) (ns : List ℕ) (d y : PooledLine)
+    (done : AreSetFrom (place + 1) old lines places first ls ns) (within : place < length lines)
     (same_length : length lines ≡ length old)
     (written : y ≡ line_with_target (first_of places) (get_or lines place d)) where
   abbrev x : PooledLine
@@ -238,7 +250,7 @@ module _ (place : ℕ) (old lines : List PooledLine) (places : List ℕ) (ls : L
   rest = drop (place + 1) old
 
   abbrev jumps : Jumps
-  jumps = jumps_from (place + 1) (shown_lines ls ns rest)
+  jumps = jumps_from (place + 1) (shown_lines first ls ns rest)
 
   abbrev jumps_here : Jumps
   jumps_here = jumps_before (shown_item ls ns x.item) place jumps
@@ -247,12 +259,12 @@ module _ (place : ℕ) (old lines : List PooledLine) (places : List ℕ) (ls : L
   unfolding with_targets
   line_set =
       ap (λ z. z ∷ drop (place + 1) lines) (written ∙ (ap (λ z. line_with_target (first_of z) x) done.waits
-      ∙ ap (λ z. let l : PooledLine = line_of z x.number in l) (sym (jumps_first ls ns x.item place jumps))))
+      ∙ ap (λ z. let l : PooledLine = record { item = z; distance = x.distance } in l) (sym (jumps_first ls ns x.item place jumps))))
       ∙ ap (λ z. line_with_target (target_in (first_of jumps_here.list)) x ∷ z)
       (done.back ∙ ap (λ z. with_targets z rest) (sym (other_targets (shown_item ls ns x.item) place jumps)))
 
   pub more_set : (new : List PooledLine) (waits : List ℕ) → new ≡ set lines place y →
-      waits ≡ waits_before x.item place places → AreSetFrom place old new waits ls ns
+      waits ≡ waits_before x.item place places → AreSetFrom place old new waits first ls ns
   unfolding shown_lines jumps_from
   more_set new waits put wait = record {
     front =
@@ -262,12 +274,12 @@ module _ (place : ℕ) (old lines : List PooledLine) (places : List ℕ) (ls : L
     back =
         ap (drop place) put
         ∙ (drop-set lines place y within
-        ∙ (line_set ∙ sym (ap (λ z. with_targets (jumps_from place (shown_lines ls ns z)).list z) from_here)));
+        ∙ (line_set ∙ sym (ap (λ z. with_targets (jumps_from place (shown_lines first ls ns z)).list z) from_here)));
     waits =
         wait
         ∙ (ap (waits_before x.item place) done.waits
         ∙ (sym (jumps_wait ls ns x.item place jumps)
-        ∙ sym (ap (λ z. (jumps_from place (shown_lines ls ns z)).waits) from_here)));
+        ∙ sym (ap (λ z. (jumps_from place (shown_lines first ls ns z)).waits) from_here)));
   }
     where
       take_less : (zs : List PooledLine) → take place zs ≡ take place (take (place + 1) zs)

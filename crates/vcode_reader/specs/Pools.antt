@@ -1,23 +1,20 @@
 -- The lines of a function whose lists and names lie in two pools: where each lies, the lines that they are, and the
 -- targets that are put into them.
-use Rattle.std.specs.Prelude.{◌≡◌, ◌≤◌, ℕ, ℤ, ◌+◌, List, [], ◌∷◌, ◌++◌, length, map, take, drop, Option, None}
+use Rattle.std.specs.Prelude.{◌≡◌, ◌≤◌, ℕ, zero, suc, ℤ, ◌+◌, ◌-◌, ◌^◌, min, List, [], ◌∷◌, ◌++◌, length, map, take, drop, Option, None}
 use Rattle.vcode_base.specs.declared.instr.Instr.{Instr}
 use Rattle.vcode_base.specs.declared.instr.Instr.TheVariants as instr
 use Rattle.vcode_reader.specs.declared.code_lines.LinkedItem.{LinkedItem}
 use Rattle.vcode_reader.specs.declared.code_lines.LinkedItem.TheVariants as linked
+pub use Rattle.vcode_reader.specs.declared.code_lines.PooledLine.{PooledLine}
 use Rattle.vcode_reader.specs.declared.code_lines.Span.{Span}
 use Rattle.vcode_reader.specs.declared.line.CodeItem.{CodeItem}
 use Rattle.vcode_reader.specs.declared.line.CodeItem.TheVariants as code_item
-use Rattle.vcode_reader.specs.declared.line.Numbered.{Numbered}
 use Rattle.vcode_reader.specs.Targets.{first_of, others_of, target_in, targets_of}
 use Rattle.vcode_reader.specs.Trees.{Item, CodeLine, line_of}
 
 -- an instruction with the place of its list or of its name
 abbrev pub PooledItem : Type 0
 PooledItem = Instr Span Span
-
-abbrev pub PooledLine : Type 0
-PooledLine = Numbered LinkedItem
 
 -- the list, and the name, of an instruction that has one
 abbrev pub list_in : Item → List ℤ
@@ -45,6 +42,20 @@ unfoldable pub all_names : List CodeLine → List ℕ
 all_names [] = []
 all_names (x ∷ xs) = name_of x.item ++ all_names xs
 
+-- the least number of a line, and of this number and the lines' numbers
+unfoldable pub least_with : ℕ → List CodeLine → ℕ
+least_with n [] = n
+least_with n (x ∷ xs) = least_with (min n x.number) xs
+
+unfoldable pub least_number : List CodeLine → ℕ
+least_number [] = 0
+least_number (x ∷ xs) = least_with x.number xs
+
+-- the number of the first line, if a line of this number comes after so many others
+abbrev pub first_with : ℕ → ℕ → ℕ → ℕ
+first_with first zero number = number
+first_with first (suc len) number = first
+
 -- ---- where they lie, if the list begins at one place and the name at another
 
 abbrev pub span_of : {A : Type 0} → ℕ → List A → Span
@@ -66,14 +77,15 @@ pooled_item l n code_item.If = linked.If None
 pooled_item l n code_item.Else = linked.Else None
 pooled_item l n code_item.Endif = linked.Endif
 
-abbrev pub pooled_line : ℕ → ℕ → CodeLine → PooledLine
-pooled_line l n x = line_of (pooled_item l n x.item) x.number
+-- with the distance from the first line's number
+abbrev pub pooled_line : ℕ → ℕ → ℕ → CodeLine → PooledLine
+pooled_line first l n x = record { item = pooled_item l n x.item; distance = x.number - first }
 
 -- lines whose lists and names lie one after another from these places on
-unfoldable pub pooled_lines : ℕ → ℕ → List CodeLine → List PooledLine
-pooled_lines l n [] = []
-pooled_lines l n (x ∷ xs) =
-    pooled_line l n x ∷ pooled_lines (l + length (list_of x.item)) (n + length (name_of x.item)) xs
+unfoldable pub pooled_lines : ℕ → ℕ → ℕ → List CodeLine → List PooledLine
+pooled_lines first l n [] = []
+pooled_lines first l n (x ∷ xs) =
+    pooled_line first l n x ∷ pooled_lines first (l + length (list_of x.item)) (n + length (name_of x.item)) xs
 
 -- ---- what they are
 
@@ -95,12 +107,12 @@ shown_item ls ns (linked.If target) = code_item.If
 shown_item ls ns (linked.Else target) = code_item.Else
 shown_item ls ns linked.Endif = code_item.Endif
 
-abbrev pub shown_line : List ℤ → List ℕ → PooledLine → CodeLine
-shown_line ls ns x = line_of (shown_item ls ns x.item) x.number
+abbrev pub shown_line : ℕ → List ℤ → List ℕ → PooledLine → CodeLine
+shown_line first ls ns x = line_of (shown_item ls ns x.item) (first + x.distance)
 
--- the lines of these pools
-unfoldable pub shown_lines : List ℤ → List ℕ → List PooledLine → List CodeLine
-shown_lines ls ns xs = map (shown_line ls ns) xs
+-- the lines of these pools, from this first number on
+unfoldable pub shown_lines : ℕ → List ℤ → List ℕ → List PooledLine → List CodeLine
+shown_lines first ls ns xs = map (shown_line first ls ns) xs
 
 -- the span lies in the pool
 abbrev pub LiesIn : {A : Type 0} → List A → Span → Type 0
@@ -130,7 +142,7 @@ with_target target (linked.Else old) = linked.Else target
 with_target target i = i
 
 abbrev pub line_with_target : Option ℕ → PooledLine → PooledLine
-line_with_target target x = line_of (with_target target x.item) x.number
+line_with_target target x = record { item = with_target target x.item; distance = x.distance }
 
 -- the lines with the targets of a list, line by line
 unfoldable pub with_targets : List (Option ℕ) → List PooledLine → List PooledLine
@@ -147,16 +159,21 @@ waits_before linked.Endif place waits = (place + 1) ∷ waits
 
 -- the lines of a function with their targets
 unfoldable pub linked_lines : List CodeLine → List PooledLine
-linked_lines xs = with_targets (targets_of xs) (pooled_lines 0 0 xs)
+linked_lines xs = with_targets (targets_of xs) (pooled_lines (least_number xs) 0 0 xs)
 
--- the lists and the names are those of the lines, one after another; no line has a target
-pub record ArePooled (pooled : List PooledLine) (ls : List ℤ) (ns : List ℕ) : Type 0 where
-  pub lines : pooled ≡ pooled_lines 0 0 (shown_lines ls ns pooled)
-  pub lists : ls ≡ all_lists (shown_lines ls ns pooled)
-  pub names : ns ≡ all_names (shown_lines ls ns pooled)
+-- the lists and the names are those of the lines, one after another, and the first number is the least; no line has a
+-- target
+pub record ArePooled (first : ℕ) (pooled : List PooledLine) (ls : List ℤ) (ns : List ℕ) : Type 0 where
+  pub least : first ≡ least_number (shown_lines first ls ns pooled)
+  pub room : first + 2 ^ 32 ≤ 2 ^ 64
+  pub lines : pooled ≡ pooled_lines first 0 0 (shown_lines first ls ns pooled)
+  pub lists : ls ≡ all_lists (shown_lines first ls ns pooled)
+  pub names : ns ≡ all_names (shown_lines first ls ns pooled)
 
 -- the same, and the lines have their targets
-pub record AreLinked (pooled : List PooledLine) (ls : List ℤ) (ns : List ℕ) : Type 0 where
-  pub lines : pooled ≡ linked_lines (shown_lines ls ns pooled)
-  pub lists : ls ≡ all_lists (shown_lines ls ns pooled)
-  pub names : ns ≡ all_names (shown_lines ls ns pooled)
+pub record AreLinked (first : ℕ) (pooled : List PooledLine) (ls : List ℤ) (ns : List ℕ) : Type 0 where
+  pub least : first ≡ least_number (shown_lines first ls ns pooled)
+  pub room : first + 2 ^ 32 ≤ 2 ^ 64
+  pub lines : pooled ≡ linked_lines (shown_lines first ls ns pooled)
+  pub lists : ls ≡ all_lists (shown_lines first ls ns pooled)
+  pub names : ns ≡ all_names (shown_lines first ls ns pooled)

@@ -1,10 +1,10 @@
 //! The lines of a function, small and without a list of their own each.
 
-ghost use Rattle.std.specs.Prelude.{◌≡◌, ◌+◌, ◌<◌, ◌≤◌, ◌^◌, ℕ, ℤ, List, [], ◌∷◌, ◌++◌, length, map, slice_get, IfOk};
+ghost use Rattle.std.specs.Prelude.{◌≡◌, ◌+◌, ◌-◌, ◌<◌, ◌≤◌, ◌^◌, ℕ, ℤ, List, [], ◌∷◌, ◌++◌, length, map, slice_get, IfOk};
 ghost use Rattle.std.specs.Prelude.{MatchOption, OnOk, OnErr};
 ghost use Rattle.vcode_base.specs.declared.instr.Instr.TheVariants as instr;
-ghost use Rattle.vcode_reader.specs.Pools.{list_in, name_in, list_of, name_of, part_of, pooled_instruction, pooled_item};
-ghost use Rattle.vcode_reader.specs.Pools.{pooled_line, shown_instruction, shown_item, shown_lines, span_of, target_of};
+ghost use Rattle.vcode_reader.specs.Pools.{first_with, list_in, name_in, list_of, name_of, part_of};
+ghost use Rattle.vcode_reader.specs.Pools.{pooled_instruction, pooled_item, pooled_line, shown_instruction, shown_item, shown_lines, span_of, target_of};
 ghost use Rattle.vcode_reader.specs.Pools.{line_with_target, waits_before, with_targets, InstructionLiesIn, ItemLiesIn, LiesIn};
 ghost use Rattle.vcode_reader.specs.Targets.{first_of, target_at, targets_of};
 ghost use Rattle.vcode_reader.specs.Trees.{line_of};
@@ -35,12 +35,17 @@ pub enum LinkedItem {
     Endif,
 }
 
-/// A line of 24 bytes.
-type PooledLine = Numbered<LinkedItem>;
+/// A line of 20 bytes: its item, and how far its number is from that of the first line.
+#[derive(PartialEq, Eq, Drop)]
+pub struct PooledLine {
+    pub item: LinkedItem,
+    pub distance: u32,
+}
 
-/// The lines of a function that is being read, without their targets.
+/// The lines of a function that is being read, without their targets, and the number of the first.
 #[derive(Drop)]
 pub struct GrowingLines<A: Allocator> {
+    first: u64,
     lines: Vec<PooledLine, A>,
     lists: Vec<i64, A>,
     names: Vec<u8, A>,
@@ -54,9 +59,9 @@ impl<A: Allocator> Model for GrowingLines<A> {
 
     ghost use Rattle.vcode_reader.specs.Pools.{ArePooled, shown_lines};
 
-    ghost view = { λ c. shown_lines c.lists.items c.names.items c.lines.items };
+    ghost view = { λ c. shown_lines c.first c.lists.items c.names.items c.lines.items };
 
-    ghost invariant = { λ c. ArePooled c.lines.items c.lists.items c.names.items };
+    ghost invariant = { λ c. ArePooled c.first c.lines.items c.lists.items c.names.items };
 }
 
 impl<A: Allocator + Clone> GrowingLines<A> {
@@ -65,6 +70,7 @@ impl<A: Allocator + Clone> GrowingLines<A> {
         ensures { IfOk result (λ lines. lines ≡ []) }
     {
         Ok(GrowingLines {
+            first: 0,
             lines: Vec::new(alloc.clone()?),
             lists: Vec::new(alloc.clone()?),
             names: Vec::new(alloc),
@@ -79,7 +85,15 @@ impl<A: Allocator> GrowingLines<A> {
         ensures pushed { OnOk result (self.new ≡ self.old ++ line.entry ∷ []) }
         ensures unchanged { OnErr result (self.new ≡ self.old) }
     {
-        add_line(&mut self.lines, &mut self.lists, &mut self.names, line)?;
+        let first = first_with(self.first, self.lines.len(), line.number)?;
+        add_line(
+            first,
+            &mut self.lines,
+            &mut self.lists,
+            &mut self.names,
+            line,
+        )?;
+        self.first = first;
         Ok(())
     }
 
@@ -87,6 +101,7 @@ impl<A: Allocator> GrowingLines<A> {
     pub(crate) fn clear(&mut self)
         ensures { self.new ≡ [] }
     {
+        self.first = 0;
         self.lines.clear();
         self.lists.clear();
         self.names.clear();
@@ -97,6 +112,7 @@ impl<A: Allocator> GrowingLines<A> {
         ensures { IfOk result (λ lines. lines ≡ self) }
     {
         let GrowingLines {
+            first,
             mut lines,
             mut lists,
             mut names,
@@ -106,6 +122,7 @@ impl<A: Allocator> GrowingLines<A> {
         lists.shrink_to_fit();
         names.shrink_to_fit();
         Ok(CodeLines {
+            first,
             lines: Sequence::from_vec(lines),
             lists: Sequence::from_vec(lists),
             names: Sequence::from_vec(names),
@@ -113,11 +130,12 @@ impl<A: Allocator> GrowingLines<A> {
     }
 }
 
-/// The lines of a function, with the target of each IF and ELSE. The lists of its constants lie one after another, and
+/// The lines of a function, with the target of each IF and ELSE, and the number of the first. The lists of its constants lie one after another, and
 /// so do the names of its CALLs.
 #[derive(Drop)]
 #[derive_where(PartialEq, Eq)]
 pub struct CodeLines<A: Allocator> {
+    first: u64,
     lines: Sequence<PooledLine, A>,
     lists: Words<A>,
     names: Sequence<u8, A>,
@@ -130,22 +148,25 @@ impl<A: Allocator> Model for CodeLines<A> {
 
     ghost Value = { List CodeLineOf };
 
-    ghost use Rattle.vcode_reader.specs.Pools.{AreLinked, PooledLine, linked_lines, shown_lines, all_lists, all_names};
+    ghost use Rattle.vcode_reader.specs.Pools.{AreLinked, PooledLine, all_lists, all_names, least_number, linked_lines};
+    ghost use Rattle.vcode_reader.specs.Pools.{shown_lines};
 
-    ghost view = { λ c. shown_lines c.lists c.names c.lines };
+    ghost view = { λ c. shown_lines c.first c.lists c.names c.lines };
 
-    ghost invariant = { λ c. AreLinked c.lines c.lists c.names };
+    ghost invariant = { λ c. AreLinked c.first c.lines c.lists c.names };
 
-    ghost inverse = { λ xs. record { lines = linked_lines xs; lists = all_lists xs; names = all_names xs } };
+    ghost inverse = { λ xs. record {
+      first = least_number xs;
+      lines = linked_lines xs;
+      lists = all_lists xs;
+      names = all_names xs;
+    } };
 
-    ghost inverse_ok = { λ c h. ap (λ (ps : List PooledLine). record c {
-      lines = ps;
-      lists = all_lists (shown_lines c.lists c.names c.lines);
-      names = all_names (shown_lines c.lists c.names c.lines);
-    }) (sym h.lines) ∙ (ap (λ (ls : List ℤ). record c {
-      lists = ls;
-      names = all_names (shown_lines c.lists c.names c.lines);
-    }) (sym h.lists) ∙ ap (λ (ns : List ℕ). record c { names = ns }) (sym h.names)) };
+    ghost inverse_ok = { λ c h. let xs : List CodeLineOf = shown_lines c.first c.lists c.names c.lines in
+        ap (λ (n : ℕ). record c { first = n; lines = linked_lines xs; lists = all_lists xs; names = all_names xs }) (sym h.least)
+        ∙ (ap (λ (ps : List PooledLine). record c { lines = ps; lists = all_lists xs; names = all_names xs }) (sym h.lines)
+        ∙ (ap (λ (ls : List ℤ). record c { lists = ls; names = all_names xs }) (sym h.lists)
+        ∙ ap (λ (ns : List ℕ). record c { names = ns }) (sym h.names))) };
 }
 
 impl<A: Allocator> CodeLines<A> {
@@ -168,7 +189,7 @@ impl<A: Allocator> CodeLines<A> {
         let item = shown_item(&line.item, lists, names);
         Some(Numbered {
             item,
-            number: line.number,
+            number: self.first + line.distance as u64,
         })
     }
 
@@ -182,28 +203,61 @@ impl<A: Allocator> CodeLines<A> {
     }
 }
 
+/// The number of the first line, if a line of this number comes after so many others. A number that a distance of 32
+/// bits may pass the greatest number from is out of memory.
+#[inline(always)]
+fn first_with(first: u64, len: usize, number: u64) -> Result<u64, AllocError>
+    requires { first + 2 ^ 32 ≤ 2 ^ 64 }
+    ensures first { IfOk result (λ f. f ≡ first_with first len number) }
+    ensures room { IfOk result (λ f. f + 2 ^ 32 ≤ 2 ^ 64) }
+{
+    if len > 0 {
+        return Ok(first);
+    }
+    if number > u64::MAX - u64::from(u32::MAX) {
+        return Err(AllocError);
+    }
+    Ok(number)
+}
+
+/// How far a number is from that of the first line. Distances take 32 bits: a line that is farther, or before the first,
+/// is out of memory.
+#[inline(always)]
+fn distance(first: u64, number: u64) -> Result<u32, AllocError>
+    ensures distance { IfOk result (λ d. d ≡ number - first) }
+    ensures after { OnOk result (first ≤ number) }
+{
+    if number < first {
+        return Err(AllocError);
+    }
+    match u32::try_from(number - first) {
+        Ok(distance) => Ok(distance),
+        Err(_) => Err(AllocError),
+    }
+}
+
 /// Adds a line, with its list or its name, after the others.
 #[inline(always)]
 fn add_line<A: Allocator>(
+    first: u64,
     lines: &mut Vec<PooledLine, A>,
     lists: &mut Vec<i64, A>,
     names: &mut Vec<u8, A>,
     line: CodeLine<'_>,
 ) -> Result<(), AllocError>
     ensures lines { OnOk result (lines.new.items
-        ≡ lines.old.items ++ pooled_line (length lists.old.items) (length names.old.items) line.entry ∷ []) }
+        ≡ lines.old.items ++ pooled_line first (length lists.old.items) (length names.old.items) line.entry ∷ []) }
+    ensures after { OnOk result (first ≤ line.entry.number) }
     ensures lists { OnOk result (lists.new.items ≡ lists.old.items ++ list_of line.entry.item) }
     ensures names { OnOk result (names.new.items ≡ names.old.items ++ name_of line.entry.item) }
     ensures same_lines { OnErr result (lines.new.items ≡ lines.old.items) }
     ensures same_lists { OnErr result (lists.new.items ≡ lists.old.items) }
     ensures same_names { OnErr result (names.new.items ≡ names.old.items) }
 {
+    let distance = distance(first, line.number)?;
     lines.reserve(1)?;
     let item = pooled_item(line.item, lists, names)?;
-    lines.push_reserved(Numbered {
-        item,
-        number: line.number,
-    });
+    lines.push_reserved(PooledLine { item, distance });
     Ok(())
 }
 
@@ -351,8 +405,8 @@ fn target_of(item: &LinkedItem) -> Option<u32>
 /// Sets the targets of all lines, from the last to the first. Places take 32 bits: more lines than that are out of
 /// memory.
 fn set_targets<A: Allocator>(alloc: A, lines: &mut [PooledLine]) -> Result<(), AllocError>
-    ensures { OnOk result ((ls : List ℤ) (ns : List ℕ) →
-        lines.new ≡ with_targets (targets_of (shown_lines ls ns lines.old)) lines.old) }
+    ensures { OnOk result ((first : ℕ) (ls : List ℤ) (ns : List ℕ) →
+        lines.new ≡ with_targets (targets_of (shown_lines first ls ns lines.old)) lines.old) }
 {
     let mut waits = FrontList::new(alloc);
     let Ok(mut place) = u32::try_from(lines.len()) else {
