@@ -15,18 +15,11 @@ use Rattle.vcode_base.specs.contracts.op.Fold as folds
 use Rattle.vcode_base.specs.contracts.op.Elementwise as elementwise
 use Rattle.vcode_base.specs.contracts.op.Segmented as segmented
 use Rattle.vcode_base.specs.contracts.op.StackMove as motion
-use Rattle.vcode_base.specs.contracts.instr.Instr as instr
-use Rattle.vcode_base.specs.contracts.instr.InstrPartialEq.TheImpl as instr_eq
-use Rattle.vcode_base.specs.declared.instr.Instr.{Instr}
-use Rattle.vcode_reader.specs.contracts.code_lines.LinkedItem as linked
-use Rattle.vcode_reader.specs.declared.code_lines.LinkedItem.{LinkedItem}
+use Rattle.vcode_reader.specs.contracts.code_lines.PooledItem as pooled
 use Rattle.vcode_reader.specs.Pools.{PooledItem}
-use Rattle.vcode_reader.proofs.Equal.{same_targets}
+use Rattle.vcode_reader.proofs.Equal.{same_span, same_spans, same_targets}
 use Rattle.std.specs.Option.{option_eq}
 use Rattle.std.specs.Prelude.{nat_eq}
-use Rattle.std.specs.declared.cmp.PartialEq.{Ghosts}
-use denote.RattleType.{RattleType}
-use mir.Syntax.{Dict}
 
 -- each variant's test of its fields is true if they are equal
 abbrev pub AreExact : (Fss : List (List Field)) → Each Bool Fss → Type 0
@@ -203,10 +196,9 @@ segmented_exact =
       ),
     )
 
-abbrev pub instr_each : (L N : RattleType) → (L.Denot → L.Denot → Bool) → (N.Denot → N.Denot → Bool) →
-    Each Bool (instr.the_parts L N)
-instr_each L N lists names = (
-  λ x y. sameb scalar.the_type x.0 y.0 && lists x.1.0 y.1.0,
+abbrev pub pooled_each : Each Bool pooled.the_parts
+pooled_each = (
+  λ x y. sameb scalar.the_type x.0 y.0 && same_span x.1.0 y.1.0,
   (
     λ x y. same_elementwise x.0 y.0,
     (
@@ -215,42 +207,38 @@ instr_each L N lists names = (
         λ _ _. true,
         (
           λ x y. sameb motion.the_type x.0 y.0 && (nat_eq x.1.0 y.1.0 && nat_eq x.1.1.0 y.1.1.0),
-          (λ x y. names x.0 y.0, (λ _ _. true, tt)),
+          (
+            λ x y. same_span x.0 y.0,
+            (
+              λ _ _. true,
+              (λ x y. option_eq nat_eq x.0 y.0, (λ x y. option_eq nat_eq x.0 y.0, (λ _ _. true, tt))),
+            ),
+          ),
         ),
       ),
     ),
   ),
 )
 
-module _ (L N : RattleType) (gl : Ghosts L.Denot) (dl : Dict) (gn : Ghosts N.Denot) (dn : Dict)
-    (lists : (a b : L.Denot) → Decides (gl.eq a b) (a ≡ b))
-    (names : (a b : N.Denot) → Decides (gn.eq a b) (a ≡ b)) where
-  pub same_instructions : (i j : Instr L.Denot N.Denot) → Decides ((instr_eq.ghosts L N gl dl gn dn).eq i j) (i ≡ j)
-  same_instructions =
-      same_values (instr.the_parts L N) (instr.as_values L N) (instr.the_make L N) (instr.the_eta L N)
-      (instr_each L N gl.eq gn.eq) (
-        two_fields scalars lists,
+pub same_items : (a b : PooledItem) →
+    Decides (by false false pooled.the_parts pooled_each (pooled.as_values a) (pooled.as_values b)) (a ≡ b)
+same_items =
+    same_values pooled.the_parts pooled.as_values pooled.the_make pooled.the_eta pooled_each (
+      two_fields scalars same_spans,
+      (
+        one_field elementwise_exact,
         (
-          one_field elementwise_exact,
+          one_field segmented_exact,
           (
-            one_field segmented_exact,
+            no_field,
             (
-              no_field,
-              (three_fields (bare motion.the_type tt) Decides-eqb Decides-eqb, (one_field names, (no_field, tt))),
+              three_fields (bare motion.the_type tt) Decides-eqb Decides-eqb,
+              (
+                one_field same_spans,
+                (no_field, (one_field same_targets, (one_field same_targets, (no_field, tt)))),
+              ),
             ),
           ),
         ),
-      )
-
-abbrev pub linked_each : (PooledItem → PooledItem → Bool) → Each Bool linked.the_parts
-linked_each items = (
-  λ x y. items x.0 y.0,
-  (λ x y. option_eq nat_eq x.0 y.0, (λ x y. option_eq nat_eq x.0 y.0, (λ _ _. true, tt))),
-)
-
-pub same_items : {items : PooledItem → PooledItem → Bool} → ((a b : PooledItem) → Decides (items a b) (a ≡ b)) →
-    (a b : LinkedItem) →
-    Decides (by false false linked.the_parts (linked_each items) (linked.as_values a) (linked.as_values b)) (a ≡ b)
-same_items {items} exact =
-    same_values linked.the_parts linked.as_values linked.the_make linked.the_eta (linked_each items)
-    (one_field exact, (one_field same_targets, (one_field same_targets, (no_field, tt))))
+      ),
+    )

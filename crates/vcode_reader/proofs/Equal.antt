@@ -8,8 +8,7 @@ use Rattle.std.specs.Prelude.{nat_eq}
 use Rattle.std.proofs.lemmas.Bool.Decides.{Decides-and, Decides-like, Decides-eqb, Decides-int_eq}
 use Rattle.std.proofs.lemmas.Slice.Eq.{slice_eq-Decides}
 use Rattle.vcode_reader.specs.declared.code_lines.Span.{Span}
-use Rattle.vcode_reader.specs.declared.code_lines.LinkedItem.{LinkedItem}
-use Rattle.vcode_reader.specs.Pools.{PooledLine, least_number, linked_lines, shown_lines, all_lists, all_names}
+use Rattle.vcode_reader.specs.Pools.{PooledItem, PooledLine, least_number, linked_lines, shown_lines, all_lists, all_names}
 use Rattle.vcode_reader.specs.Trees.{CodeLine, Function, Program, lines_of}
 use Rattle.vcode_reader.specs.Callees.{callees_of}
 use Rattle.vcode_reader.specs.Decode.{function_of, function_of-lines_of}
@@ -21,7 +20,10 @@ same_targets None (Some t) = (λ h. cc, λ h. cc)
 same_targets (Some s) None = (λ h. cc, λ h. cc)
 same_targets (Some s) (Some t) = Decides-like _ (λ h. ap (λ z. Some z) h) (λ h. cc) (Decides-eqb s t)
 
-pub same_spans : (s t : Span) → Decides (nat_eq s.start t.start && nat_eq s.len t.len) (s ≡ t)
+abbrev pub same_span : Span → Span → Bool
+same_span s t = nat_eq s.start t.start && nat_eq s.len t.len
+
+pub same_spans : (s t : Span) → Decides (same_span s t) (s ≡ t)
 same_spans s t =
     Decides-like _ (λ (e, f). ap (λ z. let x : Span = record { start = z; len = s.len } in x) e
     ∙ ap (λ z. let x : Span = record { start = t.start; len = z } in x) f)
@@ -29,12 +31,12 @@ same_spans s t =
     (Decides-and _ _ (Decides-eqb s.start t.start) (Decides-eqb s.len t.len))
 
 -- lines are equal if their pooled lines and the pools are
-module _ {F : LinkedItem → LinkedItem → Bool}
-    (exact : (i j : LinkedItem) → Decides (F i j) (i ≡ j)) where
+module _ {F : PooledItem → PooledItem → Bool}
+    (exact : (i j : PooledItem) → Decides (F i j) (i ≡ j)) where
   same_line : (a b : PooledLine) → Decides (F a.item b.item && nat_eq a.distance b.distance) (a ≡ b)
   same_line a b =
       Decides-like _ (λ (i, n). ap
-      (λ (z : LinkedItem). let l : PooledLine = record { item = z; distance = a.distance } in l) i
+      (λ (z : PooledItem). let l : PooledLine = record { item = z; distance = a.distance } in l) i
       ∙ ap (λ z. let l : PooledLine = record { item = b.item; distance = z } in l) n)
       (λ e. (ap (λ (x : PooledLine). x.item) e, ap (λ (x : PooledLine). x.distance) e))
       (Decides-and _ _ (exact a.item b.item) (Decides-eqb a.distance b.distance))

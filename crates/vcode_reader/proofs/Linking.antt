@@ -7,11 +7,10 @@ use Rattle.std.proofs.lemmas.List.{drop-set, drop_all, take-set, take-take}
 use Rattle.std.proofs.lemmas.Option.{none-some, same_Some}
 use Rattle.std.specs.List.{slice_get}
 use Rattle.vcode_base.specs.declared.instr.Instr.TheVariants as instr
-use Rattle.vcode_reader.specs.declared.code_lines.LinkedItem.{LinkedItem}
-use Rattle.vcode_reader.specs.declared.code_lines.LinkedItem.TheVariants as linked
+use Rattle.vcode_reader.specs.declared.code_lines.PooledItem.TheVariants as pooled
 use Rattle.vcode_reader.specs.declared.line.CodeItem.{CodeItem}
 use Rattle.vcode_reader.specs.declared.line.CodeItem.TheVariants as code_item
-use Rattle.vcode_reader.specs.Pools.{PooledLine, least_number, list_of, name_of, all_lists, all_names, pooled_item, pooled_line}
+use Rattle.vcode_reader.specs.Pools.{PooledItem, PooledLine, least_number, list_of, name_of, all_lists, all_names, pooled_item, pooled_line}
 use Rattle.vcode_reader.specs.Pools.{pooled_lines, shown_item, shown_line, shown_lines, ItemLiesIn, ArePooled, AreLinked}
 use Rattle.vcode_reader.specs.Pools.{target_of, with_target, line_with_target, with_targets, waits_before, linked_lines}
 use Rattle.vcode_reader.specs.Targets.{Jumps, first_of, others_of, jumps_before, jumps_from, target_in, target_at}
@@ -22,12 +21,18 @@ use Rattle.vcode_reader.proofs.Pooling.{lines_back}
 
 -- ---- targets aren't shown
 
-target_unseen : (ls : List ℤ) (ns : List ℕ) (target : Option ℕ) (i : LinkedItem) →
+target_unseen : (ls : List ℤ) (ns : List ℕ) (target : Option ℕ) (i : PooledItem) →
     shown_item ls ns (with_target target i) ≡ shown_item ls ns i
-target_unseen ls ns target (linked.Do i) = refl
-target_unseen ls ns target (linked.If old) = refl
-target_unseen ls ns target (linked.Else old) = refl
-target_unseen ls ns target linked.Endif = refl
+target_unseen ls ns target (pooled.Const kind span) = refl
+target_unseen ls ns target (pooled.Elementwise op) = refl
+target_unseen ls ns target (pooled.Segmented op) = refl
+target_unseen ls ns target pooled.DoIf = refl
+target_unseen ls ns target (pooled.Move motion lower upper) = refl
+target_unseen ls ns target (pooled.Call span) = refl
+target_unseen ls ns target pooled.Return = refl
+target_unseen ls ns target (pooled.If old) = refl
+target_unseen ls ns target (pooled.Else old) = refl
+target_unseen ls ns target pooled.Endif = refl
 
 targets_unseen : (first : ℕ) (ls : List ℤ) (ns : List ℕ) (targets : List (Option ℕ)) (ps : List PooledLine) →
     shown_lines first ls ns (with_targets targets ps) ≡ shown_lines first ls ns ps
@@ -91,7 +96,7 @@ module _ (first : ℕ) (ps slice new ps2 : List PooledLine) (ls ls2 : List ℤ) 
 
 -- ---- each item's list and name lie in the pools
 
-pub lies_too : (i : LinkedItem) (ls ms : List ℤ) (ns os : List ℕ) → ms ≡ ls → os ≡ ns →
+pub lies_too : (i : PooledItem) (ls ms : List ℤ) (ns os : List ℕ) → ms ≡ ls → os ≡ ns →
     ItemLiesIn ls ns i → ItemLiesIn ms os i
 lies_too i ls ms ns os e f h =
     subst (λ z. ItemLiesIn z os i) (sym e) (subst (λ z. ItemLiesIn ls z i) (sym f) h)
@@ -145,7 +150,13 @@ target_of_line (Some p) = target_of p.item
 first_target : (i : CodeItem Item) (l n place : ℕ) (j : Jumps) →
     target_of (with_target (target_in (first_of (jumps_before i place j).list)) (pooled_item l n i))
     ≡ target_in (slice_get (jumps_before i place j).list zero)
-first_target (code_item.Do i) l n place j = refl
+first_target (code_item.Do (instr.Const kind list)) l n place j = refl
+first_target (code_item.Do (instr.Elementwise op)) l n place j = refl
+first_target (code_item.Do (instr.Segmented op)) l n place j = refl
+first_target (code_item.Do instr.If) l n place j = refl
+first_target (code_item.Do (instr.Move motion lower upper)) l n place j = refl
+first_target (code_item.Do (instr.Call name)) l n place j = refl
+first_target (code_item.Do instr.Return) l n place j = refl
 first_target code_item.If l n place j = refl
 first_target code_item.Else l n place j = refl
 first_target code_item.Endif l n place j = refl
@@ -213,20 +224,32 @@ pub all_set : (old lines : List PooledLine) (places : List ℕ) (first : ℕ) (l
 unfolding targets_of
 all_set old lines places first ls ns set_all = set_all.back
 
-jumps_first : (ls : List ℤ) (ns : List ℕ) (i : LinkedItem) (place : ℕ) (j : Jumps) →
+jumps_first : (ls : List ℤ) (ns : List ℕ) (i : PooledItem) (place : ℕ) (j : Jumps) →
     with_target (target_in (first_of (jumps_before (shown_item ls ns i) place j).list)) i
     ≡ with_target (first_of j.waits) i
-jumps_first ls ns (linked.Do i) place j = refl
-jumps_first ls ns (linked.If old) place j = refl
-jumps_first ls ns (linked.Else old) place j = refl
-jumps_first ls ns linked.Endif place j = refl
+jumps_first ls ns (pooled.Const kind span) place j = refl
+jumps_first ls ns (pooled.Elementwise op) place j = refl
+jumps_first ls ns (pooled.Segmented op) place j = refl
+jumps_first ls ns pooled.DoIf place j = refl
+jumps_first ls ns (pooled.Move motion lower upper) place j = refl
+jumps_first ls ns (pooled.Call span) place j = refl
+jumps_first ls ns pooled.Return place j = refl
+jumps_first ls ns (pooled.If old) place j = refl
+jumps_first ls ns (pooled.Else old) place j = refl
+jumps_first ls ns pooled.Endif place j = refl
 
-jumps_wait : (ls : List ℤ) (ns : List ℕ) (i : LinkedItem) (place : ℕ) (j : Jumps) →
+jumps_wait : (ls : List ℤ) (ns : List ℕ) (i : PooledItem) (place : ℕ) (j : Jumps) →
     (jumps_before (shown_item ls ns i) place j).waits ≡ waits_before i place j.waits
-jumps_wait ls ns (linked.Do i) place j = refl
-jumps_wait ls ns (linked.If old) place j = refl
-jumps_wait ls ns (linked.Else old) place j = refl
-jumps_wait ls ns linked.Endif place j = refl
+jumps_wait ls ns (pooled.Const kind span) place j = refl
+jumps_wait ls ns (pooled.Elementwise op) place j = refl
+jumps_wait ls ns (pooled.Segmented op) place j = refl
+jumps_wait ls ns pooled.DoIf place j = refl
+jumps_wait ls ns (pooled.Move motion lower upper) place j = refl
+jumps_wait ls ns (pooled.Call span) place j = refl
+jumps_wait ls ns pooled.Return place j = refl
+jumps_wait ls ns (pooled.If old) place j = refl
+jumps_wait ls ns (pooled.Else old) place j = refl
+jumps_wait ls ns pooled.Endif place j = refl
 
 -- the line before has its target too
 module _ (place : ℕ) (old lines : List PooledLine) (places : List ℕ) (first : ℕ) (ls : List ℤ) (ns : List ℕ) (d y : PooledLine)

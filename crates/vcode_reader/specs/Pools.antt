@@ -3,18 +3,14 @@
 use Rattle.std.specs.Prelude.{◌≡◌, ◌≤◌, ℕ, zero, suc, ℤ, ◌+◌, ◌-◌, ◌^◌, min, List, [], ◌∷◌, ◌++◌, length, map, take, drop, Option, None}
 use Rattle.vcode_base.specs.declared.instr.Instr.{Instr}
 use Rattle.vcode_base.specs.declared.instr.Instr.TheVariants as instr
-use Rattle.vcode_reader.specs.declared.code_lines.LinkedItem.{LinkedItem}
-use Rattle.vcode_reader.specs.declared.code_lines.LinkedItem.TheVariants as linked
+pub use Rattle.vcode_reader.specs.declared.code_lines.PooledItem.{PooledItem}
+use Rattle.vcode_reader.specs.declared.code_lines.PooledItem.TheVariants as pooled
 pub use Rattle.vcode_reader.specs.declared.code_lines.PooledLine.{PooledLine}
 use Rattle.vcode_reader.specs.declared.code_lines.Span.{Span}
 use Rattle.vcode_reader.specs.declared.line.CodeItem.{CodeItem}
 use Rattle.vcode_reader.specs.declared.line.CodeItem.TheVariants as code_item
 use Rattle.vcode_reader.specs.Targets.{first_of, others_of, target_in, targets_of}
 use Rattle.vcode_reader.specs.Trees.{Item, CodeLine, line_of}
-
--- an instruction with the place of its list or of its name
-abbrev pub PooledItem : Type 0
-PooledItem = Instr Span Span
 
 -- the list, and the name, of an instruction that has one
 abbrev pub list_in : Item → List ℤ
@@ -62,20 +58,20 @@ abbrev pub span_of : {A : Type 0} → ℕ → List A → Span
 span_of start list = record { start = start; len = length list }
 
 abbrev pub pooled_instruction : ℕ → ℕ → Item → PooledItem
-pooled_instruction l n (instr.Const kind list) = instr.Const kind (span_of l list)
-pooled_instruction l n (instr.Elementwise op) = instr.Elementwise op
-pooled_instruction l n (instr.Segmented op) = instr.Segmented op
-pooled_instruction l n instr.If = instr.If
-pooled_instruction l n (instr.Move motion lower upper) = instr.Move motion lower upper
-pooled_instruction l n (instr.Call name) = instr.Call (span_of n name)
-pooled_instruction l n instr.Return = instr.Return
+pooled_instruction l n (instr.Const kind list) = pooled.Const kind (span_of l list)
+pooled_instruction l n (instr.Elementwise op) = pooled.Elementwise op
+pooled_instruction l n (instr.Segmented op) = pooled.Segmented op
+pooled_instruction l n instr.If = pooled.DoIf
+pooled_instruction l n (instr.Move motion lower upper) = pooled.Move motion lower upper
+pooled_instruction l n (instr.Call name) = pooled.Call (span_of n name)
+pooled_instruction l n instr.Return = pooled.Return
 
 -- an IF and an ELSE have no target yet
-abbrev pub pooled_item : ℕ → ℕ → CodeItem Item → LinkedItem
-pooled_item l n (code_item.Do i) = linked.Do (pooled_instruction l n i)
-pooled_item l n code_item.If = linked.If None
-pooled_item l n code_item.Else = linked.Else None
-pooled_item l n code_item.Endif = linked.Endif
+abbrev pub pooled_item : ℕ → ℕ → CodeItem Item → PooledItem
+pooled_item l n (code_item.Do i) = pooled_instruction l n i
+pooled_item l n code_item.If = pooled.If None
+pooled_item l n code_item.Else = pooled.Else None
+pooled_item l n code_item.Endif = pooled.Endif
 
 -- with the distance from the first line's number
 abbrev pub pooled_line : ℕ → ℕ → ℕ → CodeLine → PooledLine
@@ -92,20 +88,17 @@ pooled_lines first l n (x ∷ xs) =
 abbrev pub part_of : {A : Type 0} → List A → Span → List A
 part_of pool span = take span.len (drop span.start pool)
 
-abbrev pub shown_instruction : List ℤ → List ℕ → PooledItem → Item
-shown_instruction ls ns (instr.Const kind span) = instr.Const kind (part_of ls span)
-shown_instruction ls ns (instr.Elementwise op) = instr.Elementwise op
-shown_instruction ls ns (instr.Segmented op) = instr.Segmented op
-shown_instruction ls ns instr.If = instr.If
-shown_instruction ls ns (instr.Move motion lower upper) = instr.Move motion lower upper
-shown_instruction ls ns (instr.Call span) = instr.Call (part_of ns span)
-shown_instruction ls ns instr.Return = instr.Return
-
-abbrev pub shown_item : List ℤ → List ℕ → LinkedItem → CodeItem Item
-shown_item ls ns (linked.Do i) = code_item.Do (shown_instruction ls ns i)
-shown_item ls ns (linked.If target) = code_item.If
-shown_item ls ns (linked.Else target) = code_item.Else
-shown_item ls ns linked.Endif = code_item.Endif
+abbrev pub shown_item : List ℤ → List ℕ → PooledItem → CodeItem Item
+shown_item ls ns (pooled.Const kind span) = code_item.Do (instr.Const kind (part_of ls span))
+shown_item ls ns (pooled.Elementwise op) = code_item.Do (instr.Elementwise op)
+shown_item ls ns (pooled.Segmented op) = code_item.Do (instr.Segmented op)
+shown_item ls ns pooled.DoIf = code_item.Do instr.If
+shown_item ls ns (pooled.Move motion lower upper) = code_item.Do (instr.Move motion lower upper)
+shown_item ls ns (pooled.Call span) = code_item.Do (instr.Call (part_of ns span))
+shown_item ls ns pooled.Return = code_item.Do instr.Return
+shown_item ls ns (pooled.If target) = code_item.If
+shown_item ls ns (pooled.Else target) = code_item.Else
+shown_item ls ns pooled.Endif = code_item.Endif
 
 abbrev pub shown_line : ℕ → List ℤ → List ℕ → PooledLine → CodeLine
 shown_line first ls ns x = line_of (shown_item ls ns x.item) (first + x.distance)
@@ -118,27 +111,23 @@ shown_lines first ls ns xs = map (shown_line first ls ns) xs
 abbrev pub LiesIn : {A : Type 0} → List A → Span → Type 0
 LiesIn pool span = span.start + span.len ≤ length pool
 
-abbrev pub InstructionLiesIn : List ℤ → List ℕ → PooledItem → Type 0
-InstructionLiesIn ls ns (instr.Const kind span) = LiesIn ls span
-InstructionLiesIn ls ns (instr.Call span) = LiesIn ns span
-InstructionLiesIn ls ns _ = Unit {0}
-
-abbrev pub ItemLiesIn : List ℤ → List ℕ → LinkedItem → Type 0
-ItemLiesIn ls ns (linked.Do i) = InstructionLiesIn ls ns i
+abbrev pub ItemLiesIn : List ℤ → List ℕ → PooledItem → Type 0
+ItemLiesIn ls ns (pooled.Const kind span) = LiesIn ls span
+ItemLiesIn ls ns (pooled.Call span) = LiesIn ns span
 ItemLiesIn ls ns _ = Unit {0}
 
 -- ---- their targets
 
 -- the target of an item that has one
-abbrev pub target_of : LinkedItem → Option ℕ
-target_of (linked.If target) = target
-target_of (linked.Else target) = target
+abbrev pub target_of : PooledItem → Option ℕ
+target_of (pooled.If target) = target
+target_of (pooled.Else target) = target
 target_of _ = None
 
 -- an IF or an ELSE with this target
-abbrev pub with_target : Option ℕ → LinkedItem → LinkedItem
-with_target target (linked.If old) = linked.If target
-with_target target (linked.Else old) = linked.Else target
+abbrev pub with_target : Option ℕ → PooledItem → PooledItem
+with_target target (pooled.If old) = pooled.If target
+with_target target (pooled.Else old) = pooled.Else target
 with_target target i = i
 
 abbrev pub line_with_target : Option ℕ → PooledLine → PooledLine
@@ -151,11 +140,11 @@ with_targets targets (x ∷ xs) =
     line_with_target (target_in (first_of targets)) x ∷ with_targets (others_of targets) xs
 
 -- the places that earlier lines go on at, if this item is at this place in front of others
-abbrev pub waits_before : LinkedItem → ℕ → List ℕ → List ℕ
-waits_before (linked.Do i) place waits = waits
-waits_before (linked.If target) place waits = others_of waits
-waits_before (linked.Else target) place waits = (place + 1) ∷ others_of waits
-waits_before linked.Endif place waits = (place + 1) ∷ waits
+abbrev pub waits_before : PooledItem → ℕ → List ℕ → List ℕ
+waits_before (pooled.If target) place waits = others_of waits
+waits_before (pooled.Else target) place waits = (place + 1) ∷ others_of waits
+waits_before pooled.Endif place waits = (place + 1) ∷ waits
+waits_before i place waits = waits
 
 -- the lines of a function with their targets
 unfoldable pub linked_lines : List CodeLine → List PooledLine

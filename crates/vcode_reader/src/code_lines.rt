@@ -4,8 +4,8 @@ ghost use Rattle.std.specs.Prelude.{◌≡◌, ◌+◌, ◌-◌, ◌<◌, ◌≤
 ghost use Rattle.std.specs.Prelude.{MatchOption, OnOk, OnErr};
 ghost use Rattle.vcode_base.specs.declared.instr.Instr.TheVariants as instr;
 ghost use Rattle.vcode_reader.specs.Pools.{first_with, list_in, name_in, list_of, name_of, part_of};
-ghost use Rattle.vcode_reader.specs.Pools.{pooled_instruction, pooled_item, pooled_line, shown_instruction, shown_item, shown_lines, span_of, target_of};
-ghost use Rattle.vcode_reader.specs.Pools.{line_with_target, waits_before, with_targets, InstructionLiesIn, ItemLiesIn, LiesIn};
+ghost use Rattle.vcode_reader.specs.Pools.{pooled_instruction, pooled_item, pooled_line, shown_item, shown_lines, span_of, target_of};
+ghost use Rattle.vcode_reader.specs.Pools.{line_with_target, waits_before, with_targets, ItemLiesIn, LiesIn};
 ghost use Rattle.vcode_reader.specs.Targets.{first_of, target_at, targets_of};
 ghost use Rattle.vcode_reader.specs.Trees.{line_of};
 
@@ -13,7 +13,9 @@ use crate::front_list::FrontList;
 use crate::line::{CodeItem, CodeLine, Numbered};
 use std::alloc::{AllocError, Allocator};
 use std::marker::Model;
-use vcode_base::{Elements, Instr, Instruction, Sequence, Words};
+use vcode_base::{
+    Elements, Elementwise, Instr, Instruction, Scalar, Segmented, Sequence, StackMove, Words,
+};
 
 /// A part of a list: where it begins and how many elements it has.
 #[derive(Clone, Copy, PartialEq, Eq, Debug)]
@@ -22,23 +24,26 @@ pub struct Span {
     pub len: u32,
 }
 
-/// An instruction with the place of its list or of its name.
-type PooledInstruction = Instr<Span, Span>;
-
-/// An item with the place of its list or of its name. An IF and an ELSE have the place of the line that they go on at,
-/// once that is found.
+/// An item with the place of its list or of its name: an instruction, of which `DoIf` is `IF`, or else an IF, its ELSE
+/// or its ENDIF. An IF and an ELSE have the place of the line that they go on at, once that is found.
 #[derive(PartialEq, Eq, Drop)]
-pub enum LinkedItem {
-    Do(PooledInstruction),
+pub enum PooledItem {
+    Const(Scalar, Span),
+    Elementwise(Elementwise),
+    Segmented(Segmented),
+    DoIf,
+    Move(StackMove, u16, u16),
+    Call(Span),
+    Return,
     If(Option<u32>),
     Else(Option<u32>),
     Endif,
 }
 
-/// A line of 20 bytes: its item, and how far its number is from that of the first line.
+/// A line of 16 bytes: its item, and how far its number is from that of the first line.
 #[derive(PartialEq, Eq, Drop)]
 pub struct PooledLine {
-    pub item: LinkedItem,
+    pub item: PooledItem,
     pub distance: u32,
 }
 
@@ -267,7 +272,7 @@ fn pooled_item<A: Allocator>(
     item: CodeItem<Instruction<'_>>,
     lists: &mut Vec<i64, A>,
     names: &mut Vec<u8, A>,
-) -> Result<LinkedItem, AllocError>
+) -> Result<PooledItem, AllocError>
     ensures item { IfOk result (λ i. i ≡ pooled_item (length lists.old.items) (length names.old.items) item.entry) }
     ensures lists { OnOk result (lists.new.items ≡ lists.old.items ++ list_of item.entry) }
     ensures names { OnOk result (names.new.items ≡ names.old.items ++ name_of item.entry) }
@@ -275,14 +280,10 @@ fn pooled_item<A: Allocator>(
     ensures same_names { OnErr result (names.new.items ≡ names.old.items) }
 {
     match item {
-        CodeItem::Do(instruction) => Ok(LinkedItem::Do(pooled_instruction(
-            instruction,
-            lists,
-            names,
-        )?)),
-        CodeItem::If => Ok(LinkedItem::If(None)),
-        CodeItem::Else => Ok(LinkedItem::Else(None)),
-        CodeItem::Endif => Ok(LinkedItem::Endif),
+        CodeItem::Do(instruction) => Ok(pooled_instruction(instruction, lists, names)?),
+        CodeItem::If => Ok(PooledItem::If(None)),
+        CodeItem::Else => Ok(PooledItem::Else(None)),
+        CodeItem::Endif => Ok(PooledItem::Endif),
     }
 }
 
@@ -292,7 +293,7 @@ fn pooled_instruction<A: Allocator>(
     instruction: Instruction<'_>,
     lists: &mut Vec<i64, A>,
     names: &mut Vec<u8, A>,
-) -> Result<PooledInstruction, AllocError>
+) -> Result<PooledItem, AllocError>
     ensures instruction { IfOk result (λ i.
         i ≡ pooled_instruction (length lists.old.items) (length names.old.items) instruction.entry) }
     ensures lists { OnOk result (lists.new.items ≡ lists.old.items ++ list_in instruction.entry) }
@@ -301,13 +302,13 @@ fn pooled_instruction<A: Allocator>(
     ensures same_names { OnErr result (names.new.items ≡ names.old.items) }
 {
     match instruction {
-        Instr::Const(kind, list) => Ok(Instr::Const(kind, add_words(lists, list.as_slice())?)),
-        Instr::Elementwise(op) => Ok(Instr::Elementwise(op)),
-        Instr::Segmented(op) => Ok(Instr::Segmented(op)),
-        Instr::If => Ok(Instr::If),
-        Instr::Move(motion, lower, upper) => Ok(Instr::Move(motion, lower, upper)),
-        Instr::Call(name) => Ok(Instr::Call(add_bytes(names, name.as_slice())?)),
-        Instr::Return => Ok(Instr::Return),
+        Instr::Const(kind, list) => Ok(PooledItem::Const(kind, add_words(lists, list.as_slice())?)),
+        Instr::Elementwise(op) => Ok(PooledItem::Elementwise(op)),
+        Instr::Segmented(op) => Ok(PooledItem::Segmented(op)),
+        Instr::If => Ok(PooledItem::DoIf),
+        Instr::Move(motion, lower, upper) => Ok(PooledItem::Move(motion, lower, upper)),
+        Instr::Call(name) => Ok(PooledItem::Call(add_bytes(names, name.as_slice())?)),
+        Instr::Return => Ok(PooledItem::Return),
     }
 }
 
@@ -349,36 +350,25 @@ fn add_bytes<A: Allocator>(names: &mut Vec<u8, A>, name: &[u8]) -> Result<Span, 
 
 /// An item with its list or its name.
 #[inline(always)]
-fn shown_item<'a>(item: &LinkedItem, lists: &'a [i64], names: &'a [u8]) -> CodeItem<Instruction<'a>>
+fn shown_item<'a>(item: &PooledItem, lists: &'a [i64], names: &'a [u8]) -> CodeItem<Instruction<'a>>
     requires { ItemLiesIn lists.now names.now item.now }
     ensures { result ≡ shown_item lists.now names.now item.now }
 {
     match item {
-        LinkedItem::Do(instruction) => CodeItem::Do(shown_instruction(instruction, lists, names)),
-        LinkedItem::If(_) => CodeItem::If,
-        LinkedItem::Else(_) => CodeItem::Else,
-        LinkedItem::Endif => CodeItem::Endif,
-    }
-}
-
-/// An instruction with its list or its name.
-#[inline(always)]
-fn shown_instruction<'a>(
-    instruction: &PooledInstruction,
-    lists: &'a [i64],
-    names: &'a [u8],
-) -> Instruction<'a>
-    requires { InstructionLiesIn lists.now names.now instruction.now }
-    ensures { result ≡ shown_instruction lists.now names.now instruction.now }
-{
-    match instruction {
-        Instr::Const(kind, span) => Instr::Const(*kind, Elements::new(part_of(lists, *span))),
-        Instr::Elementwise(op) => Instr::Elementwise(*op),
-        Instr::Segmented(op) => Instr::Segmented(*op),
-        Instr::If => Instr::If,
-        Instr::Move(motion, lower, upper) => Instr::Move(*motion, *lower, *upper),
-        Instr::Call(span) => Instr::Call(Elements::new(part_of(names, *span))),
-        Instr::Return => Instr::Return,
+        PooledItem::Const(kind, span) => {
+            CodeItem::Do(Instr::Const(*kind, Elements::new(part_of(lists, *span))))
+        }
+        PooledItem::Elementwise(op) => CodeItem::Do(Instr::Elementwise(*op)),
+        PooledItem::Segmented(op) => CodeItem::Do(Instr::Segmented(*op)),
+        PooledItem::DoIf => CodeItem::Do(Instr::If),
+        PooledItem::Move(motion, lower, upper) => CodeItem::Do(Instr::Move(
+            *motion, *lower, *upper,
+        )),
+        PooledItem::Call(span) => CodeItem::Do(Instr::Call(Elements::new(part_of(names, *span)))),
+        PooledItem::Return => CodeItem::Do(Instr::Return),
+        PooledItem::If(_) => CodeItem::If,
+        PooledItem::Else(_) => CodeItem::Else,
+        PooledItem::Endif => CodeItem::Endif,
     }
 }
 
@@ -393,12 +383,12 @@ fn part_of<T>(pool: &[T], span: Span) -> &[T]
 }
 
 /// The place that an item goes on at, if it has one.
-fn target_of(item: &LinkedItem) -> Option<u32>
+fn target_of(item: &PooledItem) -> Option<u32>
     ensures { result ≡ target_of item.now }
 {
     match item {
-        LinkedItem::If(target) | LinkedItem::Else(target) => *target,
-        LinkedItem::Do(_) | LinkedItem::Endif => None,
+        PooledItem::If(target) | PooledItem::Else(target) => *target,
+        _ => None,
     }
 }
 
@@ -431,13 +421,13 @@ fn set_target<A: Allocator>(
     ensures waits { OnOk result (waits.new ≡ waits_before line.old.item place waits.old) }
 {
     match &mut line.item {
-        LinkedItem::Do(_) => {}
-        LinkedItem::If(target) => *target = waits.pop(),
-        LinkedItem::Else(target) => {
+        PooledItem::If(target) => *target = waits.pop(),
+        PooledItem::Else(target) => {
             *target = waits.pop();
             waits.push(place + 1)?;
         }
-        LinkedItem::Endif => waits.push(place + 1)?,
+        PooledItem::Endif => waits.push(place + 1)?,
+        _ => {}
     }
     Ok(())
 }
