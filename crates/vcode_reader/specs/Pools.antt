@@ -1,7 +1,6 @@
 -- The lines of a function whose lists and names lie in two pools: where each lies, the lines that they are, and the
 -- targets that are put into them.
 use Rattle.std.specs.Prelude.{◌≡◌, ◌≤◌, ℕ, zero, suc, ℤ, ◌+◌, ◌-◌, ◌^◌, min, List, [], ◌∷◌, ◌++◌, length, map, take, drop, Option, None}
-use Rattle.vcode_base.specs.declared.instr.Instr.{Instr}
 use Rattle.vcode_base.specs.declared.instr.Instr.TheVariants as instr
 pub use Rattle.vcode_reader.specs.declared.code_lines.PooledItem.{PooledItem}
 use Rattle.vcode_reader.specs.declared.code_lines.PooledItem.TheVariants as pooled

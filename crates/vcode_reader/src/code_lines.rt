@@ -232,13 +232,10 @@ fn distance(first: u64, number: u64) -> Result<u32, AllocError>
     ensures distance { IfOk result (λ d. d ≡ number - first) }
     ensures after { OnOk result (first ≤ number) }
 {
-    if number < first {
+    if number < first || number - first > u64::from(u32::MAX) {
         return Err(AllocError);
     }
-    match u32::try_from(number - first) {
-        Ok(distance) => Ok(distance),
-        Err(_) => Err(AllocError),
-    }
+    Ok((number - first) as u32)
 }
 
 /// Adds a line, with its list or its name, after the others.
@@ -280,7 +277,7 @@ fn pooled_item<A: Allocator>(
     ensures same_names { OnErr result (names.new.items ≡ names.old.items) }
 {
     match item {
-        CodeItem::Do(instruction) => Ok(pooled_instruction(instruction, lists, names)?),
+        CodeItem::Do(instruction) => pooled_instruction(instruction, lists, names),
         CodeItem::If => Ok(PooledItem::If(None)),
         CodeItem::Else => Ok(PooledItem::Else(None)),
         CodeItem::Endif => Ok(PooledItem::Endif),
