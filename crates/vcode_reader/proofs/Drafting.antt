@@ -8,8 +8,7 @@ use Rattle.vcode_reader.specs.declared.place.OpenIf.{OpenIf}
 use Rattle.vcode_reader.specs.Decode.{AreBodyLines, AreLines, AreLines-then, tree_of-body_lines}
 use Rattle.vcode_reader.specs.Drafts.{Closing, open_if, takes_else, is_open, lines_after_endif, first_closing}
 use Rattle.vcode_reader.specs.Drafts.{other_closings, endings, IsDraft}
-use Rattle.vcode_reader.specs.Programs.{HoldsFunction}
-use Rattle.vcode_reader.specs.Targets.{first_of, others_of, targets_of}
+use Rattle.vcode_reader.specs.Targets.{first_of, others_of}
 use Rattle.vcode_reader.specs.Trees.{Item, Body, End, Do, Choice, CodeLine, line_of, instruction_line, body_lines}
 
 -- this closing before these
@@ -170,11 +169,8 @@ whole_draft (i ∷ is) lines o h = absurd (differ o)
     differ : true ≡ false → ⊥
     differ h = cc
 
--- what a function holds, of the lines of a body and a RET after them
-pub holds_function : (name : List ℕ) (line ret : ℕ) (xs lines : List CodeLine) (targets : List (Option ℕ)) →
-    lines ≡ xs ++ instruction_line Return ret ∷ [] → targets ≡ targets_of lines → AreBodyLines xs →
-    HoldsFunction name line lines targets
-holds_function name line ret xs lines targets all at body = record {
-  lines = subst (AreLines name line) (sym all) (AreLines-then name line xs ret body);
-  targets = at;
-}
+-- the lines of a function: those of a body, and a RET after them
+pub whole_function : (name : List ℕ) (line ret : ℕ) (xs lines : List CodeLine) →
+    lines ≡ xs ++ instruction_line Return ret ∷ [] → AreBodyLines xs → AreLines name line lines
+whole_function name line ret xs lines all body =
+    subst (AreLines name line) (sym all) (AreLines-then name line xs ret body)

@@ -15,16 +15,11 @@ use Rattle.vcode_base.specs.contracts.op.Fold as folds
 use Rattle.vcode_base.specs.contracts.op.Elementwise as elementwise
 use Rattle.vcode_base.specs.contracts.op.Segmented as segmented
 use Rattle.vcode_base.specs.contracts.op.StackMove as motion
-use Rattle.vcode_base.specs.contracts.instr.Instr as instr
-use Rattle.vcode_base.specs.contracts.instr.InstrPartialEq.TheImpl as instr_eq
-use Rattle.vcode_base.specs.declared.instr.Instr.{Instr}
-use Rattle.vcode_reader.specs.contracts.line.CodeItem as parts
-use Rattle.vcode_reader.specs.contracts.line.CodeItemPartialEq.TheImpl as part_eq
-use Rattle.vcode_reader.specs.declared.line.CodeItem.{CodeItem}
+use Rattle.vcode_reader.specs.contracts.code_lines.PooledItem as pooled
+use Rattle.vcode_reader.specs.Pools.{PooledItem}
+use Rattle.vcode_reader.proofs.Equal.{same_span, same_spans, same_targets}
+use Rattle.std.specs.Option.{option_eq}
 use Rattle.std.specs.Prelude.{nat_eq}
-use Rattle.std.specs.declared.cmp.PartialEq.{Ghosts}
-use denote.RattleType.{RattleType}
-use mir.Syntax.{Dict}
 
 -- each variant's test of its fields is true if they are equal
 abbrev pub AreExact : (Fss : List (List Field)) → Each Bool Fss → Type 0
@@ -201,10 +196,9 @@ segmented_exact =
       ),
     )
 
-abbrev pub instr_each : (L N : RattleType) → (L.Denot → L.Denot → Bool) → (N.Denot → N.Denot → Bool) →
-    Each Bool (instr.the_parts L N)
-instr_each L N lists names = (
-  λ x y. sameb scalar.the_type x.0 y.0 && lists x.1.0 y.1.0,
+abbrev pub pooled_each : Each Bool pooled.the_parts
+pooled_each = (
+  λ x y. sameb scalar.the_type x.0 y.0 && same_span x.1.0 y.1.0,
   (
     λ x y. same_elementwise x.0 y.0,
     (
@@ -213,38 +207,38 @@ instr_each L N lists names = (
         λ _ _. true,
         (
           λ x y. sameb motion.the_type x.0 y.0 && (nat_eq x.1.0 y.1.0 && nat_eq x.1.1.0 y.1.1.0),
-          (λ x y. names x.0 y.0, (λ _ _. true, tt)),
+          (
+            λ x y. same_span x.0 y.0,
+            (
+              λ _ _. true,
+              (λ x y. option_eq nat_eq x.0 y.0, (λ x y. option_eq nat_eq x.0 y.0, (λ _ _. true, tt))),
+            ),
+          ),
         ),
       ),
     ),
   ),
 )
 
-module _ (L N : RattleType) (gl : Ghosts L.Denot) (dl : Dict) (gn : Ghosts N.Denot) (dn : Dict)
-    (lists : (a b : L.Denot) → Decides (gl.eq a b) (a ≡ b))
-    (names : (a b : N.Denot) → Decides (gn.eq a b) (a ≡ b)) where
-  pub same_instructions : (i j : Instr L.Denot N.Denot) → Decides ((instr_eq.ghosts L N gl dl gn dn).eq i j) (i ≡ j)
-  same_instructions =
-      same_values (instr.the_parts L N) (instr.as_values L N) (instr.the_make L N) (instr.the_eta L N)
-      (instr_each L N gl.eq gn.eq) (
-        two_fields scalars lists,
+pub same_items : (a b : PooledItem) →
+    Decides (by false false pooled.the_parts pooled_each (pooled.as_values a) (pooled.as_values b)) (a ≡ b)
+same_items =
+    same_values pooled.the_parts pooled.as_values pooled.the_make pooled.the_eta pooled_each (
+      two_fields scalars same_spans,
+      (
+        one_field elementwise_exact,
         (
-          one_field elementwise_exact,
+          one_field segmented_exact,
           (
-            one_field segmented_exact,
+            no_field,
             (
-              no_field,
-              (three_fields (bare motion.the_type tt) Decides-eqb Decides-eqb, (one_field names, (no_field, tt))),
+              three_fields (bare motion.the_type tt) Decides-eqb Decides-eqb,
+              (
+                one_field same_spans,
+                (no_field, (one_field same_targets, (one_field same_targets, (no_field, tt)))),
+              ),
             ),
           ),
         ),
-      )
-
-abbrev pub part_each : (I : RattleType) → (I.Denot → I.Denot → Bool) → Each Bool (parts.the_parts I)
-part_each I items = (λ x y. items x.0 y.0, (λ _ _. true, (λ _ _. true, (λ _ _. true, tt))))
-
-module _ (I : RattleType) (g : Ghosts I.Denot) (d : Dict) (items : (a b : I.Denot) → Decides (g.eq a b) (a ≡ b)) where
-  pub same_parts : (p q : CodeItem I.Denot) → Decides ((part_eq.ghosts I g d).eq p q) (p ≡ q)
-  same_parts =
-      same_values (parts.the_parts I) (parts.as_values I) (parts.the_make I) (parts.the_eta I) (part_each I g.eq)
-      (one_field items, (no_field, (no_field, (no_field, tt))))
+      ),
+    )

@@ -8,13 +8,11 @@ use Rattle.std.specs.Prelude.{nat_eq}
 use Rattle.std.proofs.lemmas.Bool.Decides.{Decides-and, Decides-like, Decides-eqb, Decides-int_eq}
 use Rattle.std.proofs.lemmas.Slice.Eq.{slice_eq-Decides}
 use Rattle.vcode_reader.specs.declared.code_lines.Span.{Span}
-use Rattle.vcode_reader.specs.declared.line.CodeItem.{CodeItem}
-use Rattle.vcode_reader.specs.Pools.{PooledItem, PooledLine, pooled_lines, shown_lines, all_lists, all_names}
+use Rattle.vcode_reader.specs.Pools.{PooledItem, PooledLine, least_number, linked_lines, shown_lines, all_lists, all_names}
 use Rattle.vcode_reader.specs.Trees.{CodeLine, Function, Program, lines_of}
 use Rattle.vcode_reader.specs.Callees.{callees_of}
-use Rattle.vcode_reader.specs.Targets.{targets_of}
 use Rattle.vcode_reader.specs.Decode.{function_of, function_of-lines_of}
-use Rattle.vcode_reader.proofs.Pooling.{lines_again}
+use Rattle.vcode_reader.proofs.Linking.{linked_again}
 
 pub same_targets : (s t : Option ℕ) → Decides (option_eq nat_eq s t) (s ≡ t)
 same_targets None None = (λ h. refl, λ h. refl)
@@ -22,7 +20,10 @@ same_targets None (Some t) = (λ h. cc, λ h. cc)
 same_targets (Some s) None = (λ h. cc, λ h. cc)
 same_targets (Some s) (Some t) = Decides-like _ (λ h. ap (λ z. Some z) h) (λ h. cc) (Decides-eqb s t)
 
-pub same_spans : (s t : Span) → Decides (nat_eq s.start t.start && nat_eq s.len t.len) (s ≡ t)
+abbrev pub same_span : Span → Span → Bool
+same_span s t = nat_eq s.start t.start && nat_eq s.len t.len
+
+pub same_spans : (s t : Span) → Decides (same_span s t) (s ≡ t)
 same_spans s t =
     Decides-like _ (λ (e, f). ap (λ z. let x : Span = record { start = z; len = s.len } in x) e
     ∙ ap (λ z. let x : Span = record { start = t.start; len = z } in x) f)
@@ -30,59 +31,51 @@ same_spans s t =
     (Decides-and _ _ (Decides-eqb s.start t.start) (Decides-eqb s.len t.len))
 
 -- lines are equal if their pooled lines and the pools are
-module _ {F : CodeItem PooledItem → CodeItem PooledItem → Bool}
-    (exact : (i j : CodeItem PooledItem) → Decides (F i j) (i ≡ j)) where
-  same_line : (a b : PooledLine) → Decides (F a.item b.item && nat_eq a.number b.number) (a ≡ b)
+module _ {F : PooledItem → PooledItem → Bool}
+    (exact : (i j : PooledItem) → Decides (F i j) (i ≡ j)) where
+  same_line : (a b : PooledLine) → Decides (F a.item b.item && nat_eq a.distance b.distance) (a ≡ b)
   same_line a b =
       Decides-like _ (λ (i, n). ap
-      (λ (z : CodeItem PooledItem). let l : PooledLine = record { item = z; number = a.number } in l) i
-      ∙ ap (λ z. let l : PooledLine = record { item = b.item; number = z } in l) n)
-      (λ e. (ap (λ (x : PooledLine). x.item) e, ap (λ (x : PooledLine). x.number) e))
-      (Decides-and _ _ (exact a.item b.item) (Decides-eqb a.number b.number))
+      (λ (z : PooledItem). let l : PooledLine = record { item = z; distance = a.distance } in l) i
+      ∙ ap (λ z. let l : PooledLine = record { item = b.item; distance = z } in l) n)
+      (λ e. (ap (λ (x : PooledLine). x.item) e, ap (λ (x : PooledLine). x.distance) e))
+      (Decides-and _ _ (exact a.item b.item) (Decides-eqb a.distance b.distance))
 
   pub same_lines : (xs ys : List CodeLine) →
-      Decides (pointwise (λ a b. F a.item b.item && nat_eq a.number b.number) (pooled_lines 0 0 xs)
-      (pooled_lines 0 0 ys) && (pointwise int_eq (all_lists xs) (all_lists ys) && pointwise nat_eq (all_names xs)
-      (all_names ys))) (xs ≡ ys)
+      Decides (nat_eq (least_number xs) (least_number ys) &&
+      (pointwise (λ a b. F a.item b.item && nat_eq a.distance b.distance) (linked_lines xs) (linked_lines ys) &&
+      (pointwise int_eq (all_lists xs) (all_lists ys) && pointwise nat_eq (all_names xs) (all_names ys)))) (xs ≡ ys)
   same_lines xs ys =
-      Decides-like _ (λ (e, (f, g)). sym (lines_again xs)
-      ∙ (ap (λ z. shown_lines (all_lists xs) (all_names xs) z) e
-      ∙ (ap (λ z. shown_lines z (all_names xs) (pooled_lines 0 0 ys)) f
-      ∙ (ap (λ z. shown_lines (all_lists ys) z (pooled_lines 0 0 ys)) g ∙ lines_again ys))))
-      (λ e. (ap (pooled_lines 0 0) e, (ap all_lists e, ap all_names e)))
-      (Decides-and _ _ (slice_eq-Decides same_line (pooled_lines 0 0 xs) (pooled_lines 0 0 ys) _ refl)
+      Decides-like _ (λ (n, (e, (f, g))). sym (linked_again xs)
+      ∙ (ap (λ z. shown_lines z (all_lists xs) (all_names xs) (linked_lines xs)) n
+      ∙ (ap (λ z. shown_lines (least_number ys) (all_lists xs) (all_names xs) z) e
+      ∙ (ap (λ z. shown_lines (least_number ys) z (all_names xs) (linked_lines ys)) f
+      ∙ (ap (λ z. shown_lines (least_number ys) (all_lists ys) z (linked_lines ys)) g ∙ linked_again ys)))))
+      (λ e. (ap least_number e, (ap linked_lines e, (ap all_lists e, ap all_names e))))
+      (Decides-and _ _ (Decides-eqb (least_number xs) (least_number ys))
+      (Decides-and _ _ (slice_eq-Decides same_line (linked_lines xs) (linked_lines ys) _ refl)
       (Decides-and _ _ (slice_eq-Decides Decides-int_eq (all_lists xs) (all_lists ys) _ refl)
-      (slice_eq-Decides Decides-eqb (all_names xs) (all_names ys) _ refl)))
+      (slice_eq-Decides Decides-eqb (all_names xs) (all_names ys) _ refl))))
 
 module _ {L : List CodeLine → List CodeLine → Bool} {T : Option ℕ → Option ℕ → Bool}
     (exact_lines : (xs ys : List CodeLine) → Decides (L xs ys) (xs ≡ ys))
-    (exact_targets : (s t : Option ℕ) → Decides (T s t) (s ≡ t)) where
+    (exact_callees : (s t : Option ℕ) → Decides (T s t) (s ≡ t)) where
   same_functions : (f g : Function) →
-      Decides (pointwise nat_eq f.name g.name &&
-      (nat_eq f.line g.line &&
-      (L (lines_of f) (lines_of g) && pointwise T
-      (targets_of (lines_of f)) (targets_of (lines_of g))))) (f ≡ g)
+      Decides (pointwise nat_eq f.name g.name && (nat_eq f.line g.line && L (lines_of f) (lines_of g))) (f ≡ g)
   same_functions f g =
-      Decides-like _ (λ (n, (l, (ls, _))). sym (function_of-lines_of f)
+      Decides-like _ (λ (n, (l, ls)). sym (function_of-lines_of f)
       ∙ (ap (λ z. function_of z f.line (lines_of f)) n
       ∙ (ap (λ z. function_of g.name z (lines_of f)) l
       ∙ (ap (function_of g.name g.line) ls ∙ function_of-lines_of g))))
-      (λ e. (
-        ap (λ (x : Function). x.name) e,
-        (ap (λ (x : Function). x.line) e, (ap lines_of e, ap (λ (x : Function). targets_of (lines_of x)) e)),
-      ))
+      (λ e. (ap (λ (x : Function). x.name) e, (ap (λ (x : Function). x.line) e, ap lines_of e)))
       (Decides-and _ _ (slice_eq-Decides Decides-eqb f.name g.name _ refl)
-      (Decides-and _ _ (Decides-eqb f.line g.line)
-      (Decides-and _ _ (exact_lines (lines_of f) (lines_of g))
-      (slice_eq-Decides exact_targets (targets_of (lines_of f)) (targets_of (lines_of g)) _ refl))))
+      (Decides-and _ _ (Decides-eqb f.line g.line) (exact_lines (lines_of f) (lines_of g))))
 
   pub same_programs : (p q : Program) →
       Decides (nat_eq p.first_line q.first_line &&
       (pointwise
-      (λ f g. pointwise nat_eq f.name g.name &&
-      (nat_eq f.line g.line &&
-      (L (lines_of f) (lines_of g) && pointwise T
-      (targets_of (lines_of f)) (targets_of (lines_of g))))) p.functions q.functions && pointwise (pointwise T)
+      (λ f g. pointwise nat_eq f.name g.name && (nat_eq f.line g.line && L (lines_of f) (lines_of g))) p.functions
+      q.functions && pointwise (pointwise T)
       (callees_of p.functions) (callees_of q.functions))) (p ≡ q)
   same_programs p q =
       Decides-like _ (λ (n, (fs, _)). ap
@@ -94,5 +87,5 @@ module _ {L : List CodeLine → List CodeLine → Bool} {T : Option ℕ → Opti
       ))
       (Decides-and _ _ (Decides-eqb p.first_line q.first_line)
       (Decides-and _ _ (slice_eq-Decides same_functions p.functions q.functions _ refl)
-      (slice_eq-Decides (λ a b. slice_eq-Decides exact_targets a b _ refl) (callees_of p.functions)
+      (slice_eq-Decides (λ a b. slice_eq-Decides exact_callees a b _ refl) (callees_of p.functions)
       (callees_of q.functions) _ refl)))

@@ -10,7 +10,9 @@ pub mod Fed
 pub mod Fitting
 pub mod Fresh
 pub mod Good
+pub mod Least
 pub mod Lines
+pub mod Linking
 pub mod Numerals
 pub mod Pieces
 pub mod Pooling

@@ -1,21 +1,20 @@
 -- Lines whose lists and names lie in pools, one after another.
-use Rattle.std.proofs.Common.{◌≡◌, ◌∙◌, ℕ, ℤ, zero, suc, ◌+◌, ◌<◌, ◌≤◌, List, [], ◌∷◌, ◌++◌, length, take, drop, Some}
+use Rattle.std.proofs.Common.{◌≡◌, ◌∙◌, ℕ, ℤ, ◌+◌, ◌-◌, ◌^◌, ◌<◌, ◌≤◌, List, [], ◌∷◌, ◌++◌, length, take, drop, Some}
 use Rattle.std.proofs.Common.{None, true, false, refl, ap, sym, subst, append_assoc, length-append, arith, get_or}
-use Rattle.std.proofs.Common.{add-one, drop-cons}
 use Rattle.std.proofs.Math.Seq.{drop-append_seam, take-append_seam}
 use Rattle.std.proofs.lemmas.Bool.Decides.{nat_tests}
 use Rattle.std.proofs.lemmas.List.{append-nil, length-map, map-append, take_more}
-use Rattle.std.proofs.lemmas.Option.{none-some, same_Some, slice_get-map, slice_get_past, slice_get_read, slice_get_within}
+use Rattle.std.proofs.lemmas.Option.{slice_get-map, slice_get_past, slice_get_read, slice_get_within}
 use Rattle.std.proofs.lemmas.Option.{get_or_from_slice_get}
 use Rattle.std.specs.List.{slice_get}
 use Rattle.std.specs.Prelude.{map, nat_lt, option_map}
 use Rattle.vcode_base.specs.declared.instr.Instr.TheVariants as instr
 use Rattle.vcode_reader.specs.declared.line.CodeItem.{CodeItem}
 use Rattle.vcode_reader.specs.declared.line.CodeItem.TheVariants as code_item
-use Rattle.vcode_reader.specs.Pools.{PooledLine, PooledItem, list_of, name_of, all_lists, all_names, pooled_item}
-use Rattle.vcode_reader.specs.Pools.{pooled_line, pooled_lines, shown_item, shown_line, shown_lines, ItemLiesIn, ArePooled}
-use Rattle.vcode_reader.specs.Targets.{Jumps, jumps_before, jumps_from}
+use Rattle.vcode_reader.specs.Pools.{PooledLine, first_with, least_number, list_of, name_of, all_lists, all_names, pooled_item}
+use Rattle.vcode_reader.specs.Pools.{pooled_line, pooled_lines, shown_item, shown_line, shown_lines, ArePooled}
 use Rattle.vcode_reader.specs.Trees.{Item, CodeLine, line_of}
+use Rattle.vcode_reader.proofs.Least.{AreFrom, are_from, least_then}
 
 -- a list that lies after these elements
 part_back : {A : Type 0} (list p r ls : List A) (l : ℕ) → ls ≡ p ++ (list ++ r) → l ≡ length p →
@@ -41,47 +40,56 @@ item_back code_item.If p r ls q s ns l n e f h k = refl
 item_back code_item.Else p r ls q s ns l n e f h k = refl
 item_back code_item.Endif p r ls q s ns l n e f h k = refl
 
+number_back : (first number : ℕ) → first ≤ number → first + (number - first) ≡ number
+number_back first number h = omega (arith, h)
+
 -- lines are what their pooled form shows
-lines_back : (xs : List CodeLine) (p ls : List ℤ) (q ns : List ℕ) (l n : ℕ) → ls ≡ p ++ all_lists xs →
-    ns ≡ q ++ all_names xs → l ≡ length p → n ≡ length q → shown_lines ls ns (pooled_lines l n xs) ≡ xs
+pub lines_back : (first : ℕ) (xs : List CodeLine) (p ls : List ℤ) (q ns : List ℕ) (l n : ℕ) → AreFrom first xs →
+    ls ≡ p ++ all_lists xs → ns ≡ q ++ all_names xs → l ≡ length p → n ≡ length q →
+    shown_lines first ls ns (pooled_lines first l n xs) ≡ xs
 unfolding shown_lines pooled_lines all_lists all_names
-lines_back [] p ls q ns l n e f h k = refl
-lines_back (x ∷ xs) p ls q ns l n e f h k =
+lines_back first [] p ls q ns l n from e f h k = refl
+lines_back first (x ∷ xs) p ls q ns l n from e f h k =
     let far : l + length (list_of x.item) ≡ length (p ++ list_of x.item) = omega (arith, length-append p (list_of x.item), h) in
     let on : n + length (name_of x.item) ≡ length (q ++ name_of x.item) = omega (arith, length-append q (name_of x.item), k) in
-    let rest : List CodeLine = shown_lines ls ns
-    (pooled_lines (l + length (list_of x.item)) (n + length (name_of x.item)) xs) in
-    ap (λ z. line_of z x.number ∷ rest) (item_back x.item p (all_lists xs) ls q (all_names xs) ns l n e f h k)
+    let rest : List CodeLine = shown_lines first ls ns
+    (pooled_lines first (l + length (list_of x.item)) (n + length (name_of x.item)) xs) in
+    ap (λ z. line_of z (first + (x.number - first)) ∷ rest)
+    (item_back x.item p (all_lists xs) ls q (all_names xs) ns l n e f h k)
+    ∙ (ap (λ z. line_of x.item z ∷ rest) (number_back first x.number from.0)
     ∙ ap (λ z. x ∷ z)
-    (lines_back xs (p ++ list_of x.item) ls (q ++ name_of x.item) ns _ _
+    (lines_back first xs (p ++ list_of x.item) ls (q ++ name_of x.item) ns _ _ from.1
     (e ∙ sym (append_assoc p (list_of x.item) (all_lists xs)))
-    (f ∙ sym (append_assoc q (name_of x.item) (all_names xs))) far on)
-
-pub lines_again : (xs : List CodeLine) → shown_lines (all_lists xs) (all_names xs) (pooled_lines 0 0 xs) ≡ xs
-lines_again xs = lines_back xs [] (all_lists xs) [] (all_names xs) 0 0 refl refl refl refl
+    (f ∙ sym (append_assoc q (name_of x.item) (all_names xs))) far on))
 
 -- pools of these lines show them
-module _ (ps : List PooledLine) (ls : List ℤ) (ns : List ℕ) (xs : List CodeLine) (e : ps ≡ pooled_lines 0 0 xs)
-    (f : ls ≡ all_lists xs) (g : ns ≡ all_names xs) where
-  pub shown_are : shown_lines ls ns ps ≡ xs
-  shown_are = ap (shown_lines ls ns) e ∙ lines_back xs [] ls [] ns 0 0 f g refl refl
+module _ (first : ℕ) (ps : List PooledLine) (ls : List ℤ) (ns : List ℕ) (xs : List CodeLine)
+    (least : first ≡ least_number xs) (e : ps ≡ pooled_lines first 0 0 xs) (f : ls ≡ all_lists xs)
+    (g : ns ≡ all_names xs) where
+  pub shown_are : shown_lines first ls ns ps ≡ xs
+  shown_are =
+      ap (shown_lines first ls ns) e
+      ∙ lines_back first xs [] ls [] ns 0 0 (are_from first xs least) f g refl refl
 
-  pub are_pooled : ArePooled ps ls ns
-  are_pooled = record {
-    lines = e ∙ ap (pooled_lines 0 0) (sym shown_are);
+  pub are_pooled : first + 2 ^ 32 ≤ 2 ^ 64 → ArePooled first ps ls ns
+  are_pooled room = record {
+    least = least ∙ ap least_number (sym shown_are);
+    room = room;
+    lines = e ∙ ap (pooled_lines first 0 0) (sym shown_are);
     lists = f ∙ ap all_lists (sym shown_are);
     names = g ∙ ap all_names (sym shown_are);
   }
 
 -- no line
 pub none_pooled : (ps : List PooledLine) (ls : List ℤ) (ns : List ℕ) → ps ≡ [] → ls ≡ [] → ns ≡ [] →
-    ArePooled ps ls ns
-unfolding pooled_lines all_lists all_names
-none_pooled ps ls ns e f g = are_pooled ps ls ns [] e f g
+    ArePooled 0 ps ls ns
+unfolding pooled_lines all_lists all_names least_number
+none_pooled ps ls ns e f g = are_pooled 0 ps ls ns [] refl e f g (omega arith)
 
-pub none_shown : (ps : List PooledLine) (ls : List ℤ) (ns : List ℕ) → ps ≡ [] → shown_lines ls ns ps ≡ []
+pub none_shown : (first : ℕ) (ps : List PooledLine) (ls : List ℤ) (ns : List ℕ) → ps ≡ [] →
+    shown_lines first ls ns ps ≡ []
 unfolding shown_lines
-none_shown ps ls ns e = ap (shown_lines ls ns) e
+none_shown first ps ls ns e = ap (shown_lines first ls ns) e
 
 -- ---- one line more
 
@@ -97,33 +105,54 @@ names_more [] x = append-nil (name_of x.item)
 names_more (y ∷ ys) x =
     ap (λ z. name_of y.item ++ z) (names_more ys x) ∙ sym (append_assoc (name_of y.item) (all_names ys) (name_of x.item))
 
-lines_more : (xs : List CodeLine) (x : CodeLine) (l n k m : ℕ) → k ≡ l + length (all_lists xs) →
+lines_more : (first : ℕ) (xs : List CodeLine) (x : CodeLine) (l n k m : ℕ) → k ≡ l + length (all_lists xs) →
     m ≡ n + length (all_names xs) →
-    pooled_lines l n (xs ++ x ∷ []) ≡ pooled_lines l n xs ++ pooled_line k m x ∷ []
+    pooled_lines first l n (xs ++ x ∷ []) ≡ pooled_lines first l n xs ++ pooled_line first k m x ∷ []
 unfolding pooled_lines all_lists all_names
-lines_more [] x l n k m e f =
+lines_more first [] x l n k m e f =
     let at : l ≡ k = omega (arith, e) in
     let on : n ≡ m = omega (arith, f) in
-    ap (λ z. pooled_line z n x ∷ []) at ∙ ap (λ z. pooled_line k z x ∷ []) on
-lines_more (y ∷ ys) x l n k m e f =
+    ap (λ z. pooled_line first z n x ∷ []) at ∙ ap (λ z. pooled_line first k z x ∷ []) on
+lines_more first (y ∷ ys) x l n k m e f =
     let at : k ≡ l + length (list_of y.item) + length (all_lists ys) =
     omega (arith, e, length-append (list_of y.item) (all_lists ys)) in
     let on : m ≡ n + length (name_of y.item) + length (all_names ys) =
     omega (arith, f, length-append (name_of y.item) (all_names ys)) in
-    ap (λ z. pooled_line l n y ∷ z) (lines_more ys x _ _ k m at on)
+    ap (λ z. pooled_line first l n y ∷ z) (lines_more first ys x _ _ k m at on)
 
-module _ (ps ps2 : List PooledLine) (ls ls2 : List ℤ) (ns ns2 : List ℕ) (x : CodeLine) (held : ArePooled ps ls ns)
-    (e : ps2 ≡ ps ++ pooled_line (length ls) (length ns) x ∷ []) (f : ls2 ≡ ls ++ list_of x.item)
-    (g : ns2 ≡ ns ++ name_of x.item) where
+-- the number of lines
+pub shown_length : (first : ℕ) (ps : List PooledLine) (ls : List ℤ) (ns : List ℕ) →
+    length ps ≡ length (shown_lines first ls ns ps)
+unfolding shown_lines
+shown_length first ps ls ns = sym (length-map ps (shown_line first ls ns))
+
+-- the first number stays if there are lines
+same_first : (first first2 number : ℕ) (xs : List CodeLine) → first2 ≡ first_with first (length xs) number →
+    pooled_lines first 0 0 xs ≡ pooled_lines first2 0 0 xs
+unfolding pooled_lines
+same_first first first2 number [] h = refl
+same_first first first2 number (x ∷ xs) h = ap (λ z. pooled_lines z 0 0 (x ∷ xs)) (sym h)
+
+module _ (first first2 : ℕ) (ps ps2 : List PooledLine) (ls ls2 : List ℤ) (ns ns2 : List ℕ) (len : ℕ) (x : CodeLine)
+    (held : ArePooled first ps ls ns) (long : len ≡ length ps) (begin : first2 ≡ first_with first len x.number)
+    (after : first2 ≤ x.number) (e : ps2 ≡ ps ++ pooled_line first2 (length ls) (length ns) x ∷ [])
+    (f : ls2 ≡ ls ++ list_of x.item) (g : ns2 ≡ ns ++ name_of x.item) where
   abbrev xs : List CodeLine
-  xs = shown_lines ls ns ps
+  xs = shown_lines first ls ns ps
 
-  lines_then : ps2 ≡ pooled_lines 0 0 (xs ++ x ∷ [])
+  begins : first2 ≡ first_with first (length xs) x.number
+  begins = begin ∙ ap (λ n. first_with first n x.number) (long ∙ shown_length first ps ls ns)
+
+  least_now : first2 ≡ least_number (xs ++ x ∷ [])
+  least_now = least_then xs x first first2 held.least begins after
+
+  lines_then : ps2 ≡ pooled_lines first2 0 0 (xs ++ x ∷ [])
   lines_then =
       let at : length ls ≡ 0 + length (all_lists xs) = omega (arith, ap length held.lists) in
       let on : length ns ≡ 0 + length (all_names xs) = omega (arith, ap length held.names) in
-      e ∙ (ap (λ z. z ++ pooled_line (length ls) (length ns) x ∷ []) held.lines
-      ∙ sym (lines_more xs x 0 0 (length ls) (length ns) at on))
+      e ∙ (ap (λ z. z ++ pooled_line first2 (length ls) (length ns) x ∷ [])
+      (held.lines ∙ same_first first first2 x.number xs begins)
+      ∙ sym (lines_more first2 xs x 0 0 (length ls) (length ns) at on))
 
   lists_then : ls2 ≡ all_lists (xs ++ x ∷ [])
   lists_then = f ∙ (ap (λ z. z ++ list_of x.item) held.lists ∙ sym (lists_more xs x))
@@ -131,28 +160,18 @@ module _ (ps ps2 : List PooledLine) (ls ls2 : List ℤ) (ns ns2 : List ℕ) (x :
   names_then : ns2 ≡ all_names (xs ++ x ∷ [])
   names_then = g ∙ (ap (λ z. z ++ name_of x.item) held.names ∙ sym (names_more xs x))
 
-  pub pushed_shown : shown_lines ls2 ns2 ps2 ≡ shown_lines ls ns ps ++ x ∷ []
-  pushed_shown = shown_are ps2 ls2 ns2 (xs ++ x ∷ []) lines_then lists_then names_then
+  pub pushed_shown : shown_lines first2 ls2 ns2 ps2 ≡ shown_lines first ls ns ps ++ x ∷ []
+  pushed_shown = shown_are first2 ps2 ls2 ns2 (xs ++ x ∷ []) least_now lines_then lists_then names_then
 
-  pub pushed_pooled : ArePooled ps2 ls2 ns2
-  pushed_pooled = are_pooled ps2 ls2 ns2 (xs ++ x ∷ []) lines_then lists_then names_then
+  pub pushed_pooled : first2 + 2 ^ 32 ≤ 2 ^ 64 → ArePooled first2 ps2 ls2 ns2
+  pushed_pooled = are_pooled first2 ps2 ls2 ns2 (xs ++ x ∷ []) least_now lines_then lists_then names_then
 
 -- the same pools
-pub same_pooled : (ps ps2 : List PooledLine) (ls ls2 : List ℤ) (ns ns2 : List ℕ) → ps2 ≡ ps → ls2 ≡ ls → ns2 ≡ ns →
-    ArePooled ps ls ns → ArePooled ps2 ls2 ns2
-same_pooled ps ps2 ls ls2 ns ns2 e f g held =
-    subst (λ z. ArePooled z ls2 ns2) (sym e)
-    (subst (λ z. ArePooled ps z ns2) (sym f) (subst (λ z. ArePooled ps ls z) (sym g) held))
-
-pub same_shown : (ps ps2 : List PooledLine) (ls ls2 : List ℤ) (ns ns2 : List ℕ) → ps2 ≡ ps → ls2 ≡ ls → ns2 ≡ ns →
-    shown_lines ls2 ns2 ps2 ≡ shown_lines ls ns ps
-same_shown ps ps2 ls ls2 ns ns2 e f g =
-    ap (λ z. shown_lines z ns2 ps2) f ∙ (ap (λ z. shown_lines ls z ps2) g ∙ ap (shown_lines ls ns) e)
-
--- the number of lines
-pub shown_length : (ps : List PooledLine) (ls : List ℤ) (ns : List ℕ) → length ps ≡ length (shown_lines ls ns ps)
-unfolding shown_lines
-shown_length ps ls ns = sym (length-map ps (shown_line ls ns))
+pub same_pooled : (first : ℕ) (ps ps2 : List PooledLine) (ls ls2 : List ℤ) (ns ns2 : List ℕ) → ps2 ≡ ps → ls2 ≡ ls →
+    ns2 ≡ ns → ArePooled first ps ls ns → ArePooled first ps2 ls2 ns2
+same_pooled first ps ps2 ls ls2 ns ns2 e f g held =
+    subst (λ z. ArePooled first z ls2 ns2) (sym e)
+    (subst (λ z. ArePooled first ps z ns2) (sym f) (subst (λ z. ArePooled first ps ls z) (sym g) held))
 
 -- ---- the line at a place
 
@@ -168,84 +187,27 @@ not_got ps qs place e past =
     let far : length qs ≤ place = grind (arith, nat_tests, past) in
     ap (λ z. slice_get z place) (sym e) ∙ slice_get_past qs place far
 
-pub lies_too : (i : CodeItem PooledItem) (ls ms : List ℤ) (ns os : List ℕ) → ms ≡ ls → os ≡ ns →
-    ItemLiesIn ls ns i → ItemLiesIn ms os i
-lies_too i ls ms ns os e f h =
-    subst (λ z. ItemLiesIn z os i) (sym e) (subst (λ z. ItemLiesIn ls z i) (sym f) h)
-
-item_lies : (i : CodeItem Item) (ls : List ℤ) (ns : List ℕ) (l n : ℕ) → l + length (list_of i) ≤ length ls →
-    n + length (name_of i) ≤ length ns → ItemLiesIn ls ns (pooled_item l n i)
-item_lies (code_item.Do (instr.Const kind list)) ls ns l n h k = h
-item_lies (code_item.Do (instr.Elementwise op)) ls ns l n h k = tt
-item_lies (code_item.Do (instr.Segmented op)) ls ns l n h k = tt
-item_lies (code_item.Do instr.If) ls ns l n h k = tt
-item_lies (code_item.Do (instr.Move motion lower upper)) ls ns l n h k = tt
-item_lies (code_item.Do (instr.Call name)) ls ns l n h k = k
-item_lies (code_item.Do instr.Return) ls ns l n h k = tt
-item_lies code_item.If ls ns l n h k = tt
-item_lies code_item.Else ls ns l n h k = tt
-item_lies code_item.Endif ls ns l n h k = tt
-
-line_lies : (xs : List CodeLine) (ls : List ℤ) (ns : List ℕ) (l n place : ℕ) (p : PooledLine) →
-    l + length (all_lists xs) ≤ length ls → n + length (all_names xs) ≤ length ns →
-    slice_get (pooled_lines l n xs) place ≡ Some p → ItemLiesIn ls ns p.item
-unfolding pooled_lines all_lists all_names
-line_lies [] ls ns l n place p h k e = absurd (none-some p e)
-line_lies (x ∷ xs) ls ns l n zero p h k e =
-    let long = length-append (list_of x.item) (all_lists xs) in
-    let wide = length-append (name_of x.item) (all_names xs) in
-    subst (λ z. ItemLiesIn ls ns z.item) (same_Some (pooled_line l n x) p e)
-    (item_lies x.item ls ns l n (omega (arith, h, long)) (omega (arith, k, wide)))
-line_lies (x ∷ xs) ls ns l n (suc place) p h k e =
-    let long = length-append (list_of x.item) (all_lists xs) in
-    let wide = length-append (name_of x.item) (all_names xs) in
-    line_lies xs ls ns _ _ place p (omega (arith, h, long)) (omega (arith, k, wide)) e
-
-pub item_there : (ps : List PooledLine) (ls : List ℤ) (ns : List ℕ) (place : ℕ) (p : PooledLine) → ArePooled ps ls ns →
-    slice_get ps place ≡ Some p → ItemLiesIn ls ns p.item
-item_there ps ls ns place p held e =
-    let xs : List CodeLine = shown_lines ls ns ps in
-    let lists = ap length held.lists in
-    let names = ap length held.names in
-    line_lies xs ls ns 0 0 place p (omega (arith, lists)) (omega (arith, names))
-    (ap (λ z. slice_get z place) (sym held.lines) ∙ e)
-
-pub line_there : (ps : List PooledLine) (ls : List ℤ) (ns : List ℕ) (place : ℕ) (p : PooledLine) →
-    slice_get ps place ≡ Some p → slice_get (shown_lines ls ns ps) place ≡ Some (shown_line ls ns p)
+pub line_there : (first : ℕ) (ps : List PooledLine) (ls : List ℤ) (ns : List ℕ) (place : ℕ) (p : PooledLine) →
+    slice_get ps place ≡ Some p → slice_get (shown_lines first ls ns ps) place ≡ Some (shown_line first ls ns p)
 unfolding shown_lines
-line_there ps ls ns place p e = slice_get-map (shown_line ls ns) ps place ∙ ap (option_map (shown_line ls ns)) e
+line_there first ps ls ns place p e =
+    slice_get-map (shown_line first ls ns) ps place ∙ ap (option_map (shown_line first ls ns)) e
 
-pub no_line_there : (ps : List PooledLine) (ls : List ℤ) (ns : List ℕ) (place : ℕ) → slice_get ps place ≡ None →
-    slice_get (shown_lines ls ns ps) place ≡ None
+pub no_line_there : (first : ℕ) (ps : List PooledLine) (ls : List ℤ) (ns : List ℕ) (place : ℕ) →
+    slice_get ps place ≡ None → slice_get (shown_lines first ls ns ps) place ≡ None
 unfolding shown_lines
-no_line_there ps ls ns place e = slice_get-map (shown_line ls ns) ps place ∙ ap (option_map (shown_line ls ns)) e
+no_line_there first ps ls ns place e =
+    slice_get-map (shown_line first ls ns) ps place ∙ ap (option_map (shown_line first ls ns)) e
 
-pub shown_too : (ps : List PooledLine) (ls ms : List ℤ) (ns os : List ℕ) (place : ℕ) (p : PooledLine)
+pub shown_too : (first : ℕ) (ps : List PooledLine) (ls ms : List ℤ) (ns os : List ℕ) (place : ℕ) (p : PooledLine)
     (i : CodeItem Item) (all : List CodeLine) → ms ≡ ls → os ≡ ns → i ≡ shown_item ms os p.item →
-    slice_get ps place ≡ Some p → shown_lines ls ns ps ≡ all →
-    let here : CodeLine = line_of i p.number in Some here ≡ slice_get all place
-shown_too ps ls ms ns os place p i all e f is at same =
+    slice_get ps place ≡ Some p → shown_lines first ls ns ps ≡ all →
+    let here : CodeLine = line_of i (first + p.distance) in Some here ≡ slice_get all place
+shown_too first ps ls ms ns os place p i all e f is at same =
     let shown : i ≡ shown_item ls ns p.item =
     is ∙ (ap (λ z. shown_item z os p.item) e ∙ ap (λ z. shown_item ls z p.item) f) in
-    ap (λ (z : CodeItem Item). let here : CodeLine = line_of z p.number in Some here) shown
-    ∙ (sym (line_there ps ls ns place p at) ∙ ap (λ z. slice_get z place) same)
-
--- ---- loops over lines by their places
-
-drop_at : {A : Type 0} (xs : List A) (i : ℕ) (x : A) → slice_get xs i ≡ Some x → drop i xs ≡ x ∷ drop (i + 1) xs
-drop_at xs i x h =
-    let within = slice_get_within xs i x h in
-    let first = get_or_from_slice_get xs i x x h in
-    rw (add-one i) (drop-cons xs i x within ∙ ap (λ z. z ∷ drop (suc i) xs) first)
-
--- the targets from the line before
-pub jumps_more : (lines : List CodeLine) (place p : ℕ) (x : CodeLine) (old new : Jumps) → place ≡ p + 1 →
-    Some x ≡ slice_get lines p → old ≡ jumps_from place (drop place lines) → new ≡ jumps_before x.item p old →
-    new ≡ jumps_from p (drop p lines)
-unfolding jumps_from
-jumps_more lines place p x old new same h before e =
-    e ∙ (ap (jumps_before x.item p) (before ∙ ap (λ n. jumps_from n (drop n lines)) same)
-    ∙ sym (ap (jumps_from p) (drop_at lines p x (sym h))))
+    ap (λ (z : CodeItem Item). let here : CodeLine = line_of z (first + p.distance) in Some here) shown
+    ∙ (sym (line_there first ps ls ns place p at) ∙ ap (λ z. slice_get z place) same)
 
 -- what is made of the lines up to a place, and of one line more
 pub map_more : {A B : Type 0} (f : A → B) (xs : List A) (p : ℕ) (x : A) (old new : List B) → Some x ≡ slice_get xs p →

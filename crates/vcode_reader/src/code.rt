@@ -1,14 +1,13 @@
-//! The lines of a function, and their targets.
+//! The lines of a function that is being read, with its open IFs.
 
-ghost use Rattle.std.specs.Prelude.{◌≡◌, ◌+◌, ◌<◌, ◌^◌, ◌++◌, [], ◌∷◌, true, false, length, IfOk, OnOk};
-ghost use Rattle.std.specs.Prelude.{OnErr, IsErr, option_copied};
+ghost use Rattle.std.specs.Prelude.{◌≡◌, ◌++◌, [], ◌∷◌, true, false, length, IfOk, OnOk, OnErr, IsErr};
 ghost use Rattle.vcode_reader.specs.Trees.{line_of};
 ghost use Rattle.vcode_reader.specs.Drafts.{no_lines, with_item, with_if, with_else, lines_after_endif, with_endif};
 ghost use Rattle.vcode_reader.specs.Drafts.{takes_else, is_open, innermost_line};
-ghost use Rattle.vcode_reader.specs.Targets.{first_of, others_of, jumps_before, jumps_from, targets_of};
 ghost use Rattle.vcode_reader.specs.Decode.{AreBodyLines};
 
-use crate::code_lines::{CodeLines, GrowingLines};
+use crate::code_lines::GrowingLines;
+use crate::front_list::FrontList;
 use crate::line::{CodeItem, Numbered};
 use crate::place::OpenIf;
 use std::alloc::{AllocError, Allocator};
@@ -204,150 +203,4 @@ fn close<A: Allocator>(
         return give_up(lines, ifs);
     }
     Ok(())
-}
-
-/// A list that grows and shrinks at its front.
-#[derive(Drop)]
-struct FrontList<T, A: Allocator> {
-    elements: Vec<T, A>,
-}
-
-impl<T, A: Allocator> Model for FrontList<T, A> {
-    ghost use Rattle.std.specs.Prelude.{List, reverse};
-
-    ghost Value = { List T };
-
-    ghost view = { λ s. reverse s.elements.items };
-}
-
-impl<T: Drop, A: Allocator> FrontList<T, A> {
-    fn new(alloc: A) -> FrontList<T, A>
-        ensures { result ≡ [] }
-    {
-        FrontList {
-            elements: Vec::new(alloc),
-        }
-    }
-
-    /// No element, and room for `capacity` elements.
-    fn with_capacity(alloc: A, capacity: usize) -> Result<FrontList<T, A>, AllocError>
-        ensures { IfOk result (λ list. list ≡ []) }
-    {
-        Ok(FrontList {
-            elements: Vec::with_capacity(alloc, capacity)?,
-        })
-    }
-
-    fn push(&mut self, element: T) -> Result<(), AllocError>
-        ensures { OnOk result (self.new ≡ element ∷ self.old) }
-    {
-        self.elements.push(element)?;
-        Ok(())
-    }
-
-    fn pop(&mut self) -> Option<T>
-        ensures first { result ≡ first_of self.old }
-        ensures others { self.new ≡ others_of self.old }
-    {
-        self.elements.pop()
-    }
-
-    fn clear(&mut self)
-        ensures { self.new ≡ [] }
-    {
-        self.elements.clear();
-    }
-
-    fn len(&self) -> usize
-        ensures { result ≡ length self.now }
-    {
-        self.elements.len()
-    }
-
-    fn first(&self) -> Option<&T>
-        ensures { option_copied result ≡ first_of self.now }
-    {
-        self.elements.last()
-    }
-
-    fn into_vec(self) -> Vec<T, A>
-        ensures { result.items ≡ self }
-    {
-        let FrontList { mut elements } = self;
-        elements.reverse();
-        elements
-    }
-}
-
-/// The targets from a place on, and the places that wait for an earlier IF or ELSE.
-#[derive(Drop)]
-struct Finder<A: Allocator> {
-    targets: FrontList<Option<u32>, A>,
-    waits: FrontList<u32, A>,
-}
-
-impl<A: Allocator> Model for Finder<A> {
-    ghost use Rattle.vcode_reader.specs.Targets.{Jumps};
-
-    ghost Value = { Jumps };
-
-    ghost view = { λ f. record { list = f.targets; waits = f.waits } };
-}
-
-impl<A: Allocator> Finder<A> {
-    fn before(&mut self, item: CodeItem<Instruction<'_>>, place: u32) -> Result<(), AllocError>
-        requires { place + 1 < 2 ^ 32 }
-        ensures { OnOk result (self.new ≡ jumps_before item.entry place self.old) }
-    {
-        match item {
-            CodeItem::Do(_) => self.targets.push(None)?,
-            CodeItem::If => {
-                let target = self.waits.pop();
-                self.targets.push(target)?;
-            }
-            CodeItem::Else => {
-                let target = self.waits.pop();
-                self.targets.push(target)?;
-                self.waits.push(place + 1)?;
-            }
-            CodeItem::Endif => {
-                self.targets.push(None)?;
-                self.waits.push(place + 1)?;
-            }
-        }
-        Ok(())
-    }
-
-    #[tactic(auto, unfolding(crate::specs::Targets::jumps_from))]
-    fn find(&mut self, lines: &CodeLines<A>) -> Result<(), AllocError>
-        requires { self.old ≡ record { list = []; waits = [] } }
-        ensures { OnOk result (self.new ≡ jumps_from 0 lines.now) }
-    {
-        let Ok(mut place) = u32::try_from(lines.len()) else {
-            return Err(AllocError);
-        };
-        while place > 0 {
-            place -= 1;
-            let line = lines.get(place as usize).unwrap();
-            self.before(line.item, place)?;
-        }
-        Ok(())
-    }
-}
-
-/// Where each line goes on, where that isn't the next. Places take 32 bits: more lines than that are out of memory.
-#[tactic(auto, unfolding(crate::specs::Targets::targets_of))]
-pub(crate) fn targets_of<A: Allocator + Clone>(
-    alloc: A,
-    lines: &CodeLines<A>,
-) -> Result<Vec<Option<u32>, A>, AllocError>
-    ensures { IfOk result (λ found. found.items ≡ targets_of lines.now) }
-{
-    let mut finder = Finder {
-        targets: FrontList::with_capacity(alloc.clone()?, lines.len())?,
-        waits: FrontList::new(alloc),
-    };
-    finder.find(lines)?;
-    let Finder { targets, waits: _ } = finder;
-    Ok(targets.into_vec())
 }

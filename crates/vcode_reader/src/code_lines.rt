@@ -1,15 +1,21 @@
 //! The lines of a function, small and without a list of their own each.
 
-ghost use Rattle.std.specs.Prelude.{◌≡◌, ◌+◌, ◌≤◌, [], ◌∷◌, ◌++◌, length, map, slice_get, IfOk, MatchOption, OnOk, OnErr};
+ghost use Rattle.std.specs.Prelude.{◌≡◌, ◌+◌, ◌-◌, ◌<◌, ◌≤◌, ◌^◌, ℕ, ℤ, List, [], ◌∷◌, ◌++◌, length, map, slice_get, IfOk};
+ghost use Rattle.std.specs.Prelude.{MatchOption, OnOk, OnErr};
 ghost use Rattle.vcode_base.specs.declared.instr.Instr.TheVariants as instr;
-ghost use Rattle.vcode_reader.specs.Pools.{list_in, name_in, list_of, name_of, part_of, pooled_instruction, pooled_item};
-ghost use Rattle.vcode_reader.specs.Pools.{pooled_line, shown_instruction, shown_item, span_of, InstructionLiesIn, ItemLiesIn, LiesIn};
+ghost use Rattle.vcode_reader.specs.Pools.{first_with, list_in, name_in, list_of, name_of, part_of};
+ghost use Rattle.vcode_reader.specs.Pools.{pooled_instruction, pooled_item, pooled_line, shown_item, shown_lines, span_of, target_of};
+ghost use Rattle.vcode_reader.specs.Pools.{line_with_target, waits_before, with_targets, ItemLiesIn, LiesIn};
+ghost use Rattle.vcode_reader.specs.Targets.{first_of, target_at, targets_of};
 ghost use Rattle.vcode_reader.specs.Trees.{line_of};
 
+use crate::front_list::FrontList;
 use crate::line::{CodeItem, CodeLine, Numbered};
 use std::alloc::{AllocError, Allocator};
 use std::marker::Model;
-use vcode_base::{Elements, Instr, Instruction, Sequence, Words};
+use vcode_base::{
+    Elements, Elementwise, Instr, Instruction, Scalar, Segmented, Sequence, StackMove, Words,
+};
 
 /// A part of a list: where it begins and how many elements it has.
 #[derive(Clone, Copy, PartialEq, Eq, Debug)]
@@ -18,15 +24,33 @@ pub struct Span {
     pub len: u32,
 }
 
-/// An instruction with the place of its list or of its name.
-type PooledInstruction = Instr<Span, Span>;
+/// An item with the place of its list or of its name: an instruction, of which `DoIf` is `IF`, or else an IF, its ELSE
+/// or its ENDIF. An IF and an ELSE have the place of the line that they go on at, once that is found.
+#[derive(PartialEq, Eq, Drop)]
+pub enum PooledItem {
+    Const(Scalar, Span),
+    Elementwise(Elementwise),
+    Segmented(Segmented),
+    DoIf,
+    Move(StackMove, u16, u16),
+    Call(Span),
+    Return,
+    If(Option<u32>),
+    Else(Option<u32>),
+    Endif,
+}
 
-/// A line of 24 bytes.
-type PooledLine = Numbered<CodeItem<PooledInstruction>>;
+/// A line of 16 bytes: its item, and how far its number is from that of the first line.
+#[derive(PartialEq, Eq, Drop)]
+pub struct PooledLine {
+    pub item: PooledItem,
+    pub distance: u32,
+}
 
-/// The lines of a function that is being read.
+/// The lines of a function that is being read, without their targets, and the number of the first.
 #[derive(Drop)]
 pub struct GrowingLines<A: Allocator> {
+    first: u64,
     lines: Vec<PooledLine, A>,
     lists: Vec<i64, A>,
     names: Vec<u8, A>,
@@ -40,9 +64,9 @@ impl<A: Allocator> Model for GrowingLines<A> {
 
     ghost use Rattle.vcode_reader.specs.Pools.{ArePooled, shown_lines};
 
-    ghost view = { λ c. shown_lines c.lists.items c.names.items c.lines.items };
+    ghost view = { λ c. shown_lines c.first c.lists.items c.names.items c.lines.items };
 
-    ghost invariant = { λ c. ArePooled c.lines.items c.lists.items c.names.items };
+    ghost invariant = { λ c. ArePooled c.first c.lines.items c.lists.items c.names.items };
 }
 
 impl<A: Allocator + Clone> GrowingLines<A> {
@@ -51,6 +75,7 @@ impl<A: Allocator + Clone> GrowingLines<A> {
         ensures { IfOk result (λ lines. lines ≡ []) }
     {
         Ok(GrowingLines {
+            first: 0,
             lines: Vec::new(alloc.clone()?),
             lists: Vec::new(alloc.clone()?),
             names: Vec::new(alloc),
@@ -65,7 +90,15 @@ impl<A: Allocator> GrowingLines<A> {
         ensures pushed { OnOk result (self.new ≡ self.old ++ line.entry ∷ []) }
         ensures unchanged { OnErr result (self.new ≡ self.old) }
     {
-        add_line(&mut self.lines, &mut self.lists, &mut self.names, line)?;
+        let first = first_with(self.first, self.lines.len(), line.number)?;
+        add_line(
+            first,
+            &mut self.lines,
+            &mut self.lists,
+            &mut self.names,
+            line,
+        )?;
+        self.first = first;
         Ok(())
     }
 
@@ -73,35 +106,41 @@ impl<A: Allocator> GrowingLines<A> {
     pub(crate) fn clear(&mut self)
         ensures { self.new ≡ [] }
     {
+        self.first = 0;
         self.lines.clear();
         self.lists.clear();
         self.names.clear();
     }
 
-    /// The lines, in no more memory than they need.
-    pub(crate) fn into_lines(self) -> CodeLines<A>
-        ensures { result ≡ self }
+    /// The lines with their targets, in no more memory than they need.
+    pub(crate) fn into_lines(self, alloc: A) -> Result<CodeLines<A>, AllocError>
+        ensures { IfOk result (λ lines. lines ≡ self) }
     {
         let GrowingLines {
+            first,
             mut lines,
             mut lists,
             mut names,
         } = self;
+        set_targets(alloc, lines.as_mut_slice())?;
         lines.shrink_to_fit();
         lists.shrink_to_fit();
         names.shrink_to_fit();
-        CodeLines {
+        Ok(CodeLines {
+            first,
             lines: Sequence::from_vec(lines),
             lists: Sequence::from_vec(lists),
             names: Sequence::from_vec(names),
-        }
+        })
     }
 }
 
-/// The lines of a function. The lists of its constants lie one after another, and so do the names of its CALLs.
+/// The lines of a function, with the target of each IF and ELSE, and the number of the first. The lists of its constants lie one after another, and
+/// so do the names of its CALLs.
 #[derive(Drop)]
 #[derive_where(PartialEq, Eq)]
 pub struct CodeLines<A: Allocator> {
+    first: u64,
     lines: Sequence<PooledLine, A>,
     lists: Words<A>,
     names: Sequence<u8, A>,
@@ -114,22 +153,25 @@ impl<A: Allocator> Model for CodeLines<A> {
 
     ghost Value = { List CodeLineOf };
 
-    ghost use Rattle.vcode_reader.specs.Pools.{ArePooled, PooledLine, pooled_lines, shown_lines, all_lists, all_names};
+    ghost use Rattle.vcode_reader.specs.Pools.{AreLinked, PooledLine, all_lists, all_names, least_number, linked_lines};
+    ghost use Rattle.vcode_reader.specs.Pools.{shown_lines};
 
-    ghost view = { λ c. shown_lines c.lists c.names c.lines };
+    ghost view = { λ c. shown_lines c.first c.lists c.names c.lines };
 
-    ghost invariant = { λ c. ArePooled c.lines c.lists c.names };
+    ghost invariant = { λ c. AreLinked c.first c.lines c.lists c.names };
 
-    ghost inverse = { λ xs. record { lines = pooled_lines 0 0 xs; lists = all_lists xs; names = all_names xs } };
+    ghost inverse = { λ xs. record {
+      first = least_number xs;
+      lines = linked_lines xs;
+      lists = all_lists xs;
+      names = all_names xs;
+    } };
 
-    ghost inverse_ok = { λ c h. ap (λ (ps : List PooledLine). record c {
-      lines = ps;
-      lists = all_lists (shown_lines c.lists c.names c.lines);
-      names = all_names (shown_lines c.lists c.names c.lines);
-    }) (sym h.lines) ∙ (ap (λ (ls : List ℤ). record c {
-      lists = ls;
-      names = all_names (shown_lines c.lists c.names c.lines);
-    }) (sym h.lists) ∙ ap (λ (ns : List ℕ). record c { names = ns }) (sym h.names)) };
+    ghost inverse_ok = { λ c h. let xs : List CodeLineOf = shown_lines c.first c.lists c.names c.lines in
+        ap (λ (n : ℕ). record c { first = n; lines = linked_lines xs; lists = all_lists xs; names = all_names xs }) (sym h.least)
+        ∙ (ap (λ (ps : List PooledLine). record c { lines = ps; lists = all_lists xs; names = all_names xs }) (sym h.lines)
+        ∙ (ap (λ (ls : List ℤ). record c { lists = ls; names = all_names xs }) (sym h.lists)
+        ∙ ap (λ (ns : List ℕ). record c { names = ns }) (sym h.names))) };
 }
 
 impl<A: Allocator> CodeLines<A> {
@@ -152,33 +194,72 @@ impl<A: Allocator> CodeLines<A> {
         let item = shown_item(&line.item, lists, names);
         Some(Numbered {
             item,
-            number: line.number,
+            number: self.first + line.distance as u64,
         })
     }
+
+    /// The target of the line at a place, if that isn't the next line.
+    pub(crate) fn target(&self, place: usize) -> Option<usize>
+        ensures { result ≡ target_at self.now place }
+    {
+        let line = self.lines.as_slice().get(place)?;
+        let target = target_of(&line.item)?;
+        Some(target as usize)
+    }
+}
+
+/// The number of the first line, if a line of this number comes after so many others. A number that a distance of 32
+/// bits may pass the greatest number from is out of memory.
+#[inline(always)]
+fn first_with(first: u64, len: usize, number: u64) -> Result<u64, AllocError>
+    requires { first + 2 ^ 32 ≤ 2 ^ 64 }
+    ensures first { IfOk result (λ f. f ≡ first_with first len number) }
+    ensures room { IfOk result (λ f. f + 2 ^ 32 ≤ 2 ^ 64) }
+{
+    if len > 0 {
+        return Ok(first);
+    }
+    if number > u64::MAX - u64::from(u32::MAX) {
+        return Err(AllocError);
+    }
+    Ok(number)
+}
+
+/// How far a number is from that of the first line. Distances take 32 bits: a line that is farther, or before the first,
+/// is out of memory.
+#[inline(always)]
+fn distance(first: u64, number: u64) -> Result<u32, AllocError>
+    ensures distance { IfOk result (λ d. d ≡ number - first) }
+    ensures after { OnOk result (first ≤ number) }
+{
+    if number < first || number - first > u64::from(u32::MAX) {
+        return Err(AllocError);
+    }
+    Ok((number - first) as u32)
 }
 
 /// Adds a line, with its list or its name, after the others.
 #[inline(always)]
 fn add_line<A: Allocator>(
+    first: u64,
     lines: &mut Vec<PooledLine, A>,
     lists: &mut Vec<i64, A>,
     names: &mut Vec<u8, A>,
     line: CodeLine<'_>,
 ) -> Result<(), AllocError>
     ensures lines { OnOk result (lines.new.items
-        ≡ lines.old.items ++ pooled_line (length lists.old.items) (length names.old.items) line.entry ∷ []) }
+        ≡ lines.old.items ++ pooled_line first (length lists.old.items) (length names.old.items) line.entry ∷ []) }
+    ensures after { OnOk result (first ≤ line.entry.number) }
     ensures lists { OnOk result (lists.new.items ≡ lists.old.items ++ list_of line.entry.item) }
     ensures names { OnOk result (names.new.items ≡ names.old.items ++ name_of line.entry.item) }
     ensures same_lines { OnErr result (lines.new.items ≡ lines.old.items) }
     ensures same_lists { OnErr result (lists.new.items ≡ lists.old.items) }
     ensures same_names { OnErr result (names.new.items ≡ names.old.items) }
 {
+    let distance = distance(first, line.number)?;
     lines.reserve(1)?;
     let item = pooled_item(line.item, lists, names)?;
-    lines.push_reserved(Numbered {
-        item,
-        number: line.number,
-    });
+    lines.push_reserved(PooledLine { item, distance });
     Ok(())
 }
 
@@ -188,7 +269,7 @@ fn pooled_item<A: Allocator>(
     item: CodeItem<Instruction<'_>>,
     lists: &mut Vec<i64, A>,
     names: &mut Vec<u8, A>,
-) -> Result<CodeItem<PooledInstruction>, AllocError>
+) -> Result<PooledItem, AllocError>
     ensures item { IfOk result (λ i. i ≡ pooled_item (length lists.old.items) (length names.old.items) item.entry) }
     ensures lists { OnOk result (lists.new.items ≡ lists.old.items ++ list_of item.entry) }
     ensures names { OnOk result (names.new.items ≡ names.old.items ++ name_of item.entry) }
@@ -196,14 +277,10 @@ fn pooled_item<A: Allocator>(
     ensures same_names { OnErr result (names.new.items ≡ names.old.items) }
 {
     match item {
-        CodeItem::Do(instruction) => Ok(CodeItem::Do(pooled_instruction(
-            instruction,
-            lists,
-            names,
-        )?)),
-        CodeItem::If => Ok(CodeItem::If),
-        CodeItem::Else => Ok(CodeItem::Else),
-        CodeItem::Endif => Ok(CodeItem::Endif),
+        CodeItem::Do(instruction) => pooled_instruction(instruction, lists, names),
+        CodeItem::If => Ok(PooledItem::If(None)),
+        CodeItem::Else => Ok(PooledItem::Else(None)),
+        CodeItem::Endif => Ok(PooledItem::Endif),
     }
 }
 
@@ -213,7 +290,7 @@ fn pooled_instruction<A: Allocator>(
     instruction: Instruction<'_>,
     lists: &mut Vec<i64, A>,
     names: &mut Vec<u8, A>,
-) -> Result<PooledInstruction, AllocError>
+) -> Result<PooledItem, AllocError>
     ensures instruction { IfOk result (λ i.
         i ≡ pooled_instruction (length lists.old.items) (length names.old.items) instruction.entry) }
     ensures lists { OnOk result (lists.new.items ≡ lists.old.items ++ list_in instruction.entry) }
@@ -222,13 +299,13 @@ fn pooled_instruction<A: Allocator>(
     ensures same_names { OnErr result (names.new.items ≡ names.old.items) }
 {
     match instruction {
-        Instr::Const(kind, list) => Ok(Instr::Const(kind, add_words(lists, list.as_slice())?)),
-        Instr::Elementwise(op) => Ok(Instr::Elementwise(op)),
-        Instr::Segmented(op) => Ok(Instr::Segmented(op)),
-        Instr::If => Ok(Instr::If),
-        Instr::Move(motion, lower, upper) => Ok(Instr::Move(motion, lower, upper)),
-        Instr::Call(name) => Ok(Instr::Call(add_bytes(names, name.as_slice())?)),
-        Instr::Return => Ok(Instr::Return),
+        Instr::Const(kind, list) => Ok(PooledItem::Const(kind, add_words(lists, list.as_slice())?)),
+        Instr::Elementwise(op) => Ok(PooledItem::Elementwise(op)),
+        Instr::Segmented(op) => Ok(PooledItem::Segmented(op)),
+        Instr::If => Ok(PooledItem::DoIf),
+        Instr::Move(motion, lower, upper) => Ok(PooledItem::Move(motion, lower, upper)),
+        Instr::Call(name) => Ok(PooledItem::Call(add_bytes(names, name.as_slice())?)),
+        Instr::Return => Ok(PooledItem::Return),
     }
 }
 
@@ -270,40 +347,25 @@ fn add_bytes<A: Allocator>(names: &mut Vec<u8, A>, name: &[u8]) -> Result<Span, 
 
 /// An item with its list or its name.
 #[inline(always)]
-fn shown_item<'a>(
-    item: &CodeItem<PooledInstruction>,
-    lists: &'a [i64],
-    names: &'a [u8],
-) -> CodeItem<Instruction<'a>>
+fn shown_item<'a>(item: &PooledItem, lists: &'a [i64], names: &'a [u8]) -> CodeItem<Instruction<'a>>
     requires { ItemLiesIn lists.now names.now item.now }
     ensures { result ≡ shown_item lists.now names.now item.now }
 {
     match item {
-        CodeItem::Do(instruction) => CodeItem::Do(shown_instruction(instruction, lists, names)),
-        CodeItem::If => CodeItem::If,
-        CodeItem::Else => CodeItem::Else,
-        CodeItem::Endif => CodeItem::Endif,
-    }
-}
-
-/// An instruction with its list or its name.
-#[inline(always)]
-fn shown_instruction<'a>(
-    instruction: &PooledInstruction,
-    lists: &'a [i64],
-    names: &'a [u8],
-) -> Instruction<'a>
-    requires { InstructionLiesIn lists.now names.now instruction.now }
-    ensures { result ≡ shown_instruction lists.now names.now instruction.now }
-{
-    match instruction {
-        Instr::Const(kind, span) => Instr::Const(*kind, Elements::new(part_of(lists, *span))),
-        Instr::Elementwise(op) => Instr::Elementwise(*op),
-        Instr::Segmented(op) => Instr::Segmented(*op),
-        Instr::If => Instr::If,
-        Instr::Move(motion, lower, upper) => Instr::Move(*motion, *lower, *upper),
-        Instr::Call(span) => Instr::Call(Elements::new(part_of(names, *span))),
-        Instr::Return => Instr::Return,
+        PooledItem::Const(kind, span) => {
+            CodeItem::Do(Instr::Const(*kind, Elements::new(part_of(lists, *span))))
+        }
+        PooledItem::Elementwise(op) => CodeItem::Do(Instr::Elementwise(*op)),
+        PooledItem::Segmented(op) => CodeItem::Do(Instr::Segmented(*op)),
+        PooledItem::DoIf => CodeItem::Do(Instr::If),
+        PooledItem::Move(motion, lower, upper) => CodeItem::Do(Instr::Move(
+            *motion, *lower, *upper,
+        )),
+        PooledItem::Call(span) => CodeItem::Do(Instr::Call(Elements::new(part_of(names, *span)))),
+        PooledItem::Return => CodeItem::Do(Instr::Return),
+        PooledItem::If(_) => CodeItem::If,
+        PooledItem::Else(_) => CodeItem::Else,
+        PooledItem::Endif => CodeItem::Endif,
     }
 }
 
@@ -315,4 +377,54 @@ fn part_of<T>(pool: &[T], span: Span) -> &[T]
 {
     let start = span.start as usize;
     &pool[start..start + span.len as usize]
+}
+
+/// The place that an item goes on at, if it has one.
+fn target_of(item: &PooledItem) -> Option<u32>
+    ensures { result ≡ target_of item.now }
+{
+    match item {
+        PooledItem::If(target) | PooledItem::Else(target) => *target,
+        _ => None,
+    }
+}
+
+/// Sets the targets of all lines, from the last to the first. Places take 32 bits: more lines than that are out of
+/// memory.
+fn set_targets<A: Allocator>(alloc: A, lines: &mut [PooledLine]) -> Result<(), AllocError>
+    ensures { OnOk result ((first : ℕ) (ls : List ℤ) (ns : List ℕ) →
+        lines.new ≡ with_targets (targets_of (shown_lines first ls ns lines.old)) lines.old) }
+{
+    let mut waits = FrontList::new(alloc);
+    let Ok(mut place) = u32::try_from(lines.len()) else {
+        return Err(AllocError);
+    };
+    while place > 0 {
+        place -= 1;
+        set_target(&mut lines[place as usize], place, &mut waits)?;
+    }
+    Ok(())
+}
+
+/// Sets the target of the line at a place. The places that wait are those that earlier lines go on at.
+#[inline(always)]
+fn set_target<A: Allocator>(
+    line: &mut PooledLine,
+    place: u32,
+    waits: &mut FrontList<u32, A>,
+) -> Result<(), AllocError>
+    requires { place + 1 < 2 ^ 32 }
+    ensures line { OnOk result (line.new ≡ line_with_target (first_of waits.old) line.old) }
+    ensures waits { OnOk result (waits.new ≡ waits_before line.old.item place waits.old) }
+{
+    match &mut line.item {
+        PooledItem::If(target) => *target = waits.pop(),
+        PooledItem::Else(target) => {
+            *target = waits.pop();
+            waits.push(place + 1)?;
+        }
+        PooledItem::Endif => waits.push(place + 1)?,
+        _ => {}
+    }
+    Ok(())
 }

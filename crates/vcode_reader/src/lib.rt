@@ -56,6 +56,7 @@ mod class;
 mod code;
 mod code_lines;
 mod fault;
+mod front_list;
 mod head;
 mod keyword;
 pub mod laws;

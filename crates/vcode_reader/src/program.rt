@@ -7,7 +7,7 @@ ghost use Rattle.vcode_reader.specs.Trees.{lines_of, HaveProperBodies};
 ghost use Rattle.vcode_reader.specs.Decode.{tree_of};
 ghost use Rattle.vcode_reader.specs.Drafts.{is_open};
 
-use crate::code::{Draft, targets_of};
+use crate::code::Draft;
 use crate::code_lines::CodeLines;
 use crate::line::{CodeItem, CodeLine, Numbered};
 use crate::link::callees_of;
@@ -23,7 +23,6 @@ pub struct Function<A: Allocator> {
     name: FunctionName<A>,
     begun: u64,
     lines: CodeLines<A>,
-    targets: Sequence<Option<u32>, A>,
 }
 
 impl<A: Allocator> Model for Function<A> {
@@ -31,24 +30,21 @@ impl<A: Allocator> Model for Function<A> {
 
     ghost Value = { FunctionTree };
 
-    ghost use Rattle.std.specs.Prelude.{ℕ, List, Option, ◌≡◌};
+    ghost use Rattle.std.specs.Prelude.{List, ◌≡◌};
     ghost use Rattle.std.specs.Coded.{codes};
-    ghost use Rattle.std.proofs.Common.{ap, sym, ◌∙◌};
+    ghost use Rattle.std.proofs.Common.{ap};
     ghost use Rattle.vcode_reader.specs.Trees.{CodeLine, lines_of};
-    ghost use Rattle.vcode_reader.specs.Decode.{function_of, function_code};
-    ghost use Rattle.vcode_reader.specs.Programs.{HoldsFunction};
-    ghost use Rattle.vcode_reader.specs.Targets.{targets_of};
+    ghost use Rattle.vcode_reader.specs.Decode.{AreLines, function_of, function_code};
 
     ghost coded = { function_code (Prim.hlevel codes) };
 
     ghost view = { λ f. function_of f.name f.begun f.lines };
 
-    ghost invariant = { λ f. HoldsFunction f.name f.begun f.lines f.targets };
+    ghost invariant = { λ f. AreLines f.name f.begun f.lines };
 
-    ghost inverse = { λ f. record { name = f.name; begun = f.line; lines = lines_of f; targets = targets_of (lines_of f) } };
+    ghost inverse = { λ f. record { name = f.name; begun = f.line; lines = lines_of f } };
 
-    ghost inverse_ok = { λ f h. ap (λ (ls : List CodeLine). record f { lines = ls; targets = targets_of ls }) h.lines
-        ∙ ap (λ (ts : List (Option ℕ)). record f { targets = ts }) (sym h.targets) };
+    ghost inverse_ok = { λ f h. ap (λ (ls : List CodeLine). record f { lines = ls }) h };
 }
 
 impl<A: Allocator> Function<A> {
@@ -60,8 +56,6 @@ impl<A: Allocator> Function<A> {
         draft: Draft<A>,
         ret: u64,
     ) -> Result<Function<A>, AllocError>
-    where
-        A: Clone,
         requires { is_open draft.ifs ≡ false }
         ensures { IfOk result (λ f. f ≡ record { name = name; line = line; body = tree_of draft.lines; ret = ret }) }
     {
@@ -70,12 +64,10 @@ impl<A: Allocator> Function<A> {
             item: CodeItem::Do(Instr::Return),
             number: ret,
         })?;
-        let lines = lines.into_lines();
-        let targets = targets_of(alloc, &lines)?;
+        let lines = lines.into_lines(alloc)?;
         Ok(Function {
             name,
             begun: line,
-            targets: Sequence::from_vec(targets),
             lines,
         })
     }
@@ -114,8 +106,7 @@ impl<A: Allocator> Function<A> {
     pub fn target(&self, place: usize) -> Option<usize>
         ensures { result ≡ target_at (lines_of self.now) place }
     {
-        let target = (*self.targets.as_slice().get(place)?)?;
-        Some(target as usize)
+        self.lines.target(place)
     }
 }
 

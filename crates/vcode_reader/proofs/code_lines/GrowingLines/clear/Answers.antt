@@ -8,4 +8,4 @@ invariant_of-self g c =
 
 pub returns : goal.returns
 returns g c =
-    none_shown c.clear.new.self.items c.clear-2.new.self.items c.clear-3.new.self.items c.clear.ensures.items
+    none_shown 0 c.clear.new.self.items c.clear-2.new.self.items c.clear-3.new.self.items c.clear.ensures.items

@@ -6,4 +6,4 @@ invariant_of-result g c = none_pooled c.new.result.items c.new-2.result.items c.
     c.new-2.ensures.items c.new-3.ensures.items
 
 pub returns : goal.returns
-returns g c = none_shown c.new.result.items c.new-2.result.items c.new-3.result.items c.new.ensures.items
+returns g c = none_shown 0 c.new.result.items c.new-2.result.items c.new-3.result.items c.new.ensures.items
