@@ -230,6 +230,17 @@ same_above ks list =
     ap (are_same_kinds (whole_list ks list)) (sym (take-append-drop list.shared ks))
     ∙ same_behind (take list.shared ks) list.above (drop list.shared ks)
 
+-- the entries from a place on
+tail_all : {A : Type 0} (xs : List A) (n : ℕ) → take (length xs - n) (drop n xs) ≡ drop n xs
+tail_all xs n = take_all (length xs - n) (drop n xs) (omega (arith, length-drop n xs))
+
+-- the same of the list's parts, as slices show them
+pub same_parts : (ks above : List Kind) (n : ℕ) (list : KeptList) → n ≡ list.shared → above ≡ list.above
+    → are_same_kinds above (take (length ks - n) (drop n ks)) ≡ are_same_kinds (whole_list ks list) ks
+same_parts ks above n list shares is =
+    ap (are_same_kinds above) (tail_all ks n)
+    ∙ ((λ i. are_same_kinds (is i) (drop (shares i) ks)) ∙ sym (same_above ks list))
+
 -- the first list is that of the innermost open IF
 pub shares_first : (ks seen : List Kind) (lists ls : List KeptList) (first : KeptList) → seen ≡ ks → lists ≡ first ∷ ls
     → AreShared ks lists → first.shared ≤ length seen
@@ -264,10 +275,6 @@ forgotten ks seen lists ls first old is s e h =
     ap (λ w. state_of ks (whole_lists w ls)) (sym (whole_is ks seen first s h))
     ∙ (ap (λ l. state_of ks (others_of (whole_lists ks l))) (sym e)
     ∙ ap (λ (s : State). state_of s.kinds (others_of s.kept)) is)
-
--- the entries from a place on
-pub tail_all : {A : Type 0} (xs : List A) (n : ℕ) → take (length xs - n) (drop n xs) ≡ drop n xs
-tail_all xs n = take_all (length xs - n) (drop n xs) (omega (arith, length-drop n xs))
 
 -- ---- motions
 

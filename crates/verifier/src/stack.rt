@@ -8,6 +8,7 @@ ghost use Rattle.verifier.specs.Walk.{state_after_else, is_kept_last, others_of}
 
 use std::alloc::{AllocError, Allocator};
 use std::marker::Model;
+use std::mem;
 use vcode_base::Kind;
 
 /// A list that had more entries than this above the shared ones gives their memory back when it has others.
@@ -239,14 +240,19 @@ fn swap_lists<A: Allocator>(
     others.push(first)
 }
 
-/// Whether these entries are those of a list that shares the lowest of them.
-fn is_whole_list<A: Allocator>(kinds: &[Kind], list: KeptList<A>) -> bool
+/// Whether these entries are those of a list that shares the lowest of them. If the list is short, its memory is left in
+/// `spare`.
+fn is_whole_list<A: Allocator>(kinds: &[Kind], list: KeptList<A>, spare: &mut Vec<Kind, A>) -> bool
     requires { list.shared ≤ length kinds.now }
     ensures { result ≡ are_same_kinds (whole_list kinds.now list) kinds.now }
 {
     let shared = list.shared();
     let above = list.into_above();
-    are_same_kinds(above.as_slice(), &kinds[shared..])
+    let same = are_same_kinds(above.as_slice(), &kinds[shared..]);
+    if above.len() <= FEW {
+        *spare = above;
+    }
+    same
 }
 
 /// Puts `count` elements, from this place on, on top once more.
@@ -309,6 +315,7 @@ fn turn(kinds: &mut [Kind], count: usize)
 pub struct KindStack<A: Allocator> {
     kinds: Vec<Kind, A>,
     kept: KeptLists<A>,
+    spare: Vec<Kind, A>,
 }
 
 impl<A: Allocator> Model for KindStack<A> {
@@ -329,6 +336,7 @@ impl<A: Allocator + Clone> KindStack<A> {
     {
         Ok(KindStack {
             kinds: kinds.to_vec(alloc.clone()?)?,
+            spare: Vec::new(alloc.clone()?),
             kept: KeptLists::new(alloc),
         })
     }
@@ -401,7 +409,9 @@ impl<A: Allocator + Clone> KindStack<A> {
     pub(crate) fn keep(&mut self) -> Result<(), AllocError>
         ensures { OnOk result (self.new ≡ record self.old { kept = self.old.kinds ∷ self.old.kept }) }
     {
-        let above = Vec::new(self.kinds.allocator().clone()?);
+        let none = Vec::new(self.kinds.allocator().clone()?);
+        let mut above = mem::replace(&mut self.spare, none);
+        above.clear();
         self.kept.push(KeptList::new(self.kinds.len(), above))
     }
 
@@ -432,7 +442,7 @@ impl<A: Allocator + Clone> KindStack<A> {
         let Some(first) = self.kept.pop() else {
             return true;
         };
-        if is_whole_list(self.kinds.as_slice(), first) {
+        if is_whole_list(self.kinds.as_slice(), first, &mut self.spare) {
             return true;
         }
         self.kept.clear();
