@@ -1,5 +1,5 @@
 -- Lists that are kept for open IFs, as the stack below them changes.
-use Rattle.std.proofs.Common.{◌≡◌, ◌∙◌, ℕ, ◌+◌, ◌-◌, ◌≤◌, Bool, true, false, ◌&&◌, refl, sym, ap, arith, subst, Ok}
+use Rattle.std.proofs.Common.{◌≡◌, ◌∙◌, ℕ, ◌+◌, ◌-◌, ◌≤◌, true, false, ◌&&◌, refl, sym, ap, arith, subst, Ok}
 use Rattle.std.proofs.Common.{List, [], ◌∷◌, ◌++◌, length, take, drop, reverse, append_assoc, zero, suc}
 use Rattle.std.proofs.Common.{take-append-drop}
 use Rattle.std.specs.Prelude.{nat_lt}
@@ -163,26 +163,24 @@ removed_shared ks zs seen place count ls ns within s e t =
     (other_top ks (drop (place + count) ks) place ns (omega arith) k.below k.shared).1
 
 -- the first list after the entries and those of the list have changed places
-abbrev pub swapped_first : ℕ → List Kind → List KeptList → List KeptList
-swapped_first n taken ns = (record { shared = n; above = taken }) ∷ ns
+abbrev pub exchanged : List Kind → KeptList → KeptList
+exchanged ks first = record { shared = first.shared; above = drop first.shared ks }
 
 -- the lists then are the entries that there were, and the other lists
 pub record HasSwapped (ks zs : List Kind) (first : KeptList) (ls all : List KeptList) : Type 0 where
   pub kept : whole_lists zs all ≡ ks ∷ whole_lists (whole_list ks first) ls
   pub shared : AreShared zs all
 
-swapped_by : (ks zs seen taken : List Kind) (first : KeptList) (ls ns : List KeptList) → zs ≡ whole_list ks first
-    → seen ≡ zs → taken ≡ drop first.shared ks → AreShared ks (first ∷ ls) → TakesOver seen first.shared ls ns
-    → HasSwapped ks zs first ls (swapped_first first.shared taken ns)
-swapped_by ks zs seen taken first ls ns e s above within takes =
+swapped_by : (ks zs seen : List Kind) (first : KeptList) (ls ns : List KeptList) → zs ≡ whole_list ks first → seen ≡ zs
+    → AreShared ks (first ∷ ls) → TakesOver seen first.shared ls ns → HasSwapped ks zs first ls (exchanged ks first ∷ ns)
+swapped_by ks zs seen first ls ns e s within takes =
     let n = first.shared in
     let k = seen_as seen zs n ls ns s takes in
-    let list : KeptList = record { shared = n; above = taken } in
     let front : take n zs ≡ take n ks = ap (take n) e
     ∙ (take-append-le n (take n ks) first.above (omega (arith, length-take-le n ks within.0))
     ∙ take-take n n ks (omega arith)) in
-    let whole : whole_list zs list ≡ ks =
-    ap (λ f. f ++ taken) front ∙ (ap (λ t. take n ks ++ t) above ∙ take-append-drop n ks) in
+    let whole : whole_list zs (exchanged ks first) ≡ ks =
+    ap (λ f. f ++ drop n ks) front ∙ take-append-drop n ks in
     let others = unseen zs ks n ns k.below (sym front) k.shared in
     record {
       kept = ap (λ w. w ∷ whole_lists w ns) whole
@@ -194,15 +192,14 @@ swapped_by ks zs seen taken first ls ns e s above within takes =
     }
 
 -- the entries, and those of the first list, have changed places
-pub swapped_lists : (ks zs seen taken : List Kind) (n : ℕ) (first : KeptList) (ls ns all : List KeptList)
-    → n ≡ first.shared → zs ≡ whole_list ks first → seen ≡ zs → taken ≡ drop n ks → AreShared ks (first ∷ ls)
-    → TakesOver seen n ls ns → all ≡ swapped_first n taken ns → HasSwapped ks zs first ls all
-swapped_lists ks zs seen taken n first ls ns all same e s above within takes now =
-    let there : HasSwapped ks zs first ls (swapped_first first.shared taken ns) =
-    swapped_by ks zs seen taken first ls ns e s (above ∙ ap (λ i. drop i ks) same) within
-    (subst (λ (i : ℕ). TakesOver seen i ls ns) same takes) in
-    subst (λ (l : List KeptList). HasSwapped ks zs first ls l)
-    (sym (now ∙ ap (λ i. swapped_first i taken ns) same)) there
+pub swapped_lists : (ks zs seen : List Kind) (n : ℕ) (first list : KeptList) (ls ns all : List KeptList)
+    → list ≡ exchanged ks first → n ≡ list.shared → zs ≡ whole_list ks first → seen ≡ zs → AreShared ks (first ∷ ls)
+    → TakesOver seen n ls ns → all ≡ list ∷ ns → HasSwapped ks zs first ls all
+swapped_lists ks zs seen n first list ls ns all is same e s within takes now =
+    let there : HasSwapped ks zs first ls (exchanged ks first ∷ ns) =
+    swapped_by ks zs seen first ls ns e s within
+    (subst (λ (i : ℕ). TakesOver seen i ls ns) (same ∙ ap (λ (l : KeptList). l.shared) is) takes) in
+    subst (λ (l : List KeptList). HasSwapped ks zs first ls l) (sym (now ∙ ap (λ l. l ∷ ns) is)) there
 
 pub swapped : (ks zs : List Kind) (lists ls ns : List KeptList) (first : KeptList) (old : State)
     → state_of ks (whole_lists ks lists) ≡ old → lists ≡ first ∷ ls → zs ≡ whole_list ks first
@@ -232,6 +229,17 @@ pub same_above : (ks : List Kind) (list : KeptList)
 same_above ks list =
     ap (are_same_kinds (whole_list ks list)) (sym (take-append-drop list.shared ks))
     ∙ same_behind (take list.shared ks) list.above (drop list.shared ks)
+
+-- the entries from a place on
+tail_all : {A : Type 0} (xs : List A) (n : ℕ) → take (length xs - n) (drop n xs) ≡ drop n xs
+tail_all xs n = take_all (length xs - n) (drop n xs) (omega (arith, length-drop n xs))
+
+-- the same of the list's parts, as slices show them
+pub same_parts : (ks above : List Kind) (n : ℕ) (list : KeptList) → n ≡ list.shared → above ≡ list.above
+    → are_same_kinds above (take (length ks - n) (drop n ks)) ≡ are_same_kinds (whole_list ks list) ks
+same_parts ks above n list shares is =
+    ap (are_same_kinds above) (tail_all ks n)
+    ∙ ((λ i. are_same_kinds (is i) (drop (shares i) ks)) ∙ sym (same_above ks list))
 
 -- the first list is that of the innermost open IF
 pub shares_first : (ks seen : List Kind) (lists ls : List KeptList) (first : KeptList) → seen ≡ ks → lists ≡ first ∷ ls
@@ -267,10 +275,6 @@ forgotten ks seen lists ls first old is s e h =
     ap (λ w. state_of ks (whole_lists w ls)) (sym (whole_is ks seen first s h))
     ∙ (ap (λ l. state_of ks (others_of (whole_lists ks l))) (sym e)
     ∙ ap (λ (s : State). state_of s.kinds (others_of s.kept)) is)
-
--- the entries from a place on
-pub tail_all : {A : Type 0} (xs : List A) (n : ℕ) → take (length xs - n) (drop n xs) ≡ drop n xs
-tail_all xs n = take_all (length xs - n) (drop n xs) (omega (arith, length-drop n xs))
 
 -- ---- motions
 

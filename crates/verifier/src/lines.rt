@@ -19,6 +19,7 @@ use vcode_reader::{CodeItem, CodeLine, Function};
 
 /// An instruction that takes and gives these entries.
 #[tactic(auto, unfolding(crate::specs::First::stack_after_arrow))]
+#[inline(always)]
 fn replace<A: Allocator + Clone>(
     stack: &mut KindStack<A>,
     takes: &[Kind],
@@ -42,6 +43,7 @@ fn replace<A: Allocator + Clone>(
 }
 
 /// Moves the entries above the first `below`, of which the first `lower` are the lower ones.
+#[inline(always)]
 fn place<A: Allocator + Clone>(
     stack: &mut KindStack<A>,
     motion: StackMove,
@@ -55,15 +57,13 @@ fn place<A: Allocator + Clone>(
     match motion {
         StackMove::Copy => stack.repeat(below, lower),
         StackMove::Pop => stack.remove(below, lower),
-        StackMove::MoveToTop => {
-            stack.repeat(below, lower)?;
-            stack.remove(below, lower)
-        }
+        StackMove::MoveToTop => stack.lift(below, lower),
     }
 }
 
 /// A motion of the lower entries and of the upper ones that lie on them.
 #[tactic(auto, unfolding(crate::specs::First::stack_after_move))]
+#[inline(always)]
 fn shift<A: Allocator + Clone>(
     stack: &mut KindStack<A>,
     motion: StackMove,
@@ -106,6 +106,7 @@ fn arrow_of<'a, A: Allocator>(
     }
 }
 
+#[inline(never)]
 fn call<A: Allocator + Clone>(
     stack: &mut KindStack<A>,
     scope: &Scope<A>,
@@ -123,6 +124,7 @@ fn call<A: Allocator + Clone>(
     }
 }
 
+#[inline(always)]
 fn apply<A: Allocator + Clone>(
     stack: &mut KindStack<A>,
     scope: &Scope<A>,
@@ -169,6 +171,7 @@ fn end_if<A: Allocator + Clone>(stack: &mut KindStack<A>, line: u64) -> Result<(
 }
 
 /// The line at this place of the function at that place of the program.
+#[inline(always)]
 fn check_line<A: Allocator + Clone>(
     stack: &mut KindStack<A>,
     scope: &Scope<A>,

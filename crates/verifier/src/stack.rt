@@ -1,14 +1,18 @@
 //! The kinds of a function's entries, and those that are kept for its open IFs.
 
 ghost use Rattle.std.specs.Prelude.{◌≡◌, ◌-◌, ◌+◌, ◌<◌, ◌≤◌, ◌++◌, [], ◌∷◌, length, take, drop};
-ghost use Rattle.std.specs.Prelude.{IfOk, IsTrue, OnOk, OnErr, MatchOption};
+ghost use Rattle.std.specs.Prelude.{◌↔◌, IfOk, IsTrue, OnOk, OnErr, MatchOption};
 ghost use Rattle.vcode_base.specs.Kinds.{are_same_kinds};
 ghost use Rattle.verifier.specs.Kept.{whole_list, whole_lists, AreShared, SharesAtMost};
 ghost use Rattle.verifier.specs.Walk.{state_after_else, is_kept_last, others_of};
 
 use std::alloc::{AllocError, Allocator};
 use std::marker::Model;
+use std::mem;
 use vcode_base::Kind;
+
+/// A list that had more entries than this above the shared ones gives their memory back when it has others.
+const FEW: usize = 16;
 
 /// Whether two lists of kinds are one.
 pub(crate) fn are_same_kinds(left: &[Kind], right: &[Kind]) -> bool
@@ -138,8 +142,35 @@ impl<A: Allocator> KeptLists<A> {
         self.lists.clear();
     }
 
+    /// Whether the first list, if there is one, shares at most `count` entries.
+    #[inline(always)]
+    fn shares_at_most(&self, count: usize) -> bool
+        ensures { IsTrue result ↔ SharesAtMost count self.now }
+    {
+        match self.lists.as_slice() {
+            [.., first] => first.shared() <= count,
+            [] => true,
+        }
+    }
+
     /// The first list takes over the entries above the first `len` that it shares with these entries.
+    #[inline(always)]
     fn take_over_above(&mut self, len: usize, kinds: &[Kind]) -> Result<(), AllocError>
+        requires { AreShared kinds.now self.old }
+        ensures same { whole_lists kinds.now self.new ≡ whole_lists kinds.now self.old }
+        ensures shared { AreShared kinds.now self.new }
+        ensures below { OnOk result (SharesAtMost len self.new) }
+    {
+        if self.shares_at_most(len) {
+            Ok(())
+        } else {
+            self.take_over_shared(len, kinds)
+        }
+    }
+
+    /// The same, if the first list shares some of them. Most lines of a code change none that is shared.
+    #[inline(never)]
+    fn take_over_shared(&mut self, len: usize, kinds: &[Kind]) -> Result<(), AllocError>
         requires { AreShared kinds.now self.old }
         ensures same { whole_lists kinds.now self.new ≡ whole_lists kinds.now self.old }
         ensures shared { AreShared kinds.now self.new }
@@ -154,19 +185,46 @@ impl<A: Allocator> KeptLists<A> {
     }
 }
 
-/// Puts the entries of a list in the place of those that it doesn't share.
-fn restore<A: Allocator>(kinds: &mut Vec<Kind, A>, list: KeptList<A>) -> Result<(), AllocError>
-    ensures { OnOk result (kinds.new.items ≡ whole_list kinds.old.items list) }
+/// Puts entries on top of others.
+#[inline(always)]
+fn append<A: Allocator>(list: &mut Vec<Kind, A>, kinds: &[Kind]) -> Result<(), AllocError>
+    ensures added { OnOk result (list.new.items ≡ list.old.items ++ kinds.now) }
+    ensures unchanged { OnErr result (list.new.items ≡ list.old.items) }
 {
-    let shared = list.shared();
-    let above = list.into_above();
-    kinds.truncate(shared);
-    kinds.extend_from_slice(above.as_slice())?;
+    match kinds {
+        [] => {}
+        [kind] => list.push(*kind)?,
+        _ => list.extend_from_slice(kinds)?,
+    }
     Ok(())
 }
 
+/// The entries above those that a list shares, and those of the list, change places. Answers the list then.
+#[inline(always)]
+fn exchange<A: Allocator>(
+    kinds: &mut Vec<Kind, A>,
+    list: KeptList<A>,
+) -> Result<KeptList<A>, AllocError>
+    requires { list.shared ≤ length kinds.old.items }
+    ensures kinds { OnOk result (kinds.new.items ≡ whole_list kinds.old.items list) }
+    ensures list { IfOk result (λ l. l ≡ record { shared = list.shared; above = drop list.shared kinds.old.items }) }
+{
+    let shared = list.shared();
+    let mut above = list.into_above();
+    let count = above.len();
+    append(&mut above, &kinds[shared..])?;
+    kinds.truncate(shared);
+    append(kinds, &above[..count])?;
+    remove_range(&mut above, 0, count);
+    if count > FEW {
+        above.shrink_to_fit();
+    }
+    Ok(KeptList::new(shared, above))
+}
+
 /// The entries, and those of the list that was kept first, change places.
-fn swap_lists<A: Allocator + Clone>(
+#[inline(always)]
+fn swap_lists<A: Allocator>(
     kinds: &mut Vec<Kind, A>,
     first: KeptList<A>,
     others: &mut KeptLists<A>,
@@ -177,21 +235,43 @@ fn swap_lists<A: Allocator + Clone>(
         ≡ kinds.old.items ∷ whole_lists (whole_list kinds.old.items first) others.old) }
     ensures shared { OnOk result (AreShared kinds.new.items others.new) }
 {
-    let shared = first.shared();
-    let taken = Vec::from_slice(kinds.allocator().clone()?, &kinds[shared..])?;
-    restore(kinds, first)?;
-    others.take_over_above(shared, kinds.as_slice())?;
-    others.push(KeptList::new(shared, taken))
+    let first = exchange(kinds, first)?;
+    others.take_over_above(first.shared(), kinds.as_slice())?;
+    others.push(first)
 }
 
-/// Whether these entries are those of a list that shares the lowest of them.
-fn is_whole_list<A: Allocator>(kinds: &[Kind], list: KeptList<A>) -> bool
+/// Whether these entries are those of a list that shares the lowest of them. If the list is short, its memory is left in
+/// `spare`.
+fn is_whole_list<A: Allocator>(kinds: &[Kind], list: KeptList<A>, spare: &mut Vec<Kind, A>) -> bool
     requires { list.shared ≤ length kinds.now }
     ensures { result ≡ are_same_kinds (whole_list kinds.now list) kinds.now }
 {
     let shared = list.shared();
     let above = list.into_above();
-    are_same_kinds(above.as_slice(), &kinds[shared..])
+    let same = are_same_kinds(above.as_slice(), &kinds[shared..]);
+    if above.len() <= FEW {
+        *spare = above;
+    }
+    same
+}
+
+/// Puts `count` elements, from this place on, on top once more.
+#[inline(always)]
+fn repeat_range<A: Allocator>(
+    kinds: &mut Vec<Kind, A>,
+    from: usize,
+    count: usize,
+) -> Result<(), AllocError>
+    requires { from + count ≤ length kinds.old.items }
+    ensures added { OnOk result (kinds.new.items ≡ kinds.old.items ++ take count (drop from kinds.old.items)) }
+    ensures unchanged { OnErr result (kinds.new.items ≡ kinds.old.items) }
+{
+    if count == 1 {
+        kinds.push(kinds[from])?;
+    } else {
+        kinds.extend_from_within(from..from + count)?;
+    }
+    Ok(())
 }
 
 /// Takes out `count` elements, from this place on.
@@ -204,6 +284,28 @@ fn remove_range<A: Allocator>(kinds: &mut Vec<Kind, A>, from: usize, count: usiz
     kinds.truncate(len - count);
 }
 
+/// Moves `count` elements, from this place on, to the top.
+#[inline(always)]
+fn lift_range<A: Allocator>(kinds: &mut Vec<Kind, A>, from: usize, count: usize)
+    requires { from + count ≤ length kinds.old.items }
+    ensures { kinds.new.items ≡ take from kinds.old.items ++ (drop count (drop from kinds.old.items) ++ take count (drop from kinds.old.items)) }
+{
+    turn(&mut kinds.as_mut_slice()[from..], count);
+}
+
+/// Moves the first `count` elements to the end.
+#[inline(always)]
+fn turn(kinds: &mut [Kind], count: usize)
+    requires { count ≤ length kinds.old }
+    ensures { kinds.new ≡ drop count kinds.old ++ take count kinds.old }
+{
+    if count == 1 && kinds.len() == 2 {
+        kinds.swap(0, 1);
+    } else {
+        kinds.rotate_left(count);
+    }
+}
+
 /// The entries of a function from the bottom of its stack up, and a list that is kept for each open IF.
 ///
 /// Nothing is copied where an IF begins: its list shares the entries with the stack, and takes over those that the
@@ -213,6 +315,7 @@ fn remove_range<A: Allocator>(kinds: &mut Vec<Kind, A>, from: usize, count: usiz
 pub struct KindStack<A: Allocator> {
     kinds: Vec<Kind, A>,
     kept: KeptLists<A>,
+    spare: Vec<Kind, A>,
 }
 
 impl<A: Allocator> Model for KindStack<A> {
@@ -233,11 +336,13 @@ impl<A: Allocator + Clone> KindStack<A> {
     {
         Ok(KindStack {
             kinds: kinds.to_vec(alloc.clone()?)?,
+            spare: Vec::new(alloc.clone()?),
             kept: KeptLists::new(alloc),
         })
     }
 
     /// The entries.
+    #[inline(always)]
     pub(crate) fn as_slice(&self) -> &[Kind]
         ensures { result.now ≡ self.now.kinds }
     {
@@ -245,6 +350,7 @@ impl<A: Allocator + Clone> KindStack<A> {
     }
 
     /// Takes off the entries above the first `len`.
+    #[inline(always)]
     pub(crate) fn truncate(&mut self, len: usize) -> Result<(), AllocError>
         ensures { OnOk result (self.new ≡ record self.old { kinds = take len self.old.kinds }) }
     {
@@ -254,24 +360,41 @@ impl<A: Allocator + Clone> KindStack<A> {
     }
 
     /// Puts entries on top.
+    #[inline(always)]
     pub(crate) fn extend(&mut self, kinds: &[Kind]) -> Result<(), AllocError>
         ensures { OnOk result (self.new ≡ record self.old { kinds = self.old.kinds ++ kinds.now }) }
     {
-        self.kinds.extend_from_slice(kinds)?;
+        append(&mut self.kinds, kinds)?;
         Ok(())
     }
 
     /// Puts `count` entries, from this place on, on top once more.
+    #[inline(always)]
     pub(crate) fn repeat(&mut self, from: usize, count: usize) -> Result<(), AllocError>
         requires { from + count ≤ length self.old.kinds }
         ensures { OnOk result (self.new
             ≡ record self.old { kinds = self.old.kinds ++ take count (drop from self.old.kinds) }) }
     {
-        self.kinds.extend_from_within(from..from + count)?;
+        repeat_range(&mut self.kinds, from, count)?;
+        Ok(())
+    }
+
+    /// Moves `count` entries, from this place on, to the top.
+    #[inline(always)]
+    pub(crate) fn lift(&mut self, from: usize, count: usize) -> Result<(), AllocError>
+        requires { from + count ≤ length self.old.kinds }
+        ensures { OnOk result (self.new ≡ record self.old {
+          kinds = take from self.old.kinds
+              ++ (drop count (drop from self.old.kinds) ++ take count (drop from self.old.kinds));
+        }) }
+    {
+        self.kept.take_over_above(from, self.kinds.as_slice())?;
+        lift_range(&mut self.kinds, from, count);
         Ok(())
     }
 
     /// Takes out `count` entries, from this place on.
+    #[inline(always)]
     pub(crate) fn remove(&mut self, from: usize, count: usize) -> Result<(), AllocError>
         requires { from + count ≤ length self.old.kinds }
         ensures { OnOk result (self.new
@@ -286,11 +409,14 @@ impl<A: Allocator + Clone> KindStack<A> {
     pub(crate) fn keep(&mut self) -> Result<(), AllocError>
         ensures { OnOk result (self.new ≡ record self.old { kept = self.old.kinds ∷ self.old.kept }) }
     {
-        let above = Vec::new(self.kinds.allocator().clone()?);
+        let none = Vec::new(self.kinds.allocator().clone()?);
+        let mut above = mem::replace(&mut self.spare, none);
+        above.clear();
         self.kept.push(KeptList::new(self.kinds.len(), above))
     }
 
     /// The entries, and those that were kept last, change places.
+    #[inline(never)]
     pub(crate) fn swap(&mut self) -> Result<(), AllocError>
         ensures { OnOk result (self.new ≡ state_after_else self.old.kinds self.old.kept) }
     {
@@ -308,6 +434,7 @@ impl<A: Allocator + Clone> KindStack<A> {
 
     /// Forgets the entries that were kept last, and reports whether they are those that there are. If they aren't, no
     /// list is kept any longer.
+    #[inline(never)]
     pub(crate) fn forget(&mut self) -> bool
         ensures same { result ≡ is_kept_last self.old.kinds self.old.kept }
         ensures rest { IsTrue result → self.new ≡ record self.old { kept = others_of self.old.kept } }
@@ -315,7 +442,7 @@ impl<A: Allocator + Clone> KindStack<A> {
         let Some(first) = self.kept.pop() else {
             return true;
         };
-        if is_whole_list(self.kinds.as_slice(), first) {
+        if is_whole_list(self.kinds.as_slice(), first, &mut self.spare) {
             return true;
         }
         self.kept.clear();

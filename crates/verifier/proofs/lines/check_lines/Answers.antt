@@ -1,6 +1,6 @@
-use Rattle.std.proofs.Common.{◌≡◌, ◌≤◌, ◌∙◌, ◌-◌, length, take, drop, sym, ap, arith, Ok}
+use Rattle.std.proofs.Common.{◌≡◌, ◌≤◌, ◌∙◌, ◌-◌, length, sym, ap, arith, Ok}
 use Rattle.vcode_reader.specs.Trees.{lines_of}
-use Rattle.verifier.specs.Walk.{front_of, state_after_lines}
+use Rattle.verifier.specs.Walk.{state_after_lines}
 use Rattle.verifier.proofs.Callees.{callee_is}
 use Rattle.verifier.proofs.Functions.{front_at, front_end, some_line}
 use Rattle.verifier.proofs.Walks.{walk_fails, walk_on}

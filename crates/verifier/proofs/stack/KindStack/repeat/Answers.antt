@@ -1,4 +1,4 @@
-use Rattle.std.proofs.Common.{◌≡◌, ◌∙◌, ◌+◌, ◌-◌, ◌++◌, ap, arith, subst, sym, take, drop, List}
+use Rattle.std.proofs.Common.{List, drop, subst, sym, take}
 use Rattle.vcode_base.specs.declared.kind.Kind.{Kind}
 use Rattle.verifier.specs.Kept.{AreShared}
 use Rattle.verifier.proofs.Keeping.{on_top, repeated}
@@ -7,15 +7,10 @@ use Rattle.verifier.proofs.stack.KindStack.repeat.Goals as goal
 pub invariant_of-self-2 : goal.invariant_of-self-2
 invariant_of-self-2 g c =
     let ks = c.self.inside.kinds.items in
-    let count : (c.args.from + c.args.count) - c.args.from ≡ c.args.count = omega arith in
-    let longer = c.in_ok-extend_from_within.ensures.items ∙ ap (λ n. ks ++ take n (drop c.args.from ks)) count in
-    subst (λ (z : List Kind). AreShared z c.self.inside.kept) (sym longer)
+    subst (λ (z : List Kind). AreShared z c.self.inside.kept) (sym c.in_ok-repeat_range.ensures.added)
     (on_top ks (take c.args.count (drop c.args.from ks)) c.self.inside.kept c.self.invariant).1
 
 pub returns : goal.returns
 returns g c =
-    let ks = c.self.inside.kinds.items in
-    let count : (c.args.from + c.args.count) - c.args.from ≡ c.args.count = omega arith in
-    repeated ks c.extend_from_within.new.self.items c.args.from c.args.count c.self.inside.kept c.args.self.now
-    c.self.invariant c.self.view_is
-    (c.in_ok-extend_from_within.ensures.items ∙ ap (λ n. ks ++ take n (drop c.args.from ks)) count)
+    repeated c.self.inside.kinds.items c.repeat_range.new.kinds.items c.args.from c.args.count c.self.inside.kept
+    c.args.self.now c.self.invariant c.self.view_is c.in_ok-repeat_range.ensures.added

@@ -1,6 +1,6 @@
 use Rattle.std.proofs.lemmas.Result.{on_ok_weaker}
 use Rattle.verifier.proofs.Keeping.{first_below, first_shares, first_takes}
-use Rattle.verifier.proofs.stack.KeptLists.take_over_above.Goals as goal
+use Rattle.verifier.proofs.stack.KeptLists.take_over_shared.Goals as goal
 
 pub take_over_above-taken-requires : goal.take_over_above-taken-requires
 take_over_above-taken-requires g c =
