@@ -129,3 +129,53 @@ other_in_code (x ∷ y ∷ z ∷ zs) c long h =
     z_in first.2 in
     ap heading_of (joins_word x y (z ∷ zs) (y ∷ z ∷ first.0) first.1 x_in y_in after)
     ∙ other_third x y z first.0 first.1 c second.0
+
+-- ---- lines without a D
+
+abbrev pub HoldsNoD : List ℕ → Type 0
+HoldsNoD [] = Unit {0}
+HoldsNoD (b ∷ bs) = ((b == 68) ≡ false) × HoldsNoD bs
+
+abbrev first_lacks_d : List (List ℕ) → Type 0
+first_lacks_d [] = Unit {0}
+first_lacks_d (w ∷ ws) = HoldsNoD w
+
+first_with_byte : (separates : Bool) (x : ℕ) (plain : Bool) (ws : List (List ℕ)) → (x == 68) ≡ false → first_lacks_d ws
+    → first_lacks_d (if separates then ws else with_plain x plain ws)
+first_with_byte true x plain ws other h = h
+first_with_byte false x true [] other h = (other, tt)
+first_with_byte false x true (w ∷ ws) other h = (other, h)
+first_with_byte false x false ws other h = (other, tt)
+
+first_without_d : (t : List ℕ) → HoldsNoD t → first_lacks_d (batch_words t)
+unfolding words_of_line
+first_without_d [] h = tt
+first_without_d (x ∷ xs) h =
+    first_with_byte (is_separator x) x (begins_plain StandInWords xs) (batch_words xs) h.0 (first_without_d xs h.1)
+
+both_or_none : (a b : Bool) → (a && (b && false)) ≡ false
+both_or_none true true = refl
+both_or_none true false = refl
+both_or_none false b = refl
+
+and_none : (a : Bool) → (a && false) ≡ false
+and_none true = refl
+and_none false = refl
+
+word_without_d : (w : List ℕ) → HoldsNoD w → bytes_eq w (codes "END") ≡ false
+word_without_d [] h = refl
+word_without_d (x ∷ []) h = and_none (x == 69)
+word_without_d (x ∷ y ∷ []) h = both_or_none (x == 69) (y == 78)
+word_without_d (x ∷ y ∷ z ∷ t) h = rw h.1.1.0 (both_or_none (x == 69) (y == 78))
+
+no_end_words : (ws : List (List ℕ)) → first_lacks_d ws → is_end (heading_of ws) ≡ false
+no_end_words [] h = refl
+no_end_words (w ∷ []) h =
+    no_end_marker (bytes_eq w (codes "SIGNATURES")) (bytes_eq w (codes "CODE")) (bytes_eq w (codes "END"))
+    (word_without_d w h)
+no_end_words (w ∷ v ∷ []) h = no_end_pair (bytes_eq w (codes "BATCH") && bytes_eq v (codes "2"))
+no_end_words (w ∷ v ∷ u ∷ ws) h = refl
+
+-- a line that is END has a D
+pub no_end_without_d : (t : List ℕ) → HoldsNoD t → is_end (heading_of (batch_words t)) ≡ false
+no_end_without_d t h = no_end_words (batch_words t) (first_without_d t h)

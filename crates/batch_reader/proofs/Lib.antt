@@ -1,3 +1,4 @@
+pub mod CodeTexts
 pub mod FateLemmas
 pub mod FeedLemmas
 pub mod HeadingLemmas

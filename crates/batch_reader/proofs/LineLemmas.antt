@@ -117,11 +117,11 @@ numbered_past number left text rest h =
 
 -- ---- places of a text
 
-isnt_true : (b : Bool) → (b ≡ true → ⊥) → b ≡ false
+pub isnt_true : (b : Bool) → (b ≡ true → ⊥) → b ≡ false
 isnt_true true n = absurd (n refl)
 isnt_true false n = refl
 
-is_ten : (x : ℕ) → x == 10 ≡ true → x ≡ 10
+pub is_ten : (x : ℕ) → x == 10 ≡ true → x ≡ 10
 is_ten x is = grind (arith, nat_tests)
 
 line_by : (xs : List ℕ) (i : ℕ) → i < length xs → ((k : ℕ) → 0 ≤ k → k < i → get_or xs k 0 == 10 ≡ true → ⊥)

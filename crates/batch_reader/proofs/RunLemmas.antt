@@ -30,7 +30,7 @@ pub line_more : (n m : ℕ) (front line : List ℕ) → m ≡ n + 1 → AreCodeL
 unfolding AreCodeLines
 line_more n m front line e h l = rw (e, add-one) (front, line, refl, h, l)
 
-feeds_append : (xs ys : List ℕ) → line_feeds (xs ++ ys) ≡ line_feeds xs + line_feeds ys
+pub feeds_append : (xs ys : List ℕ) → line_feeds (xs ++ ys) ≡ line_feeds xs + line_feeds ys
 feeds_append [] ys = omega arith
 feeds_append (x ∷ xs) ys = rw (feeds_append xs ys) (omega arith)
 

@@ -1,5 +1,6 @@
 -- Lines of a job's code that are taken at once.
-use Rattle.std.specs.Prelude.{◌≡◌, ℕ, zero, suc, false, List, [], ◌++◌}
+use Rattle.std.specs.Prelude.{◌≡◌, ℕ, zero, suc, true, false, List, [], ◌∷◌, ◌++◌}
+use Rattle.vcode_base.specs.Lines.{is_line_feed, line_feeds}
 use Rattle.batch_reader.specs.declared.head.JobHeader.{JobHeader}
 use Rattle.batch_reader.specs.declared.stage.Stage.TheVariants as stage
 use Rattle.batch_reader.specs.Batches.{JobText}
@@ -19,6 +20,16 @@ unfoldable pub AreCodeLines : ℕ → List ℕ → Type 0
 AreCodeLines zero text = text ≡ []
 AreCodeLines (suc n) text =
     (front : List ℕ) × (line : List ℕ) × (text ≡ front ++ line) × AreCodeLines n front × IsCodeLine line
+
+-- a text of such lines, each of which has one LF
+abbrev pub IsCodeText : List ℕ → Type 0
+IsCodeText text = AreCodeLines (line_feeds text) text
+
+-- lines that an LF ends: their last byte is one
+abbrev pub AreWholeLines : List ℕ → Type 0
+AreWholeLines [] = Unit {0}
+AreWholeLines (b ∷ []) = is_line_feed b ≡ true
+AreWholeLines (b ∷ c ∷ bs) = AreWholeLines (c ∷ bs)
 
 -- a stage among the lines of a job's code
 abbrev pub IsInCode : JobStage → Type 0

@@ -1,10 +1,11 @@
 //! Lines of code that are taken at once.
 
-ghost use Rattle.std.specs.Prelude.{◌≡◌, ◌≤◌, ◌++◌, length, IfSome};
-ghost use Rattle.batch_reader.specs.Runs.{AreCodeLines, IsCodeLine};
+ghost use Rattle.std.specs.Prelude.{◌≡◌, ◌≤◌, ◌++◌, List, ℕ, length, take, IfSome};
+ghost use Rattle.batch_reader.specs.Runs.{AreCodeLines, IsCodeLine, IsCodeText};
 
 use crate::heading::is_end;
-use crate::line::first_line;
+use crate::line::{count_line_feeds, first_line, whole_lines_before};
+use memchr::memchr;
 
 /// Lines one after another, each with the LF that ends it, of which none is `END`.
 #[derive(Clone, Copy)]
@@ -20,31 +21,38 @@ pub(crate) fn code_run(text: &[u8], most: usize) -> (CodeRun<'_>, &[u8])
     ensures parts { text.now ≡ result.0.text.now ++ result.1.now }
     ensures within { length result.0.text.now ≤ most }
 {
-    let mut rest = text;
-    let mut len = 0;
-    let mut count = 0;
-    'lines: while let Some((line, behind)) = code_line(rest, most - len) {
-        len += line.len();
-        count += 1;
-        rest = behind;
-    }
-    let (front, _) = text.split_at(len);
+    let (within, _) = text.split_at(text.len().min(most));
+    let (front, rest) = text.split_at(code_len(within));
+    let count = count_line_feeds(front);
     (CodeRun { text: front, count }, rest)
 }
 
-/// The first line of a text, if it has an LF and at most `most` bytes and isn't `END`, and the rest after it.
+/// How many bytes the lines at the front of a text have that an LF ends, up to the first that is `END`. Such a line has
+/// a `D`: only lines with one are looked at.
+fn code_len(text: &[u8]) -> usize
+    ensures within { result ≤ length text.now }
+    ensures code { IsCodeText (take result text.now) }
+{
+    let mut rest = text;
+    'lines: while let Some(place) = memchr(b'D', rest) {
+        let (_, from) = whole_lines_before(rest, place);
+        let Some(behind) = behind_code_line(from) else {
+            return text.len() - from.len();
+        };
+        rest = behind;
+    }
+    let (_, open) = whole_lines_before(rest, rest.len());
+    text.len() - open.len()
+}
+
+/// The rest of a text after its first line, if that has an LF and isn't `END`.
 #[inline(always)]
-fn code_line(text: &[u8], most: usize) -> Option<(&[u8], &[u8])>
-    ensures line { IfSome result (λ parts. IsCodeLine parts.0.now) }
-    ensures parts { IfSome result (λ parts. text.now ≡ parts.0.now ++ parts.1.now) }
-    ensures within { IfSome result (λ parts. length parts.0.now ≤ most) }
+fn behind_code_line(text: &[u8]) -> Option<&[u8]>
+    ensures { IfSome result (λ rest. (line : List ℕ) × IsCodeLine line × (text.now ≡ line ++ rest.now)) }
 {
     let (line, rest) = first_line(text)?;
     if is_end(line) {
         return None;
     }
-    if line.len() > most {
-        return None;
-    }
-    Some((line, rest))
+    Some(rest)
 }
