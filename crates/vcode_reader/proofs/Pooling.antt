@@ -6,12 +6,13 @@ use Rattle.std.proofs.Math.Seq.{drop-append_seam, take-append_seam}
 use Rattle.std.proofs.lemmas.Bool.Decides.{nat_tests}
 use Rattle.std.proofs.lemmas.List.{append-nil, length-map, map-append, take_more}
 use Rattle.std.proofs.lemmas.Option.{none-some, same_Some, slice_get-map, slice_get_past, slice_get_read, slice_get_within}
-use Rattle.std.proofs.lemmas.Option.{get_or_from_slice_get}
+use Rattle.std.proofs.lemmas.Option.{get_or_from_slice_get, slice_get-get_or}
 use Rattle.std.specs.List.{slice_get}
-use Rattle.std.specs.Prelude.{map, nat_lt, option_map}
+use Rattle.std.specs.Prelude.{map, nat_lt, option_map, Option, IfSome}
 use Rattle.vcode_base.specs.declared.instr.Instr.TheVariants as instr
 use Rattle.vcode_reader.specs.declared.line.CodeItem.{CodeItem}
 use Rattle.vcode_reader.specs.declared.line.CodeItem.TheVariants as code_item
+use Rattle.vcode_reader.specs.Callees.{called_by}
 use Rattle.vcode_reader.specs.Pools.{PooledLine, PooledItem, list_of, name_of, all_lists, all_names, pooled_item}
 use Rattle.vcode_reader.specs.Pools.{pooled_line, pooled_lines, shown_item, shown_line, shown_lines, ItemLiesIn, ArePooled}
 use Rattle.vcode_reader.specs.Targets.{Jumps, jumps_before, jumps_from}
@@ -156,13 +157,13 @@ shown_length ps ls ns = sym (length-map ps (shown_line ls ns))
 
 -- ---- the line at a place
 
-pub got : (ps qs : List PooledLine) (place : ℕ) (p : PooledLine) → qs ≡ ps → true ≡ nat_lt place (length qs) →
+pub got : {A : Type 0} (ps qs : List A) (place : ℕ) (p : A) → qs ≡ ps → true ≡ nat_lt place (length qs) →
     p ≡ get_or qs place p → slice_get ps place ≡ Some p
 got ps qs place p e within is =
     let lt : place < length qs = grind (arith, nat_tests, within) in
     ap (λ z. slice_get z place) (sym e) ∙ slice_get_read qs (length qs) place p refl lt is
 
-pub not_got : (ps qs : List PooledLine) (place : ℕ) → qs ≡ ps → false ≡ nat_lt place (length qs) →
+pub not_got : {A : Type 0} (ps qs : List A) (place : ℕ) → qs ≡ ps → false ≡ nat_lt place (length qs) →
     slice_get ps place ≡ None
 not_got ps qs place e past =
     let far : length qs ≤ place = grind (arith, nat_tests, past) in
@@ -229,6 +230,30 @@ shown_too ps ls ms ns os place p i all e f is at same =
     is ∙ (ap (λ z. shown_item z os p.item) e ∙ ap (λ z. shown_item ls z p.item) f) in
     ap (λ (z : CodeItem Item). let here : CodeLine = line_of z p.number in Some here) shown
     ∙ (sym (line_there ps ls ns place p at) ∙ ap (λ z. slice_get z place) same)
+
+-- the pooled line at a place within the lines
+module _ (ps qs : List PooledLine) (ls : List ℤ) (ns : List ℕ) (all : List CodeLine) (place : ℕ) (same : qs ≡ ps)
+    (shown : shown_lines ls ns ps ≡ all) (within : place < length all) where
+  pub within_pooled : place < length qs
+  within_pooled = omega (arith, ap length same, shown_length ps ls ns, ap length shown)
+
+  there : (d : PooledLine) → slice_get ps place ≡ Some (get_or qs place d)
+  there d = ap (λ z. slice_get z place) (sym same) ∙ slice_get-get_or qs place d within_pooled
+
+  pub item_at : (ms : List ℕ) (d : PooledLine) → ms ≡ ns → ArePooled ps ls ns → ItemLiesIn ls ms (get_or qs place d).item
+  item_at ms d names held =
+      let line : PooledLine = get_or qs place d in
+      lies_too line.item ls ls ns ms refl names (item_there ps ls ns place line held (there d))
+
+  pub call_at : (ms : List ℕ) (d : PooledLine) (called : Option (List ℕ)) → ms ≡ ns →
+      ((lists : List ℤ) → called ≡ called_by (shown_item lists ms (get_or qs place d).item)) →
+      IfSome (slice_get all place) (λ x. called ≡ called_by x.item)
+  call_at ms d called names is =
+      let line : PooledLine = get_or qs place d in
+      let at : slice_get all place ≡ Some (shown_line ls ns line) =
+      ap (λ z. slice_get z place) (sym shown) ∙ line_there ps ls ns place line (there d) in
+      subst (λ o. IfSome o (λ (x : CodeLine). called ≡ called_by x.item)) (sym at)
+      (is ls ∙ ap (λ z. called_by (shown_item ls z line.item)) names)
 
 -- ---- loops over lines by their places
 

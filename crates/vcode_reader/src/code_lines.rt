@@ -1,7 +1,9 @@
 //! The lines of a function, small and without a list of their own each.
 
-ghost use Rattle.std.specs.Prelude.{◌≡◌, ◌+◌, ◌≤◌, [], ◌∷◌, ◌++◌, length, map, slice_get, IfOk, MatchOption, OnOk, OnErr};
+ghost use Rattle.std.specs.Prelude.{◌≡◌, ◌+◌, ◌<◌, ◌≤◌, ℤ, List, [], ◌∷◌, ◌++◌, length, map, option_map, slice_get, IfOk};
+ghost use Rattle.std.specs.Prelude.{IfSome, MatchOption, OnOk, OnErr};
 ghost use Rattle.vcode_base.specs.declared.instr.Instr.TheVariants as instr;
+ghost use Rattle.vcode_reader.specs.Callees.{called_by};
 ghost use Rattle.vcode_reader.specs.Pools.{list_in, name_in, list_of, name_of, part_of, pooled_instruction, pooled_item};
 ghost use Rattle.vcode_reader.specs.Pools.{pooled_line, shown_instruction, shown_item, span_of, InstructionLiesIn, ItemLiesIn, LiesIn};
 ghost use Rattle.vcode_reader.specs.Trees.{line_of};
@@ -155,6 +157,16 @@ impl<A: Allocator> CodeLines<A> {
             number: line.number,
         })
     }
+
+    /// The name that the line at a place calls, if it is a `CALL`.
+    #[inline(always)]
+    pub(crate) fn called(&self, place: usize) -> Option<&[u8]>
+        requires { place < length self.now }
+        ensures { IfSome (slice_get self.now place) (λ x. option_map (λ name. name.now) result ≡ called_by x.item) }
+    {
+        let line = &self.lines.as_slice()[place];
+        called_by(&line.item, self.names.as_slice())
+    }
 }
 
 /// Adds a line, with its list or its name, after the others.
@@ -304,6 +316,18 @@ fn shown_instruction<'a>(
         Instr::Move(motion, lower, upper) => Instr::Move(*motion, *lower, *upper),
         Instr::Call(span) => Instr::Call(Elements::new(part_of(names, *span))),
         Instr::Return => Instr::Return,
+    }
+}
+
+/// The name that an item calls, if it is a `CALL`.
+#[inline(always)]
+fn called_by<'a>(item: &CodeItem<PooledInstruction>, names: &'a [u8]) -> Option<&'a [u8]>
+    requires { (lists : List ℤ) × ItemLiesIn lists names.now item.now }
+    ensures { (lists : List ℤ) → option_map (λ name. name.now) result ≡ called_by (shown_item lists names.now item.now) }
+{
+    match item {
+        CodeItem::Do(Instr::Call(span)) => Some(part_of(names, *span)),
+        _ => None,
     }
 }
 
