@@ -10,7 +10,7 @@ use Rattle.std.proofs.lemmas.Slice.Eq.{slice_eq-Decides}
 use Rattle.vcode_reader.specs.declared.code_lines.Span.{Span}
 use Rattle.vcode_reader.specs.Pools.{PooledItem, PooledLine, least_number, linked_lines, shown_lines, all_lists, all_names}
 use Rattle.vcode_reader.specs.Trees.{CodeLine, Function, Program, lines_of}
-use Rattle.vcode_reader.specs.Callees.{callees_of}
+use Rattle.vcode_reader.specs.Programs.{held_callees}
 use Rattle.vcode_reader.specs.Decode.{function_of, function_of-lines_of}
 use Rattle.vcode_reader.proofs.Linking.{linked_again}
 
@@ -75,17 +75,17 @@ module _ {L : List CodeLine → List CodeLine → Bool} {T : Option ℕ → Opti
       Decides (nat_eq p.first_line q.first_line &&
       (pointwise
       (λ f g. pointwise nat_eq f.name g.name && (nat_eq f.line g.line && L (lines_of f) (lines_of g))) p.functions
-      q.functions && pointwise (pointwise T)
-      (callees_of p.functions) (callees_of q.functions))) (p ≡ q)
+      q.functions && pointwise (pointwise nat_eq)
+      (held_callees p.functions) (held_callees q.functions))) (p ≡ q)
   same_programs p q =
       Decides-like _ (λ (n, (fs, _)). ap
       (λ z. let r : Program = record { first_line = z; functions = p.functions } in r) n
       ∙ ap (λ z. let r : Program = record { first_line = q.first_line; functions = z } in r) fs)
       (λ e. (
         ap (λ (x : Program). x.first_line) e,
-        (ap (λ (x : Program). x.functions) e, ap (λ (x : Program). callees_of x.functions) e),
+        (ap (λ (x : Program). x.functions) e, ap (λ (x : Program). held_callees x.functions) e),
       ))
       (Decides-and _ _ (Decides-eqb p.first_line q.first_line)
       (Decides-and _ _ (slice_eq-Decides same_functions p.functions q.functions _ refl)
-      (slice_eq-Decides (λ a b. slice_eq-Decides exact_callees a b _ refl) (callees_of p.functions)
-      (callees_of q.functions) _ refl)))
+      (slice_eq-Decides (λ a b. slice_eq-Decides Decides-eqb a b _ refl) (held_callees p.functions)
+      (held_callees q.functions) _ refl)))

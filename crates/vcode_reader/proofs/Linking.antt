@@ -4,12 +4,14 @@ use Rattle.std.proofs.Common.{None, refl, ap, sym, subst, length-append, arith, 
 use Rattle.std.proofs.Common.{set}
 use Rattle.std.proofs.Math.Seq.{take-append_seam}
 use Rattle.std.proofs.lemmas.List.{drop-set, drop_all, take-set, take-take}
-use Rattle.std.proofs.lemmas.Option.{none-some, same_Some}
+use Rattle.std.proofs.lemmas.Option.{none-some, same_Some, slice_get-get_or}
+use Rattle.std.specs.Prelude.{IfSome}
 use Rattle.std.specs.List.{slice_get}
 use Rattle.vcode_base.specs.declared.instr.Instr.TheVariants as instr
 use Rattle.vcode_reader.specs.declared.code_lines.PooledItem.TheVariants as pooled
 use Rattle.vcode_reader.specs.declared.line.CodeItem.{CodeItem}
 use Rattle.vcode_reader.specs.declared.line.CodeItem.TheVariants as code_item
+use Rattle.vcode_reader.specs.Callees.{called_by}
 use Rattle.vcode_reader.specs.Pools.{PooledItem, PooledLine, least_number, list_of, name_of, all_lists, all_names, pooled_item, pooled_line}
 use Rattle.vcode_reader.specs.Pools.{pooled_lines, shown_item, shown_line, shown_lines, ItemLiesIn, ArePooled, AreLinked}
 use Rattle.vcode_reader.specs.Pools.{target_of, with_target, line_with_target, with_targets, waits_before, linked_lines}
@@ -17,7 +19,7 @@ use Rattle.vcode_reader.specs.Targets.{Jumps, first_of, others_of, jumps_before,
 use Rattle.vcode_reader.specs.Targets.{targets_of}
 use Rattle.vcode_reader.specs.Trees.{Item, CodeLine, line_of}
 use Rattle.vcode_reader.proofs.Least.{are_from}
-use Rattle.vcode_reader.proofs.Pooling.{lines_back}
+use Rattle.vcode_reader.proofs.Pooling.{line_there, lines_back, shown_length}
 
 -- ---- targets aren't shown
 
@@ -307,3 +309,30 @@ module _ (place : ℕ) (old lines : List PooledLine) (places : List ℕ) (first 
     where
       take_less : (zs : List PooledLine) → take place zs ≡ take place (take (place + 1) zs)
       take_less zs = sym (take-take place (place + 1) zs (omega arith))
+
+-- ---- the name that a line calls
+
+-- the pooled line at a place within the lines
+module _ (first : ℕ) (ps qs : List PooledLine) (ls : List ℤ) (ns : List ℕ) (all : List CodeLine) (place : ℕ)
+    (same : qs ≡ ps) (shown : shown_lines first ls ns ps ≡ all) (within : place < length all) where
+  pub within_pooled : place < length qs
+  within_pooled = omega (arith, ap length same, shown_length first ps ls ns, ap length shown)
+
+  line_at : (d : PooledLine) → slice_get ps place ≡ Some (get_or qs place d)
+  line_at d = ap (λ z. slice_get z place) (sym same) ∙ slice_get-get_or qs place d within_pooled
+
+  pub item_at : (ms : List ℕ) (d : PooledLine) → ms ≡ ns → AreLinked first ps ls ns →
+      ItemLiesIn ls ms (get_or qs place d).item
+  item_at ms d names held =
+      let line : PooledLine = get_or qs place d in
+      lies_too line.item ls ls ns ms refl names (item_there first ps ls ns place line held (line_at d))
+
+  pub call_at : (ms : List ℕ) (d : PooledLine) (called : Option (List ℕ)) → ms ≡ ns →
+      ((lists : List ℤ) → called ≡ called_by (shown_item lists ms (get_or qs place d).item)) →
+      IfSome (slice_get all place) (λ x. called ≡ called_by x.item)
+  call_at ms d called names is =
+      let line : PooledLine = get_or qs place d in
+      let at : slice_get all place ≡ Some (shown_line first ls ns line) =
+      ap (λ z. slice_get z place) (sym shown) ∙ line_there first ps ls ns place line (line_at d) in
+      subst (λ o. IfSome o (λ (x : CodeLine). called ≡ called_by x.item)) (sym at)
+      (is ls ∙ ap (λ z. called_by (shown_item ls z line.item)) names)

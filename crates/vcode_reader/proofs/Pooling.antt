@@ -7,7 +7,7 @@ use Rattle.std.proofs.lemmas.List.{append-nil, length-map, map-append, take_more
 use Rattle.std.proofs.lemmas.Option.{slice_get-map, slice_get_past, slice_get_read, slice_get_within}
 use Rattle.std.proofs.lemmas.Option.{get_or_from_slice_get}
 use Rattle.std.specs.List.{slice_get}
-use Rattle.std.specs.Prelude.{map, nat_lt, option_map}
+use Rattle.std.specs.Prelude.{map, nat_lt, option_map, Option, IfSome}
 use Rattle.vcode_base.specs.declared.instr.Instr.TheVariants as instr
 use Rattle.vcode_reader.specs.declared.line.CodeItem.{CodeItem}
 use Rattle.vcode_reader.specs.declared.line.CodeItem.TheVariants as code_item
@@ -175,13 +175,13 @@ same_pooled first ps ps2 ls ls2 ns ns2 e f g held =
 
 -- ---- the line at a place
 
-pub got : (ps qs : List PooledLine) (place : ℕ) (p : PooledLine) → qs ≡ ps → true ≡ nat_lt place (length qs) →
+pub got : {A : Type 0} (ps qs : List A) (place : ℕ) (p : A) → qs ≡ ps → true ≡ nat_lt place (length qs) →
     p ≡ get_or qs place p → slice_get ps place ≡ Some p
 got ps qs place p e within is =
     let lt : place < length qs = grind (arith, nat_tests, within) in
     ap (λ z. slice_get z place) (sym e) ∙ slice_get_read qs (length qs) place p refl lt is
 
-pub not_got : (ps qs : List PooledLine) (place : ℕ) → qs ≡ ps → false ≡ nat_lt place (length qs) →
+pub not_got : {A : Type 0} (ps qs : List A) (place : ℕ) → qs ≡ ps → false ≡ nat_lt place (length qs) →
     slice_get ps place ≡ None
 not_got ps qs place e past =
     let far : length qs ≤ place = grind (arith, nat_tests, past) in

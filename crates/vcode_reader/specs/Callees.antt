@@ -7,6 +7,11 @@ use Rattle.vcode_reader.specs.declared.line.CodeItem.TheVariants as code_item
 use Rattle.vcode_reader.specs.Targets.{target_in}
 use Rattle.vcode_reader.specs.Trees.{Item, Function, instruction_line, lines_of}
 
+-- the name that a CALL calls
+abbrev pub called_by : CodeItem Item → Option (List ℕ)
+called_by (code_item.Do (Call name)) = Some name
+called_by _ = None
+
 -- the place of the first function that a CALL names, if there is one
 abbrev pub callee_of : List Function → CodeItem Item → Option ℕ
 callee_of fs (code_item.Do (Call name)) = position (λ f. bytes_eq f.name name) fs

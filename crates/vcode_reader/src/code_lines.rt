@@ -1,8 +1,9 @@
 //! The lines of a function, small and without a list of their own each.
 
-ghost use Rattle.std.specs.Prelude.{◌≡◌, ◌+◌, ◌-◌, ◌<◌, ◌≤◌, ◌^◌, ℕ, ℤ, List, [], ◌∷◌, ◌++◌, length, map, slice_get, IfOk};
-ghost use Rattle.std.specs.Prelude.{MatchOption, OnOk, OnErr};
+ghost use Rattle.std.specs.Prelude.{◌≡◌, ◌+◌, ◌-◌, ◌<◌, ◌≤◌, ◌^◌, ℕ, ℤ, List, [], ◌∷◌, ◌++◌, length, map, option_map, slice_get, IfOk};
+ghost use Rattle.std.specs.Prelude.{IfSome, MatchOption, OnOk, OnErr};
 ghost use Rattle.vcode_base.specs.declared.instr.Instr.TheVariants as instr;
+ghost use Rattle.vcode_reader.specs.Callees.{called_by};
 ghost use Rattle.vcode_reader.specs.Pools.{first_with, list_in, name_in, list_of, name_of, part_of};
 ghost use Rattle.vcode_reader.specs.Pools.{pooled_instruction, pooled_item, pooled_line, shown_item, shown_lines, span_of, target_of};
 ghost use Rattle.vcode_reader.specs.Pools.{line_with_target, waits_before, with_targets, ItemLiesIn, LiesIn};
@@ -135,8 +136,8 @@ impl<A: Allocator> GrowingLines<A> {
     }
 }
 
-/// The lines of a function, with the target of each IF and ELSE, and the number of the first. The lists of its constants lie one after another, and
-/// so do the names of its CALLs.
+/// The lines of a function, with the target of each IF and ELSE, and the number of the first. The lists of its constants
+/// lie one after another, and so do the names of its CALLs.
 #[derive(Drop)]
 #[derive_where(PartialEq, Eq)]
 pub struct CodeLines<A: Allocator> {
@@ -205,6 +206,16 @@ impl<A: Allocator> CodeLines<A> {
         let line = self.lines.as_slice().get(place)?;
         let target = target_of(&line.item)?;
         Some(target as usize)
+    }
+
+    /// The name that the line at a place calls, if it is a `CALL`.
+    #[inline(always)]
+    pub(crate) fn called(&self, place: usize) -> Option<&[u8]>
+        requires { place < length self.now }
+        ensures { IfSome (slice_get self.now place) (λ x. option_map (λ name. name.now) result ≡ called_by x.item) }
+    {
+        let line = &self.lines.as_slice()[place];
+        called_by(&line.item, self.names.as_slice())
     }
 }
 
@@ -366,6 +377,18 @@ fn shown_item<'a>(item: &PooledItem, lists: &'a [i64], names: &'a [u8]) -> CodeI
         PooledItem::If(_) => CodeItem::If,
         PooledItem::Else(_) => CodeItem::Else,
         PooledItem::Endif => CodeItem::Endif,
+    }
+}
+
+/// The name that an item calls, if it is a `CALL`.
+#[inline(always)]
+fn called_by<'a>(item: &PooledItem, names: &'a [u8]) -> Option<&'a [u8]>
+    requires { (lists : List ℤ) × ItemLiesIn lists names.now item.now }
+    ensures { (lists : List ℤ) → option_map (λ name. name.now) result ≡ called_by (shown_item lists names.now item.now) }
+{
+    match item {
+        PooledItem::Call(span) => Some(part_of(names, *span)),
+        _ => None,
     }
 }
 

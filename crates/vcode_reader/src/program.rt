@@ -1,7 +1,7 @@
-ghost use Rattle.std.specs.Prelude.{◌≡◌, false, length, IfOk, position};
+ghost use Rattle.std.specs.Prelude.{◌≡◌, ◌<◌, false, length, option_map, IfOk, IfSome, position};
 ghost use Rattle.std.specs.List.{slice_get};
 ghost use Rattle.std.specs.Str.{bytes_eq};
-ghost use Rattle.vcode_reader.specs.Callees.{callee_at};
+ghost use Rattle.vcode_reader.specs.Callees.{callee_at, called_by};
 ghost use Rattle.vcode_reader.specs.Targets.{target_at};
 ghost use Rattle.vcode_reader.specs.Trees.{lines_of, HaveProperBodies};
 ghost use Rattle.vcode_reader.specs.Decode.{tree_of};
@@ -101,6 +101,16 @@ impl<A: Allocator> Function<A> {
         self.lines.get(place)
     }
 
+    /// The name that the line at a place calls, if it is a `CALL`.
+    #[inline(always)]
+    pub(crate) fn called(&self, place: usize) -> Option<&[u8]>
+        requires { place < length (lines_of self.now) }
+        ensures { IfSome (slice_get (lines_of self.now) place)
+            (λ x. option_map (λ name. name.now) result ≡ called_by x.item) }
+    {
+        self.lines.called(place)
+    }
+
     /// The target of the line at a place, if that isn't the next line: an IF without its first part goes on
     /// after its ELSE, and an ELSE after its ENDIF. None at any other place.
     pub fn target(&self, place: usize) -> Option<usize>
@@ -110,13 +120,14 @@ impl<A: Allocator> Function<A> {
     }
 }
 
-/// A program: the number of its first line, and its functions in the order of the text.
+/// A program: the number of its first line, and its functions in the order of the text. A callee past the last
+/// function stands for none.
 #[derive(Drop)]
 #[derive_where(PartialEq, Eq)]
 pub struct Program<A: Allocator> {
     first_line: u64,
     functions: Sequence<Function<A>, A>,
-    callees: Sequence<Sequence<Option<u16>, A>, A>,
+    callees: Sequence<Sequence<u16, A>, A>,
 }
 
 impl<A: Allocator> Model for Program<A> {
@@ -125,11 +136,10 @@ impl<A: Allocator> Model for Program<A> {
     ghost Value = { ProgramTree };
 
     ghost use Rattle.std.specs.Coded.{codes};
-    ghost use Rattle.std.specs.Prelude.{ℕ, List, Option, ◌≡◌};
+    ghost use Rattle.std.specs.Prelude.{ℕ, List, ◌≡◌};
     ghost use Rattle.std.proofs.Common.{ap, sym};
-    ghost use Rattle.vcode_reader.specs.Callees.{callees_of};
     ghost use Rattle.vcode_reader.specs.Decode.{program_code};
-    ghost use Rattle.vcode_reader.specs.Programs.{HoldsProgram};
+    ghost use Rattle.vcode_reader.specs.Programs.{held_callees, HoldsProgram};
 
     ghost coded = { program_code (Prim.hlevel codes) };
 
@@ -137,9 +147,9 @@ impl<A: Allocator> Model for Program<A> {
 
     ghost invariant = { λ p. HoldsProgram p.functions p.callees };
 
-    ghost inverse = { λ p. record { first_line = p.first_line; functions = p.functions; callees = callees_of p.functions } };
+    ghost inverse = { λ p. record { first_line = p.first_line; functions = p.functions; callees = held_callees p.functions } };
 
-    ghost inverse_ok = { λ p h. ap (λ (cs : List (List (Option ℕ))). record p { callees = cs }) (sym h.callees) };
+    ghost inverse_ok = { λ p h. ap (λ (cs : List (List ℕ)). record p { callees = cs }) (sym h.callees) };
 }
 
 impl<A: Allocator> Program<A> {
@@ -194,7 +204,7 @@ impl<A: Allocator> Program<A> {
         ensures { result ≡ callee_at self.now.functions function place }
     {
         let callees = self.callees.as_slice().get(function)?;
-        let callee = (*callees.as_slice().get(place)?)?;
-        Some(usize::from(callee))
+        let callee = usize::from(*callees.as_slice().get(place)?);
+        (callee < self.functions.len()).then_some(callee)
     }
 }

@@ -1,5 +1,5 @@
-use Rattle.std.proofs.Common.{◌<◌, ◌∙◌, length, arith, refl}
-use Rattle.vcode_reader.proofs.Callees.{entry_by, callees_more, callees_all}
+use Rattle.std.proofs.Common.{◌<◌, ◌∙◌, length, arith, ap}
+use Rattle.vcode_reader.proofs.Callees.{held_entry, callees_more, callees_all}
 use Rattle.vcode_reader.proofs.link.callees_of.Goals as goal
 
 pub loop-function-preserved : goal.loop-function-preserved
@@ -10,7 +10,7 @@ loop-function-preserved g c =
     let within : i < length fs = omega arith in
     callees_more fs i f c.loop-function.found.items c.push.new.self.items _ within c.function-item.is
     c.loop-function.invariant
-    (c.from_vec.ensures ∙ (c.in_ok-callees.ensures ∙ entry_by _ fs f _ c.in_ok-linker.ensures refl))
+    (c.from_vec.ensures ∙ (c.in_ok-callees.ensures ∙ ap (λ z. held_entry z f) c.in_ok-linker.ensures))
     c.in_ok-push.ensures.items
 
 pub returns : goal.returns

@@ -15,7 +15,11 @@ loop-place-preserved g c =
     }
 
 pub invariant_of-result : goal.invariant_of-result
-invariant_of-result g c = λ name.
+invariant_of-result g c =
     let none : c.loop-place.place ≡ 0 = omega arith in
-    subst (λ z. Finds c.args.functions.now z c.loop-place.places) none c.loop-place.invariant.found name
-    ∙ position_from-zero _ c.args.functions.now
+    record {
+      past = c.in-Ok.ensures.1;
+      found = λ name.
+          subst (λ z. Finds c.args.functions.now z c.loop-place.places) none c.loop-place.invariant.found name
+          ∙ position_from-zero _ c.args.functions.now;
+    }
