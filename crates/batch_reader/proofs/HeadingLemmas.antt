@@ -1,10 +1,11 @@
 -- Lines that are no heading.
-use Rattle.std.proofs.Common.{◌≡◌, ◌∙◌, ℕ, Bool, true, false, ◌||◌, ◌&&◌, ◌==◌, List, [], ◌∷◌, length, refl, ap, codes}
-use Rattle.std.proofs.Common.{◌<◌, arith, get_or}
+use Rattle.std.proofs.Common.{◌≡◌, ◌∙◌, ℕ, Bool, true, false, ◌||◌, ◌&&◌, ◌==◌, List, [], ◌∷◌, ◌++◌, length, refl, ap, codes}
+use Rattle.std.proofs.Common.{◌<◌, arith, get_or, subst, sym}
 use Rattle.std.specs.Prelude.{nat_lt, if◌then◌else◌}
 use Rattle.std.specs.List.{onto_first}
 use Rattle.std.specs.Str.{bytes_eq}
 use Rattle.std.proofs.lemmas.Bool.Decides.{nat_tests}
+use Rattle.std.proofs.lemmas.Slice.Eq.{bytes_eq-Decides}
 use Rattle.vcode_base.specs.LineWords.{words_of_line, with_plain, begins_plain, is_separator}
 use Rattle.vcode_base.specs.declared.line_words.Parentheses.TheVariants.{StandInWords}
 use Rattle.batch_reader.specs.Blocks.{is_end}
@@ -130,52 +131,134 @@ other_in_code (x ∷ y ∷ z ∷ zs) c long h =
     ap heading_of (joins_word x y (z ∷ zs) (y ∷ z ∷ first.0) first.1 x_in y_in after)
     ∙ other_third x y z first.0 first.1 c second.0
 
--- ---- lines without a D
+-- ---- lines that are END
 
 abbrev pub HoldsNoD : List ℕ → Type 0
 HoldsNoD [] = Unit {0}
 HoldsNoD (b ∷ bs) = ((b == 68) ≡ false) × HoldsNoD bs
 
-abbrev first_lacks_d : List (List ℕ) → Type 0
-first_lacks_d [] = Unit {0}
-first_lacks_d (w ∷ ws) = HoldsNoD w
+-- no byte follows, or one that separates words
+abbrev pub EndsWord : List ℕ → Type 0
+EndsWord [] = Unit {0}
+EndsWord (b ∷ bs) = is_separator b ≡ true
 
-first_with_byte : (separates : Bool) (x : ℕ) (plain : Bool) (ws : List (List ℕ)) → (x == 68) ≡ false → first_lacks_d ws
-    → first_lacks_d (if separates then ws else with_plain x plain ws)
-first_with_byte true x plain ws other h = h
-first_with_byte false x true [] other h = (other, tt)
-first_with_byte false x true (w ∷ ws) other h = (other, h)
-first_with_byte false x false ws other h = (other, tt)
+-- the word at the front of a line
+record FirstWord (t : List ℕ) : Type 0 where
+  word : List ℕ
+  others : List (List ℕ)
+  rest : List ℕ
+  words : batch_words t ≡ word ∷ others
+  parts : t ≡ word ++ rest
+  ends : EndsWord rest
 
-first_without_d : (t : List ℕ) → HoldsNoD t → first_lacks_d (batch_words t)
+word_ends : (x y : ℕ) (ys : List ℕ) → is_separator x ≡ false → is_separator y ≡ true
+    → (ws : List (List ℕ)) × (batch_words (x ∷ y ∷ ys) ≡ (x ∷ []) ∷ ws)
 unfolding words_of_line
-first_without_d [] h = tt
-first_without_d (x ∷ xs) h =
-    first_with_byte (is_separator x) x (begins_plain StandInWords xs) (batch_words xs) h.0 (first_without_d xs h.1)
+word_ends x y ys h k = (batch_words (y ∷ ys), rw (h, k) refl)
 
-both_or_none : (a b : Bool) → (a && (b && false)) ≡ false
-both_or_none true true = refl
-both_or_none true false = refl
-both_or_none false b = refl
+last_word : (x : ℕ) → is_separator x ≡ false → batch_words (x ∷ []) ≡ (x ∷ []) ∷ []
+unfolding words_of_line
+last_word x h = rw h refl
 
-and_none : (a : Bool) → (a && false) ≡ false
-and_none true = refl
-and_none false = refl
+word_with : (x y : ℕ) (ys : List ℕ) (separates : Bool) → is_separator y ≡ separates → is_separator x ≡ false
+    → (is_separator y ≡ false → FirstWord (y ∷ ys)) → FirstWord (x ∷ y ∷ ys)
+word_with x y ys true is h next =
+    let w = word_ends x y ys h is in
+    record { word = x ∷ []; others = w.0; rest = y ∷ ys; words = w.1; parts = refl; ends = is }
+word_with x y ys false is h next =
+    let w = next is in
+    record {
+      word = x ∷ w.word;
+      others = w.others;
+      rest = w.rest;
+      words = joins_word x y ys w.word w.others h is w.words;
+      parts = ap (λ t. x ∷ t) w.parts;
+      ends = w.ends;
+    }
 
-word_without_d : (w : List ℕ) → HoldsNoD w → bytes_eq w (codes "END") ≡ false
-word_without_d [] h = refl
-word_without_d (x ∷ []) h = and_none (x == 69)
-word_without_d (x ∷ y ∷ []) h = both_or_none (x == 69) (y == 78)
-word_without_d (x ∷ y ∷ z ∷ t) h = rw h.1.1.0 (both_or_none (x == 69) (y == 78))
+word_at : (x : ℕ) (xs : List ℕ) → is_separator x ≡ false → FirstWord (x ∷ xs)
+word_at x [] h =
+    record { word = x ∷ []; others = []; rest = []; words = last_word x h; parts = refl; ends = tt }
+word_at x (y ∷ ys) h = word_with x y ys (is_separator y) refl h (word_at y ys)
 
-no_end_words : (ws : List (List ℕ)) → first_lacks_d ws → is_end (heading_of ws) ≡ false
-no_end_words [] h = refl
-no_end_words (w ∷ []) h =
-    no_end_marker (bytes_eq w (codes "SIGNATURES")) (bytes_eq w (codes "CODE")) (bytes_eq w (codes "END"))
-    (word_without_d w h)
-no_end_words (w ∷ v ∷ []) h = no_end_pair (bytes_eq w (codes "BATCH") && bytes_eq v (codes "2"))
-no_end_words (w ∷ v ∷ u ∷ ws) h = refl
+differ : (b : Bool) → b ≡ true → b ≡ false → ⊥
+differ true h k = cc
+differ false h k = cc
 
--- a line that is END has a D
+is_end_word : (w : List ℕ) (ws : List (List ℕ)) → is_end (heading_of (w ∷ ws)) ≡ true → bytes_eq w (codes "END") ≡ true
+is_end_word w [] h = by (bytes_eq w (codes "END")) refl
+  where
+    by : (b : Bool) → bytes_eq w (codes "END") ≡ b → bytes_eq w (codes "END") ≡ true
+    by true e = e
+    by false e =
+        let none = no_end_marker (bytes_eq w (codes "SIGNATURES")) (bytes_eq w (codes "CODE"))
+        (bytes_eq w (codes "END")) e in
+        absurd (differ _ h none)
+is_end_word w (v ∷ []) h =
+    absurd (differ _ h (no_end_pair (bytes_eq w (codes "BATCH") && bytes_eq v (codes "2"))))
+is_end_word w (v ∷ u ∷ ws) h = absurd (differ _ h refl)
+
+-- a line that is END: its only D ends that word
+pub record EndLine (t : List ℕ) : Type 0 where
+  pub front : List ℕ
+  pub rest : List ℕ
+  pub parts : t ≡ front ++ 69 ∷ 78 ∷ 68 ∷ rest
+  pub lacks : HoldsNoD front
+  pub ends : EndsWord rest
+
+no_separator_is_d : (x : ℕ) → is_separator x ≡ true → (x == 68) ≡ false
+no_separator_is_d x h = grind (arith, nat_tests)
+
+after_separator : (x : ℕ) (xs : List ℕ) → is_separator x ≡ true → batch_words (x ∷ xs) ≡ batch_words xs
+unfolding words_of_line
+after_separator x xs h = rw h refl
+
+end_line_with : (x : ℕ) (xs : List ℕ) (separates : Bool) → is_separator x ≡ separates
+    → (is_end (heading_of (batch_words xs)) ≡ true → EndLine xs) → is_end (heading_of (batch_words (x ∷ xs))) ≡ true
+    → EndLine (x ∷ xs)
+end_line_with x xs true is next h =
+    let e = next (sym (ap (λ ws. is_end (heading_of ws)) (after_separator x xs is)) ∙ h) in
+    record {
+      front = x ∷ e.front;
+      rest = e.rest;
+      parts = ap (λ t. x ∷ t) e.parts;
+      lacks = (no_separator_is_d x is, e.lacks);
+      ends = e.ends;
+    }
+end_line_with x xs false is next h =
+    let w = word_at x xs is in
+    let e : bytes_eq w.word (codes "END") ≡ true =
+    is_end_word w.word w.others (sym (ap (λ ws. is_end (heading_of ws)) w.words) ∙ h) in
+    record {
+      front = [];
+      rest = w.rest;
+      parts = w.parts ∙ ap (λ t. t ++ w.rest) ((bytes_eq-Decides w.word (codes "END")).0 e);
+      lacks = tt;
+      ends = w.ends;
+    }
+
+pub end_line : (t : List ℕ) → is_end (heading_of (batch_words t)) ≡ true → EndLine t
+unfolding words_of_line
+end_line [] h = absurd (differ _ h refl)
+end_line (x ∷ xs) h = end_line_with x xs (is_separator x) refl (end_line xs) h
+
+pub no_d_in_front : (xs ys : List ℕ) → HoldsNoD (xs ++ ys) → HoldsNoD xs
+no_d_in_front [] ys h = tt
+no_d_in_front (x ∷ xs) ys h = (h.0, no_d_in_front xs ys h.1)
+
+pub no_d_in_rest : (xs ys : List ℕ) → HoldsNoD (xs ++ ys) → HoldsNoD ys
+no_d_in_rest [] ys h = h
+no_d_in_rest (x ∷ xs) ys h = no_d_in_rest xs ys h.1
+
+isnt_end : (t : List ℕ) → (b : Bool) → is_end (heading_of (batch_words t)) ≡ b → (EndLine t → ⊥) → b ≡ false
+isnt_end t true is none = absurd (none (end_line t is))
+isnt_end t false is none = refl
+
+pub no_end_by : (t : List ℕ) → (EndLine t → ⊥) → is_end (heading_of (batch_words t)) ≡ false
+no_end_by t none = isnt_end t (is_end (heading_of (batch_words t))) refl none
+
+-- a line without a D isn't END
 pub no_end_without_d : (t : List ℕ) → HoldsNoD t → is_end (heading_of (batch_words t)) ≡ false
-no_end_without_d t h = no_end_words (batch_words t) (first_without_d t h)
+no_end_without_d t h =
+    no_end_by t (λ e. let d = no_d_in_rest e.front (69 ∷ 78 ∷ 68 ∷ e.rest)
+    (subst (λ (s : List ℕ). HoldsNoD s) e.parts h) in differ _ refl d.1.1.0)

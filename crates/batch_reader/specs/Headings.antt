@@ -32,6 +32,10 @@ may_go_on_in_code second third = third == 68 || nat_lt second 33 || nat_lt third
 abbrev pub may_begin_end : ℕ → Bool
 may_begin_end b = b == 69 || nat_lt b 33
 
+-- the first byte and the one after the third may be those of END and of what separates it from other words
+abbrev pub may_be_around_end : ℕ → ℕ → Bool
+may_be_around_end first next = first == 69 && nat_lt next 33
+
 -- a line of these words
 abbrev pub heading_of : List (List ℕ) → Heading
 heading_of [] = Blank

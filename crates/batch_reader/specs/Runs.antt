@@ -1,5 +1,6 @@
 -- Lines of a job's code that are taken at once.
-use Rattle.std.specs.Prelude.{◌≡◌, ℕ, zero, suc, true, false, List, [], ◌∷◌, ◌++◌}
+use Rattle.std.specs.Prelude.{◌≡◌, ◌≤◌, ℕ, zero, suc, true, false, List, [], ◌∷◌, ◌++◌, length}
+use Rattle.vcode_base.specs.LineWords.{is_separator}
 use Rattle.vcode_base.specs.Lines.{is_line_feed, line_feeds}
 use Rattle.batch_reader.specs.declared.head.JobHeader.{JobHeader}
 use Rattle.batch_reader.specs.declared.stage.Stage.TheVariants as stage
@@ -25,11 +26,27 @@ AreCodeLines (suc n) text =
 abbrev pub IsCodeText : List ℕ → Type 0
 IsCodeText text = AreCodeLines (line_feeds text) text
 
+-- the rest of a text after lines of code, of which there is one at least
+pub record IsAfterCode (text rest : List ℕ) : Type 0 where
+  pub lines : List ℕ
+  pub code : IsCodeText lines
+  pub some : 1 ≤ length lines
+  pub parts : text ≡ lines ++ rest
+
 -- lines that an LF ends: their last byte is one
 abbrev pub AreWholeLines : List ℕ → Type 0
 AreWholeLines [] = Unit {0}
 AreWholeLines (b ∷ []) = is_line_feed b ≡ true
 AreWholeLines (b ∷ c ∷ bs) = AreWholeLines (c ∷ bs)
+
+-- the D at which a text is parted is that of END: EN comes before it, and a separator after it
+pub record IsOfEnd (before from : List ℕ) : Type 0 where
+  pub front : List ℕ
+  pub next : ℕ
+  pub rest : List ℕ
+  pub begins : before ≡ front ++ 69 ∷ 78 ∷ []
+  pub goes_on : from ≡ 68 ∷ next ∷ rest
+  pub ends : is_separator next ≡ true
 
 -- a stage among the lines of a job's code
 abbrev pub IsInCode : JobStage → Type 0

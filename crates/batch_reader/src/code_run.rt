@@ -1,9 +1,10 @@
 //! Lines of code that are taken at once.
 
-ghost use Rattle.std.specs.Prelude.{◌≡◌, ◌≤◌, ◌++◌, List, ℕ, length, take, IfSome};
-ghost use Rattle.batch_reader.specs.Runs.{AreCodeLines, IsCodeLine, IsCodeText};
+ghost use Rattle.std.specs.Prelude.{◌≡◌, ◌≤◌, ◌++◌, false, length, take, IfSome};
+ghost use Rattle.memchr.specs.Find.{NoneBefore, Passes, is_byte};
+ghost use Rattle.batch_reader.specs.Runs.{AreCodeLines, IsAfterCode, IsCodeText, IsOfEnd};
 
-use crate::heading::is_end;
+use crate::heading::{is_end, may_be_around_end};
 use crate::line::{count_line_feeds, first_line, whole_lines_before};
 use memchr::memchr;
 
@@ -28,15 +29,15 @@ pub(crate) fn code_run(text: &[u8], most: usize) -> (CodeRun<'_>, &[u8])
 }
 
 /// How many bytes the lines at the front of a text have that an LF ends, up to the first that is `END`. Such a line has
-/// a `D`: only lines with one are looked at.
+/// a `D`, and lines without one aren't looked at.
 fn code_len(text: &[u8]) -> usize
     ensures within { result ≤ length text.now }
     ensures code { IsCodeText (take result text.now) }
 {
     let mut rest = text;
     'lines: while let Some(place) = memchr(b'D', rest) {
-        let (_, from) = whole_lines_before(rest, place);
-        let Some(behind) = behind_code_line(from) else {
+        let Some(behind) = behind_line_at(rest, place) else {
+            let (_, from) = whole_lines_before(rest, place);
             return text.len() - from.len();
         };
         rest = behind;
@@ -45,10 +46,37 @@ fn code_len(text: &[u8]) -> usize
     text.len() - open.len()
 }
 
+/// The rest of a text after the line that holds its first `D`, which is at this place, if the line has an LF and isn't
+/// `END`.
+#[inline(always)]
+fn behind_line_at(text: &[u8], place: usize) -> Option<&[u8]>
+    requires first { NoneBefore (Passes (is_byte 68) text.now) 0 (length text.now) place }
+    requires found { Passes (is_byte 68) text.now place }
+    ensures { IfSome result (λ rest. IsAfterCode text.now rest.now) }
+{
+    let (before, from) = text.split_at(place);
+    if may_be_of_end(before, from) {
+        let (_, line) = whole_lines_before(text, place);
+        return behind_code_line(line);
+    }
+    let (_, rest) = first_line(from)?;
+    Some(rest)
+}
+
+/// Whether the `D` at which a text is parted may be that of `END`.
+fn may_be_of_end(before: &[u8], from: &[u8]) -> bool
+    ensures { result ≡ false → IsOfEnd before.now from.now → ⊥ }
+{
+    if before.len() < 2 || from.len() < 2 {
+        return false;
+    }
+    may_be_around_end(before[before.len() - 2], from[1])
+}
+
 /// The rest of a text after its first line, if that has an LF and isn't `END`.
 #[inline(always)]
 fn behind_code_line(text: &[u8]) -> Option<&[u8]>
-    ensures { IfSome result (λ rest. (line : List ℕ) × IsCodeLine line × (text.now ≡ line ++ rest.now)) }
+    ensures { IfSome result (λ rest. IsAfterCode text.now rest.now) }
 {
     let (line, rest) = first_line(text)?;
     if is_end(line) {

@@ -2,8 +2,8 @@
 
 ghost use Rattle.std.specs.Prelude.{◌≡◌, ◌∷◌, List, false, ℕ};
 ghost use Rattle.batch_reader.specs.Blocks.{is_end};
-ghost use Rattle.batch_reader.specs.Headings.{heading_of, marker_of, may_begin_end, may_begin_heading, may_go_on_in_code};
-ghost use Rattle.batch_reader.specs.Headings.{pair_of};
+ghost use Rattle.batch_reader.specs.Headings.{heading_of, marker_of, may_be_around_end, may_begin_end, may_begin_heading};
+ghost use Rattle.batch_reader.specs.Headings.{may_go_on_in_code, pair_of};
 ghost use Rattle.batch_reader.specs.Lines.{batch_words};
 ghost use Rattle.batch_reader.specs.declared.heading.Heading.TheVariants.{Other};
 
@@ -69,6 +69,13 @@ fn may_begin_end(byte: u8) -> bool
     ensures { result ≡ may_begin_end byte }
 {
     byte == b'E' || byte <= b' '
+}
+
+/// Whether these may be the first byte of a word `END` and the byte after it.
+pub(crate) fn may_be_around_end(first: u8, next: u8) -> bool
+    ensures { result ≡ may_be_around_end first next }
+{
+    first == b'E' && next <= b' '
 }
 
 /// Whether a line may be a heading, or have no word, as its first bytes say. Few lines of code may.

@@ -1,6 +1,5 @@
-use Rattle.std.proofs.Common.{◌∙◌, ◌++◌, [], ap, append_assoc, refl, sym}
-use Rattle.batch_reader.specs.Runs.{IsCodeText}
-use Rattle.batch_reader.proofs.CodeTexts.{code_append, code_before, code_more, code_up_to}
+use Rattle.std.proofs.Common.{◌∙◌, ◌++◌, [], ap, append_assoc, arith, length, length-append, refl, sym}
+use Rattle.batch_reader.proofs.CodeTexts.{code_append, code_before, code_up_to}
 use Rattle.batch_reader.proofs.RunLemmas.{no_line}
 use Rattle.batch_reader.proofs.code_run.code_len.Goals as goal
 
@@ -10,21 +9,21 @@ lines-init c = ([], refl, no_line)
 pub lines-preserved : goal.lines-preserved
 lines-preserved c =
     let known = c.lines.invariant in
-    let parts = c.whole_lines_before.ensures in
-    let lines = c.whole_lines_before.result.0.now in
-    let line = c.in-Some-behind_code_line.ensures in
-    let behind = c.in-Some-behind_code_line.behind.now in
-    let code : IsCodeText lines =
-    code_before c.lines.rest.now lines c.whole_lines_before.result.1.now c.in-Some.place parts.parts parts.within
-    parts.whole c.in-Some.ensures.0.before in (
-      (known.0 ++ lines) ++ line.0,
-      known.1 ∙ (ap (λ t. known.0 ++ t) (parts.parts ∙ ap (λ t. lines ++ t) line.2)
-          ∙ (sym (append_assoc known.0 lines (line.0 ++ behind)) ∙ sym (append_assoc (known.0 ++ lines) line.0 behind))),
-      code_more (known.0 ++ lines) line.0 (code_append _ known.0 lines known.2 code) line.1,
+    let after = c.in-Some-behind_line_at.ensures in
+    let behind = c.in-Some-behind_line_at.behind.now in (
+      known.0 ++ after.lines,
+      known.1 ∙ (ap (λ t. known.0 ++ t) after.parts ∙ sym (append_assoc known.0 after.lines behind)),
+      code_append _ known.0 after.lines known.2 after.code,
     )
 
-pub returns-in_default-behind_code_line-clause-code : goal.returns-in_default-behind_code_line-clause-code
-returns-in_default-behind_code_line-clause-code c =
+pub lines-smaller : goal.lines-smaller
+lines-smaller c =
+    let after = c.in-Some-behind_line_at.ensures in
+    let behind = c.in-Some-behind_line_at.behind.now in
+    omega (arith, after.some, ap length after.parts, length-append after.lines behind)
+
+pub returns-in_default-behind_line_at-clause-code : goal.returns-in_default-behind_line_at-clause-code
+returns-in_default-behind_line_at-clause-code c =
     let known = c.lines.invariant in
     let parts = c.whole_lines_before.ensures in
     let lines = c.whole_lines_before.result.0.now in
