@@ -57,9 +57,8 @@ module _ {F : PooledItem → PooledItem → Bool}
       (Decides-and _ _ (slice_eq-Decides Decides-int_eq (all_lists xs) (all_lists ys) _ refl)
       (slice_eq-Decides Decides-eqb (all_names xs) (all_names ys) _ refl))))
 
-module _ {L : List CodeLine → List CodeLine → Bool} {T : Option ℕ → Option ℕ → Bool}
-    (exact_lines : (xs ys : List CodeLine) → Decides (L xs ys) (xs ≡ ys))
-    (exact_callees : (s t : Option ℕ) → Decides (T s t) (s ≡ t)) where
+module _ {L : List CodeLine → List CodeLine → Bool}
+    (exact_lines : (xs ys : List CodeLine) → Decides (L xs ys) (xs ≡ ys)) where
   same_functions : (f g : Function) →
       Decides (pointwise nat_eq f.name g.name && (nat_eq f.line g.line && L (lines_of f) (lines_of g))) (f ≡ g)
   same_functions f g =

@@ -1,5 +1,5 @@
 -- Words that lie whole in a piece.
-use Rattle.std.proofs.Common.{◌≡◌, ◌∙◌, ℕ, zero, suc, ◌+◌, ◌==◌, ◌<◌, ◌≤◌, true, false, List, [], ◌∷◌, ◌++◌, Some, None}
+use Rattle.std.proofs.Common.{◌≡◌, ◌∙◌, ℕ, zero, suc, ◌+◌, ◌==◌, ◌<◌, ◌≤◌, Bool, true, false, List, [], ◌∷◌, ◌++◌, Some, None}
 use Rattle.std.proofs.Common.{refl, arith, ap, sym, length, take, drop, get_or, append_assoc}
 use Rattle.std.specs.Prelude.{if◌then◌else◌, Option, codes, is_some}
 use Rattle.std.proofs.lemmas.Bool.Decides.{nat_tests}
@@ -7,8 +7,8 @@ use Rattle.vcode_reader.specs.declared.class.Class.{Class}
 use Rattle.vcode_reader.specs.declared.class.Class.TheVariants.{LineFeed, Blank, OpenBrace, CloseBrace, Parenthesis}
 use Rattle.vcode_reader.specs.declared.class.Class.TheVariants.{Plain, Refused}
 use Rattle.vcode_reader.specs.Ahead.{HasWord}
-use Rattle.vcode_reader.specs.Classes.{class_of, is_plain, plain_length}
-use Rattle.vcode_reader.specs.Scan.{Scan, Emit, end_word, ends_word, lone_word, by_comment, scan_byte, scan_all}
+use Rattle.vcode_reader.specs.Classes.{class_of, is_passed, is_plain, passed_length, plain_length}
+use Rattle.vcode_reader.specs.Scan.{Scan, Emit, end_word, ends_word, lone_word, by_comment, in_comment, scan_byte, scan_all}
 use Rattle.vcode_reader.proofs.Lines.{drop_next}
 use Rattle.vcode_reader.proofs.Runs.{add_nil}
 
@@ -263,3 +263,50 @@ passes_word emit s t w rest none empty h e =
     passes_blank emit s t (drop 1 t) none empty (omega (arith, h.more)) h.blank refl
     ∙ whole_word emit (drop 1 t) w rest s none empty (rw h.plain h.word)
     (rw h.plain (e ∙ sym (rest_after (length w) t))) h.some (rw e (dropped (suc (length w)) t h.more))
+
+-- ---- bytes that change nothing in a comment
+
+pub passed_at : (t : List ℕ) (i : ℕ) → i < length t → is_passed (class_of (get_or t i 0)) ≡ true →
+    passed_length (drop i t) ≡ suc (passed_length (drop (i + 1) t))
+passed_at t i lt h = ap passed_length (drop_next t i lt) ∙ rw h refl
+
+pub none_passed_at : (t : List ℕ) (i : ℕ) → i < length t → is_passed (class_of (get_or t i 0)) ≡ false →
+    passed_length (drop i t) ≡ 0
+none_passed_at t i lt h = ap passed_length (drop_next t i lt) ∙ rw h refl
+
+passed_within_by : (b : Bool) (n m : ℕ) → n ≤ m → (if b then suc n else 0) ≤ suc m
+passed_within_by true n m h = omega arith
+passed_within_by false n m h = omega arith
+
+pub passed_within : (t : List ℕ) → passed_length t ≤ length t
+passed_within [] = omega arith
+passed_within (b ∷ bs) = passed_within_by (is_passed (class_of b)) (passed_length bs) (length bs) (passed_within bs)
+
+passed_byte : {P : Type 0} (emit : Emit P) (c : Class) (b l : ℕ) (s : Scan P) → s.comment ≡ Some l → class_of b ≡ c →
+    scan_byte emit s b ≡ in_comment c s
+unfolding scan_byte
+passed_byte emit c b l s begun e =
+    ap (λ o. by_comment emit o (class_of b) b s) begun ∙ ap (λ k. in_comment k s) e
+
+passed_by : {P : Type 0} (emit : Emit P) (c : Class) (b l : ℕ) (bs : List ℕ) (s : Scan P) → s.comment ≡ Some l →
+    class_of b ≡ c → scan_all emit s bs ≡ scan_all emit s (drop (passed_length bs) bs) →
+    scan_all emit s (b ∷ bs) ≡ scan_all emit s (drop (if is_passed c then suc (passed_length bs) else 0) (b ∷ bs))
+unfolding scan_all
+passed_by emit LineFeed b l bs s begun e h = refl
+passed_by emit CloseBrace b l bs s begun e h = refl
+passed_by emit Blank b l bs s begun e h = ap (λ r. scan_all emit r bs) (passed_byte emit Blank b l s begun e) ∙ h
+passed_by emit OpenBrace b l bs s begun e h = ap (λ r. scan_all emit r bs) (passed_byte emit OpenBrace b l s begun e) ∙ h
+passed_by emit Parenthesis b l bs s begun e h =
+    ap (λ r. scan_all emit r bs) (passed_byte emit Parenthesis b l s begun e) ∙ h
+passed_by emit Plain b l bs s begun e h = ap (λ r. scan_all emit r bs) (passed_byte emit Plain b l s begun e) ∙ h
+passed_by emit Refused b l bs s begun e h = ap (λ r. scan_all emit r bs) (passed_byte emit Refused b l s begun e) ∙ h
+
+pub comment_passed : {P : Type 0} (emit : Emit P) (l : ℕ) (t : List ℕ) (s : Scan P) → s.comment ≡ Some l →
+    scan_all emit s t ≡ scan_all emit s (drop (passed_length t) t)
+comment_passed emit l [] s begun = refl
+comment_passed emit l (b ∷ bs) s begun =
+    passed_by emit (class_of b) b l bs s begun refl (comment_passed emit l bs s begun)
+
+pub is_some_line : (o : Option ℕ) → is_some o ≡ true → (l : ℕ) × (o ≡ Some l)
+is_some_line None h = cc
+is_some_line (Some l) h = (l, refl)

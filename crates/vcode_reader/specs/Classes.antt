@@ -24,3 +24,14 @@ is_plain _ = false
 abbrev pub plain_length : List ℕ → ℕ
 plain_length [] = 0
 plain_length (b ∷ bs) = if is_plain (class_of b) then suc (plain_length bs) else 0
+
+-- a byte of this class changes nothing in a comment
+abbrev pub is_passed : Class → Bool
+is_passed LineFeed = false
+is_passed CloseBrace = false
+is_passed _ = true
+
+-- how many bytes at the front of a text change nothing in a comment
+abbrev pub passed_length : List ℕ → ℕ
+passed_length [] = 0
+passed_length (b ∷ bs) = if is_passed (class_of b) then suc (passed_length bs) else 0

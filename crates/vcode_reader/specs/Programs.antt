@@ -1,5 +1,5 @@
 -- What is true of the parts that a program is held in.
-use Rattle.std.specs.Prelude.{◌≡◌, ℕ, List, Option, length, map, unwrap_or}
+use Rattle.std.specs.Prelude.{◌≡◌, ℕ, List, length, map, unwrap_or}
 use Rattle.vcode_reader.specs.Callees.{callee_of}
 use Rattle.vcode_reader.specs.Trees.{CodeLine, Function, HaveProperBodies, lines_of}
 

@@ -1,7 +1,7 @@
 //! The bytes of a text.
 
 ghost use Rattle.std.specs.Prelude.{◌≡◌};
-ghost use Rattle.vcode_reader.specs.Classes.{class_of, is_plain, plain_length};
+ghost use Rattle.vcode_reader.specs.Classes.{class_of, is_passed, is_plain, passed_length, plain_length};
 
 /// What a byte does in a text.
 #[derive(Clone, Copy)]
@@ -58,6 +58,31 @@ pub(crate) fn plain_length(text: &[u8]) -> usize
 {
     for (place, byte) in text.iter().enumerate() {
         if !is_plain(*byte) {
+            return place;
+        }
+    }
+    text.len()
+}
+
+/// Whether a byte changes nothing in a comment.
+#[inline(always)]
+#[tactic(auto, unfolding(crate::specs::Classes::class_of))]
+fn is_passed(byte: u8) -> bool
+    ensures { result ≡ is_passed (class_of byte) }
+{
+    match byte {
+        b'\n' | b'}' => false,
+        _ => true,
+    }
+}
+
+/// How many bytes at the front of a text change nothing in a comment.
+#[inline(always)]
+pub(crate) fn passed_length(text: &[u8]) -> usize
+    ensures { result ≡ passed_length text.now }
+{
+    for (place, byte) in text.iter().enumerate() {
+        if !is_passed(*byte) {
             return place;
         }
     }

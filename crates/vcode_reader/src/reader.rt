@@ -16,7 +16,7 @@ ghost use Rattle.vcode_reader.specs.Refusals.{Fault};
 ghost use Rattle.vcode_reader.specs.Scan.{beginning, end_word, lone_word, in_text, in_comment, scan_byte, scan_all};
 
 use crate::ahead::{digits_ahead, int_ahead, is_int_ahead, number_ahead};
-use crate::class::{Class, class_of, is_plain, plain_length};
+use crate::class::{Class, class_of, is_plain, passed_length, plain_length};
 use crate::fault::{CodeFault, ReadFault};
 use crate::head::Head;
 use crate::keyword::Keyword;
@@ -331,8 +331,22 @@ impl<A: Allocator + Clone> Scanner<A> {
         text
     }
 
-    /// Takes the plain bytes at the front of a text, with the separator that ends them, or else its first byte, and
-    /// answers what is after them.
+    /// Passes over the bytes at the front of a text that change nothing, if a comment is open, and answers what is after
+    /// them.
+    #[inline(always)]
+    fn pass_comment<'p>(&self, text: &'p [u8]) -> &'p [u8]
+        ensures same { scan_all take self.now text.now ≡ scan_all take self.now result.now }
+        ensures within { length result.now ≤ length text.now }
+    {
+        if self.comment.is_none() {
+            return text;
+        }
+        let (_, rest) = text.split_at(passed_length(text));
+        rest
+    }
+
+    /// Takes the plain bytes at the front of a text, with the separator that ends them, or else its first byte, with
+    /// those that change nothing after it in a comment, and answers what is after them.
     #[inline(always)]
     fn front<'p>(&mut self, text: &'p [u8]) -> Result<&'p [u8], AllocError>
         requires some { 1 ≤ length text.now }
@@ -350,7 +364,7 @@ impl<A: Allocator + Clone> Scanner<A> {
         }
         let (_, rest) = text.split_at(1);
         self.byte(byte)?;
-        Ok(rest)
+        Ok(self.pass_comment(rest))
     }
 
     fn bytes(&mut self, piece: &[u8]) -> Result<(), AllocError>

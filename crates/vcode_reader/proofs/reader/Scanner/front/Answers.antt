@@ -1,3 +1,4 @@
+use Rattle.std.proofs.Common.{◌∙◌}
 use Rattle.vcode_reader.specs.Parsing.{take}
 use Rattle.vcode_reader.proofs.Lines.{drop_next, later_same, next_room, same_room}
 use Rattle.vcode_reader.proofs.reader.Scanner.front.Goals as goal
@@ -13,4 +14,4 @@ byte-requires g c =
 pub returns-clause-same : goal.returns-clause-same
 returns-clause-same g c =
     rw c.split_at.ensures.back (later_same take c.args.self.now c.byte.new.self _ _ _
-    (drop_next c.args.text.now 0 c.requires.some) c.in_ok-byte.ensures)
+    (drop_next c.args.text.now 0 c.requires.some) c.in_ok-byte.ensures) ∙ c.pass_comment.ensures.same
