@@ -1,13 +1,13 @@
 //! The lines of a text.
 
-ghost use Rattle.std.specs.Prelude.{◌≡◌, ◌<◌, ◌≤◌, ◌++◌, get_or, length, take, IsTrue, MatchOption};
+ghost use Rattle.std.specs.Prelude.{◌≡◌, ◌<◌, ◌≤◌, ◌++◌, get_or, length, IsTrue, MatchOption};
 ghost use Rattle.vcode_base.specs.Lines.{line_feeds};
 ghost use Rattle.batch_reader.specs.Feeds.{HoldsNoLineFeed, IsWholeLine};
 ghost use Rattle.batch_reader.specs.Runs.{AreWholeLines};
 
 use memchr::{memchr, memrchr};
 
-/// How many bytes are counted in one byte.
+/// The bytes of a piece whose LFs a byte counts.
 const PIECE: usize = 224;
 
 /// The first line of a text that an LF ends, with that LF, and the rest after it; `None` if there is no LF.
