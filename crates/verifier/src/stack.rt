@@ -11,7 +11,7 @@ use std::marker::Model;
 use std::mem;
 use vcode_base::Kind;
 
-/// A list that had more entries than this above the shared ones gives their memory back when it has others.
+/// Lists of up to so many entries keep their memory for other ones, and are copied entry by entry.
 const FEW: usize = 16;
 
 /// Whether two lists of kinds are one.
@@ -257,7 +257,7 @@ fn is_whole_list<A: Allocator>(kinds: &[Kind], list: KeptList<A>, spare: &mut Ve
 
 /// Puts `count` elements, from this place on, on top once more.
 #[inline(always)]
-fn repeat_range<A: Allocator>(
+fn repeat_range<A: Allocator + Clone>(
     kinds: &mut Vec<Kind, A>,
     from: usize,
     count: usize,
@@ -268,9 +268,28 @@ fn repeat_range<A: Allocator>(
 {
     if count == 1 {
         kinds.push(kinds[from])?;
-    } else {
-        kinds.extend_from_within(from..from + count)?;
+        return Ok(());
     }
+    if count <= FEW {
+        kinds.extend_from_within(from..from + count)?;
+        return Ok(());
+    }
+    repeat_many(kinds, from, count)
+}
+
+/// The same of many elements. They are copied twice, but not one by one.
+#[inline(never)]
+fn repeat_many<A: Allocator + Clone>(
+    kinds: &mut Vec<Kind, A>,
+    from: usize,
+    count: usize,
+) -> Result<(), AllocError>
+    requires { from + count ≤ length kinds.old.items }
+    ensures added { OnOk result (kinds.new.items ≡ kinds.old.items ++ take count (drop from kinds.old.items)) }
+    ensures unchanged { OnErr result (kinds.new.items ≡ kinds.old.items) }
+{
+    let again = Vec::from_slice(kinds.allocator().clone()?, &kinds[from..from + count])?;
+    kinds.extend_from_slice(again.as_slice())?;
     Ok(())
 }
 
@@ -284,26 +303,34 @@ fn remove_range<A: Allocator>(kinds: &mut Vec<Kind, A>, from: usize, count: usiz
     kinds.truncate(len - count);
 }
 
-/// Moves `count` elements, from this place on, to the top.
+/// Two elements change places.
 #[inline(always)]
-fn lift_range<A: Allocator>(kinds: &mut Vec<Kind, A>, from: usize, count: usize)
-    requires { from + count ≤ length kinds.old.items }
-    ensures { kinds.new.items ≡ take from kinds.old.items ++ (drop count (drop from kinds.old.items) ++ take count (drop from kinds.old.items)) }
+fn swap_pair(pair: &mut [Kind])
+    requires { length pair.old ≡ 2 }
+    ensures { pair.new ≡ drop 1 pair.old ++ take 1 pair.old }
 {
-    turn(&mut kinds.as_mut_slice()[from..], count);
+    pair.swap(0, 1);
 }
 
-/// Moves the first `count` elements to the end.
+/// Moves `count` elements, from this place on, to the top.
 #[inline(always)]
-fn turn(kinds: &mut [Kind], count: usize)
-    requires { count ≤ length kinds.old }
-    ensures { kinds.new ≡ drop count kinds.old ++ take count kinds.old }
+fn lift_range<A: Allocator + Clone>(
+    kinds: &mut Vec<Kind, A>,
+    from: usize,
+    count: usize,
+) -> Result<(), AllocError>
+    requires { from + count ≤ length kinds.old.items }
+    ensures lifted { OnOk result (kinds.new.items ≡ take from kinds.old.items
+        ++ (drop count (drop from kinds.old.items) ++ take count (drop from kinds.old.items))) }
+    ensures unchanged { OnErr result (kinds.new.items ≡ kinds.old.items) }
 {
-    if count == 1 && kinds.len() == 2 {
-        kinds.swap(0, 1);
-    } else {
-        kinds.rotate_left(count);
+    if count == 1 && kinds.len() - from == 2 {
+        swap_pair(&mut kinds.as_mut_slice()[from..]);
+        return Ok(());
     }
+    repeat_range(kinds, from, count)?;
+    remove_range(kinds, from, count);
+    Ok(())
 }
 
 /// The entries of a function from the bottom of its stack up, and a list that is kept for each open IF.
@@ -389,7 +416,7 @@ impl<A: Allocator + Clone> KindStack<A> {
         }) }
     {
         self.kept.take_over_above(from, self.kinds.as_slice())?;
-        lift_range(&mut self.kinds, from, count);
+        lift_range(&mut self.kinds, from, count)?;
         Ok(())
     }
 
