@@ -253,8 +253,8 @@ tree_of_none leaves power small =
     let len : length (replicate (4 * leaves) 0) ≡ 4 * leaves = length-replicate {A = ℕ} (4 * leaves) 0 in
     record {
       height = power.0;
-      bitmaps = omega (arith, power.1);
-      small = omega arith;
+      bitmaps = omega (arith, len, power.1);
+      small = omega (arith, len);
       node_count = omega (arith, length-replicate (2 * leaves) nothing_free, power.1);
       is_right = λ low index is. inl (none_at (2 * leaves) index
           ∙ sym (ap summary (node_of_none (4 * leaves) power.0 low index)

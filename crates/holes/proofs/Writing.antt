@@ -42,7 +42,7 @@ pub above_zero : (leaf : ℕ) → above 0 leaf ≡ leaf
 unfolding above
 above_zero leaf = refl
 
-pub above_half : (height leaf : ℕ) → above (1 + height) leaf ≡ above height leaf / 2
+pub above_half : (height leaf : ℕ) → above (suc height) leaf ≡ above height leaf / 2
 unfolding above
 above_half height leaf = refl
 
@@ -50,7 +50,7 @@ pub width_zero : width 0 ≡ 1
 unfolding width
 width_zero = refl
 
-pub width_twice : (height : ℕ) → width (1 + height) ≡ width height + width height
+pub width_twice : (height : ℕ) → width (suc height) ≡ width height + width height
 unfolding width
 width_twice height = refl
 

@@ -10,13 +10,13 @@ loop-first-preserved c =
     let nodes = c.loop-first.nodes in
     let first = c.loop-first.first in
     let last = c.loop-first.last in
-    let step = step_two nodes first last c.join.result c.join-2.result c.loop-first-test.true
-    (omega (arith, i.same_length, i.shrunk, c.requires.within)) c.join.ensures c.join-2.ensures in
+    let step = step_two nodes first last c.join.result c.join-in-loop-first.result c.loop-first-test.true
+    (omega (arith, i.same_length, i.shrunk, c.requires.within)) c.join.ensures c.join-in-loop-first.ensures in
     record {
       same_length = step.same_length ∙ i.same_length;
       order = omega (arith, i.order);
       shrunk = omega (arith, i.shrunk);
-      joining = λ bits is. joining_step bits nodes (set (set nodes first c.join.result) last c.join-2.result) first last
+      joining = λ bits is. joining_step bits nodes (set (set nodes first c.join.result) last c.join-in-loop-first.result) first last
           (omega arith) (i.joining bits is) step;
     }
 

@@ -1,4 +1,4 @@
-use Rattle.std.proofs.Common.{◌≡◌, ◌+◌, ◌*◌, ◌/◌, ◌<◌, ◌≤◌, ◌^◌, arith, refl, ap, sym, subst, ◌∙◌}
+use Rattle.std.proofs.Common.{◌≡◌, ◌+◌, ◌*◌, ◌/◌, ◌<◌, ◌≤◌, ◌^◌, arith, refl, ap, sym, subst, ◌∙◌, suc}
 use Rattle.std.specs.Prelude.{replicate}
 use Rattle.holes.specs.Tree.{above, width, summary, IsLevelWritten}
 use Rattle.holes.proofs.Writing.{side_zero, side_half, side_most, doubled, none_under, level_written, two_widths}
@@ -11,6 +11,7 @@ loop-first-init c = record {
   height = 0;
   first_is = sym (above_zero c.args.first);
   last_is = sym (above_zero c.args.last);
+  order = omega (arith, c.requires.order);
   shrunk = omega arith;
   node_is = c.alike-node.ensures ∙ ap (λ n. summary (replicate n c.args.value))
       (let e : 256 ≡ 256 * width 0 = omega (arith, width_zero) in e);
@@ -37,14 +38,15 @@ loop-first-preserved c =
     c.loop-first.first c.loop-first.last n c.loop-first.node) i.side_is c.write_level.ensures)) in
     record {
       same_length = c.write_level.ensures.same_length ∙ i.same_length;
-      height = 1 + h;
+      height = suc h;
       first_is = ap (λ n. n / 2) i.first_is ∙ sym (above_half h c.args.first);
       last_is = ap (λ n. n / 2) i.last_is ∙ sym (above_half h c.args.last);
+      order = omega arith;
       shrunk = omega (arith, i.shrunk);
       node_is = c.join-node.ensures
           ∙ (doubled (256 * width h) c.args.value c.loop-first.node (omega (arith, wide, leaves.small)) i.node_is
           ∙ ap (λ n. summary (replicate n c.args.value))
-          (let e : 256 * width h + 256 * width h ≡ 256 * width (1 + h) = omega (arith, width_twice h) in e));
+          (let e : 256 * width h + 256 * width h ≡ 256 * width (suc h) = omega (arith, width_twice h) in e));
       side_is = omega (arith, i.side_is, side_half h);
       written = λ top left right. level_written c.args.nodes.now c.loop-first.nodes c.write_level.new.nodes top h
           c.args.first c.args.last c.args.value c.loop-first.node left right long i.node_is (i.written top left right)

@@ -10,6 +10,7 @@ invariant-loop-first l = record {
   height : ℕ;
   first_is : l.first ≡ above height l.fn.first;
   last_is : l.last ≡ above height l.fn.last;
+  order : l.first ≤ l.last;
   shrunk : l.last ≤ l.fn.last;
   node_is : l.node ≡ summary (replicate (256 * width height) l.fn.value);
   side_is : l.side ≡ side_at height;
