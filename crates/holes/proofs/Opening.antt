@@ -6,12 +6,12 @@ use Rattle.std.proofs.lemmas.Bool.{cases_lt, cases_eq, cases_Bool, true≢false}
 use Rattle.holes.specs.declared.summary.Summary.{Summary}
 use Rattle.holes.specs.FreeWords.{is_free, widest}
 use Rattle.holes.specs.Tree.{word_at, words_from, all_free, node_at, nothing_free, summary, leaf_count, width, first_leaf}
-use Rattle.holes.specs.Tree.{IsPowerOfTwo, IsNode, node_words, IsRight, IsAlike, IsHidden, IsTree, above, IsBlockWritten}
+use Rattle.holes.specs.Tree.{IsPowerOfTwo, IsNode, node_words, IsRight, IsAlike, IsHidden, IsTree, above, IsBlockWritten, AreOpened}
 use Rattle.holes.proofs.Runs.{front_all, run_free, word_run, run-le-widest, front-le-widest}
 use Rattle.holes.proofs.Bits.{word_in, length-words}
 use Rattle.holes.proofs.Bitmaps.{summary_all}
 use Rattle.holes.proofs.Nodes.{above_is, span, same_height, same_block, alike_words, leaf_is, pow_le, length-node_words}
-use Rattle.holes.proofs.Trees.{tall_of, pow_eight}
+use Rattle.holes.proofs.Trees.{pow_eight, tree_opened}
 
 -- the node of a block
 pub block_node : (top leaf : ℕ) → 3 ≤ top → IsNode top 0 leaf → IsNode top 3 (leaf / 8)
@@ -189,17 +189,13 @@ block_within nodes leaf within even power some =
 three_low : 3 < 3 → ⊥
 three_low lt = absurd (omega arith)
 
--- what `open` promises of the nodes
-abbrev pub AreOpened : List Summary → List Summary → ℕ → Type 0
-AreOpened old new leaf =
-    (bits : List ℕ) (tree : IsTree bits old) (low index : ℕ) → IsNode tree.height low index →
-    (IsRight bits old tree.height low index) ⊎ (first_leaf low index / 8 ≡ (leaf_count old + leaf) / 8) →
-    IsRight bits new tree.height low index
+either : {A : Type 0} → A ⊎ A → A
+either which = elim which [ inl a ↦ a | inr a ↦ a ]
 
 pub opened : (old new : List Summary) (leaf block : ℕ) → leaf < leaf_count old →
     block ≡ (leaf_count old + leaf) / 8 → 1 ≤ block →
     ((node_at old block).whole ≡ true) ⊎ ((node_at old block).longest ≡ 0) →
-    IsBlockWritten old new block (node_at old block).whole → AreOpened old new leaf
+    IsBlockWritten old new block (node_at old block).whole → AreOpened old new leaf leaf
 opened old new leaf block within block_is some alike written bits tree low index is which =
     let top = tree.height in
     let value = (node_at old block).whole in
@@ -228,7 +224,7 @@ opened old new leaf block within block_is some alike written bits tree low index
             | inl r ↦ r
             | inr at ↦ elim (tree.is_right low index is) [
               | inl r ↦ r
-              | inr h ↦ absurd (in_block low index block h.low (at ∙ sym block_is) not_leaf not_pair not_half)
+              | inr h ↦ absurd (in_block low index block h.low (either at ∙ sym block_is) not_leaf not_pair not_half)
             ]
           ]
         ]
@@ -239,7 +235,7 @@ opened old new leaf block within block_is some alike written bits tree low index
 pub open_already : (nodes : List Summary) (leaf block : ℕ) → leaf < leaf_count nodes →
     block ≡ (leaf_count nodes + leaf) / 8 →
     (1 ≤ block → (((node_at nodes block).whole ≡ true) ⊎ ((node_at nodes block).longest ≡ 0)) → ⊥) →
-    AreOpened nodes nodes leaf
+    AreOpened nodes nodes leaf leaf
 open_already nodes leaf block within block_is mixed bits tree low index is which = elim which [
   | inl r ↦ r
   | inr at ↦ elim (tree.is_right low index is) [
@@ -255,7 +251,34 @@ open_already nodes leaf block within block_is mixed bits tree low index is which
           | inr hide ↦ absurd (three_low hide.low)
         ] in
         let eight = pow_le 3 top h.tall in
+        let same = either at in
         let alike : IsAlike bits top (8 * block) = (h.alike.0, (λ word here. h.alike.1 word (omega arith))) in
         absurd (mixed (omega arith) (alike_node bits nodes top block node right alike))
   ]
 ]
+
+-- two leaves of one block
+pub opened_two : (old new : List Summary) (first last : ℕ) → first ≤ last → last < leaf_count old →
+    IsPowerOfTwo (leaf_count old) → first / 8 ≡ last / 8 → AreOpened old new first first → AreOpened old new first last
+opened_two old new first last order within power same opens bits tree low index is which =
+    let block : (leaf_count old + last) / 8 ≡ (leaf_count old + first) / 8 = elim (cases_lt power.0 3) [
+      | inl short ↦ omega (arith, power.1, pow_le power.0 2 (omega arith))
+      | inr tall ↦ omega (arith, power.1, pow_eight power.0 tall)
+    ] in
+    opens bits tree low index is (elim which [
+      | inl r ↦ inl r
+      | inr at ↦ inr (inl (elim at [ inl b ↦ b | inr b ↦ b ∙ block ]))
+    ])
+
+-- two blocks, one after the other
+pub opened_both : (old middle new : List Summary) (first last : ℕ) → length middle ≡ length old →
+    AreOpened old middle first first → AreOpened middle new last last → AreOpened old new first last
+opened_both old middle new first last len left right bits tree low index is which =
+    let between = tree_opened bits old middle tree len (λ height other node r. left bits tree height other node (inl r)) in
+    right bits between low index is (elim which [
+      | inl r ↦ inl (left bits tree low index is (inl r))
+      | inr at ↦ elim at [
+        | inl b ↦ inl (left bits tree low index is (inr (inl b)))
+        | inr b ↦ inr (inl (b ∙ ap (λ n. (n / 2 + last) / 8) (sym len)))
+      ]
+    ])

@@ -8,7 +8,7 @@ use Rattle.holes.specs.declared.tree.Changed.{Changed}
 use Rattle.holes.specs.Tree.{word_at, words_from, node_at, join, summary, leaf_words, leaf_count, width, first_leaf}
 use Rattle.holes.specs.Tree.{IsNode, node_words, IsRight, IsAlike, IsHidden, IsBeside, IsBlockBeside, IsJoined, IsTree}
 use Rattle.holes.specs.Tree.{IsTreeBeside, above, IsJoiningAt, IsJoining, IsFilled, AreSameBesideLeaves, words_between}
-use Rattle.holes.specs.Tree.{AreWrittenBetween}
+use Rattle.holes.specs.Tree.{AreWrittenBetween, AreOpened}
 use Rattle.holes.proofs.Bits.{same_words_from, all_words}
 use Rattle.holes.proofs.Nodes.{left_part, right_part, parent, Span, span, inner, inside_parent, Inside, same_block}
 use Rattle.holes.proofs.Nodes.{leaf_node, join_right, width-two, width-pos, leaf_is, first_leaf-next, first_leaf-lt}
@@ -629,24 +629,18 @@ long_of bits old one two new first last value tree order words len written left 
         let leaf : low ≡ 0 = leaf_height top low index is (omega arith) in
         absurd (omega (arith, leaf_first index, ap (λ n. first_leaf n index) leaf, width-pos low))
 
--- the blocks of the first and of the last leaf are opened, one after the other
-pub open_blocks : (bits : List ℕ) (old middle new : List Summary) (first end : ℕ) (tree : IsTree bits old) →
-    length middle ≡ length old → length new ≡ length middle → first < end → end ≤ leaf_count old →
-    ((low index : ℕ) → IsNode tree.height low index → (IsRight bits old tree.height low index)
-    ⊎ (first_leaf low index / 8 ≡ (leaf_count old + first) / 8) → IsRight bits middle tree.height low index) →
-    ((low index : ℕ) → IsNode tree.height low index → (IsRight bits middle tree.height low index)
-    ⊎ (first_leaf low index / 8 ≡ (leaf_count middle + (end - 1)) / 8) → IsRight bits new tree.height low index) →
+-- the blocks of the first and of the last leaf are opened
+pub open_blocks : (bits : List ℕ) (old new : List Summary) (first end : ℕ) → IsTree bits old →
+    length new ≡ length old → first < end → end ≤ leaf_count old → AreOpened old new first (end - 1) →
     IsTreeBeside bits new (record { first = first; end = end })
-open_blocks bits old middle new first end tree len new_len some within left right =
+open_blocks bits old new first end tree len some within opens =
     let top = tree.height in
     let count : leaf_count old ≡ 2 ^ top = omega (arith, tree.node_count) in
-    let count_middle : leaf_count middle ≡ 2 ^ top = omega (arith, len, tree.node_count) in
-    opened_beside bits new top first end tree.bitmaps tree.small (new_len ∙ (len ∙ tree.node_count)) some (omega arith)
-    (record {
+    opened_beside bits new top first end tree.bitmaps tree.small (len ∙ tree.node_count) some (omega arith) (record {
       is_right = λ low index is. elim (tree.is_right low index is) [
-        | inl r ↦ inl (right low index is (inl (left low index is (inl r))))
+        | inl r ↦ inl (opens bits tree low index is (inl r))
         | inr h ↦ inr h
       ];
-      first_right = λ low index is same. right low index is (inl (left low index is (inr (omega arith))));
-      last_right = λ low index is same. right low index is (inr (omega arith));
+      first_right = λ low index is same. opens bits tree low index is (inr (inl (omega arith)));
+      last_right = λ low index is same. opens bits tree low index is (inr (inr (omega arith)));
     })

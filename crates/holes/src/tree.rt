@@ -2,14 +2,15 @@
 //!
 //! A leaf has four bitmaps, and the number of leaves is a power of two. The nodes are in one list: the root is at 1,
 //! the parts of the node at `index` are at `2 * index` and `2 * index + 1`, and the node of the leaf `k` is at
-//! `leaves + k`. Some leaves that follow one another may have changed after the nodes were joined.
+//! `leaves + k`. Some leaves that follow one another may have changed after the nodes were joined. Eight leaves are a
+//! block. The nodes below a block whose words are all free, or all not free, needn't be right.
 
 ghost use Rattle.std.specs.Prelude.{◌≡◌, ℕ, ◌+◌, ◌-◌, ◌*◌, ◌/◌, ◌^◌, ◌<◌, ◌≤◌, ◌↔◌, ◌⊎◌, List, replicate, length};
 ghost use Rattle.std.specs.Prelude.{IfSome, IfNone, IsNone, IsTrue, true, false};
 ghost use Rattle.holes.specs.FreeWords.{widest, hole_count};
 ghost use Rattle.holes.specs.Tree.{IsTree, IsTreeBeside, IsJoining, IsLevelWritten, AreWrittenBetween, IsWritten};
 ghost use Rattle.holes.specs.Tree.{AreSameBesideLeaves, IsNode, IsRight, NoneBelow, NoneBelowBeside, IsFilled};
-ghost use Rattle.holes.specs.Tree.{AreTwoLeaves, IsBlockWritten, IsPowerOfTwo, first_leaf, leaf_count, leaf_words, lowest_fit, node_at, summary};
+ghost use Rattle.holes.specs.Tree.{AreOpened, AreTwoLeaves, IsBlockWritten, IsPowerOfTwo, first_leaf, leaf_count, leaf_words, lowest_fit, node_at, summary};
 ghost use Rattle.holes.specs.Tree.{words_of, words_between, words_from, word_at};
 
 use crate::bitmap::{self, WORDS};
@@ -21,7 +22,8 @@ pub(crate) const LEAF: usize = 4;
 /// The words of a leaf.
 pub(crate) const LEAF_WORDS: usize = LEAF * WORDS;
 
-/// The leaves of a block.
+/// The leaves of a block. The nodes below a block of which all words are free, or none is, are hidden: what they know
+/// needn't be right. They are written before a word of the block changes.
 const BLOCK: usize = 8;
 
 /// How many leaves may have changed before nodes are joined. A range of words over more leaves is long.
@@ -171,6 +173,7 @@ fn alike(value: bool) -> Summary
 }
 
 /// The nodes of the leaves `first..end` follow their bitmaps.
+#[inline(always)]
 fn join_leaves(bits: &[u64], nodes: &mut [Summary], first: usize, end: usize)
     requires within { end ≤ leaf_count nodes.old }
     requires bitmaps { length bits.now ≡ 4 * leaf_count nodes.old }
@@ -270,16 +273,13 @@ fn open_block(nodes: &mut [Summary], block: usize)
     write(nodes, 2 * block, 2 * block + 2, node);
 }
 
-/// All nodes below the block of a leaf are right then.
+/// Writes the nodes below the block of a leaf if they may be hidden: if all words of the block are free, or none is.
 #[inline(always)]
 fn open(nodes: &mut [Summary], leaf: usize)
     requires within { leaf < leaf_count nodes.old }
     requires even { length nodes.old ≡ 2 * leaf_count nodes.old }
     requires power { IsPowerOfTwo (leaf_count nodes.old) }
-    ensures { (bits : List ℕ) (tree : IsTree bits nodes.old) (low index : ℕ) → IsNode tree.height low index →
-        (IsRight bits nodes.old tree.height low index)
-        ⊎ (first_leaf low index / 8 ≡ (leaf_count nodes.old + leaf) / 8) →
-        IsRight bits nodes.new tree.height low index }
+    ensures { AreOpened nodes.old nodes.new leaf leaf }
 {
     let block = (nodes.len() / 2 + leaf) / BLOCK;
     if block == 0 {
@@ -289,6 +289,22 @@ fn open(nodes: &mut [Summary], leaf: usize)
     if node.whole || node.longest == 0 {
         open_block(nodes, block);
     }
+}
+
+/// Writes the nodes below the blocks of two leaves if they may be hidden.
+#[inline(always)]
+fn open_two(nodes: &mut [Summary], first: usize, last: usize)
+    requires order { first ≤ last }
+    requires within { last < leaf_count nodes.old }
+    requires even { length nodes.old ≡ 2 * leaf_count nodes.old }
+    requires power { IsPowerOfTwo (leaf_count nodes.old) }
+    ensures { AreOpened nodes.old nodes.new first last }
+{
+    open(nodes, first);
+    if first / BLOCK == last / BLOCK {
+        return;
+    }
+    open(nodes, last);
 }
 
 /// The leaves `first..end`, of which bitmaps may have changed after the nodes were joined.
@@ -348,8 +364,7 @@ fn with_more(bits: &[u64], nodes: &mut [Summary], changed: Changed, more: Change
         return both;
     }
     join_changed(bits, nodes, changed);
-    open(nodes, more.first);
-    open(nodes, more.end - 1);
+    open_two(nodes, more.first, more.end - 1);
     more
 }
 

@@ -1,6 +1,6 @@
 use Rattle.std.proofs.Common.{rules, ◌≡◌, ◌<◌, ◌+◌, ◌-◌, ◌/◌, min, max, inl, inr, arith, refl}
 use Rattle.holes.specs.Tree.{leaf_count}
-use Rattle.holes.proofs.Trees.{tree_wider, tree_opened, opened_beside, open_blocks}
+use Rattle.holes.proofs.Trees.{tree_wider, open_blocks}
 use Rattle.holes.proofs.tree.with_more.Goals as goal
 
 pub returns-then-both-clause-tree : goal.returns-then-both-clause-tree
@@ -17,10 +17,6 @@ returns-then-both-clause-tree c =
 
 pub returns-clause-tree : goal.returns-clause-tree
 returns-clause-tree c =
-    let tree = c.join_changed.ensures in
-    let middle = tree_opened c.args.bits.now c.join_changed.new.nodes c.open.new.nodes tree c.open.auto.nodes
-    (λ low index is r. c.open.ensures c.args.bits.now tree low index is (inl r)) in
-    open_blocks c.args.bits.now c.join_changed.new.nodes c.open.new.nodes c.open-2.new.nodes c.args.more.first
-    c.args.more.end tree c.open.auto.nodes c.open-2.auto.nodes c.requires.order
-    (omega (arith, c.requires.within, c.join_changed.auto.nodes)) (c.open.ensures c.args.bits.now tree)
-    (c.open-2.ensures c.args.bits.now middle)
+    open_blocks c.args.bits.now c.join_changed.new.nodes c.open_two.new.nodes c.args.more.first c.args.more.end
+    c.join_changed.ensures c.open_two.auto.nodes c.requires.order
+    (omega (arith, c.requires.within, c.join_changed.auto.nodes)) c.open_two.ensures
