@@ -5,15 +5,15 @@ use Rattle.std.specs.Prelude.{replicate}
 use Rattle.holes.specs.declared.summary.Summary.{Summary}
 use Rattle.holes.specs.FreeWords.{is_free, front_run, widest}
 use Rattle.holes.specs.Tree.{words_between, words_of, node_at, back_run, lowest_fit, all_free, summary}
-use Rattle.holes.specs.Tree.{word_at, words_from, leaf_count, leaf_words, NoneBelow, IsTree, IsNode, IsRight, IsHidden, IsAlike}
+use Rattle.holes.specs.Tree.{word_at, words_from, leaf_count, NoneBelow, IsTree, IsNode, IsRight, IsAlike}
 use Rattle.holes.specs.Tree.{width, first_leaf, node_words}
 use Rattle.holes.proofs.Runs.{word_run, fit_before, front-le-length, front_all, lowest_front, widest-le-length}
 use Rattle.holes.proofs.Runs.{back-le-length, widest-append, lowest-append_left, lowest-append_between}
 use Rattle.holes.proofs.Runs.{lowest-append_right}
-use Rattle.std.proofs.lemmas.Bool.{cases_lt, cases_Bool, true≢false, false≢true}
+use Rattle.std.proofs.lemmas.Bool.{cases_lt, cases_Bool, false≢true}
 use Rattle.holes.proofs.Bits.{word_in}
 use Rattle.holes.proofs.Bitmaps.{widest_none, summary_all}
-use Rattle.holes.proofs.Nodes.{word_past, length-node_words, left_part, right_part, span, Span, alike_words, same_block}
+use Rattle.holes.proofs.Nodes.{word_past, length-node_words, left_part, right_part, span, alike_words, same_block}
 use Rattle.holes.proofs.Nodes.{inner, leaf_first, leaf_height, node_words-split, width-pos, width-pow, first_leaf-next, first_leaf-root, leaf_node, between_leaf}
 
 -- the lowest fit is that of the node at an index, whose words begin at a place and aren't all free

@@ -1,16 +1,15 @@
 -- Joining the nodes above leaves that changed.
-use Rattle.std.proofs.Common.{◌≡◌, ◌≢◌, ℕ, ◌+◌, ◌-◌, ◌*◌, ◌/◌, ◌^◌, ◌<◌, ◌≤◌, Bool, true, false, List, length, set, ◌⊎◌}
+use Rattle.std.proofs.Common.{◌≡◌, ◌≢◌, ℕ, ◌+◌, ◌-◌, ◌*◌, ◌/◌, ◌<◌, ◌≤◌, List, length, set, ◌⊎◌}
 use Rattle.std.proofs.Common.{refl, sym, ◌∙◌, ap, subst, inl, inr, arith, zero, suc}
 use Rattle.std.proofs.lemmas.Bool.{cases_lt, cases_eq}
 use Rattle.std.proofs.lemmas.List.{length-set}
 use Rattle.holes.specs.declared.summary.Summary.{Summary}
-use Rattle.holes.specs.declared.tree.Changed.{Changed}
-use Rattle.holes.specs.Tree.{node_at, join, leaf_words, leaf_count, width, first_leaf, IsNode, node_words, IsRight}
-use Rattle.holes.specs.Tree.{IsHidden, IsBeside, IsBlockBeside, IsJoined, IsTree, IsTreeBeside, above, IsJoiningAt}
+use Rattle.holes.specs.Tree.{node_at, join, width, first_leaf, IsNode, node_words, IsRight}
+use Rattle.holes.specs.Tree.{IsHidden, IsBeside, IsBlockBeside, IsJoined, IsTree, above, IsJoiningAt}
 use Rattle.holes.specs.Tree.{IsJoining, summary}
-use Rattle.holes.proofs.Nodes.{left_part, right_part, parent, same_height, Span, span, inner, inside_parent, above_is}
-use Rattle.holes.proofs.Nodes.{above_covers, above_past, above_within, apart_above, same_block, leaf_node, join_right}
-use Rattle.holes.proofs.Nodes.{read_same, read_other, width-two, width-pos, leaf_is, first_leaf-next}
+use Rattle.holes.proofs.Nodes.{left_part, right_part, parent, same_height, inner, above_is}
+use Rattle.holes.proofs.Nodes.{above_covers, above_within, apart_above, same_block, join_right}
+use Rattle.holes.proofs.Nodes.{read_same, read_other, width-pos, first_leaf-next}
 
 -- the nodes at two indices are joined, and the others are as they were
 pub record IsStep (old new : List Summary) (first last : ℕ) : Type 0 where

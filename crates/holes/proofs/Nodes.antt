@@ -1,13 +1,13 @@
 -- The nodes of a tree and the leaves below them.
-use Rattle.std.proofs.Common.{eqb, ◌≡◌, ◌≢◌, ℕ, ◌+◌, ◌-◌, ◌*◌, ◌/◌, ◌%◌, ◌^◌, ◌<◌, ◌≤◌, Bool, true, false, List}
-use Rattle.std.proofs.Common.{◌++◌, length, get_or, set, ◌⊎◌, refl, sym, ◌∙◌, ap, subst, inl, inr, arith, zero, suc}
+use Rattle.std.proofs.Common.{eqb, ◌≡◌, ◌≢◌, ℕ, ◌+◌, ◌-◌, ◌*◌, ◌/◌, ◌%◌, ◌^◌, ◌<◌, ◌≤◌, false, List}
+use Rattle.std.proofs.Common.{◌++◌, length, get_or, set, ◌⊎◌, refl, sym, ◌∙◌, ap, inl, inr, arith, zero, suc}
 use Rattle.std.specs.Prelude.{replicate}
 use Rattle.std.proofs.lemmas.Bool.{cases_lt, cases_eq}
 use Rattle.std.proofs.lemmas.List.{get_or_past, get_or-set_same, get_or-set_other}
 use Rattle.std.proofs.lemmas.Nat.Bits.{bit_at-zero}
 use Rattle.holes.specs.declared.summary.Summary.{Summary}
-use Rattle.holes.specs.Tree.{is_set, words_from, words_of_bits, word_at, words_of, node_at, nothing_free, summary, join}
-use Rattle.holes.specs.Tree.{leaf_words, words_between, width, first_leaf, IsNode, node_words, IsRight, IsAlike, IsFilled}
+use Rattle.holes.specs.Tree.{is_set, words_from, words_of_bits, word_at, node_at, nothing_free, summary, join}
+use Rattle.holes.specs.Tree.{leaf_words, words_between, width, first_leaf, IsNode, node_words, IsRight, IsAlike}
 use Rattle.holes.specs.Tree.{above}
 use Rattle.holes.proofs.Runs.{summary-append}
 use Rattle.holes.proofs.Bits.{same_words_from, words_from-add, length-words, all_words}

@@ -5,12 +5,12 @@ use Rattle.std.specs.Prelude.{replicate}
 use Rattle.std.proofs.lemmas.Bool.{cases_lt, cases_eq, cases_Bool, true≢false}
 use Rattle.holes.specs.declared.summary.Summary.{Summary}
 use Rattle.holes.specs.FreeWords.{is_free, widest}
-use Rattle.holes.specs.Tree.{word_at, words_from, all_free, node_at, nothing_free, summary, leaf_count, width, first_leaf}
-use Rattle.holes.specs.Tree.{IsPowerOfTwo, IsNode, node_words, IsRight, IsAlike, IsHidden, IsTree, above, IsBlockWritten, AreOpened}
-use Rattle.holes.proofs.Runs.{front_all, run_free, word_run, run-le-widest, front-le-widest}
-use Rattle.holes.proofs.Bits.{word_in, length-words}
+use Rattle.holes.specs.Tree.{word_at, all_free, node_at, nothing_free, summary, leaf_count, width, first_leaf}
+use Rattle.holes.specs.Tree.{IsPowerOfTwo, IsNode, node_words, IsRight, IsAlike, above, IsBlockWritten, AreOpened}
+use Rattle.holes.proofs.Runs.{front_all, run_free, word_run, run-le-widest}
+use Rattle.holes.proofs.Bits.{word_in}
 use Rattle.holes.proofs.Bitmaps.{summary_all}
-use Rattle.holes.proofs.Nodes.{above_is, span, same_height, same_block, alike_words, leaf_is, pow_le, length-node_words}
+use Rattle.holes.proofs.Nodes.{above_is, span, same_height, alike_words, leaf_is, pow_le, length-node_words}
 use Rattle.holes.proofs.Trees.{pow_eight, tree_opened}
 
 -- the node of a block

@@ -12,8 +12,8 @@ use Rattle.std.proofs.lemmas.Nat.{pow_pos}
 use Rattle.std.proofs.lemmas.Nat.Bits.{bit_at-zero}
 use Rattle.holes.specs.FreeWords.{Region, is_free, AllFree, NoneFree, IsLowestFit, set_range, free_from}
 use Rattle.holes.specs.FreeWords.{free_count, hole_count, widest}
-use Rattle.holes.specs.Tree.{words_from, word_at, words_of, lowest_fit, nothing_free, summary, join, node_at}
-use Rattle.holes.specs.Tree.{leaf_count, NoneBelow, NoneBelowBeside, IsFilled, IsTree, IsTreeBeside, IsHoles}
+use Rattle.holes.specs.Tree.{words_from, word_at, words_of, lowest_fit, nothing_free, summary, node_at}
+use Rattle.holes.specs.Tree.{NoneBelow, NoneBelowBeside, IsFilled, IsTree, IsTreeBeside, IsHoles}
 use Rattle.holes.specs.Tree.{IsPowerOfTwo, node_words, first_leaf, width}
 use Rattle.holes.proofs.Ranges.{last_of, free_count_given, free_count-le-length, free_count-false}
 use Rattle.holes.proofs.Ranges.{free_count-free_from, hole_count_after-false, set_range_same}

@@ -1,16 +1,16 @@
 -- Trees of which bitmaps, or nodes, were changed.
-use Rattle.std.proofs.Common.{◌≡◌, ◌≢◌, ℕ, ◌+◌, ◌-◌, ◌*◌, ◌/◌, ◌^◌, ◌<◌, ◌≤◌, Bool, true, false, List, length, set, ◌⊎◌}
+use Rattle.std.proofs.Common.{◌≡◌, ◌≢◌, ℕ, ◌+◌, ◌-◌, ◌*◌, ◌/◌, ◌^◌, ◌<◌, ◌≤◌, Bool, List, length, set, ◌⊎◌}
 use Rattle.std.proofs.Common.{refl, sym, ◌∙◌, ap, subst, inl, inr, arith, zero, suc}
 use Rattle.std.specs.Prelude.{replicate}
 use Rattle.std.proofs.lemmas.Bool.{cases_lt, cases_eq}
 use Rattle.holes.specs.declared.summary.Summary.{Summary}
 use Rattle.holes.specs.declared.tree.Changed.{Changed}
-use Rattle.holes.specs.Tree.{word_at, words_from, node_at, join, summary, leaf_words, leaf_count, width, first_leaf}
-use Rattle.holes.specs.Tree.{IsNode, node_words, IsRight, IsAlike, IsHidden, IsBeside, IsBlockBeside, IsJoined, IsTree}
-use Rattle.holes.specs.Tree.{IsTreeBeside, above, IsJoiningAt, IsJoining, IsFilled, AreSameBesideLeaves, words_between}
+use Rattle.holes.specs.Tree.{word_at, node_at, summary, leaf_words, leaf_count, width, first_leaf}
+use Rattle.holes.specs.Tree.{IsNode, node_words, IsRight, IsHidden, IsBeside, IsBlockBeside, IsJoined, IsTree}
+use Rattle.holes.specs.Tree.{IsTreeBeside, above, IsJoining, IsFilled, AreSameBesideLeaves}
 use Rattle.holes.specs.Tree.{AreWrittenBetween, AreOpened}
 use Rattle.holes.proofs.Bits.{same_words_from, all_words}
-use Rattle.holes.proofs.Nodes.{left_part, right_part, parent, Span, span, inner, inside_parent, Inside, same_block}
+use Rattle.holes.proofs.Nodes.{left_part, right_part, parent, span, inner, inside_parent, same_block}
 use Rattle.holes.proofs.Nodes.{leaf_node, join_right, width-two, width-pos, leaf_is, first_leaf-next, first_leaf-lt}
 use Rattle.holes.proofs.Nodes.{leaf_height, leaf_first, word_past, pow_le, read_same, read_other}
 use Rattle.holes.proofs.Joining.{same_join}

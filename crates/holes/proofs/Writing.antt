@@ -1,5 +1,5 @@
 -- The nodes between two leaves, or below a block, of which all words are free, or none is.
-use Rattle.std.proofs.Common.{◌≡◌, ◌≢◌, ℕ, ◌+◌, ◌-◌, ◌*◌, ◌/◌, ◌^◌, ◌<◌, ◌≤◌, Bool, true, false, List, length, ◌⊎◌}
+use Rattle.std.proofs.Common.{◌≡◌, ◌≢◌, ℕ, ◌+◌, ◌*◌, ◌/◌, ◌^◌, ◌<◌, ◌≤◌, Bool, List, ◌⊎◌}
 use Rattle.std.proofs.Common.{refl, sym, ◌∙◌, ap, subst, inl, inr, arith, zero, suc}
 use Rattle.std.specs.Prelude.{replicate}
 use Rattle.std.proofs.lemmas.Bool.{cases_lt, cases_eq}
@@ -8,7 +8,7 @@ use Rattle.holes.specs.declared.summary.Summary.{Summary}
 use Rattle.holes.specs.Tree.{node_at, nothing_free, join, summary, width, first_leaf, IsNode, IsBlockBeside, above}
 use Rattle.holes.specs.Tree.{IsLevelWritten, AreWrittenBetween, IsWritten, IsBlockWritten}
 use Rattle.holes.proofs.Runs.{summary-append}
-use Rattle.holes.proofs.Nodes.{Covers, above_is, above_covers, above_within, first_leaf-lt, same_height, span, width-pos}
+use Rattle.holes.proofs.Nodes.{above_is, above_covers, above_within, first_leaf-lt, same_height, span, width-pos}
 
 -- how far from the ends of a range nodes of some height are written
 pub side_at : ℕ → ℕ
@@ -249,39 +249,6 @@ written_between old new top height left right value near under = record {
     | inl lt ↦ under.inside low index lt is from to
     | inr ge ↦ absurd (none_between low height left right index ge near from to)
   ];
-}
-
--- The nodes of one depth between two, and only those near them.
-pub level_of_two : (old middle new : List Summary) (first last side : ℕ) (node : Summary) → 2 ≤ side →
-    4 * side < last - first → IsWritten old middle (first + 1) (first + side) node →
-    IsWritten middle new (last - side + 1) last node → IsLevelWritten old new first last side node
-level_of_two old middle new first last side node some long one two = record {
-  same_length = two.same_length ∙ one.same_length;
-  outside = λ index out. elim out [
-    | inl before ↦ two.outside index nothing_free (inl (omega arith))
-        ∙ one.outside index nothing_free (inl (omega arith))
-    | inr after ↦ two.outside index nothing_free (inr (omega arith))
-        ∙ one.outside index nothing_free (inr (omega arith))
-  ];
-  inside = λ index from to. elim (cases_lt index (first + side)) [
-    | inl near ↦ inl (two.outside index nothing_free (inl (omega arith))
-        ∙ one.inside index nothing_free (omega arith) near)
-    | inr ge ↦ elim (cases_lt last (index + side)) [
-      | inl near ↦ inl (two.inside index nothing_free (omega arith) to)
-      | inr le ↦ inr (some, ge, le)
-    ]
-  ];
-}
-
-pub level_of_one : (old new : List Summary) (first last side : ℕ) (node : Summary) → first < last →
-    IsWritten old new (first + 1) last node → IsLevelWritten old new first last side node
-level_of_one old new first last side node order one = record {
-  same_length = one.same_length;
-  outside = λ index out. elim out [
-    | inl before ↦ one.outside index nothing_free (inl (omega arith))
-    | inr after ↦ one.outside index nothing_free (inr (omega arith))
-  ];
-  inside = λ index from to. inl (one.inside index nothing_free (omega arith) to);
 }
 
 -- The nodes below a block.

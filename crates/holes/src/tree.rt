@@ -221,7 +221,8 @@ fn join_above(nodes: &mut [Summary], first: usize, last: usize)
     join_path(nodes, last);
 }
 
-/// Writes a node at the indices between two, and only near these two if `side` is more than one and they are far apart.
+/// Writes a node at the indices between two. If these are far apart and `side` is more than one, so that nodes of their
+/// depth lie below blocks, it writes only those nearer than `side` to one of the two.
 fn write_level(nodes: &mut [Summary], first: usize, last: usize, side: usize, node: Summary)
     requires order { first < last }
     requires within { last ≤ length nodes.old }
@@ -256,7 +257,8 @@ fn write_between(nodes: &mut [Summary], first: usize, last: usize, value: bool)
     }
 }
 
-/// Writes all nodes below a block of which all words are free, or none is.
+/// Writes all nodes below a block of which all words are free, or none is: its eight leaves, the four nodes above these,
+/// and the two above those.
 #[cold]
 #[inline(never)]
 fn open_block(nodes: &mut [Summary], block: usize)

@@ -1,4 +1,4 @@
-use Rattle.std.proofs.Common.{◌≡◌, ◌+◌, ◌-◌, ◌*◌, ◌/◌, ◌<◌, ◌≤◌, ◌^◌, ℕ, arith, subst, inl, inr, ◌∙◌}
+use Rattle.std.proofs.Common.{◌≡◌, ◌+◌, ◌^◌, arith, subst}
 use Rattle.holes.specs.Tree.{leaf_count, IsNode, IsTreeBeside, AreWrittenBetween}
 use Rattle.holes.proofs.Nodes.{leaf_is}
 use Rattle.holes.proofs.Trees.{tree_filled, long_joining, long_of, between_filled}

@@ -1,7 +1,6 @@
-use Rattle.std.proofs.Common.{◌≡◌, ◌<◌, length, arith, subst, set, ◌∙◌}
-use Rattle.std.proofs.lemmas.List.{length-set}
+use Rattle.std.proofs.Common.{◌≡◌, arith, subst, set, ◌∙◌}
 use Rattle.holes.specs.Tree.{IsJoining}
-use Rattle.holes.proofs.Joining.{IsStep, step_two, joining_step}
+use Rattle.holes.proofs.Joining.{step_two, joining_step}
 use Rattle.holes.proofs.tree.join_above.Goals as goal
 
 pub loop-first-preserved : goal.loop-first-preserved

@@ -1,4 +1,4 @@
-use Rattle.std.proofs.Common.{◌≡◌, inl, inr, arith, refl, sym, ◌∙◌}
+use Rattle.std.proofs.Common.{inl, inr, arith, refl, sym, ◌∙◌}
 use Rattle.std.proofs.lemmas.Bool.{true≢false}
 use Rattle.holes.proofs.Opening.{opened, open_already, block_within}
 use Rattle.holes.proofs.tree.open.Goals as goal

@@ -1,5 +1,4 @@
-use Rattle.std.proofs.Common.{rules, ◌≡◌, ◌<◌, ◌+◌, ◌-◌, ◌/◌, min, max, inl, inr, arith, refl}
-use Rattle.holes.specs.Tree.{leaf_count}
+use Rattle.std.proofs.Common.{rules, ◌≡◌, ◌<◌, min, max, inl, inr, arith}
 use Rattle.holes.proofs.Trees.{tree_wider, open_blocks}
 use Rattle.holes.proofs.tree.with_more.Goals as goal
 

@@ -1,4 +1,4 @@
-use Rattle.std.proofs.Common.{◌≡◌, ◌+◌, ◌*◌, ◌/◌, ◌<◌, ◌≤◌, ◌^◌, arith, refl, ap, sym, subst, ◌∙◌, suc}
+use Rattle.std.proofs.Common.{◌≡◌, ◌+◌, ◌*◌, ◌/◌, ◌<◌, arith, refl, ap, sym, subst, ◌∙◌, suc}
 use Rattle.std.specs.Prelude.{replicate}
 use Rattle.holes.specs.Tree.{above, width, summary, IsLevelWritten}
 use Rattle.holes.proofs.Writing.{side_zero, side_half, side_most, doubled, none_under, level_written, two_widths}
