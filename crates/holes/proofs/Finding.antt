@@ -1,89 +1,169 @@
 -- Going down a tree to the lowest fit.
-use Rattle.std.proofs.Common.{◌≡◌, ℕ, false, drop, sym, inl, inr, ◌+◌, ◌-◌, ◌*◌, ◌/◌, ◌^◌, ◌<◌, ◌≤◌}
-use Rattle.std.proofs.Common.{refl, max, List, ◌++◌, length, ◌∙◌, ap, arith, Bool}
+use Rattle.std.proofs.Common.{◌≡◌, ℕ, true, false, drop, sym, inl, inr, ◌+◌, ◌-◌, ◌*◌, ◌/◌, ◌^◌, ◌<◌, ◌≤◌}
+use Rattle.std.proofs.Common.{refl, max, List, ◌++◌, length, ◌∙◌, ap, arith, Bool, zero, suc}
+use Rattle.std.specs.Prelude.{replicate}
 use Rattle.holes.specs.declared.summary.Summary.{Summary}
 use Rattle.holes.specs.FreeWords.{is_free, front_run, widest}
-use Rattle.holes.specs.Tree.{words_between, words_of, node_at, back_run, lowest_fit}
-use Rattle.holes.specs.Tree.{word_at, leaf_count}
-use Rattle.holes.specs.Tree.{NoneBelow, IsTree}
-use Rattle.holes.proofs.Runs.{word_run, fit_before, front-le-length}
+use Rattle.holes.specs.Tree.{words_between, words_of, node_at, back_run, lowest_fit, all_free, summary}
+use Rattle.holes.specs.Tree.{word_at, words_from, leaf_count, NoneBelow, IsTree, IsNode, IsRight, IsAlike}
+use Rattle.holes.specs.Tree.{width, first_leaf, node_words}
+use Rattle.holes.proofs.Runs.{word_run, fit_before, front-le-length, front_all, lowest_front, widest-le-length}
 use Rattle.holes.proofs.Runs.{back-le-length, widest-append, lowest-append_left, lowest-append_between}
 use Rattle.holes.proofs.Runs.{lowest-append_right}
-use Rattle.std.proofs.lemmas.Bool.{cases_lt, cases_Bool}
+use Rattle.std.proofs.lemmas.Bool.{cases_lt, cases_Bool, false≢true}
 use Rattle.holes.proofs.Bits.{word_in}
-use Rattle.holes.proofs.Nodes.{word_past, width, first_leaf, node_words, IsNode, length-node_words, node_is}
-use Rattle.holes.proofs.Nodes.{root_is, root_words, first_leaf-root, width-pow, inner_index, parts, leaf_of}
-use Rattle.holes.proofs.Nodes.{between_leaf}
+use Rattle.holes.proofs.Bitmaps.{widest_none, summary_all}
+use Rattle.holes.proofs.Nodes.{word_past, length-node_words, left_part, right_part, span, alike_words, same_block}
+use Rattle.holes.proofs.Nodes.{inner, leaf_first, leaf_height, node_words-split, width-pos, width-pow, first_leaf-next, first_leaf-root, leaf_node, between_leaf}
 
--- the lowest fit is that of the node at an index, whose words begin at a place
-pub record At (bits : List ℕ) (leaves len height index place wide : ℕ) : Type 0 where
-  pub is_node : IsNode leaves height index
-  pub place_is : place ≡ 256 * (first_leaf height index - leaves)
+-- the lowest fit is that of the node at an index, whose words begin at a place and aren't all free
+pub record At (bits : List ℕ) (nodes : List Summary) (len index place wide : ℕ) : Type 0 where
+  pub tree : IsTree bits nodes
+  pub height : ℕ
+  pub is_node : IsNode tree.height height index
+  pub place_is : place ≡ 256 * (first_leaf height index - 2 ^ tree.height)
   pub wide_is : wide ≡ 256 * width height
-  pub fits : len ≤ widest (node_words bits leaves height index)
-  pub lowest : lowest_fit len (words_of bits) ≡ place + lowest_fit len (node_words bits leaves height index)
+  pub fits : len ≤ widest (node_words bits tree.height height index)
+  pub lowest : lowest_fit len (words_of bits) ≡ place + lowest_fit len (node_words bits tree.height height index)
+  pub mixed : all_free (node_words bits tree.height height index) ≡ false
+
+root_node : (top : ℕ) → IsNode top top 1
+root_node top = record { depth = 0; at = omega arith; from = omega arith; to = omega arith }
+
+root_right : (bits : List ℕ) (nodes : List Summary) (tree : IsTree bits nodes) →
+    IsRight bits nodes tree.height tree.height 1
+root_right bits nodes tree = elim (tree.is_right tree.height 1 (root_node tree.height)) [
+  | inl r ↦ r
+  | inr h ↦
+      let low = h.low in
+      let tall = h.tall in
+      absurd (omega arith)
+]
+
+root_words : (bits : List ℕ) (top : ℕ) → length bits ≡ 4 * 2 ^ top → node_words bits top top 1 ≡ words_of bits
+unfolding node_words
+root_words bits top count =
+    let front : 256 * (first_leaf top 1 - 2 ^ top) ≡ 0 = omega (arith, first_leaf-root top, width-pow top) in
+    let all : 256 * width top ≡ 64 * length bits = omega (arith, width-pow top) in
+    ap (λ p. words_from (word_at bits) p (256 * width top)) front ∙ ap (words_from (word_at bits) 0) all
+
+pub root_is : (bits : List ℕ) (nodes : List Summary) → IsTree bits nodes → node_at nodes 1 ≡ summary (words_of bits)
+root_is bits nodes tree = root_right bits nodes tree ∙ ap summary (root_words bits tree.height tree.bitmaps)
 
 pub root_longest : (bits : List ℕ) (nodes : List Summary) → IsTree bits nodes →
     (node_at nodes 1).longest ≡ widest (words_of bits)
-root_longest bits nodes tree =
-    let power : leaf_count nodes ≡ 2 ^ tree.height = omega (arith, tree.node_count) in
-    ap (λ (node : Summary). node.longest) (node_is bits nodes tree.height 1 tree
-    (root_is (leaf_count nodes) tree.height power))
-    ∙ ap widest (root_words bits (leaf_count nodes) tree.height power (omega (arith, tree.bitmaps)))
+root_longest bits nodes tree = ap (λ (node : Summary). node.longest) (root_is bits nodes tree)
 
-pub at_root : (bits : List ℕ) (nodes : List Summary) (len : ℕ) (tree : IsTree bits nodes) →
-    len ≤ (node_at nodes 1).longest → At bits (leaf_count nodes) len tree.height 1 0 (leaf_count nodes * 256)
-at_root bits nodes len tree fits =
-    let power : leaf_count nodes ≡ 2 ^ tree.height = omega (arith, tree.node_count) in
-    let words = root_words bits (leaf_count nodes) tree.height power (omega (arith, tree.bitmaps)) in
+-- words that are all free have their lowest fit at their front
+front_fit : (len : ℕ) (words : List Bool) → all_free words ≡ true → len ≤ widest words → lowest_fit len words ≡ 0
+front_fit len words all fits =
+    lowest_front len words (omega (arith, front_all words all, widest-le-length words))
+
+pub root_whole : (bits : List ℕ) (nodes : List Summary) (len : ℕ) → IsTree bits nodes →
+    len ≤ (node_at nodes 1).longest → (node_at nodes 1).whole ≡ true → 0 ≡ lowest_fit len (words_of bits)
+root_whole bits nodes len tree fits whole =
+    sym (front_fit len (words_of bits) (sym (ap (λ (node : Summary). node.whole) (root_is bits nodes tree)) ∙ whole)
+    (omega (arith, root_longest bits nodes tree)))
+
+pub at_root : (bits : List ℕ) (nodes : List Summary) (len : ℕ) → IsTree bits nodes →
+    len ≤ (node_at nodes 1).longest → (node_at nodes 1).whole ≡ false →
+    At bits nodes len 1 0 (leaf_count nodes * 256)
+at_root bits nodes len tree fits mixed =
+    let top = tree.height in
+    let words = root_words bits top tree.bitmaps in
     record {
-      is_node = root_is (leaf_count nodes) tree.height power;
-      place_is = omega (arith, first_leaf-root tree.height, width-pow tree.height);
-      wide_is = omega (arith, width-pow tree.height);
+      tree = tree;
+      height = top;
+      is_node = root_node top;
+      place_is = omega (arith, first_leaf-root top, width-pow top);
+      wide_is = omega (arith, width-pow top, tree.node_count);
       fits = omega (arith, root_longest bits nodes tree, ap widest words);
       lowest = omega (arith, ap (lowest_fit len) words);
+      mixed = ap all_free words ∙ (sym (ap (λ (node : Summary). node.whole) (root_is bits nodes tree)) ∙ mixed);
     }
+
+-- words that are all free, or all not free, aren't both
+not_alike : (words : List Bool) (n : ℕ) (value : Bool) → 1 ≤ n → words ≡ replicate n value → all_free words ≡ false →
+    1 ≤ widest words → ⊥
+not_alike words n true some is mixed fits =
+    false≢true (sym mixed ∙ (ap all_free is ∙ ap (λ (s : Summary). s.whole) (summary_all n true some)))
+not_alike words n false some is mixed fits = absurd (omega (arith, ap widest is, widest_none n))
+
+-- the parts of a node whose words aren't alike are right
+part_is : (bits : List ℕ) (nodes : List Summary) (tree : IsTree bits nodes) (lower index part : ℕ) →
+    IsNode tree.height (suc lower) index → IsNode tree.height lower part →
+    first_leaf (suc lower) index ≤ first_leaf lower part →
+    first_leaf lower part < first_leaf (suc lower) index + width (suc lower) →
+    1 ≤ widest (node_words bits tree.height (suc lower) index) →
+    all_free (node_words bits tree.height (suc lower) index) ≡ false → IsRight bits nodes tree.height lower part
+part_is bits nodes tree lower index part is part_node from to fits mixed = elim (tree.is_right lower part part_node) [
+  | inl r ↦ r
+  | inr h ↦
+      let low = h.low in
+      let block = same_block (suc lower) index (first_leaf lower part) (omega arith) from to in
+      let alike : IsAlike bits tree.height (first_leaf (suc lower) index) =
+      (h.alike.0, (λ word at. h.alike.1 word (at ∙ sym block))) in
+      absurd (not_alike (node_words bits tree.height (suc lower) index) (256 * width (suc lower)) alike.0
+      (omega (arith, width-pos (suc lower))) (alike_words bits tree.height (suc lower) index alike is (omega arith))
+      mixed fits)
+]
 
 -- what is known at a node that has parts
 pub record Below (bits : List ℕ) (nodes : List Summary) (len index place wide : ℕ) : Type 0 where
   pub some : 1 ≤ index
-  pub lower : ℕ
   pub back_within : (node_at nodes (2 * index)).back ≤ wide / 2
   pub small : (node_at nodes (2 * index)).back + (node_at nodes (2 * index + 1)).front < 2 ^ 64
   pub next_small : place + wide / 2 < 2 ^ 64
-  pub left : len ≤ (node_at nodes (2 * index)).longest →
-      At bits (leaf_count nodes) len lower (2 * index) place (wide / 2)
+  pub whole : len ≤ (node_at nodes (2 * index)).longest → (node_at nodes (2 * index)).whole ≡ true →
+      place ≡ lowest_fit len (words_of bits)
+  pub left : len ≤ (node_at nodes (2 * index)).longest → (node_at nodes (2 * index)).whole ≡ false →
+      At bits nodes len (2 * index) place (wide / 2)
   pub between : (node_at nodes (2 * index)).longest < len →
       len ≤ (node_at nodes (2 * index)).back + (node_at nodes (2 * index + 1)).front →
       place + (wide / 2 - (node_at nodes (2 * index)).back) ≡ lowest_fit len (words_of bits)
   pub right : (node_at nodes (2 * index)).longest < len →
       (node_at nodes (2 * index)).back + (node_at nodes (2 * index + 1)).front < len →
-      At bits (leaf_count nodes) len lower (2 * index + 1) (place + wide / 2) (wide / 2)
+      At bits nodes len (2 * index + 1) (place + wide / 2) (wide / 2)
 
-pub below : (bits : List ℕ) (nodes : List Summary) (len height index place wide : ℕ) → IsTree bits nodes → 1 ≤ len →
-    At bits (leaf_count nodes) len height index place wide → index < leaf_count nodes →
-    Below bits nodes len index place wide
-below bits nodes len height index place wide tree one at lt =
-    let p = parts bits nodes height index tree at.is_node lt in
-    let left_words = node_words bits (leaf_count nodes) p.lower (2 * index) in
-    let right_words = node_words bits (leaf_count nodes) p.lower (2 * index + 1) in
-    let left_len : length left_words ≡ 256 * width p.lower =
-    length-node_words bits (leaf_count nodes) p.lower (2 * index) in
-    let right_len : length right_words ≡ 256 * width p.lower =
-    length-node_words bits (leaf_count nodes) p.lower (2 * index + 1) in
-    let half : wide / 2 ≡ 256 * width p.lower = omega (arith, at.wide_is, p.width_is) in
-    let back : (node_at nodes (2 * index)).back ≡ back_run left_words = ap (λ (n : Summary). n.back) p.left_is in
+below_at : (bits : List ℕ) (nodes : List Summary) (tree : IsTree bits nodes) (len lower index place wide : ℕ) →
+    1 ≤ len → IsNode tree.height (suc lower) index →
+    place ≡ 256 * (first_leaf (suc lower) index - 2 ^ tree.height) → wide ≡ 256 * width (suc lower) →
+    len ≤ widest (node_words bits tree.height (suc lower) index) →
+    lowest_fit len (words_of bits) ≡ place + lowest_fit len (node_words bits tree.height (suc lower) index) →
+    all_free (node_words bits tree.height (suc lower) index) ≡ false → Below bits nodes len index place wide
+unfolding first_leaf width
+below_at bits nodes tree len lower index place wide one is place_is wide_is at_fits at_lowest mixed =
+    let top = tree.height in
+    let left_node = left_part top lower index is in
+    let right_node = right_part top lower index is in
+    let left_span = span top lower (2 * index) left_node in
+    let right_span = span top lower (2 * index + 1) right_node in
+    let next = first_leaf-next lower (2 * index) in
+    let left_words = node_words bits top lower (2 * index) in
+    let right_words = node_words bits top lower (2 * index + 1) in
+    let left_len : length left_words ≡ 256 * width lower = length-node_words bits top lower (2 * index) in
+    let right_len : length right_words ≡ 256 * width lower = length-node_words bits top lower (2 * index + 1) in
+    let words = node_words-split bits top lower index is in
+    let some_fit : 1 ≤ widest (node_words bits top (suc lower) index) = omega arith in
+    let left_is : IsRight bits nodes top lower (2 * index) =
+    part_is bits nodes tree lower index (2 * index) is left_node (omega arith) (omega (arith, width-pos lower)) some_fit
+    mixed in
+    let right_is : IsRight bits nodes top lower (2 * index + 1) =
+    part_is bits nodes tree lower index (2 * index + 1) is right_node (omega (arith, next))
+    (omega (arith, next, width-pos lower)) some_fit mixed in
+    let half : wide / 2 ≡ 256 * width lower = omega (arith, wide_is) in
+    let back : (node_at nodes (2 * index)).back ≡ back_run left_words = ap (λ (n : Summary). n.back) left_is in
     let front : (node_at nodes (2 * index + 1)).front ≡ front_run right_words =
-    ap (λ (n : Summary). n.front) p.right_is in
+    ap (λ (n : Summary). n.front) right_is in
     let longest : (node_at nodes (2 * index)).longest ≡ widest left_words =
-    ap (λ (n : Summary). n.longest) p.left_is in
+    ap (λ (n : Summary). n.longest) left_is in
+    let whole : (node_at nodes (2 * index)).whole ≡ all_free left_words = ap (λ (n : Summary). n.whole) left_is in
     let fits : len ≤ max (max (widest left_words) (widest right_words)) (back_run left_words + front_run right_words) =
-    omega (arith, at.fits, ap widest p.words, widest-append left_words right_words) in
+    omega (arith, at_fits, ap widest words, widest-append left_words right_words) in
     let lowest : lowest_fit len (words_of bits) ≡ place + lowest_fit len (left_words ++ right_words) =
-    at.lowest ∙ ap (λ (words : List Bool). place + lowest_fit len words) p.words in
+    at_lowest ∙ ap (λ (list : List Bool). place + lowest_fit len list) words in
     record {
-      some = inner_index (leaf_count nodes) height index at.is_node lt;
-      lower = p.lower;
+      some = omega (arith, (inner top (suc lower) index is (omega arith)).0);
       back_within = omega (arith, back, back-le-length left_words);
       small = omega (
         arith,
@@ -91,31 +171,33 @@ below bits nodes len height index place wide tree one at lt =
         front,
         back-le-length left_words,
         front-le-length right_words,
-        p.right.from,
-        p.right.to,
-        p.left.from,
-        p.left.to,
+        next,
+        left_span.from,
+        right_span.to,
         tree.small,
         tree.bitmaps,
-        tree.node_count,
       );
       next_small = omega (
         arith,
-        at.place_is,
-        p.right_first,
-        p.right.to,
-        p.some,
-        at.is_node.from,
+        place_is,
+        next,
+        right_span.to,
+        left_span.from,
         tree.small,
         tree.bitmaps,
-        tree.node_count,
       );
-      left = λ wide_enough. record {
-        is_node = p.left;
-        place_is = omega (arith, at.place_is, p.left_first);
+      whole = λ wide_enough is_whole.
+          let at_front = front_fit len left_words (sym whole ∙ is_whole) (omega arith) in
+          omega (arith, lowest, lowest-append_left len left_words right_words one (omega arith), at_front);
+      left = λ wide_enough not_whole. record {
+        tree = tree;
+        height = lower;
+        is_node = left_node;
+        place_is = place_is;
         wide_is = half;
         fits = omega arith;
         lowest = lowest ∙ ap (λ n. place + n) (lowest-append_left len left_words right_words one (omega arith));
+        mixed = sym whole ∙ not_whole;
       };
       between = λ short meets. omega (
         arith,
@@ -124,8 +206,10 @@ below bits nodes len height index place wide tree one at lt =
         back-le-length left_words,
       );
       right = λ short apart. record {
-        is_node = p.right;
-        place_is = omega (arith, at.place_is, p.right_first, at.is_node.from);
+        tree = tree;
+        height = lower;
+        is_node = right_node;
+        place_is = omega (arith, place_is, next, left_span.from);
         wide_is = half;
         fits = omega arith;
         lowest = omega (
@@ -133,8 +217,31 @@ below bits nodes len height index place wide tree one at lt =
           lowest,
           lowest-append_right len left_words right_words (omega arith) (omega arith),
         );
+        mixed = elim (cases_Bool (all_free right_words)) [
+          | inl all ↦ absurd (omega (arith, front_all right_words all, widest-le-length right_words))
+          | inr some ↦ some
+        ];
       };
     }
+
+below_height : (height : ℕ) (bits : List ℕ) (nodes : List Summary) (tree : IsTree bits nodes)
+    (len index place wide : ℕ) → 1 ≤ len → IsNode tree.height height index →
+    place ≡ 256 * (first_leaf height index - 2 ^ tree.height) → wide ≡ 256 * width height →
+    len ≤ widest (node_words bits tree.height height index) →
+    lowest_fit len (words_of bits) ≡ place + lowest_fit len (node_words bits tree.height height index) →
+    all_free (node_words bits tree.height height index) ≡ false → index < leaf_count nodes →
+    Below bits nodes len index place wide
+unfolding first_leaf
+below_height zero bits nodes tree len index place wide one is place_is wide_is fits lowest mixed lt =
+    absurd (omega (arith, (span tree.height 0 index is).from, tree.node_count))
+below_height (suc lower) bits nodes tree len index place wide one is place_is wide_is fits lowest mixed lt =
+    below_at bits nodes tree len lower index place wide one is place_is wide_is fits lowest mixed
+
+pub below : (bits : List ℕ) (nodes : List Summary) (len index place wide : ℕ) → 1 ≤ len →
+    At bits nodes len index place wide → index < leaf_count nodes → Below bits nodes len index place wide
+below bits nodes len index place wide one at lt =
+    below_height at.height bits nodes at.tree len index place wide one at.is_node at.place_is at.wide_is at.fits
+    at.lowest at.mixed lt
 
 -- what is known at a leaf, whose bitmaps begin at an index
 pub record AtLeaf (bits : List ℕ) (len first : ℕ) : Type 0 where
@@ -142,17 +249,34 @@ pub record AtLeaf (bits : List ℕ) (len first : ℕ) : Type 0 where
   pub fits : len ≤ widest (words_between bits first (first + 4))
   pub lowest : lowest_fit len (words_of bits) ≡ 64 * first + lowest_fit len (words_between bits first (first + 4))
 
-pub at_leaf : (bits : List ℕ) (leaves len height index place wide first : ℕ) → length bits ≡ 4 * leaves →
-    At bits leaves len height index place wide → leaves ≤ index → first ≡ (index - leaves) * 4 → AtLeaf bits len first
-at_leaf bits leaves len height index place wide first count at ge is =
-    let leaf = leaf_of bits leaves height index at.is_node ge in
-    let same : node_words bits leaves height index ≡ words_between bits first (first + 4) =
-    leaf.words ∙ sym (between_leaf bits (index - leaves) first (first + 4) (omega arith) refl) in
+at_leaf_node : (bits : List ℕ) (nodes : List Summary) (tree : IsTree bits nodes) (len height index place first : ℕ) →
+    height ≡ 0 → IsNode tree.height height index → place ≡ 256 * (first_leaf height index - 2 ^ tree.height) →
+    len ≤ widest (node_words bits tree.height height index) →
+    lowest_fit len (words_of bits) ≡ place + lowest_fit len (node_words bits tree.height height index) →
+    first ≡ (index - 2 ^ tree.height) * 4 → AtLeaf bits len first
+unfolding first_leaf
+at_leaf_node bits nodes tree len zero index place first e is place_is fits lowest first_is =
+    let top = tree.height in
+    let leaf = index - 2 ^ top in
+    let here = span top 0 index is in
+    let same : node_words bits top 0 index ≡ words_between bits first (first + 4) =
+    leaf_node bits top index ∙ sym (between_leaf bits leaf first (first + 4) (omega arith) refl) in
     record {
-      within = omega (arith, leaf.within);
-      fits = omega (arith, at.fits, ap widest same);
-      lowest = omega (arith, at.lowest, at.place_is, leaf.first, ap (lowest_fit len) same);
+      within = omega (arith, leaf_first index, width-pow 0, here.from, here.to, tree.bitmaps);
+      fits = omega (arith, fits, ap widest same);
+      lowest = omega (arith, leaf_first index, here.from, lowest, place_is, ap (lowest_fit len) same);
     }
+at_leaf_node bits nodes tree len (suc height) index place first e is place_is fits lowest first_is =
+    absurd (omega arith)
+
+pub at_leaf : (bits : List ℕ) (nodes : List Summary) (len index place wide first : ℕ) →
+    At bits nodes len index place wide → leaf_count nodes ≤ index → first ≡ (index - leaf_count nodes) * 4 →
+    AtLeaf bits len first
+at_leaf bits nodes len index place wide first at ge is =
+    let tree = at.tree in
+    at_leaf_node bits nodes tree len at.height index place first
+    (leaf_height tree.height at.height index at.is_node (omega (arith, tree.node_count))) at.is_node at.place_is at.fits
+    at.lowest (omega (arith, tree.node_count))
 
 -- The lowest free word.
 word_free : (bits : List ℕ) (word : ℕ) → word < 64 * length bits → is_free (words_of bits) word ≡ word_at bits word

@@ -9,5 +9,8 @@ pub mod Counts
 pub mod Regions
 pub mod Layouts
 pub mod Listed
-pub mod Long
+pub mod Joining
+pub mod Trees
+pub mod Writing
+pub mod Opening
 pub mod Filling

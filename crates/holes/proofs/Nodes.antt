@@ -1,27 +1,16 @@
--- Each node of a tree is right about its words, as the nodes of its parts and the bitmaps of its leaves are.
-use Rattle.std.proofs.Common.{false, eqb, ◌≡◌, ◌≢◌, ℕ, ◌+◌, ◌-◌, ◌*◌, ◌/◌, ◌%◌, ◌^◌, ◌<◌, ◌≤◌, Bool, List}
-use Rattle.std.proofs.Common.{◌++◌, length, get_or, set, ◌⊎◌, refl, sym, ◌∙◌, ap, subst, inl, inr, arith, zero, suc}
+-- The nodes of a tree and the leaves below them.
+use Rattle.std.proofs.Common.{eqb, ◌≡◌, ◌≢◌, ℕ, ◌+◌, ◌-◌, ◌*◌, ◌/◌, ◌%◌, ◌^◌, ◌<◌, ◌≤◌, false, List}
+use Rattle.std.proofs.Common.{◌++◌, length, get_or, set, ◌⊎◌, refl, sym, ◌∙◌, ap, inl, inr, arith, zero, suc}
+use Rattle.std.specs.Prelude.{replicate}
 use Rattle.std.proofs.lemmas.Bool.{cases_lt, cases_eq}
-use Rattle.std.proofs.lemmas.List.{get_or_past, length-set, get_or-set_same, get_or-set_other}
+use Rattle.std.proofs.lemmas.List.{get_or_past, get_or-set_same, get_or-set_other}
 use Rattle.std.proofs.lemmas.Nat.Bits.{bit_at-zero}
 use Rattle.holes.specs.declared.summary.Summary.{Summary}
-use Rattle.holes.specs.declared.tree.Changed.{Changed}
-use Rattle.holes.specs.Tree.{is_set, words_from, words_of_bits, word_at, words_of, node_at, nothing_free, leaf_count}
-use Rattle.holes.specs.Tree.{leaf_words, words_between, AreLeaves, AreLeavesBeside, IsJoined, AreSameFrom}
-use Rattle.holes.specs.Tree.{AreSameBesideLeaves, AreJoined, AreJoinedBeside, AreJoinedBesideLeaves, AreAllBetween}
-use Rattle.holes.specs.Tree.{IsFilled, IsTreeBeside, IsTree, summary, join}
+use Rattle.holes.specs.Tree.{is_set, words_from, words_of_bits, word_at, node_at, nothing_free, summary, join}
+use Rattle.holes.specs.Tree.{leaf_words, words_between, width, first_leaf, IsNode, node_words, IsRight, IsAlike}
+use Rattle.holes.specs.Tree.{above}
 use Rattle.holes.proofs.Runs.{summary-append}
-use Rattle.holes.proofs.Bits.{same_words_from, words_from-add, length-words}
-
--- how many leaves a node of some height has
-pub width : ℕ → ℕ
-width zero = 1
-width (suc height) = width height + width height
-
--- the index of the first leaf's node below a node of some height
-pub first_leaf : ℕ → ℕ → ℕ
-first_leaf zero index = index
-first_leaf (suc height) index = first_leaf height (2 * index)
+use Rattle.holes.proofs.Bits.{same_words_from, words_from-add, length-words, all_words}
 
 pub width-pos : (height : ℕ) → 1 ≤ width height
 unfolding width
@@ -53,10 +42,190 @@ first_leaf-zero (suc height) = first_leaf-zero height
 pub first_leaf-root : (height : ℕ) → first_leaf height 1 ≡ width height
 first_leaf-root height = omega (arith, first_leaf-next height 0, first_leaf-zero height)
 
-pub first_leaf-above : (height index : ℕ) → index ≤ first_leaf height index
+pub width-two : (height : ℕ) → 1 ≤ height → 2 ≤ width height
+unfolding width
+width-two zero some = absurd (omega arith)
+width-two (suc height) some = omega (arith, width-pos height)
+
+pub pow_le : (i j : ℕ) → i ≤ j → 2 ^ i ≤ 2 ^ j
+pow_le zero zero le = omega arith
+pow_le zero (suc j) le = omega (arith, pow_le zero j (omega arith))
+pow_le (suc i) zero le = absurd (omega arith)
+pow_le (suc i) (suc j) le = omega (arith, pow_le i j (omega arith))
+
+-- the parts of a node, and the node of which it is a part
+pub left_part : (top height index : ℕ) → IsNode top (suc height) index → IsNode top height (2 * index)
+left_part top height index is =
+    let double : 2 ^ suc is.depth ≡ 2 * 2 ^ is.depth = omega arith in
+    record {
+      depth = suc is.depth;
+      at = omega (arith, is.at);
+      from = omega (arith, double, is.from);
+      to = omega (arith, double, is.to);
+    }
+
+pub right_part : (top height index : ℕ) → IsNode top (suc height) index → IsNode top height (2 * index + 1)
+right_part top height index is =
+    let double : 2 ^ suc is.depth ≡ 2 * 2 ^ is.depth = omega arith in
+    record {
+      depth = suc is.depth;
+      at = omega (arith, is.at);
+      from = omega (arith, double, is.from);
+      to = omega (arith, double, is.to);
+    }
+
+parent_at : (depth top height index : ℕ) → height + depth ≡ top → 2 ^ depth ≤ index → index < 2 * 2 ^ depth →
+    1 < index → IsNode top (suc height) (index / 2)
+parent_at zero top height index at from to some = absurd (omega arith)
+parent_at (suc depth) top height index at from to some =
+    let double : 2 ^ suc depth ≡ 2 * 2 ^ depth = omega arith in
+    record { depth = depth; at = omega arith; from = omega arith; to = omega arith }
+
+pub parent : (top height index : ℕ) → IsNode top height index → 1 < index → IsNode top (suc height) (index / 2)
+parent top height index is some = parent_at is.depth top height index is.at is.from is.to some
+
+-- a node has one height
+same_depth : (d e index : ℕ) → 2 ^ d ≤ index → index < 2 * 2 ^ d → 2 ^ e ≤ index → index < 2 * 2 ^ e → d ≡ e
+same_depth d e index from to other_from other_to = elim (cases_lt d e) [
+  | inl below ↦
+      let double : 2 ^ suc d ≡ 2 * 2 ^ d = omega arith in
+      absurd (omega (arith, double, pow_le (suc d) e (omega arith)))
+  | inr ge ↦ elim (cases_lt e d) [
+    | inl below ↦
+        let double : 2 ^ suc e ≡ 2 * 2 ^ e = omega arith in
+        absurd (omega (arith, double, pow_le (suc e) d (omega arith)))
+    | inr le ↦ omega arith
+  ]
+]
+
+pub same_height : (top height other index : ℕ) → IsNode top height index → IsNode top other index → height ≡ other
+same_height top height other index is also =
+    omega (arith, is.at, also.at, same_depth is.depth also.depth index is.from is.to also.from also.to)
+
+-- the leaves of the tree are at the indices from 2 ^ top on
+pub record Span (top height index : ℕ) : Type 0 where
+  pub from : 2 ^ top ≤ first_leaf height index
+  pub to : first_leaf height index + width height ≤ 2 * 2 ^ top
+
+pub span : (top height index : ℕ) → IsNode top height index → Span top height index
+unfolding first_leaf width
+span top zero index is =
+    let same : 2 ^ is.depth ≡ 2 ^ top = ap (λ n. 2 ^ n) (let e : is.depth ≡ top = omega (arith, is.at) in e) in
+    record { from = omega (arith, is.from); to = omega (arith, is.to) }
+span top (suc height) index is =
+    let left = span top height (2 * index) (left_part top height index is) in
+    let right = span top height (2 * index + 1) (right_part top height index is) in
+    record { from = left.from; to = omega (arith, right.to, first_leaf-next height (2 * index)) }
+
+pub leaf_first : (leaf : ℕ) → first_leaf 0 leaf ≡ leaf
 unfolding first_leaf
-first_leaf-above zero index = omega arith
-first_leaf-above (suc height) index = omega (arith, first_leaf-above height (2 * index))
+leaf_first leaf = refl
+
+pub leaf_is : (top leaf : ℕ) → 2 ^ top ≤ leaf → leaf < 2 * 2 ^ top → IsNode top 0 leaf
+leaf_is top leaf from to = record { depth = top; at = omega arith; from = from; to = to }
+
+-- a node that has parts has an index below those of the leaves
+pub inner : (top height index : ℕ) → IsNode top height index → 1 ≤ height → (1 ≤ index) × (index < 2 ^ top)
+inner top height index is some =
+    let double : 2 ^ suc is.depth ≡ 2 * 2 ^ is.depth = omega arith in (
+      omega (arith, is.from, pow_le 0 is.depth (omega arith)),
+      omega (arith, is.to, double, pow_le (suc is.depth) top (omega (arith, is.at))),
+    )
+
+pub leaf_height : (top height index : ℕ) → IsNode top height index → 2 ^ top ≤ index → height ≡ 0
+leaf_height top height index is ge = elim (cases_lt 0 height) [
+  | inl some ↦ absurd (omega (arith, (inner top height index is some).1))
+  | inr none ↦ omega arith
+]
+
+-- the leaves of a node are among those of the node above it
+pub record Inside (height index : ℕ) : Type 0 where
+  pub from : first_leaf (suc height) (index / 2) ≤ first_leaf height index
+  pub to : first_leaf height index + width height ≤ first_leaf (suc height) (index / 2) + width (suc height)
+
+pub inside_parent : (height index : ℕ) → Inside height index
+unfolding first_leaf width
+inside_parent height index = elim (cases_eq index (2 * (index / 2))) [
+  | inl even ↦
+      let same = ap (first_leaf height) even in
+      record { from = omega (arith, same); to = omega (arith, same) }
+  | inr odd ↦
+      let is : index ≡ 2 * (index / 2) + 1 = elim (cases_lt index (2 * (index / 2) + 1)) [
+        | inl lt ↦ absurd (odd (omega arith))
+        | inr ge ↦ omega arith
+      ] in
+      let same = ap (first_leaf height) is in
+      let next = first_leaf-next height (2 * (index / 2)) in
+      record { from = omega (arith, same, next); to = omega (arith, same, next) }
+]
+
+-- nodes of one height have their leaves one after another
+pub first_leaf-lt : (height i j : ℕ) → i < j → first_leaf height i + width height ≤ first_leaf height j
+unfolding first_leaf width
+first_leaf-lt zero i j lt = omega arith
+first_leaf-lt (suc height) i j lt =
+    omega (arith, first_leaf-lt height (2 * i + 1) (2 * j) (omega arith), first_leaf-next height (2 * i))
+
+-- the nodes above a leaf
+pub above_is : (top height leaf : ℕ) → IsNode top 0 leaf → height ≤ top → IsNode top height (above height leaf)
+unfolding above
+above_is top zero leaf is le = is
+above_is top (suc height) leaf is le =
+    let here = above_is top height leaf is (omega arith) in
+    parent top height (above height leaf) here
+    (omega (arith, here.from, here.at, pow_le 1 here.depth (omega (arith, here.at))))
+
+pub record Covers (height index leaf : ℕ) : Type 0 where
+  pub from : first_leaf height index ≤ leaf
+  pub to : leaf < first_leaf height index + width height
+
+pub above_covers : (height leaf : ℕ) → Covers height (above height leaf) leaf
+unfolding above first_leaf width
+above_covers zero leaf = record { from = omega arith; to = omega arith }
+above_covers (suc height) leaf =
+    let here = above_covers height leaf in
+    let up = inside_parent height (above height leaf) in
+    record { from = omega (arith, here.from, up.from); to = omega (arith, here.to, up.to) }
+
+pub above_past : (top height leaf : ℕ) → IsNode top 0 leaf → top < height → above height leaf ≡ 0
+unfolding above
+above_past top zero leaf is lt = absurd (omega arith)
+above_past top (suc height) leaf is lt = elim (cases_lt top height) [
+  | inl past ↦ omega (arith, above_past top height leaf is past)
+  | inr last ↦
+      let here = above_is top height leaf is (omega arith) in
+      let root : 2 ^ here.depth ≡ 2 ^ 0 = ap (λ n. 2 ^ n) (let e : here.depth ≡ 0 = omega (arith, here.at) in e) in
+      omega (arith, here.to, root)
+]
+
+pub above_within : (top height leaf : ℕ) → IsNode top 0 leaf → 0 < above height leaf → height ≤ top
+above_within top height leaf is some = elim (cases_lt top height) [
+  | inl past ↦ absurd (omega (arith, above_past top height leaf is past))
+  | inr le ↦ le
+]
+
+-- a node of one height that isn't above a leaf
+pub apart_above : (height index leaf : ℕ) → index ≢ above height leaf →
+    (first_leaf height index + width height ≤ leaf) ⊎ (leaf + 1 ≤ first_leaf height index)
+apart_above height index leaf ne =
+    let here = above_covers height leaf in
+    elim (cases_lt index (above height leaf)) [
+      | inl below ↦ inl (omega (arith, here.from, first_leaf-lt height index (above height leaf) below))
+      | inr ge ↦ elim (cases_lt (above height leaf) index) [
+        | inl past ↦ inr (omega (arith, here.to, first_leaf-lt height (above height leaf) index past))
+        | inr le ↦ absurd (ne (omega arith))
+      ]
+    ]
+
+-- the leaves of a low node are of one block
+pub same_block : (height index leaf : ℕ) → height ≤ 3 → first_leaf height index ≤ leaf →
+    leaf < first_leaf height index + width height → leaf / 8 ≡ first_leaf height index / 8
+unfolding first_leaf width
+same_block zero index leaf low from to = omega arith
+same_block (suc zero) index leaf low from to = omega arith
+same_block (suc (suc zero)) index leaf low from to = omega arith
+same_block (suc (suc (suc zero))) index leaf low from to = omega arith
+same_block (suc (suc (suc (suc height)))) index leaf low from to = absurd (omega arith)
 
 -- the words of a bitmap are those of its place in the list
 pub bitmap_words : (bits : List ℕ) (index : ℕ) →
@@ -75,447 +244,77 @@ between_leaf bits leaf first end from to =
     ap (λ p. words_from (word_at bits) p (64 * (end - first))) (let e : 64 * first ≡ 256 * leaf = omega arith in e)
     ∙ ap (words_from (word_at bits) (256 * leaf)) (let e : 64 * (end - first) ≡ 256 = omega arith in e)
 
--- the words of a node of some height, in a tree with this number of leaves
-pub node_words : List ℕ → ℕ → ℕ → ℕ → List Bool
-node_words bits leaves height index =
-    words_from (word_at bits) (256 * (first_leaf height index - leaves)) (256 * width height)
+-- The words of nodes.
+pub length-node_words : (bits : List ℕ) (top height index : ℕ) →
+    length (node_words bits top height index) ≡ 256 * width height
+unfolding node_words
+length-node_words bits top height index =
+    length-words (word_at bits) (256 * (first_leaf height index - 2 ^ top)) (256 * width height)
 
--- a node of some height is one of a tree
-pub record IsNode (leaves height index : ℕ) : Type 0 where
-  pub from : leaves ≤ first_leaf height index
-  pub to : first_leaf height index + width height ≤ 2 * leaves
-
-pub node_words-split : (bits : List ℕ) (leaves height index : ℕ) → IsNode leaves (suc height) index →
-    node_words bits leaves (suc height) index
-    ≡ node_words bits leaves height (2 * index) ++ node_words bits leaves height (2 * index + 1)
+pub leaf_node : (bits : List ℕ) (top leaf : ℕ) → node_words bits top 0 leaf ≡ leaf_words bits (leaf - 2 ^ top)
 unfolding node_words first_leaf width
-node_words-split bits leaves height index is =
-    let from = 256 * (first_leaf height (2 * index) - leaves) in
+leaf_node bits top leaf = refl
+
+pub node_words-split : (bits : List ℕ) (top height index : ℕ) → IsNode top (suc height) index →
+    node_words bits top (suc height) index
+    ≡ node_words bits top height (2 * index) ++ node_words bits top height (2 * index + 1)
+unfolding node_words first_leaf width
+node_words-split bits top height index is =
+    let from = 256 * (first_leaf height (2 * index) - 2 ^ top) in
     let wide = 256 * width height in
     let both : 256 * (width height + width height) ≡ wide + wide = omega arith in
-    let next : from + wide ≡ 256 * (first_leaf height (2 * index + 1) - leaves) =
-    omega (arith, is.from, first_leaf-next height (2 * index)) in
+    let here = span top height (2 * index) (left_part top height index is) in
+    let next : from + wide ≡ 256 * (first_leaf height (2 * index + 1) - 2 ^ top) =
+    omega (arith, here.from, first_leaf-next height (2 * index)) in
     ap (words_from (word_at bits) from) both
     ∙ (words_from-add (word_at bits) from wide wide
     ∙ ap (λ p. words_from (word_at bits) from wide ++ words_from (word_at bits) p wide) next)
 
-pub left_part : (leaves height index : ℕ) → IsNode leaves (suc height) index → IsNode leaves height (2 * index)
-unfolding first_leaf width
-left_part leaves height index is = record { from = is.from; to = omega (arith, is.to) }
-
-pub right_part : (leaves height index : ℕ) → IsNode leaves (suc height) index → IsNode leaves height (2 * index + 1)
-unfolding first_leaf width
-right_part leaves height index is = record {
-  from = omega (arith, is.from, first_leaf-next height (2 * index));
-  to = omega (arith, is.to, first_leaf-next height (2 * index));
-}
-
-pub inner_node : (leaves height index : ℕ) → IsNode leaves (suc height) index → (1 ≤ index) × (index < leaves)
-unfolding first_leaf width
-inner_node leaves height index is = (
-  elim (cases_lt 0 index) [
-    | inl some ↦ omega arith
-    | inr none ↦ absurd (omega (
-      arith,
-      is.from,
-      is.to,
-      ap (first_leaf height) (let e : 2 * index ≡ 0 = omega arith in e),
-      first_leaf-zero height,
-      width-pos height,
-    ))
-  ],
-  omega (
-    arith,
-    is.to,
-    first_leaf-above height (2 * index + 1),
-    first_leaf-next height (2 * index),
-    width-pos height,
-  ),
-)
-
-pub inner_index : (leaves height index : ℕ) → IsNode leaves height index → index < leaves → 1 ≤ index
-unfolding first_leaf width
-inner_index leaves zero index is lt = absurd (omega (arith, is.from))
-inner_index leaves (suc lower) index is lt = (inner_node leaves lower index is).0
-
-pub length-node_words : (bits : List ℕ) (leaves height index : ℕ) →
-    length (node_words bits leaves height index) ≡ 256 * width height
-unfolding node_words
-length-node_words bits leaves height index =
-    length-words (word_at bits) (256 * (first_leaf height index - leaves)) (256 * width height)
-
--- each node is the summary of its words
-pub node_is : (bits : List ℕ) (nodes : List Summary) (height index : ℕ) → IsTree bits nodes →
-    IsNode (leaf_count nodes) height index →
-    node_at nodes index ≡ summary (node_words bits (leaf_count nodes) height index)
-unfolding node_words first_leaf width
-node_is bits nodes zero index tree is =
-    let leaf = index - leaf_count nodes in
-    let at : leaf_count nodes + leaf ≡ index = omega (arith, is.from) in
-    sym (ap (node_at nodes) at) ∙ tree.are_leaves leaf (omega (arith, is.to))
-node_is bits nodes (suc height) index tree is =
-    let leaves = leaf_count nodes in
-    let left = left_part leaves height index is in
-    let right = right_part leaves height index is in
-    let within = inner_node leaves height index is in
-    let left_words = node_words bits leaves height (2 * index) in
-    let right_words = node_words bits leaves height (2 * index + 1) in
-    tree.joined index within.0 (omega (arith, tree.node_count, within.1))
-    ∙ (ap (λ (node : Summary). join node (node_at nodes (2 * index + 1))) (node_is bits nodes height (2 * index)
-    tree left)
-    ∙ (ap (join (summary left_words)) (node_is bits nodes height (2 * index + 1) tree right)
+-- a node whose parts are right is right once they are joined
+pub join_right : (bits : List ℕ) (nodes : List Summary) (top height index : ℕ) → 256 * 2 ^ top < 2 ^ 32 →
+    IsNode top (suc height) index → IsRight bits nodes top height (2 * index) →
+    IsRight bits nodes top height (2 * index + 1) →
+    join (node_at nodes (2 * index)) (node_at nodes (2 * index + 1)) ≡ summary (node_words bits top (suc height) index)
+join_right bits nodes top height index small is left_right right_right =
+    let left_words = node_words bits top height (2 * index) in
+    let right_words = node_words bits top height (2 * index + 1) in
+    let left = span top height (2 * index) (left_part top height index is) in
+    let right = span top height (2 * index + 1) (right_part top height index is) in
+    ap (λ (node : Summary). join node (node_at nodes (2 * index + 1))) left_right
+    ∙ (ap (join (summary left_words)) right_right
     ∙ (sym (summary-append left_words right_words (omega (
       arith,
-      tree.small,
-      tree.bitmaps,
-      tree.node_count,
-      is.to,
-      is.from,
-      length-node_words bits leaves height (2 * index),
-      length-node_words bits leaves height (2 * index + 1),
+      small,
+      left.from,
+      right.to,
+      first_leaf-next height (2 * index),
+      length-node_words bits top height (2 * index),
+      length-node_words bits top height (2 * index + 1),
     )))
-    ∙ sym (ap summary (node_words-split bits leaves height index is)))))
+    ∙ sym (ap summary (node_words-split bits top height index is))))
 
--- the root has all words
-pub root_is : (leaves height : ℕ) → leaves ≡ 2 ^ height → IsNode leaves height 1
-root_is leaves height power = record {
-  from = omega (arith, first_leaf-root height, width-pow height);
-  to = omega (arith, first_leaf-root height, width-pow height);
-}
-
-pub root_words : (bits : List ℕ) (leaves height : ℕ) → leaves ≡ 2 ^ height → length bits ≡ 4 * leaves →
-    node_words bits leaves height 1 ≡ words_of bits
+-- the words of a low node in a block that is all free, or has no free word
+pub alike_words : (bits : List ℕ) (top height index : ℕ) (alike : IsAlike bits top (first_leaf height index)) →
+    IsNode top height index → height ≤ 3 → node_words bits top height index ≡ replicate (256 * width height) alike.0
 unfolding node_words
-root_words bits leaves height power count =
-    let front : 256 * (first_leaf height 1 - leaves) ≡ 0 = omega (
-      arith,
-      first_leaf-root height,
-      width-pow
-          height,
-    ) in
-    let all : 256 * width height ≡ 64 * length bits = omega (arith, width-pow height) in
-    ap (λ p. words_from (word_at bits) p (256 * width height)) front ∙ ap (words_from (word_at bits) 0) all
+alike_words bits top height index alike is low =
+    let here = span top height index is in
+    all_words (word_at bits) (256 * (first_leaf height index - 2 ^ top)) (256 * width height) alike.0
+    (λ word lt. alike.1 (256 * (first_leaf height index - 2 ^ top) + word)
+    (same_block height index (2 ^ top + (256 * (first_leaf height index - 2 ^ top) + word) / 256) low
+    (omega (arith, here.from)) (omega (arith, here.from))))
 
 -- a node that is changed
-read_same : (nodes : List Summary) (index : ℕ) (node : Summary) → index < length nodes →
+pub read_same : (nodes : List Summary) (index : ℕ) (node : Summary) → index < length nodes →
     node_at (set nodes index node) index ≡ node
 read_same nodes index node lt = get_or-set_same nodes index node nothing_free lt
 
-read_other : (nodes : List Summary) (index other : ℕ) (node : Summary) → other ≢ index →
+pub read_other : (nodes : List Summary) (index other : ℕ) (node : Summary) → other ≢ index →
     node_at (set nodes index node) other ≡ node_at nodes other
 read_other nodes index other node ne = get_or-set_other nodes index other node nothing_free ne
-
--- the nodes of a range from the last one down to an index are joined
-abbrev pub AreJoinedFrom : List Summary → ℕ → ℕ → ℕ → Type 0
-AreJoinedFrom nodes first last from =
-    (index : ℕ) → 1 ≤ index → 2 * index + 1 < length nodes → (index < first) ⊎ (from ≤ index) →
-    (index < first / 2) ⊎ (last / 2 < index) → IsJoined nodes index
-
-child_outside : (index first last at : ℕ) → first ≤ at → at ≤ last → (index < first / 2) ⊎ (last / 2 < index) →
-    (2 * index ≢ at) × (2 * index + 1 ≢ at)
-child_outside index first last at ge le out = elim out [
-  | inl below ↦ ((λ e. absurd (omega arith)), (λ e. absurd (omega arith)))
-  | inr above ↦ ((λ e. absurd (omega arith)), (λ e. absurd (omega arith)))
-]
-
-pub joined_more : (nodes : List Summary) (first last from : ℕ) (node : Summary) → 2 * last + 1 < length nodes →
-    first < from → from ≤ last + 1 →
-    node ≡ join (node_at nodes (2 * (from - 1))) (node_at nodes (2 * (from - 1) + 1)) →
-    AreJoinedFrom nodes first last from → AreJoinedFrom (set nodes (from - 1) node) first last (from - 1)
-joined_more nodes first last from node within above below is joined index some parts outside beside =
-    let at = from - 1 in
-    let len : length (set nodes at node) ≡ length nodes = length-set nodes at node in
-    elim (cases_eq index at) [
-      | inl here ↦
-          let left : 2 * index ≢ at = (λ e. absurd (omega arith)) in
-          let right : 2 * index + 1 ≢ at = (λ e. absurd (omega arith)) in
-          ap (node_at (set nodes at node)) here ∙ (read_same nodes at node (omega arith) ∙ (is
-          ∙ (ap (λ k. join (node_at nodes (2 * k)) (node_at nodes (2 * k + 1))) (sym here)
-          ∙ (ap (λ (n : Summary). join n (node_at nodes (2 * index + 1))) (sym (read_other nodes at (2 * index) node
-          left))
-          ∙ ap (join (node_at (set nodes at node) (2 * index))) (sym (read_other nodes at (2 * index + 1) node
-          right))))))
-      | inr other ↦
-          let apart = child_outside index first last at (omega arith) (omega arith) beside in
-          let before : (index < first) ⊎ (from ≤ index) = elim outside [
-            | inl b ↦ inl b
-            | inr a ↦ inr (elim (cases_lt index from) [
-              | inl lt ↦ absurd (other (omega arith))
-              | inr ge ↦ ge
-            ])
-          ] in
-          read_other nodes at index node other
-          ∙ (joined index some (omega arith) before beside
-          ∙ (ap (λ (n : Summary). join n (node_at nodes (2 * index + 1)))
-          (sym (read_other nodes at (2 * index) node apart.0))
-          ∙ ap (join (node_at (set nodes at node) (2 * index))) (sym (read_other nodes at (2 * index + 1) node
-          apart.1))))
-    ]
-
-pub same_from_set : (old nodes : List Summary) (from at : ℕ) (node : Summary) → at < from →
-    AreSameFrom old nodes from → AreSameFrom old (set nodes at node) from
-same_from_set old nodes from at node below same index ge =
-    read_other nodes at index node (λ e. absurd (omega arith)) ∙ same index ge
-
-pub same_from_less : (old new : List Summary) (from to : ℕ) → from ≤ to → AreSameFrom old new from → AreSameFrom old
-    new to
-same_from_less old new from to le same index ge = same index (omega arith)
-
-pub same_from_twice : (old middle new : List Summary) (from : ℕ) → AreSameFrom old middle from →
-    AreSameFrom middle new from → AreSameFrom old new from
-same_from_twice old middle new from first second index ge = second index ge ∙ first index ge
 
 -- after the bitmaps no word is free
 pub word_past : (bits : List ℕ) (word : ℕ) → 64 * length bits ≤ word → word_at bits word ≡ false
 word_past bits word past =
     ap (λ n. is_set n (word % 64)) (get_or_past bits (word / 64) 0 (omega arith))
     ∙ ap (λ b. eqb b 1) (bit_at-zero (word % 64))
-
--- The parts of a node on the way down.
-pub record Parts (bits : List ℕ) (nodes : List Summary) (height index : ℕ) : Type 0 where
-  pub lower : ℕ
-  pub width_is : width height ≡ width lower + width lower
-  pub some : 1 ≤ width lower
-  pub left : IsNode (leaf_count nodes) lower (2 * index)
-  pub right : IsNode (leaf_count nodes) lower (2 * index + 1)
-  pub left_first : first_leaf lower (2 * index) ≡ first_leaf height index
-  pub right_first : first_leaf lower (2 * index + 1) ≡ first_leaf height index + width lower
-  pub words : node_words bits (leaf_count nodes) height index ≡
-      node_words bits (leaf_count nodes) lower (2 * index) ++ node_words bits (leaf_count nodes) lower (2 * index + 1)
-  pub left_is : node_at nodes (2 * index) ≡ summary (node_words bits (leaf_count nodes) lower (2 * index))
-  pub right_is : node_at nodes (2 * index + 1) ≡ summary (node_words bits (leaf_count nodes) lower (2 * index + 1))
-
-pub parts : (bits : List ℕ) (nodes : List Summary) (height index : ℕ) → IsTree bits nodes →
-    IsNode (leaf_count nodes) height index → index < leaf_count nodes → Parts bits nodes height index
-unfolding first_leaf width
-parts bits nodes zero index tree is lt = absurd (omega (arith, is.from))
-parts bits nodes (suc lower) index tree is lt =
-    let left = left_part (leaf_count nodes) lower index is in
-    let right = right_part (leaf_count nodes) lower index is in
-    record {
-      lower = lower;
-      width_is = refl;
-      some = width-pos lower;
-      left = left;
-      right = right;
-      left_first = refl;
-      right_first = first_leaf-next lower (2 * index);
-      words = node_words-split bits (leaf_count nodes) lower index is;
-      left_is = node_is bits nodes lower (2 * index) tree left;
-      right_is = node_is bits nodes lower (2 * index + 1) tree right;
-    }
-
--- a node without parts has the words of one leaf
-pub record Leaf (bits : List ℕ) (leaves height index : ℕ) : Type 0 where
-  pub within : index - leaves < leaves
-  pub from : leaves ≤ index
-  pub first : first_leaf height index ≡ index
-  pub words : node_words bits leaves height index ≡ leaf_words bits (index - leaves)
-
-pub leaf_of : (bits : List ℕ) (leaves height index : ℕ) → IsNode leaves height index → leaves ≤ index →
-    Leaf bits leaves height index
-unfolding first_leaf width node_words
-leaf_of bits leaves zero index is ge = record {
-  within = omega (arith, is.to);
-  from = ge;
-  first = refl;
-  words = refl;
-}
-leaf_of bits leaves (suc height) index is ge = absurd (omega (arith, inner_node leaves height index is))
-
--- Leaves that changed.
-
--- a leaf without a word of the range has the words that it had
-pub leaf_same : (old new : List ℕ) (place len leaf : ℕ) (value : Bool) → IsFilled old new place len value →
-    256 * leaf + 256 ≤ 64 * length old → (256 * leaf + 256 ≤ place) ⊎ (place + len ≤ 256 * leaf) →
-    leaf_words new leaf ≡ leaf_words old leaf
-leaf_same old new place len leaf value filled within apart =
-    same_words_from (word_at new) (word_at old) (256 * leaf) (256 * leaf) 256 (λ word lt. elim apart [
-      | inl below ↦ filled.before (256 * leaf + word) (omega arith)
-      | inr above ↦ filled.behind (256 * leaf + word) (omega arith) (omega arith)
-    ])
-
--- the leaves beside the range are as they were
-pub leaves_filled : (bits new_bits : List ℕ) (nodes : List Summary) (first end place len : ℕ) (value : Bool) →
-    length bits ≡ 4 * leaf_count nodes → AreLeavesBeside bits nodes first end →
-    IsFilled bits new_bits place len value → 256 * first ≤ place → place + len ≤ 256 * end →
-    AreLeavesBeside new_bits nodes first end
-leaves_filled bits new_bits nodes first end place len value count leaves filled from to leaf lt out =
-    leaves leaf lt out ∙ sym (ap summary (leaf_same bits new_bits place len leaf value filled (omega arith) (elim out [
-      | inl below ↦ inl (omega arith)
-      | inr above ↦ inr (omega arith)
-    ])))
-
--- the changed leaves are among those that may have changed
-pub tree_filled : (bits new_bits : List ℕ) (nodes : List Summary) (changed : Changed) (place len : ℕ) (value : Bool) →
-    IsTreeBeside bits nodes changed → IsFilled bits new_bits place len value → 256 * changed.first ≤ place →
-    place + len ≤ 256 * changed.end → IsTreeBeside new_bits nodes changed
-tree_filled bits new_bits nodes changed place len value tree filled from to = record {
-  height = tree.height;
-  bitmaps = filled.same_length ∙ tree.bitmaps;
-  small = omega (arith, filled.same_length, tree.small);
-  node_count = tree.node_count;
-  order = tree.order;
-  within = tree.within;
-  are_leaves = leaves_filled bits new_bits nodes changed.first changed.end place len value
-      (omega (arith, tree.bitmaps, tree.node_count)) tree.are_leaves filled from to;
-  joined = tree.joined;
-}
-
--- the same when more leaves may have changed
-pub tree_wider : (bits : List ℕ) (nodes : List Summary) (changed : Changed) (first end : ℕ) →
-    IsTreeBeside bits nodes changed → first ≤ changed.first → changed.end ≤ end → end ≤ leaf_count nodes →
-    IsTreeBeside bits nodes (record { first = first; end = end })
-tree_wider bits nodes changed first end tree low high within = record {
-  height = tree.height;
-  bitmaps = tree.bitmaps;
-  small = tree.small;
-  node_count = tree.node_count;
-  order = omega (arith, tree.order);
-  within = omega (arith, tree.node_count);
-  are_leaves = λ leaf lt out. tree.are_leaves leaf lt (elim out [
-    | inl below ↦ inl (omega arith)
-    | inr above ↦ inr (omega arith)
-  ]);
-  joined = λ index some parts out. tree.joined index some parts (elim out [
-    | inl below ↦ inl (omega arith)
-    | inr above ↦ inr (omega arith)
-  ]);
-}
-
-pub beside_of_tree : (bits : List ℕ) (nodes : List Summary) (first end : ℕ) → IsTree bits nodes → first ≤ end →
-    end ≤ leaf_count nodes → IsTreeBeside bits nodes (record { first = first; end = end })
-beside_of_tree bits nodes first end tree order within = record {
-  height = tree.height;
-  bitmaps = tree.bitmaps;
-  small = tree.small;
-  node_count = tree.node_count;
-  order = order;
-  within = omega (arith, tree.node_count);
-  are_leaves = λ leaf lt out. tree.are_leaves leaf lt;
-  joined = λ index some parts out. tree.joined index some parts;
-}
-
--- if no leaf changed
-none_between : (height index : ℕ) → 1 ≤ index → (2 * index + 1 < 2 ^ height) ⊎ (2 ^ height ≤ 2 * index)
-none_between zero index some = inr (omega arith)
-none_between (suc height) index some = elim (cases_lt index (2 ^ height)) [
-  | inl lt ↦ inl (let double : 2 ^ suc height ≡ 2 * 2 ^ height = omega arith in omega arith)
-  | inr ge ↦ inr (let double : 2 ^ suc height ≡ 2 * 2 ^ height = omega arith in omega arith)
-]
-
-pub tree_of_beside : (bits : List ℕ) (nodes : List Summary) (changed : Changed) → IsTreeBeside bits nodes changed →
-    changed.end ≡ 0 → IsTree bits nodes
-tree_of_beside bits nodes changed tree none = record {
-  height = tree.height;
-  bitmaps = tree.bitmaps;
-  small = tree.small;
-  node_count = tree.node_count;
-  are_leaves = λ leaf lt. tree.are_leaves leaf lt (inr (omega arith));
-  joined = λ index some parts. tree.joined index some parts (elim (none_between tree.height index some) [
-    | inl below ↦ inl (omega (arith, tree.node_count))
-    | inr above ↦ inr (omega (arith, tree.node_count))
-  ]);
-}
-
--- the nodes beside those above the leaves that changed are joined
-pub leaves_joined : (old new : List Summary) (first end : ℕ) → 1 ≤ end → length new ≡ length old →
-    AreJoinedBesideLeaves old first end → AreSameBesideLeaves old new first end →
-    AreJoinedBeside new ((leaf_count old + first) / 2) ((leaf_count old + end - 1) / 2)
-leaves_joined old new first end some len joined same index one parts out =
-    let inner : index < leaf_count old = omega arith in
-    let apart : (2 * index + 1 < leaf_count old + first) ⊎ (leaf_count old + end ≤ 2 * index) = elim out [
-      | inl below ↦ inl (omega arith)
-      | inr above ↦ inr (omega arith)
-    ] in
-    let kids : ((2 * index < leaf_count old + first) ⊎ (leaf_count old + end ≤ 2 * index)) ×
-    ((2 * index + 1 < leaf_count old + first) ⊎ (leaf_count old + end ≤ 2 * index + 1)) = elim apart [
-      | inl below ↦ (inl (omega arith), inl (omega arith))
-      | inr above ↦ (inr (omega arith), inr (omega arith))
-    ] in
-    same index (inl (omega arith))
-    ∙ (joined index one (omega arith) apart
-    ∙ (ap (λ (n : Summary). join n (node_at old (2 * index + 1))) (sym (same (2 * index) kids.0))
-    ∙ ap (join (node_at new (2 * index))) (sym (same (2 * index + 1) kids.1))))
-
-pub joined_beside_leaves : (nodes : List Summary) (first end : ℕ) → AreJoined nodes →
-    AreJoinedBesideLeaves nodes first end
-joined_beside_leaves nodes first end joined index some parts out = joined index some parts
-
--- a tree of which the nodes above the leaves were joined
-pub tree_joined : (bits : List ℕ) (nodes new : List Summary) (height from : ℕ) → length bits ≡ 4 * 2 ^ height →
-    64 * length bits < 2 ^ 32 → length nodes ≡ 2 * 2 ^ height → AreLeaves bits nodes → length new ≡ length nodes →
-    from ≤ leaf_count nodes → AreSameFrom nodes new from → AreJoined new → IsTree bits new
-tree_joined bits nodes new height from bitmaps small node_count leaves len low same joined = record {
-  height = height;
-  bitmaps = bitmaps;
-  small = small;
-  node_count = len ∙ node_count;
-  are_leaves = λ leaf lt.
-      ap (λ n. node_at new (n / 2 + leaf)) len
-      ∙ (same (leaf_count nodes + leaf) (omega arith) ∙ leaves leaf (omega arith));
-  joined = joined;
-}
-
--- A long range.
-pub between_filled : (bits new_bits : List ℕ) (place len : ℕ) (value : Bool) → 1 ≤ len →
-    IsFilled bits new_bits place len value → AreAllBetween new_bits (place / 256) ((place + len - 1) / 256) value
-between_filled bits new_bits place len value some filled word from to =
-    filled.inside word (omega arith) (omega arith)
-
--- One node a level.
-pub path_more : (nodes : List Summary) (index : ℕ) (node : Summary) → 2 * index + 1 < length nodes →
-    node ≡ join (node_at nodes (2 * index)) (node_at nodes (2 * index + 1)) → 0 < index →
-    AreJoinedBeside nodes index index → AreJoinedBeside (set nodes index node) (index / 2) (index / 2)
-path_more nodes index node within is some joined other one parts out =
-    let below : (index + 1) - 1 ≡ index = omega arith in
-    let is_joined : node ≡ join (node_at nodes (2 * ((index + 1) - 1))) (node_at nodes (2 * ((index + 1) - 1) + 1)) =
-    is ∙ ap (λ k. join (node_at nodes (2 * k)) (node_at nodes (2 * k + 1))) (sym below) in
-    let more : AreJoinedFrom (set nodes ((index + 1) - 1) node) index index ((index + 1) - 1) =
-    joined_more nodes index index (index + 1) node within (omega arith) (omega arith) is_joined
-    (λ at some_at parts_at outside beside. joined at some_at parts_at (elim outside [
-      | inl before ↦ inl before
-      | inr after ↦ inr (omega arith)
-    ])) in
-    subst (λ k. AreJoinedFrom (set nodes k node) index index k) below more other one parts
-    (elim (cases_lt other index) [ inl lt ↦ inl lt | inr ge ↦ inr ge ]) out
-
-pub path_done : (nodes : List Summary) (index : ℕ) → IsJoined nodes index → AreJoinedBeside nodes index index →
-    AreJoined nodes
-path_done nodes index here joined other one parts = elim (cases_eq other index) [
-  | inl at ↦ subst (IsJoined nodes) (sym at) here
-  | inr apart ↦ joined other one parts (elim (cases_lt other index) [
-    | inl lt ↦ inl lt
-    | inr ge ↦ inr (elim (cases_lt index other) [ inl more ↦ more | inr le ↦ absurd (apart (omega arith)) ])
-  ])
-]
-
--- The node of one leaf more.
-pub leaf_more : (bits : List ℕ) (old nodes : List Summary) (leaf end : ℕ) (node : Summary) →
-    length nodes ≡ length old → node ≡ summary (leaf_words bits leaf) → leaf < leaf_count old →
-    AreLeavesBeside bits nodes leaf end → AreLeavesBeside bits (set nodes (leaf_count old + leaf) node) (leaf + 1) end
-leaf_more bits old nodes leaf end node len is within leaves other lt out =
-    let at = leaf_count old + leaf in
-    let new_len : length (set nodes at node) ≡ length old = length-set nodes at node ∙ len in
-    ap (λ n. node_at (set nodes at node) (n / 2 + other)) new_len
-    ∙ elim (cases_eq other leaf) [
-      | inl same ↦ ap (λ k. node_at (set nodes at node) (leaf_count old + k)) same
-          ∙ (read_same nodes at node (omega arith) ∙ (is ∙ ap (λ k. summary (leaf_words bits k)) (sym same)))
-      | inr apart ↦ read_other nodes at (leaf_count old + other) node (λ e. absurd (apart (omega arith)))
-          ∙ (ap (λ n. node_at nodes (n / 2 + other)) (sym len) ∙ leaves other (omega arith) (elim out [
-            | inl before ↦ inl (elim (cases_lt other leaf) [
-              | inl less ↦ less
-              | inr ge ↦ absurd (apart (omega arith))
-            ])
-            | inr after ↦ inr after
-          ]))
-    ]
-
-pub leaf_beside : (old nodes : List Summary) (first end leaf : ℕ) (node : Summary) → first ≤ leaf → leaf < end →
-    AreSameBesideLeaves old nodes first end →
-    AreSameBesideLeaves old (set nodes (leaf_count old + leaf) node) first end
-leaf_beside old nodes first end leaf node from to same index out =
-    read_other nodes (leaf_count old + leaf) index node (λ e. elim out [
-      | inl below ↦ absurd (omega arith)
-      | inr above ↦ absurd (omega arith)
-    ]) ∙ same index out

@@ -12,9 +12,9 @@ use Rattle.std.proofs.lemmas.Nat.{pow_pos}
 use Rattle.std.proofs.lemmas.Nat.Bits.{bit_at-zero}
 use Rattle.holes.specs.FreeWords.{Region, is_free, AllFree, NoneFree, IsLowestFit, set_range, free_from}
 use Rattle.holes.specs.FreeWords.{free_count, hole_count, widest}
-use Rattle.holes.specs.Tree.{words_from, word_at, words_of, lowest_fit, nothing_free, summary, join, node_at}
-use Rattle.holes.specs.Tree.{leaf_count, NoneBelow, NoneBelowBeside, IsFilled, IsTree, IsTreeBeside, IsHoles}
-use Rattle.holes.specs.Tree.{IsPowerOfTwo}
+use Rattle.holes.specs.Tree.{words_from, word_at, words_of, lowest_fit, nothing_free, summary, node_at}
+use Rattle.holes.specs.Tree.{NoneBelow, NoneBelowBeside, IsFilled, IsTree, IsTreeBeside, IsHoles}
+use Rattle.holes.specs.Tree.{IsPowerOfTwo, node_words, first_leaf, width}
 use Rattle.holes.proofs.Ranges.{last_of, free_count_given, free_count-le-length, free_count-false}
 use Rattle.holes.proofs.Ranges.{free_count-free_from, hole_count_after-false, set_range_same}
 use Rattle.holes.proofs.Ranges.{length-set_range, set_range_inside, set_range_before, set_range_behind}
@@ -22,7 +22,8 @@ use Rattle.holes.proofs.Ranges.{same_words, length-free_from, free_from_below, f
 use Rattle.holes.proofs.Runs.{lowest-append_left, lowest_is_lowest, lowest_within}
 use Rattle.holes.proofs.Bits.{length-words, word_in, words_from-add, all_words}
 use Rattle.holes.proofs.Bitmaps.{widest_behind, summary_all}
-use Rattle.holes.proofs.Nodes.{beside_of_tree}
+use Rattle.holes.proofs.Nodes.{width-pos}
+use Rattle.holes.proofs.Trees.{beside_none}
 use Rattle.holes.proofs.Counts.{last_taken, hole_count_changed, hole_count_from}
 
 -- no word is free from a place on
@@ -120,16 +121,18 @@ none_at n k = elim (cases_lt k n) [
 pub holes_after : (bits new_bits : List ℕ) (nodes new_nodes : List Summary) (changed new_changed : Changed)
     (near new_near size free most place len new_free : ℕ) (value : Bool) →
     IsHoles bits nodes changed near size free most →
-    IsTreeBeside new_bits new_nodes new_changed → IsFilled bits new_bits place len value → place + len ≤ size →
+    IsTreeBeside new_bits new_nodes new_changed → new_changed.end ≤ new_changed.first + 3 →
+    IsFilled bits new_bits place len value → place + len ≤ size →
     new_near < length bits → NoneBelow new_bits (64 * new_near) →
     new_free ≡ free_count (set_range (words_from (word_at bits) 0 size) place len value) →
     hole_count (set_range (words_from (word_at bits) 0 size) place len value) ≤ most →
     IsHoles new_bits new_nodes new_changed new_near size new_free most
 holes_after bits new_bits nodes new_nodes changed new_changed near new_near size free most place len new_free value is
-    tree filled range near_within none_below free_is few =
+    tree few_changed filled range near_within none_below free_is few =
     let words = filled_words bits new_bits size place len value is.within range filled in
     record {
       tree = tree;
+      few_changed = few_changed;
       near_within = omega (arith, filled.same_length);
       none_below = none_below;
       within = omega (arith, is.within, filled.same_length);
@@ -238,25 +241,24 @@ pub no_words : (leaves word : ℕ) → word_at (replicate leaves 0) word ≡ fal
 no_words leaves word = ap (λ b. eqb b 1) (ap (λ n. bit_at n (word % 64)) (zero_at leaves (word / 64))
     ∙ bit_at-zero (word % 64))
 
+node_of_none : (n top low index : ℕ) → node_words (replicate n 0) top low index ≡ replicate (256 * width low) false
+unfolding node_words
+node_of_none n top low index =
+    all_words (word_at (replicate n 0)) (256 * (first_leaf low index - 2 ^ top)) (256 * width low) false
+    (λ word lt. no_words n (256 * (first_leaf low index - 2 ^ top) + word))
+
 pub tree_of_none : (leaves : ℕ) → IsPowerOfTwo leaves → 256 * leaves < 2 ^ 32 →
     IsTree (replicate (4 * leaves) 0) (replicate (2 * leaves) nothing_free)
 tree_of_none leaves power small =
-    let bits : List ℕ = replicate (4 * leaves) 0 in
-    let nodes = replicate (2 * leaves) nothing_free in
-    let len : length bits ≡ 4 * leaves = length-replicate {A = ℕ} (4 * leaves) 0 in
+    let len : length (replicate (4 * leaves) 0) ≡ 4 * leaves = length-replicate {A = ℕ} (4 * leaves) 0 in
     record {
       height = power.0;
-      bitmaps = omega (arith, power.1);
-      small = omega arith;
+      bitmaps = omega (arith, len, power.1);
+      small = omega (arith, len);
       node_count = omega (arith, length-replicate (2 * leaves) nothing_free, power.1);
-      are_leaves = λ leaf lt.
-          none_at (2 * leaves) (leaf_count nodes + leaf)
-          ∙ sym (ap summary (all_words (word_at bits) (256 * leaf) 256 false
-          (λ word lt. no_words (4 * leaves) (256 * leaf + word))) ∙ summary_all 256 false (omega arith));
-      joined = λ index some parts.
-          none_at (2 * leaves) index ∙ sym (ap (λ (n : Summary). join n (node_at (replicate (2 * leaves) nothing_free)
-          (2 * index + 1))) (none_at (2 * leaves) (2 * index)) ∙ ap (join nothing_free)
-          (none_at (2 * leaves) (2 * index + 1)));
+      is_right = λ low index is. inl (none_at (2 * leaves) index
+          ∙ sym (ap summary (node_of_none (4 * leaves) power.0 low index)
+          ∙ summary_all (256 * width low) false (omega (arith, width-pos low))));
     }
 
 pub holes_of_none : (leaves size most : ℕ) → IsPowerOfTwo leaves → 256 * leaves < 2 ^ 32 → size ≤ 256 * leaves →
@@ -268,8 +270,8 @@ holes_of_none leaves size most power small within some =
     let words : words_from (word_at bits) 0 size ≡ replicate size false =
     all_words (word_at bits) 0 size false (λ word lt. no_words (4 * leaves) (0 + word)) in
     record {
-      tree = beside_of_tree bits (replicate (2 * leaves) nothing_free) 0 0 (tree_of_none leaves power small)
-          (omega arith) (omega arith);
+      tree = beside_none bits (replicate (2 * leaves) nothing_free) (tree_of_none leaves power small);
+      few_changed = omega arith;
       near_within = omega (arith, power.1, pow_pos power.0);
       none_below = λ word lt. no_words (4 * leaves) word;
       within = omega arith;
@@ -284,7 +286,8 @@ pub holes_joined : (bits : List ℕ) (nodes new : List Summary) (changed : Chang
     IsHoles bits nodes changed near size free most → IsTree bits new → new_near < length bits →
     NoneBelow bits (64 * new_near) → IsHoles bits new (record { first = 0; end = 0 }) new_near size free most
 holes_joined bits nodes new changed near new_near size free most is tree within none = record {
-  tree = beside_of_tree bits new 0 0 tree (omega arith) (omega arith);
+  tree = beside_none bits new tree;
+  few_changed = omega arith;
   near_within = within;
   none_below = none;
   within = is.within;
@@ -345,15 +348,17 @@ takes_seen bits size most len place region within none some is long lowest =
 -- Exactly the words from a place on.
 pub holes_reset : (bits middle new : List ℕ) (nodes new_nodes : List Summary) (changed new_changed : Changed)
     (near new_near size free most from : ℕ) → IsHoles bits nodes changed near size free most →
-    IsTreeBeside new new_nodes new_changed → from ≤ size → IsFilled bits middle 0 from false →
+    IsTreeBeside new new_nodes new_changed → new_changed.end ≤ new_changed.first + 3 → from ≤ size →
+    IsFilled bits middle 0 from false →
     IsFilled middle new from (size - from) true → new_near < length bits → 64 * new_near ≤ from →
     IsHoles new new_nodes new_changed new_near size (size - from) most
-holes_reset bits middle new nodes new_nodes changed new_changed near new_near size free most from is tree le first
-    second near_within before =
+holes_reset bits middle new nodes new_nodes changed new_changed near new_near size free most from is tree
+    few_changed le first second near_within before =
     let words = reset_words bits middle new size from is.within le first second in
     let first_none = filled_none_from bits middle size 0 from false (omega arith) first is.behind in
     record {
       tree = tree;
+      few_changed = few_changed;
       near_within = omega (arith, first.same_length, second.same_length);
       none_below = λ word lt. second.before word (omega arith) ∙ first.inside word (omega arith) (omega arith);
       within = omega (arith, is.within, first.same_length, second.same_length);

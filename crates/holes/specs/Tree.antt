@@ -1,7 +1,7 @@
 -- What the nodes of a tree over bitmaps tell of the free words.
-use Rattle.std.specs.Prelude.{◌≡◌, ℕ, zero, suc, ◌+◌, ◌-◌, ◌*◌, ◌/◌, ◌%◌, ◌^◌, ◌<◌, ◌≤◌, min, max, nat_eq}
+use Rattle.std.specs.Prelude.{◌≡◌, ◌≢◌, ℕ, zero, suc, ◌+◌, ◌-◌, ◌*◌, ◌/◌, ◌%◌, ◌^◌, ◌<◌, ◌≤◌, min, max, nat_eq}
 use Rattle.std.specs.Prelude.{nat_le, if◌then◌else◌, Bool, true, false, List, [], ◌∷◌, length, slice_index_or}
-use Rattle.std.specs.Prelude.{◌⊎◌}
+use Rattle.std.specs.Prelude.{◌⊎◌, replicate}
 use Rattle.std.specs.Int.{bit_at}
 use Rattle.holes.specs.declared.summary.Summary.{Summary}
 use Rattle.holes.specs.declared.tree.Changed.{Changed}
@@ -94,45 +94,54 @@ node_at nodes index = slice_index_or nodes index nothing_free
 abbrev pub leaf_count : List Summary → ℕ
 leaf_count nodes = length nodes / 2
 
--- the node of a leaf is that of its words
-abbrev pub IsLeaf : List ℕ → List Summary → ℕ → Type 0
-IsLeaf bits nodes leaf = node_at nodes (leaf_count nodes + leaf) ≡ summary (leaf_words bits leaf)
+-- how many leaves a node of some height has
+unfoldable pub width : ℕ → ℕ
+width zero = 1
+width (suc height) = width height + width height
 
--- the nodes of the leaves are those of their words
-abbrev pub AreLeaves : List ℕ → List Summary → Type 0
-AreLeaves bits nodes = (leaf : ℕ) → leaf < leaf_count nodes → IsLeaf bits nodes leaf
+-- the index of the first leaf below a node of some height
+unfoldable pub first_leaf : ℕ → ℕ → ℕ
+first_leaf zero index = index
+first_leaf (suc height) index = first_leaf height (2 * index)
 
--- the nodes of the leaves are those of their words, but for the leaves from one up to another
-abbrev pub AreLeavesBeside : List ℕ → List Summary → ℕ → ℕ → Type 0
-AreLeavesBeside bits nodes first end =
-    (leaf : ℕ) → leaf < leaf_count nodes → (leaf < first) ⊎ (end ≤ leaf) → IsLeaf bits nodes leaf
+-- a node of some height, in a tree of a height
+pub record IsNode (top height index : ℕ) : Type 0 where
+  pub depth : ℕ
+  pub at : height + depth ≡ top
+  pub from : 2 ^ depth ≤ index
+  pub to : index < 2 * 2 ^ depth
 
--- all words of the leaves strictly between two are free, or none is
-abbrev pub AreAllBetween : List ℕ → ℕ → ℕ → Bool → Type 0
-AreAllBetween bits first last value =
-    (word : ℕ) → 256 * (first + 1) ≤ word → word < 256 * last → word_at bits word ≡ value
+-- the words of a node of some height
+unfoldable pub node_words : List ℕ → ℕ → ℕ → ℕ → List Bool
+node_words bits top height index =
+    words_from (word_at bits) (256 * (first_leaf height index - 2 ^ top)) (256 * width height)
+
+-- a node is that of its words
+abbrev pub IsRight : List ℕ → List Summary → ℕ → ℕ → ℕ → Type 0
+IsRight bits nodes top height index = node_at nodes index ≡ summary (node_words bits top height index)
+
+-- a block has eight leaves: all words of the block of a leaf are free, or none is
+abbrev pub IsAlike : List ℕ → ℕ → ℕ → Type 0
+IsAlike bits top leaf =
+    (value : Bool) × ((word : ℕ) → (2 ^ top + word / 256) / 8 ≡ leaf / 8 → word_at bits word ≡ value)
+
+-- a node needn't be right, since it lies below a block of which all words are free, or none is
+pub record IsHidden (bits : List ℕ) (top height index : ℕ) : Type 0 where
+  pub low : height < 3
+  pub tall : 3 ≤ top
+  pub alike : IsAlike bits top (first_leaf height index)
+
+-- no leaf below a node is one of first..end
+abbrev pub IsBeside : ℕ → ℕ → ℕ → ℕ → Type 0
+IsBeside height index first end = (first_leaf height index + width height ≤ first) ⊎ (end ≤ first_leaf height index)
+
+-- no leaf of the block of a leaf is one of first..end
+abbrev pub IsBlockBeside : ℕ → ℕ → ℕ → Type 0
+IsBlockBeside leaf first end = (8 * (leaf / 8) + 8 ≤ first) ⊎ (end ≤ 8 * (leaf / 8))
 
 -- the node at an index is that of its two parts
 abbrev pub IsJoined : List Summary → ℕ → Type 0
 IsJoined nodes index = node_at nodes index ≡ join (node_at nodes (2 * index)) (node_at nodes (2 * index + 1))
-
--- each node that has parts is that of its parts, but for the nodes from an index to another
-abbrev pub AreJoinedBeside : List Summary → ℕ → ℕ → Type 0
-AreJoinedBeside nodes first last =
-    (index : ℕ) → 1 ≤ index → 2 * index + 1 < length nodes → (index < first) ⊎ (last < index) → IsJoined nodes index
-
--- each node that has parts is that of its parts
-abbrev pub AreJoined : List Summary → Type 0
-AreJoined nodes = (index : ℕ) → 1 ≤ index → 2 * index + 1 < length nodes → IsJoined nodes index
-
--- the nodes from an index on are the same
-abbrev pub AreSameFrom : List Summary → List Summary → ℕ → Type 0
-AreSameFrom old new from = (index : ℕ) → from ≤ index → node_at new index ≡ node_at old index
-
--- the nodes are the same, but for those from an index to another
-abbrev pub AreSameBeside : List Summary → List Summary → ℕ → ℕ → Type 0
-AreSameBeside old new first last =
-    (index : ℕ) → (index < first) ⊎ (last < index) → node_at new index ≡ node_at old index
 
 -- the nodes are the same, but for those of the leaves from one up to another
 abbrev pub AreSameBesideLeaves : List Summary → List Summary → ℕ → ℕ → Type 0
@@ -140,43 +149,103 @@ AreSameBesideLeaves old new first end =
     (index : ℕ) → (index < leaf_count old + first) ⊎ (leaf_count old + end ≤ index) →
     node_at new index ≡ node_at old index
 
--- the nodes strictly between two indices are all alike
-abbrev pub AreAlike : List Summary → ℕ → ℕ → Summary → Type 0
-AreAlike nodes first last node = (index : ℕ) → first < index → index < last → node_at nodes index ≡ node
-
--- the nodes from an index to another are of one depth
-pub record IsLevel (first last : ℕ) : Type 0 where
-  pub depth : ℕ
-  pub from : 2 ^ depth ≤ first
-  pub order : first ≤ last
-  pub to : last < 2 * 2 ^ depth
-
--- each node is that of its parts, but for those above the leaves from one up to another
-abbrev pub AreJoinedBesideLeaves : List Summary → ℕ → ℕ → Type 0
-AreJoinedBesideLeaves nodes first end =
-    (index : ℕ) → 1 ≤ index → 2 * index + 1 < length nodes →
-    (2 * index + 1 < leaf_count nodes + first) ⊎ (leaf_count nodes + end ≤ 2 * index) → IsJoined nodes index
-
--- the nodes of the tree over some bitmaps
+-- the tree over some bitmaps: each node is right, or below a block of which all words are free or none is
 pub record IsTree (bits : List ℕ) (nodes : List Summary) : Type 0 where
   pub height : ℕ
   pub bitmaps : length bits ≡ 4 * 2 ^ height
   pub small : 64 * length bits < 2 ^ 32
   pub node_count : length nodes ≡ 2 * 2 ^ height
-  pub are_leaves : AreLeaves bits nodes
-  pub joined : AreJoined nodes
+  pub is_right : (low index : ℕ) → IsNode height low index →
+      IsRight bits nodes height low index ⊎ IsHidden bits height low index
 
--- the nodes of a tree over some bitmaps, but for the nodes of the leaves that changed, and those above them, which
--- needn't be joined
+-- a node of new nodes is right if it was right before, or if it is one of the blocks of two leaves
+abbrev pub AreOpened : List Summary → List Summary → ℕ → ℕ → Type 0
+AreOpened old new first last =
+    (bits : List ℕ) (tree : IsTree bits old) (low index : ℕ) → IsNode tree.height low index →
+    IsRight bits old tree.height low index ⊎ ((first_leaf low index / 8 ≡ (leaf_count old + first) / 8)
+    ⊎ (first_leaf low index / 8 ≡ (leaf_count old + last) / 8)) → IsRight bits new tree.height low index
+
+-- the same, but for the nodes of the leaves that changed, and those above them. No node of their blocks is hidden, and a
+-- node with a part above all of them is that of its parts
 pub record IsTreeBeside (bits : List ℕ) (nodes : List Summary) (changed : Changed) : Type 0 where
   pub height : ℕ
   pub bitmaps : length bits ≡ 4 * 2 ^ height
   pub small : 64 * length bits < 2 ^ 32
   pub node_count : length nodes ≡ 2 * 2 ^ height
-  pub order : changed.first ≤ changed.end
+  pub order : (changed.end ≡ 0) ⊎ (changed.first < changed.end)
   pub within : changed.end ≤ 2 ^ height
-  pub are_leaves : AreLeavesBeside bits nodes changed.first changed.end
-  pub joined : AreJoinedBesideLeaves nodes changed.first changed.end
+  pub is_right : (low index : ℕ) → IsNode height low index →
+      IsBeside low index (2 ^ height + changed.first) (2 ^ height + changed.end) →
+      IsRight bits nodes height low index ⊎ (IsHidden bits height low index
+      × IsBlockBeside (first_leaf low index) (2 ^ height + changed.first) (2 ^ height + changed.end))
+  pub joined : changed.first < changed.end → (low index : ℕ) → IsNode height low index → 1 < index →
+      first_leaf low index ≤ 2 ^ height + changed.first →
+      2 ^ height + changed.end ≤ first_leaf low index + width low → IsJoined nodes (index / 2)
+
+-- the index of the node of some height above a leaf
+unfoldable pub above : ℕ → ℕ → ℕ
+above zero leaf = leaf
+above (suc height) leaf = above height leaf / 2
+
+-- the tree over some bitmaps, but for the nodes above two leaves that are higher than `lower`
+pub record IsJoiningAt (bits : List ℕ) (nodes : List Summary) (top lower left right : ℕ) : Type 0 where
+  pub bitmaps : length bits ≡ 4 * 2 ^ top
+  pub small : 64 * length bits < 2 ^ 32
+  pub node_count : length nodes ≡ 2 * 2 ^ top
+  pub left_is : IsNode top 0 left
+  pub right_is : IsNode top 0 right
+  pub is_right : (low index : ℕ) → IsNode top low index →
+      (low ≤ lower) ⊎ (IsBeside low index left (left + 1) × IsBeside low index right (right + 1)) →
+      IsRight bits nodes top low index ⊎ (IsHidden bits top low index
+      × IsBlockBeside (first_leaf low index) left (left + 1) × IsBlockBeside (first_leaf low index) right (right + 1))
+  pub joined : (low index : ℕ) → IsNode top low index → 1 < index → lower < low →
+      first_leaf low index ≤ left → left < first_leaf low index + width low →
+      first_leaf low index ≤ right → right < first_leaf low index + width low → IsJoined nodes (index / 2)
+
+-- the same, but for the nodes at two indices of one height, and those above them
+pub record IsJoining (bits : List ℕ) (nodes : List Summary) (first last : ℕ) : Type 0 where
+  pub height : ℕ
+  pub lower : ℕ
+  pub left : ℕ
+  pub right : ℕ
+  pub first_is : first ≡ above (suc lower) left
+  pub last_is : last ≡ above (suc lower) right
+  pub at : IsJoiningAt bits nodes height lower left right
+
+-- the nodes strictly between two of one depth are written, but for those further than `side` from both, if it is more
+-- than one
+pub record IsLevelWritten (old new : List Summary) (first last side : ℕ) (node : Summary) : Type 0 where
+  pub same_length : length new ≡ length old
+  pub outside : (index : ℕ) → (index ≤ first) ⊎ (last ≤ index) → node_at new index ≡ node_at old index
+  pub inside : (index : ℕ) → first < index → index < last → (node_at new index ≡ node)
+      ⊎ ((2 ≤ side) × (first + side ≤ index) × (index + side ≤ last))
+
+-- the nodes at two indices are leaves of one tree
+pub record AreTwoLeaves (first last : ℕ) : Type 0 where
+  pub height : ℕ
+  pub small : 256 * 2 ^ height < 2 ^ 32
+  pub first_is : IsNode height 0 first
+  pub last_is : IsNode height 0 last
+
+-- the nodes below a block are those of words that are all free, or all not free, and the others are as they were
+pub record IsBlockWritten (old new : List Summary) (block : ℕ) (value : Bool) : Type 0 where
+  pub same_length : length new ≡ length old
+  pub leaves : (index : ℕ) → index / 8 ≡ block → node_at new index ≡ summary (replicate 256 value)
+  pub pairs : (index : ℕ) → index / 4 ≡ block → node_at new index ≡ summary (replicate 512 value)
+  pub halves : (index : ℕ) → index / 2 ≡ block → node_at new index ≡ summary (replicate 1024 value)
+  pub outside : (index : ℕ) → index / 8 ≢ block → index / 4 ≢ block → index / 2 ≢ block →
+      node_at new index ≡ node_at old index
+
+-- the nodes strictly between two leaves are those of words that are all free, or all not free, but for those that lie
+-- below a block between those of the two leaves
+pub record AreWrittenBetween (old new : List Summary) (top left right : ℕ) (value : Bool) : Type 0 where
+  pub outside : (low index : ℕ) → IsNode top low index →
+      (first_leaf low index ≤ left) ⊎ (right < first_leaf low index + width low) →
+      node_at new index ≡ node_at old index
+  pub inside : (low index : ℕ) → IsNode top low index → left < first_leaf low index →
+      first_leaf low index + width low ≤ right → (node_at new index ≡ summary (replicate (256 * width low) value))
+      ⊎ ((low < 3) × IsBlockBeside (first_leaf low index) left (left + 1)
+      × IsBlockBeside (first_leaf low index) right (right + 1))
 
 -- no word is free below a place
 abbrev pub NoneBelow : List ℕ → ℕ → Type 0
@@ -194,6 +263,7 @@ IsPowerOfTwo n = (exponent : ℕ) × (n ≡ 2 ^ exponent)
 -- `most` holes
 pub record IsHoles (bits : List ℕ) (nodes : List Summary) (changed : Changed) (near size free most : ℕ) : Type 0 where
   pub tree : IsTreeBeside bits nodes changed
+  pub few_changed : changed.end ≤ changed.first + 3
   pub near_within : near < length bits
   pub none_below : NoneBelow bits (64 * near)
   pub within : size ≤ 64 * length bits

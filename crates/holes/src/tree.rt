@@ -2,14 +2,15 @@
 //!
 //! A leaf has four bitmaps, and the number of leaves is a power of two. The nodes are in one list: the root is at 1,
 //! the parts of the node at `index` are at `2 * index` and `2 * index + 1`, and the node of the leaf `k` is at
-//! `leaves + k`. Some leaves that follow one another may have changed after the nodes were joined.
+//! `leaves + k`. Some leaves that follow one another may have changed after the nodes were joined. Eight leaves are a
+//! block. The nodes below a block whose words are all free, or all not free, needn't be right.
 
-ghost use Rattle.std.specs.Prelude.{◌≡◌, ℕ, ◌+◌, ◌-◌, ◌*◌, ◌/◌, ◌^◌, ◌<◌, ◌≤◌, ◌↔◌, replicate, length};
+ghost use Rattle.std.specs.Prelude.{◌≡◌, ℕ, ◌+◌, ◌-◌, ◌*◌, ◌/◌, ◌^◌, ◌<◌, ◌≤◌, ◌↔◌, ◌⊎◌, List, replicate, length};
 ghost use Rattle.std.specs.Prelude.{IfSome, IfNone, IsNone, IsTrue, true, false};
 ghost use Rattle.holes.specs.FreeWords.{widest, hole_count};
-ghost use Rattle.holes.specs.Tree.{IsTree, AreJoined, AreJoinedBeside, AreSameFrom, AreSameBesideLeaves, AreAlike};
-ghost use Rattle.holes.specs.Tree.{IsLevel, IsWritten, IsTreeBeside, NoneBelow, NoneBelowBeside, IsFilled};
-ghost use Rattle.holes.specs.Tree.{AreLeaves, AreLeavesBeside, AreAllBetween, leaf_count, lowest_fit, summary};
+ghost use Rattle.holes.specs.Tree.{IsTree, IsTreeBeside, IsJoining, IsLevelWritten, AreWrittenBetween, IsWritten};
+ghost use Rattle.holes.specs.Tree.{AreSameBesideLeaves, IsNode, IsRight, NoneBelow, NoneBelowBeside, IsFilled};
+ghost use Rattle.holes.specs.Tree.{AreOpened, AreTwoLeaves, IsBlockWritten, IsPowerOfTwo, first_leaf, leaf_count, leaf_words, lowest_fit, node_at, summary};
 ghost use Rattle.holes.specs.Tree.{words_of, words_between, words_from, word_at};
 
 use crate::bitmap::{self, WORDS};
@@ -20,6 +21,10 @@ pub(crate) const LEAF: usize = 4;
 
 /// The words of a leaf.
 pub(crate) const LEAF_WORDS: usize = LEAF * WORDS;
+
+/// The leaves of a block. The nodes below a block of which all words are free, or none is, are hidden: what they know
+/// needn't be right. They are written before a word of the block changes.
+const BLOCK: usize = 8;
 
 /// How many leaves may have changed before nodes are joined. A range of words over more leaves is long.
 const NEAR: usize = 3;
@@ -168,12 +173,13 @@ fn alike(value: bool) -> Summary
 }
 
 /// The nodes of the leaves `first..end` follow their bitmaps.
+#[inline(always)]
 fn join_leaves(bits: &[u64], nodes: &mut [Summary], first: usize, end: usize)
     requires within { end ≤ leaf_count nodes.old }
     requires bitmaps { length bits.now ≡ 4 * leaf_count nodes.old }
     requires small { 64 * length bits.now < 2 ^ 32 }
-    requires leaves { AreLeavesBeside bits.now nodes.old first end }
-    ensures leaves { AreLeaves bits.now nodes.new }
+    ensures leaves { (leaf : ℕ) → first ≤ leaf → leaf < end →
+        node_at nodes.new (leaf_count nodes.old + leaf) ≡ summary (leaf_words bits.now leaf) }
     ensures beside { AreSameBesideLeaves nodes.old nodes.new first end }
 {
     let leaves = nodes.len() / 2;
@@ -182,42 +188,10 @@ fn join_leaves(bits: &[u64], nodes: &mut [Summary], first: usize, end: usize)
     }
 }
 
-/// The nodes of the leaves `first..=last` follow their bitmaps. The words of the leaves between these two are all free,
-/// or all not free.
-fn join_long_leaves(bits: &[u64], nodes: &mut [Summary], first: usize, last: usize, value: bool)
-    requires order { first < last }
-    requires within { last < leaf_count nodes.old }
-    requires bitmaps { length bits.now ≡ 4 * leaf_count nodes.old }
-    requires small { 64 * length bits.now < 2 ^ 32 }
-    requires between { AreAllBetween bits.now first last value }
-    requires leaves { AreLeavesBeside bits.now nodes.old first (last + 1) }
-    ensures leaves { AreLeaves bits.now nodes.new }
-    ensures beside { AreSameBesideLeaves nodes.old nodes.new first (last + 1) }
-{
-    let leaves = nodes.len() / 2;
-    write(nodes, leaves + first + 1, leaves + last, alike(value));
-    nodes[leaves + first] = summary(bits, first * LEAF, first * LEAF + LEAF);
-    nodes[leaves + last] = summary(bits, last * LEAF, last * LEAF + LEAF);
-}
-
-/// Joins the parts of each node of `first..=last`, the last node first.
-fn join_nodes(nodes: &mut [Summary], first: usize, last: usize)
-    requires within { 2 * last + 1 < length nodes.old }
-    requires joined { AreJoinedBeside nodes.old first last }
-    ensures joined { AreJoinedBeside nodes.new (first / 2) (last / 2) }
-    ensures below { AreSameFrom nodes.old nodes.new (last + 1) }
-{
-    for index in (first..last + 1).rev() {
-        nodes[index] = nodes[2 * index].join(nodes[2 * index + 1]);
-    }
-}
-
 /// Joins the parts of a node and of each above it, up to the first that doesn't change.
 fn join_path(nodes: &mut [Summary], index: usize)
     requires within { 2 * index + 1 < length nodes.old }
-    requires joined { AreJoinedBeside nodes.old index index }
-    ensures joined { AreJoined nodes.new }
-    ensures below { AreSameFrom nodes.old nodes.new (index + 1) }
+    ensures { (bits : List ℕ) → IsJoining bits nodes.old index index → IsTree bits nodes.new }
 {
     let mut index = index;
     while index > 0 {
@@ -230,61 +204,109 @@ fn join_path(nodes: &mut [Summary], index: usize)
     }
 }
 
-/// Joins the parts of each node above those of `first..=last`, up to the root or to a node that doesn't change.
+/// Joins the parts of each node above two of one depth, up to the root or to a node that doesn't change.
 fn join_above(nodes: &mut [Summary], first: usize, last: usize)
     requires within { 2 * (last / 2) + 1 < length nodes.old }
-    requires joined { AreJoinedBeside nodes.old (first / 2) (last / 2) }
-    ensures joined { AreJoined nodes.new }
-    ensures below { AreSameFrom nodes.old nodes.new (last / 2 + 1) }
+    requires order { first ≤ last }
+    ensures { (bits : List ℕ) → IsJoining bits nodes.old (first / 2) (last / 2) → IsTree bits nodes.new }
 {
     let mut first = first / 2;
     let mut last = last / 2;
     while first < last {
-        join_nodes(nodes, first, last);
+        nodes[first] = nodes[2 * first].join(nodes[2 * first + 1]);
+        nodes[last] = nodes[2 * last].join(nodes[2 * last + 1]);
         first /= 2;
         last /= 2;
     }
     join_path(nodes, last);
 }
 
-/// Joins the parts of each node of `first..=last`, and answers the node of two parts such as those between these two
-/// nodes, which are all alike.
-fn join_level(nodes: &mut [Summary], first: usize, last: usize, part: Summary) -> Summary
+/// Writes a node at the indices between two. If these are far apart and `side` is more than one, so that nodes of their
+/// depth lie below blocks, it writes only those nearer than `side` to one of the two.
+fn write_level(nodes: &mut [Summary], first: usize, last: usize, side: usize, node: Summary)
     requires order { first < last }
-    requires level { last < 2 * first }
-    requires within { 2 * last + 1 < length nodes.old }
-    requires alike { AreAlike nodes.old (2 * first + 1) (2 * last) part }
-    requires joined { AreJoinedBeside nodes.old first last }
-    ensures alike { AreAlike nodes.new first last result }
-    ensures joined { AreJoinedBeside nodes.new (first / 2) (last / 2) }
-    ensures below { AreSameFrom nodes.old nodes.new (last + 1) }
+    requires within { last ≤ length nodes.old }
+    requires side { side ≤ 8 }
+    ensures { IsLevelWritten nodes.old nodes.new first last side node }
 {
-    let both = part.join(part);
-    write(nodes, first + 1, last, both);
-    nodes[first] = nodes[2 * first].join(nodes[2 * first + 1]);
-    nodes[last] = nodes[2 * last].join(nodes[2 * last + 1]);
-    both
+    if side > 1 && last - first > 4 * side {
+        write(nodes, first + 1, first + side, node);
+        write(nodes, last - side + 1, last, node);
+    } else {
+        write(nodes, first + 1, last, node);
+    }
 }
 
-/// Joins the parts of each node above those of `first..=last`, up to the root. The nodes between these two are all
-/// alike.
-fn join_long(nodes: &mut [Summary], first: usize, last: usize, part: Summary)
-    requires level { IsLevel first last }
-    requires within { 2 * (last / 2) + 1 < length nodes.old }
-    requires alike { AreAlike nodes.old first last part }
-    requires joined { AreJoinedBeside nodes.old (first / 2) (last / 2) }
-    ensures joined { AreJoined nodes.new }
-    ensures below { AreSameFrom nodes.old nodes.new (last / 2 + 1) }
+/// Writes the nodes between two leaves, of which all words are free or none is, but for those below a block between.
+fn write_between(nodes: &mut [Summary], first: usize, last: usize, value: bool)
+    requires order { first < last }
+    requires within { last < length nodes.old }
+    requires leaves { AreTwoLeaves first last }
+    ensures { (top : ℕ) → IsNode top 0 first → IsNode top 0 last → AreWrittenBetween nodes.old nodes.new top first last value }
 {
     let mut first = first;
     let mut last = last;
-    let mut part = part;
+    let mut node = alike(value);
+    let mut side = BLOCK;
     while first + 1 < last {
+        write_level(nodes, first, last, side, node);
+        node = node.join(node);
         first /= 2;
         last /= 2;
-        part = join_level(nodes, first, last, part);
+        side /= 2;
     }
-    join_above(nodes, first, last);
+}
+
+/// Writes all nodes below a block of which all words are free, or none is: its eight leaves, the four nodes above these,
+/// and the two above those.
+#[cold]
+#[inline(never)]
+fn open_block(nodes: &mut [Summary], block: usize)
+    requires within { 8 * block + 8 ≤ length nodes.old }
+    requires some { 1 ≤ block }
+    ensures { IsBlockWritten nodes.old nodes.new block (node_at nodes.old block).whole }
+{
+    let value = nodes[block].whole;
+    let mut node = alike(value);
+    write(nodes, BLOCK * block, BLOCK * block + BLOCK, node);
+    node = node.join(node);
+    write(nodes, 4 * block, 4 * block + 4, node);
+    node = node.join(node);
+    write(nodes, 2 * block, 2 * block + 2, node);
+}
+
+/// Writes the nodes below the block of a leaf if they may be hidden: if all words of the block are free, or none is.
+#[inline(always)]
+fn open(nodes: &mut [Summary], leaf: usize)
+    requires within { leaf < leaf_count nodes.old }
+    requires even { length nodes.old ≡ 2 * leaf_count nodes.old }
+    requires power { IsPowerOfTwo (leaf_count nodes.old) }
+    ensures { AreOpened nodes.old nodes.new leaf leaf }
+{
+    let block = (nodes.len() / 2 + leaf) / BLOCK;
+    if block == 0 {
+        return;
+    }
+    let node = nodes[block];
+    if node.whole || node.longest == 0 {
+        open_block(nodes, block);
+    }
+}
+
+/// Writes the nodes below the blocks of two leaves if they may be hidden.
+#[inline(always)]
+fn open_two(nodes: &mut [Summary], first: usize, last: usize)
+    requires order { first ≤ last }
+    requires within { last < leaf_count nodes.old }
+    requires even { length nodes.old ≡ 2 * leaf_count nodes.old }
+    requires power { IsPowerOfTwo (leaf_count nodes.old) }
+    ensures { AreOpened nodes.old nodes.new first last }
+{
+    open(nodes, first);
+    if first / BLOCK == last / BLOCK {
+        return;
+    }
+    open(nodes, last);
 }
 
 /// The leaves `first..end`, of which bitmaps may have changed after the nodes were joined.
@@ -309,7 +331,8 @@ impl Changed {
 
 /// Joins the nodes of the leaves that changed, and those above them.
 pub(crate) fn join_changed(bits: &[u64], nodes: &mut [Summary], changed: Changed)
-    requires { IsTreeBeside bits.now nodes.old changed }
+    requires tree { IsTreeBeside bits.now nodes.old changed }
+    requires few { changed.end ≤ changed.first + 3 }
     ensures { IsTree bits.now nodes.new }
 {
     if changed.end == 0 {
@@ -320,24 +343,58 @@ pub(crate) fn join_changed(bits: &[u64], nodes: &mut [Summary], changed: Changed
     join_above(nodes, leaves + changed.first, leaves + changed.end - 1);
 }
 
-/// The leaves that changed, with some more. If these are too far from the others, the nodes of the others are joined.
+/// The leaves that changed, with some more. If these are too far from the others, or not in one block with them, the
+/// nodes of the others are joined.
 fn with_more(bits: &[u64], nodes: &mut [Summary], changed: Changed, more: Changed) -> Changed
     requires order { more.first < more.end }
     requires within { more.end ≤ leaf_count nodes.old }
     requires tree { IsTreeBeside bits.now nodes.old changed }
+    requires few { changed.end ≤ changed.first + 3 }
     ensures tree { IsTreeBeside bits.now nodes.new result }
     ensures first { result.first ≤ more.first }
     ensures end { more.end ≤ result.end }
+    ensures few { (result.end ≤ result.first + 3) ⊎ (result ≡ more) }
 {
     let both = Changed {
         first: changed.first.min(more.first),
         end: changed.end.max(more.end),
     };
-    if both.end - both.first <= NEAR {
+    if changed.end > 0
+        && both.end - both.first <= NEAR
+        && (both.end - 1) / BLOCK == both.first / BLOCK
+    {
         return both;
     }
     join_changed(bits, nodes, changed);
+    open_two(nodes, more.first, more.end - 1);
     more
+}
+
+/// Makes the words `place..place + len` free or not free, which have words of some leaves, and joins the nodes above.
+#[inline(never)]
+fn fill_long(
+    bits: &mut [u64],
+    nodes: &mut [Summary],
+    first: usize,
+    last: usize,
+    place: usize,
+    len: usize,
+    value: bool,
+)
+    requires order { first < last }
+    requires within { place + len ≤ 64 * length bits.old }
+    requires from { first ≡ place / 256 }
+    requires to { last ≡ (place + len - 1) / 256 }
+    requires tree { IsTreeBeside bits.old nodes.old (record { first = first; end = last + 1 }) }
+    ensures tree { IsTree bits.new nodes.new }
+    ensures filled { IsFilled bits.old bits.new place len value }
+{
+    fill_words(bits, place, len, value);
+    let leaves = nodes.len() / 2;
+    write_between(nodes, leaves + first, leaves + last, value);
+    join_leaves(bits, nodes, first, first + 1);
+    join_leaves(bits, nodes, last, last + 1);
+    join_above(nodes, leaves + first, leaves + last);
 }
 
 /// Makes the words `place..place + len` free or not free, and answers which leaves changed then. The nodes above a long
@@ -352,7 +409,9 @@ pub(crate) fn fill(
 ) -> Changed
     requires within { place + len ≤ 64 * length bits.old }
     requires tree { IsTreeBeside bits.old nodes.old changed }
+    requires few { changed.end ≤ changed.first + 3 }
     ensures tree { IsTreeBeside bits.new nodes.new result }
+    ensures few { result.end ≤ result.first + 3 }
     ensures filled { IsFilled bits.old bits.new place len value }
 {
     if len == 0 {
@@ -360,18 +419,17 @@ pub(crate) fn fill(
     }
     let first = place / LEAF_WORDS;
     let last = (place + len - 1) / LEAF_WORDS;
-    if last - first < NEAR {
+    let mut changed = changed;
+    if first < changed.first || changed.end <= last {
         let end = last + 1;
-        let changed = with_more(bits, nodes, changed, Changed { first, end });
-        fill_words(bits, place, len, value);
-        return changed;
+        changed = with_more(bits, nodes, changed, Changed { first, end });
+        if NEAR <= last - first {
+            fill_long(bits, nodes, first, last, place, len, value);
+            return Changed::NONE;
+        }
     }
-    join_changed(bits, nodes, changed);
     fill_words(bits, place, len, value);
-    let leaves = nodes.len() / 2;
-    join_long_leaves(bits, nodes, first, last, value);
-    join_long(nodes, leaves + first, leaves + last, alike(value));
-    Changed::NONE
+    changed
 }
 
 /// Answers where the lowest hole of at least `len` words begins that the words of the bitmaps `first..end` have.
@@ -420,8 +478,12 @@ pub(crate) fn find(bits: &[u64], nodes: &[Summary], len: usize) -> Option<usize>
     ensures none { IsNone result ↔ (widest (words_of bits.now) < len) }
     ensures lowest { IfSome result (λ place. place ≡ lowest_fit len (words_of bits.now)) }
 {
-    if (nodes[1].longest as usize) < len {
+    let root = nodes[1];
+    if (root.longest as usize) < len {
         return None;
+    }
+    if root.whole {
+        return Some(0);
     }
     let leaves = nodes.len() / 2;
     let mut index = 1;
@@ -432,6 +494,9 @@ pub(crate) fn find(bits: &[u64], nodes: &[Summary], len: usize) -> Option<usize>
         let left = nodes[2 * index];
         let right = nodes[2 * index + 1];
         if len <= left.longest as usize {
+            if left.whole {
+                return Some(place);
+            }
             index = 2 * index;
         } else if len <= left.back as usize + right.front as usize {
             return Some(place + (width - left.back as usize));

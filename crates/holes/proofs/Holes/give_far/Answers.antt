@@ -73,7 +73,7 @@ invariant_of-self g c =
     (c.self.inside.free + c.args.len) c.self.inside.most w.bits w.nodes
     (holes_after bits filled.new.bits nodes filled.new.nodes c.self.inside.changed filled.result c.self.inside.near near
     c.self.inside.size c.self.inside.free c.self.inside.most c.args.place c.args.len
-    (c.self.inside.free + c.args.len) true c.self.invariant filled.ensures.tree w.filled k.within
+    (c.self.inside.free + c.args.len) true c.self.invariant filled.ensures.tree filled.ensures.few w.filled k.within
     (omega (arith, c.self.invariant.near_within)) low k.free_is k.few)
 
 pub returns : goal.returns

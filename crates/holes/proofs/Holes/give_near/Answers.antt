@@ -4,7 +4,7 @@ use Rattle.std.specs.Vec.{with_items}
 use Rattle.std.proofs.lemmas.List.{with_items_is}
 use Rattle.holes.specs.FreeWords.{Region, set_range}
 use Rattle.holes.specs.Tree.{words_from, word_at, IsFilled}
-use Rattle.holes.proofs.Nodes.{tree_filled}
+use Rattle.holes.proofs.Trees.{tree_filled}
 use Rattle.holes.proofs.Regions.{Gives, gives, given_low, holes_after, filled_words, same_region, same_holes}
 use Rattle.holes.proofs.Holes.give_near.Given as given
 use Rattle.holes.proofs.Holes.give_near.Goals as goal
@@ -58,7 +58,7 @@ invariant_of-self g c =
     same_holes new (with_items c.self.inside.bits new).items nodes nodes changed near c.self.inside.size
     (c.self.inside.free + 1) c.self.inside.most k.bits refl
     (holes_after bits new nodes nodes changed changed c.self.inside.near near c.self.inside.size c.self.inside.free
-    c.self.inside.most c.args.place 1 (c.self.inside.free + 1) true c.self.invariant tree k.filled k.range.within
+    c.self.inside.most c.args.place 1 (c.self.inside.free + 1) true c.self.invariant tree c.self.invariant.few_changed k.filled k.range.within
     (omega (arith, c.self.invariant.near_within)) low k.range.free_is k.range.few)
 
 pub returns : goal.returns

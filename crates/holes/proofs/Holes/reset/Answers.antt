@@ -102,7 +102,8 @@ invariant_of-self g c =
     s.nodes
     (holes_reset c.self.inside.bits.items c.fill-self-inside.new.bits bits c.self.inside.nodes.items nodes
     c.self.inside.changed c.fill-self-inside-2.result c.self.inside.near near c.self.inside.size c.self.inside.free
-    c.self.inside.most c.args.from c.self.invariant c.fill-self-inside-2.ensures.tree s.from_within s.first_filled
+    c.self.inside.most c.args.from c.self.invariant c.fill-self-inside-2.ensures.tree
+    c.fill-self-inside-2.ensures.few s.from_within s.first_filled
     s.filled within (omega arith))
 
 pub returns : goal.returns

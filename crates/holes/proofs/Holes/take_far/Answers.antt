@@ -100,7 +100,7 @@ invariant_of-self g c =
     c.self.inside.most w.bits w.nodes
     (holes_after bits filled.new.bits c.self.inside.nodes.items filled.new.nodes c.self.inside.changed filled.result
     c.self.inside.near near.result c.self.inside.size c.self.inside.free c.self.inside.most place c.args.len free false
-    c.self.invariant filled.ensures.tree w.filled w.takes.within within
+    c.self.invariant filled.ensures.tree filled.ensures.few w.filled w.takes.within within
     (taken_low bits filled.new.bits (64 * near.result) place c.args.len (omega arith) w.filled none)
     (omega (arith, w.free))
     (omega (arith, takes_few bits c.self.inside.size c.args.len place c.requires w.takes, c.self.invariant.few)))

@@ -6,7 +6,7 @@ use Rattle.holes.specs.FreeWords.{Region, set_range, free_count, widest}
 use Rattle.holes.specs.Tree.{words_from, word_at, words_of, lowest_fit, IsFilled}
 use Rattle.holes.proofs.Ranges.{free_count_taken}
 use Rattle.holes.proofs.Bits.{length-words}
-use Rattle.holes.proofs.Nodes.{tree_filled}
+use Rattle.holes.proofs.Trees.{tree_filled}
 use Rattle.holes.proofs.Regions.{Takes, takes, takes_few, taken_low, none_beside, view_widest, view_lowest}
 use Rattle.holes.proofs.Regions.{holes_after, filled_words, same_region, same_holes}
 use Rattle.holes.proofs.Holes.take_near.Given as given
@@ -77,7 +77,7 @@ invariant_of-self-2 g c =
     same_holes new (with_items c.self.inside.bits new).items nodes nodes changed near size (c.self.inside.free - 1)
     c.self.inside.most k.bits refl
     (holes_after bits new nodes nodes changed changed near near size c.self.inside.free c.self.inside.most place 1
-    (c.self.inside.free - 1) false i tree k.filled range i.near_within low (omega (arith, k.free))
+    (c.self.inside.free - 1) false i tree i.few_changed k.filled range i.near_within low (omega (arith, k.free))
     (omega (arith, takes_few bits size 1 place (omega arith) k.takes, i.few)))
 
 pub returns-clause-fits : goal.returns-clause-fits

@@ -1,10 +1,10 @@
-use Rattle.std.proofs.Common.{◌≡◌, ℕ, ◌+◌, ◌*◌, ◌/◌, ◌%◌, ◌<◌, ◌≤◌, Bool, true, false, eqb, List, ◌∷◌, refl, ◌∙◌, sym, ap}
+use Rattle.std.proofs.Common.{◌≡◌, ℕ, ◌+◌, ◌/◌, ◌<◌, ◌≤◌, Bool, true, false, eqb, List, ◌∷◌, refl, ◌∙◌, ap}
 use Rattle.std.proofs.Common.{arith, zero, suc}
 use Rattle.std.specs.Int.{bit_at}
 use Rattle.std.specs.Int.Count.{ones, ones_step}
 use Rattle.std.proofs.lemmas.Bool.{leb-true, eqb-true}
 use Rattle.std.proofs.lemmas.Nat.Bits.{bit_at-suc, bit_at_lowest}
-use Rattle.holes.specs.FreeWords.{front_run, widest}
+use Rattle.holes.specs.FreeWords.{widest}
 use Rattle.holes.specs.Tree.{is_set, words_from, words_of_bits}
 use Rattle.holes.proofs.Runs.{front-le-widest}
 use Rattle.holes.proofs.Bits.{same_words_from}

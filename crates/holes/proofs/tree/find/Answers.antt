@@ -2,35 +2,54 @@ use Rattle.std.proofs.Common.{rules, ◌≡◌, ◌+◌, ◌-◌, ◌*◌, ◌/�
 use Rattle.std.proofs.lemmas.Bool.{true≢false}
 use Rattle.holes.specs.FreeWords.{widest}
 use Rattle.holes.specs.Tree.{words_of, node_at}
-use Rattle.holes.proofs.Finding.{root_longest, at_root, Below, below, AtLeaf, at_leaf}
+use Rattle.holes.proofs.Finding.{root_longest, root_whole, at_root, Below, below, AtLeaf, at_leaf}
 use Rattle.holes.proofs.tree.find.Goals as goal
 use Rattle.holes.proofs.tree.find.Goals.{In-loop-index, After-loop-index}
 
-pub returns-then-nodes-len-clause-none : goal.returns-then-nodes-len-clause-none
-returns-then-nodes-len-clause-none c =
+pub returns-then-root-len-clause-none : goal.returns-then-root-len-clause-none
+returns-then-root-len-clause-none c =
     let root = root_longest c.args.bits.now c.args.nodes.now c.requires.tree in
     let short : widest (words_of c.args.bits.now) < c.args.len = omega arith in
     ((λ e. short), (λ e. refl))
 
+pub returns-then-root-clause-none : goal.returns-then-root-clause-none
+returns-then-root-clause-none c =
+    let root = root_longest c.args.bits.now c.args.nodes.now c.requires.tree in
+    let wide : c.args.len ≤ (node_at c.args.nodes.now 1).longest = omega arith in
+    ((λ e. absurd (true≢false e)), (λ short. absurd (omega (arith, root, wide))))
+
+pub returns-then-root-clause-lowest : goal.returns-then-root-clause-lowest
+returns-then-root-clause-lowest c =
+    root_whole c.args.bits.now c.args.nodes.now c.args.len c.requires.tree (omega arith) c.if-root.true
+
 pub loop-index-init : goal.loop-index-init
 loop-index-init c = record {
   some = omega arith;
-  height = c.requires.tree.height;
-  at = at_root c.args.bits.now c.args.nodes.now c.args.len c.requires.tree (omega arith);
+  at = at_root c.args.bits.now c.args.nodes.now c.args.len c.requires.tree (omega arith) c.if-root.false;
 }
 
 -- what is known at a node that has parts
 parts_at : (c : In-loop-index) →
     Below c.args.bits.now c.args.nodes.now c.args.len c.loop-index.index c.loop-index.place c.loop-index.width
 parts_at c =
-    below c.args.bits.now c.args.nodes.now c.args.len c.loop-index.invariant.height c.loop-index.index
-    c.loop-index.place c.loop-index.width c.requires.tree c.requires.some c.loop-index.invariant.at
-    c.loop-index-test.true
+    below c.args.bits.now c.args.nodes.now c.args.len c.loop-index.index c.loop-index.place c.loop-index.width
+    c.requires.some c.loop-index.invariant.at c.loop-index-test.true
+
+pub returns-then-left-clause-none : goal.returns-then-left-clause-none
+returns-then-left-clause-none c =
+    let root = root_longest c.args.bits.now c.args.nodes.now c.requires.tree in
+    let wide : c.args.len ≤ (node_at c.args.nodes.now 1).longest = omega arith in
+    ((λ e. absurd (true≢false e)), (λ short. absurd (omega (arith, root, wide))))
+
+pub returns-then-left-clause-lowest : goal.returns-then-left-clause-lowest
+returns-then-left-clause-lowest c =
+    let b = parts_at (goal.at.returns-then-left-clause-lowest c).In-loop-index in
+    b.whole (omega arith) c.if-left.true
 
 pub loop-index-preserved-then-len-left : goal.loop-index-preserved-then-len-left
 loop-index-preserved-then-len-left c =
     let b = parts_at (goal.at.loop-index-preserved-then-len-left c).In-loop-index in
-    record { some = omega (arith, b.some); height = b.lower; at = b.left (omega arith) }
+    record { some = omega (arith, b.some); at = b.left (omega arith) c.if-left.false }
 
 pub overflow_add-left : goal.overflow_add-left
 overflow_add-left c =
@@ -71,15 +90,14 @@ overflow_add-place c =
 pub loop-index-preserved : goal.loop-index-preserved
 loop-index-preserved c =
     let b = parts_at (goal.at.loop-index-preserved c).In-loop-index in
-    record { some = omega arith; height = b.lower; at = b.right (omega arith) (omega arith) }
+    record { some = omega arith; at = b.right (omega arith) (omega arith) }
 
 -- what is known at the leaf
 leaf_at : (c : After-loop-index) → AtLeaf c.args.bits.now c.args.len
     ((c.loop-index.index - length c.args.nodes.now / 2) * 4)
 leaf_at c =
-    at_leaf c.args.bits.now (length c.args.nodes.now / 2) c.args.len c.loop-index.invariant.height c.loop-index.index
-    c.loop-index.place c.loop-index.width ((c.loop-index.index - length c.args.nodes.now / 2) * 4)
-    (omega (arith, c.requires.tree.bitmaps, c.requires.tree.node_count)) c.loop-index.invariant.at (omega arith) refl
+    at_leaf c.args.bits.now c.args.nodes.now c.args.len c.loop-index.index c.loop-index.place c.loop-index.width
+    ((c.loop-index.index - length c.args.nodes.now / 2) * 4) c.loop-index.invariant.at (omega arith) refl
 
 pub overflow_mul-first : goal.overflow_mul-first
 overflow_mul-first c =

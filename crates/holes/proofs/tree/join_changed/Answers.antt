@@ -1,22 +1,29 @@
-use Rattle.std.proofs.Common.{◌+◌, ◌-◌, ◌/◌, arith, ◌∙◌}
-use Rattle.holes.specs.Tree.{leaf_count}
-use Rattle.holes.proofs.Nodes.{tree_of_beside, leaves_joined, tree_joined}
+use Rattle.std.proofs.Common.{◌<◌, inl, inr, arith}
+use Rattle.holes.proofs.Trees.{tree_of_beside, changed_joining}
 use Rattle.holes.proofs.tree.join_changed.Goals as goal
+use Rattle.holes.proofs.tree.join_changed.Goals.{After-join_leaves}
 
 pub returns-then-changed-eq0 : goal.returns-then-changed-eq0
 returns-then-changed-eq0 c =
-    tree_of_beside c.args.bits.now c.args.nodes.now c.args.changed c.requires c.if-changed-eq0.true
+    tree_of_beside c.args.bits.now c.args.nodes.now c.args.changed c.requires.tree c.if-changed-eq0.true
 
-pub join_above-requires-clause-joined : goal.join_above-requires-clause-joined
-join_above-requires-clause-joined c =
-    leaves_joined c.args.nodes.now c.join_leaves.new.nodes c.args.changed.first c.args.changed.end (omega arith)
-    c.join_leaves.auto.nodes c.requires.joined c.join_leaves.ensures.beside
+some : (c : After-join_leaves) → c.args.changed.first < c.args.changed.end
+some c = elim c.requires.tree.order [
+  | inl none ↦ absurd (omega arith)
+  | inr lt ↦ lt
+]
+
+pub join_above-requires-clause-order : goal.join_above-requires-clause-order
+join_above-requires-clause-order c =
+    let lt = some (goal.at.join_above-requires-clause-order c).After-join_leaves in
+    omega (arith, lt)
 
 pub returns : goal.returns
 returns c =
-    let len = c.join_leaves.auto.nodes in
-    tree_joined c.args.bits.now c.join_leaves.new.nodes c.join_above.new.nodes c.requires.height
-    ((leaf_count c.args.nodes.now + c.args.changed.end - 1) / 2 + 1) c.requires.bitmaps c.requires.small
-    (len ∙ c.requires.node_count) c.join_leaves.ensures.leaves c.join_above.auto.nodes
-    (omega (arith, len, c.requires.node_count, c.requires.within)) c.join_above.ensures.below
-    c.join_above.ensures.joined
+    c.join_above.ensures c.args.bits.now
+    (changed_joining c.args.bits.now c.args.nodes.now c.join_leaves.new.nodes c.args.changed c.requires.tree
+    (some (goal.at.returns c).After-join_leaves) c.requires.few (record {
+      same_length = c.join_leaves.auto.nodes;
+      leaves = c.join_leaves.ensures.leaves;
+      beside = c.join_leaves.ensures.beside;
+    }))

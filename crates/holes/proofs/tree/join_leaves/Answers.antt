@@ -1,8 +1,8 @@
-use Rattle.std.proofs.Common.{◌+◌, ◌*◌, arith, ap, ◌∙◌, refl, inl, inr}
-use Rattle.std.proofs.lemmas.Bool.{cases_lt}
+use Rattle.std.proofs.Common.{◌+◌, ◌*◌, arith, ap, ◌∙◌, refl}
 use Rattle.std.proofs.lemmas.List.{length-set}
 use Rattle.holes.specs.Tree.{summary}
-use Rattle.holes.proofs.Nodes.{between_leaf, leaf_more, leaf_beside}
+use Rattle.holes.proofs.Nodes.{between_leaf}
+use Rattle.holes.proofs.Trees.{leaf_more, leaf_beside}
 use Rattle.holes.proofs.tree.join_leaves.Goals as goal
 
 pub loop-leaf-preserved : goal.loop-leaf-preserved
@@ -13,15 +13,11 @@ loop-leaf-preserved c =
     refl) in
     record {
       same_length = length-set c.loop-leaf.nodes _ c.summary.result ∙ i.same_length;
-      leaves = leaf_more c.args.bits.now c.args.nodes.now c.loop-leaf.nodes leaf c.args.end c.summary.result
+      leaves = leaf_more c.args.bits.now c.args.nodes.now c.loop-leaf.nodes c.args.first leaf c.summary.result
           i.same_length is (omega (arith, c.requires.within)) i.leaves;
       beside = leaf_beside c.args.nodes.now c.loop-leaf.nodes c.args.first c.args.end leaf c.summary.result
           (omega arith) (omega arith) i.beside;
     }
 
 pub returns-clause-leaves : goal.returns-clause-leaves
-returns-clause-leaves c leaf lt =
-    c.loop-leaf.invariant.leaves leaf lt (elim (cases_lt leaf c.loop-leaf.leaf) [
-      | inl below ↦ inl below
-      | inr from ↦ inr (omega arith)
-    ])
+returns-clause-leaves c leaf ge lt = c.loop-leaf.invariant.leaves leaf ge (omega arith)

@@ -1,4 +1,4 @@
-use Rattle.std.proofs.Common.{◌∙◌, ap, sym, get_or, arith}
+use Rattle.std.proofs.Common.{◌∙◌, ap, sym, arith}
 use Rattle.holes.specs.declared.summary.Summary.{Summary}
 use Rattle.holes.specs.Tree.{join, summary, words_of_bits}
 use Rattle.holes.proofs.Bitmaps.{summary_of_zero}

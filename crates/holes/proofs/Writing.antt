@@ -1,0 +1,290 @@
+-- The nodes between two leaves, or below a block, of which all words are free, or none is.
+use Rattle.std.proofs.Common.{◌≡◌, ◌≢◌, ℕ, ◌+◌, ◌*◌, ◌/◌, ◌^◌, ◌<◌, ◌≤◌, Bool, List, ◌⊎◌}
+use Rattle.std.proofs.Common.{refl, sym, ◌∙◌, ap, subst, inl, inr, arith, zero, suc}
+use Rattle.std.specs.Prelude.{replicate}
+use Rattle.std.proofs.lemmas.Bool.{cases_lt, cases_eq}
+use Rattle.std.proofs.lemmas.List.{length-replicate, replicate-append-replicate}
+use Rattle.holes.specs.declared.summary.Summary.{Summary}
+use Rattle.holes.specs.Tree.{node_at, nothing_free, join, summary, width, first_leaf, IsNode, IsBlockBeside, above}
+use Rattle.holes.specs.Tree.{IsLevelWritten, AreWrittenBetween, IsWritten, IsBlockWritten}
+use Rattle.holes.proofs.Runs.{summary-append}
+use Rattle.holes.proofs.Nodes.{above_is, above_covers, above_within, first_leaf-lt, same_height, span, width-pos}
+
+-- how far from the ends of a range nodes of some height are written
+pub side_at : ℕ → ℕ
+side_at zero = 8
+side_at (suc zero) = 4
+side_at (suc (suc zero)) = 2
+side_at (suc (suc (suc zero))) = 1
+side_at (suc (suc (suc (suc height)))) = 0
+
+pub side_zero : side_at 0 ≡ 8
+unfolding side_at
+side_zero = refl
+
+pub side_half : (height : ℕ) → side_at (suc height) ≡ side_at height / 2
+unfolding side_at
+side_half zero = omega arith
+side_half (suc zero) = omega arith
+side_half (suc (suc zero)) = omega arith
+side_half (suc (suc (suc zero))) = omega arith
+side_half (suc (suc (suc (suc height)))) = omega arith
+
+pub side_most : (height : ℕ) → side_at height ≤ 8
+unfolding side_at
+side_most zero = omega arith
+side_most (suc zero) = omega arith
+side_most (suc (suc zero)) = omega arith
+side_most (suc (suc (suc zero))) = omega arith
+side_most (suc (suc (suc (suc height)))) = omega arith
+
+pub above_zero : (leaf : ℕ) → above 0 leaf ≡ leaf
+unfolding above
+above_zero leaf = refl
+
+pub above_half : (height leaf : ℕ) → above (suc height) leaf ≡ above height leaf / 2
+unfolding above
+above_half height leaf = refl
+
+pub width_zero : width 0 ≡ 1
+unfolding width
+width_zero = refl
+
+pub width_twice : (height : ℕ) → width (suc height) ≡ width height + width height
+unfolding width
+width_twice height = refl
+
+-- two summaries of words that are all alike
+pub doubled : (n : ℕ) (value : Bool) (node : Summary) → n + n < 2 ^ 32 → node ≡ summary (replicate n value) →
+    join node node ≡ summary (replicate (n + n) value)
+doubled n value node small is =
+    ap (λ (s : Summary). join s s) is
+    ∙ (sym (summary-append (replicate n value) (replicate n value) (omega (arith, length-replicate n value)))
+    ∙ ap summary (replicate-append-replicate n n value))
+
+-- the nodes between, up to a height
+pub record AreWrittenUnder (old new : List Summary) (top height left right : ℕ) (value : Bool) : Type 0 where
+  pub outside : (low index : ℕ) → IsNode top low index →
+      (first_leaf low index ≤ left) ⊎ (right < first_leaf low index + width low) →
+      node_at new index ≡ node_at old index
+  pub inside : (low index : ℕ) → low < height → IsNode top low index → left < first_leaf low index →
+      first_leaf low index + width low ≤ right → (node_at new index ≡ summary (replicate (256 * width low) value))
+      ⊎ ((low < 3) × IsBlockBeside (first_leaf low index) left (left + 1)
+      × IsBlockBeside (first_leaf low index) right (right + 1))
+
+pub none_under : (nodes : List Summary) (top left right : ℕ) (value : Bool) →
+    AreWrittenUnder nodes nodes top 0 left right value
+none_under nodes top left right value = record {
+  outside = λ low index is out. refl;
+  inside = λ low index lt. absurd (omega arith);
+}
+
+-- a node that isn't written near the ends lies below another block than these
+far : (height left right index : ℕ) → 2 ≤ side_at height → above height left + side_at height ≤ index →
+    index + side_at height ≤ above height right → (height < 3) × IsBlockBeside (first_leaf height index) left (left + 1)
+    × IsBlockBeside (first_leaf height index) right (right + 1)
+unfolding above first_leaf side_at
+far zero left right index side from to = (omega arith, inr (omega arith), inl (omega arith))
+far (suc zero) left right index side from to = (omega arith, inr (omega arith), inl (omega arith))
+far (suc (suc zero)) left right index side from to = (omega arith, inr (omega arith), inl (omega arith))
+far (suc (suc (suc zero))) left right index side from to = absurd (omega arith)
+far (suc (suc (suc (suc height)))) left right index side from to = absurd (omega arith)
+
+-- a node of some height strictly between two leaves is strictly between the nodes above these
+pub between : (height left right index : ℕ) → left < first_leaf height index →
+    first_leaf height index + width height ≤ right → (above height left < index) × (index < above height right)
+between height left right index from to =
+    let first = above_covers height left in
+    let last = above_covers height right in (
+      elim (cases_lt (above height left) index) [
+        | inl lt ↦ lt
+        | inr ge ↦ elim (cases_lt index (above height left)) [
+          | inl below ↦ absurd (omega (
+            arith,
+            first.from,
+            first_leaf-lt height index (above height left) below,
+            width-pos height,
+          ))
+          | inr same ↦ absurd (omega (
+            arith,
+            first.from,
+            ap (first_leaf height) (let e : index ≡ above height left = omega arith in e),
+          ))
+        ]
+      ],
+      elim (cases_lt index (above height right)) [
+        | inl lt ↦ lt
+        | inr ge ↦ elim (cases_lt (above height right) index) [
+          | inl past ↦ absurd (omega (arith, last.to, first_leaf-lt height (above height right) index past, width-pos height))
+          | inr same ↦ absurd (omega (
+            arith,
+            last.to,
+            ap (first_leaf height) (let e : index ≡ above height right = omega arith in e),
+          ))
+        ]
+      ],
+    )
+
+-- and the other way round
+not_between : (height left right index : ℕ) →
+    (first_leaf height index ≤ left) ⊎ (right < first_leaf height index + width height) →
+    (index ≤ above height left) ⊎ (above height right ≤ index)
+not_between height left right index out = elim (cases_lt (above height left) index) [
+  | inl past ↦ elim (cases_lt index (above height right)) [
+    | inl below ↦ elim out [
+      | inl before ↦ absurd (omega (
+        arith,
+        (above_covers height left).to,
+        first_leaf-lt height (above height left) index past,
+      ))
+      | inr after ↦ absurd (omega (
+        arith,
+        (above_covers height right).from,
+        first_leaf-lt height index (above height right) below,
+      ))
+    ]
+    | inr ge ↦ inr ge
+  ]
+  | inr le ↦ inl le
+]
+
+node_between : (top height first last index : ℕ) → IsNode top height first → IsNode top height last → first < index →
+    index < last → IsNode top height index
+node_between top height first last index first_is last_is from to =
+    let same : 2 ^ last_is.depth ≡ 2 ^ first_is.depth =
+    ap (λ n. 2 ^ n) (let e : last_is.depth ≡ first_is.depth = omega (arith, first_is.at, last_is.at) in e) in
+    record {
+      depth = first_is.depth;
+      at = first_is.at;
+      from = omega (arith, first_is.from);
+      to = omega (arith, last_is.to, same);
+    }
+
+-- The nodes of one height more.
+pub level_written : (old nodes new : List Summary) (top height left right : ℕ) (value : Bool) (node : Summary) →
+    IsNode top 0 left → IsNode top 0 right → above height left + 1 < above height right →
+    node ≡ summary (replicate (256 * width height) value) → AreWrittenUnder old nodes top height left right value →
+    IsLevelWritten nodes new (above height left) (above height right) (side_at height) node →
+    AreWrittenUnder old new top (suc height) left right value
+level_written old nodes new top height left right value node left_is right_is long node_is under level =
+    let first = above height left in
+    let last = above height right in
+    let within : height ≤ top = above_within top height right right_is (omega arith) in
+    let first_node = above_is top height left left_is within in
+    let last_node = above_is top height right right_is within in
+    let other : (low index : ℕ) → IsNode top low index → low ≢ height → node_at new index ≡ node_at nodes index =
+    λ low index is ne. elim (cases_lt first index) [
+      | inl past ↦ elim (cases_lt index last) [
+        | inl before ↦ absurd (ne (same_height top low height index is
+            (node_between top height first last index first_node last_node past before)))
+        | inr ge ↦ level.outside index (inr ge)
+      ]
+      | inr le ↦ level.outside index (inl le)
+    ] in
+    record {
+      outside = λ low index is out. elim (cases_eq low height) [
+        | inl same ↦ level.outside index (not_between height left right index
+            (subst (λ n. (first_leaf n index ≤ left) ⊎ (right < first_leaf n index + width n)) same out))
+            ∙ under.outside low index is out
+        | inr ne ↦ other low index is ne ∙ under.outside low index is out
+      ];
+      inside = λ low index lt is from to. elim (cases_eq low height) [
+        | inl same ↦
+            let at_from : left < first_leaf height index = subst (λ n. left < first_leaf n index) same from in
+            let at_to : first_leaf height index + width height ≤ right =
+            subst (λ n. first_leaf n index + width n ≤ right) same to in
+            let here = between height left right index at_from at_to in
+            subst (λ n. (node_at new index ≡ summary (replicate (256 * width n) value))
+            ⊎ ((n < 3) × IsBlockBeside (first_leaf n index) left (left + 1)
+            × IsBlockBeside (first_leaf n index) right (right + 1))) (sym same)
+            (elim (level.inside index here.0 here.1) [
+              | inl is_node ↦ inl (is_node ∙ node_is)
+              | inr apart ↦ inr (far height left right index apart.0 apart.1 apart.2)
+            ])
+        | inr ne ↦ elim (under.inside low index (elim (cases_lt low height) [
+          | inl less ↦ less
+          | inr ge ↦ absurd (ne (omega arith))
+        ]) is from to) [
+          | inl written ↦ inl (other low index is ne ∙ written)
+          | inr apart ↦ inr apart
+        ]
+      ];
+    }
+
+-- the width of two nodes that are apart
+pub two_widths : (top height left right : ℕ) → IsNode top 0 left → IsNode top 0 right →
+    above height left + 1 < above height right → 2 * width height ≤ 2 ^ top
+two_widths top height left right left_is right_is long =
+    let within : height ≤ top = above_within top height right right_is (omega arith) in
+    let first = span top height (above height left) (above_is top height left left_is within) in
+    let last = span top height (above height right) (above_is top height right right_is within) in
+    omega (arith, first.from, last.to, first_leaf-lt height (above height left) (above height right) (omega arith))
+
+-- No node lies between two that follow one another, and none of those above them.
+none_between : (low height left right index : ℕ) → height ≤ low → above height right ≤ above height left + 1 →
+    left < first_leaf low index → first_leaf low index + width low ≤ right → ⊥
+unfolding first_leaf width
+none_between zero height left right index le near from to =
+    let here = between height left right index
+    (subst (λ n. left < first_leaf n index) (let e : 0 ≡ height = omega arith in e) from)
+    (subst (λ n. first_leaf n index + width n ≤ right) (let e : 0 ≡ height = omega arith in e) to) in
+    absurd (omega (arith, here.0, here.1))
+none_between (suc low) height left right index le near from to = elim (cases_eq (suc low) height) [
+  | inl same ↦
+      let here = between height left right index (subst (λ n. left < first_leaf n index) same from)
+      (subst (λ n. first_leaf n index + width n ≤ right) same to) in
+      absurd (omega (arith, here.0, here.1))
+  | inr ne ↦ none_between low height left right (2 * index) (elim (cases_lt low height) [
+    | inl lt ↦ absurd (ne (omega arith))
+    | inr ge ↦ ge
+  ]) near from (omega (arith, width-pos low))
+]
+
+pub written_between : (old new : List Summary) (top height left right : ℕ) (value : Bool) →
+    above height right ≤ above height left + 1 → AreWrittenUnder old new top height left right value →
+    AreWrittenBetween old new top left right value
+written_between old new top height left right value near under = record {
+  outside = under.outside;
+  inside = λ low index is from to. elim (cases_lt low height) [
+    | inl lt ↦ under.inside low index lt is from to
+    | inr ge ↦ absurd (none_between low height left right index ge near from to)
+  ];
+}
+
+-- The nodes below a block.
+pub block_written : (old one two new : List Summary) (block : ℕ) (value : Bool) (leaf pair half : Summary) →
+    1 ≤ block → leaf ≡ summary (replicate 256 value) → pair ≡ summary (replicate 512 value) →
+    half ≡ summary (replicate 1024 value) → IsWritten old one (8 * block) (8 * block + 8) leaf →
+    IsWritten one two (4 * block) (4 * block + 4) pair → IsWritten two new (2 * block) (2 * block + 2) half →
+    IsBlockWritten old new block value
+block_written old one two new block value leaf pair half some leaf_is pair_is half_is first second third = record {
+  same_length = third.same_length ∙ (second.same_length ∙ first.same_length);
+  leaves = λ index at. third.outside index nothing_free (inr (omega arith))
+      ∙ (second.outside index nothing_free (inr (omega arith))
+      ∙ (first.inside index nothing_free (omega arith) (omega arith) ∙ leaf_is));
+  pairs = λ index at. third.outside index nothing_free (inr (omega arith))
+      ∙ (second.inside index nothing_free (omega arith) (omega arith) ∙ pair_is);
+  halves = λ index at. third.inside index nothing_free (omega arith) (omega arith) ∙ half_is;
+  outside = λ index not_leaf not_pair not_half.
+      third.outside index nothing_free (elim (cases_lt index (2 * block)) [
+        | inl lt ↦ inl lt
+        | inr ge ↦ inr (elim (cases_lt index (2 * block + 2)) [
+          | inl lt ↦ absurd (not_half (omega arith))
+          | inr past ↦ past
+        ])
+      ])
+      ∙ (second.outside index nothing_free (elim (cases_lt index (4 * block)) [
+        | inl lt ↦ inl lt
+        | inr ge ↦ inr (elim (cases_lt index (4 * block + 4)) [
+          | inl lt ↦ absurd (not_pair (omega arith))
+          | inr past ↦ past
+        ])
+      ])
+      ∙ first.outside index nothing_free (elim (cases_lt index (8 * block)) [
+        | inl lt ↦ inl lt
+        | inr ge ↦ inr (elim (cases_lt index (8 * block + 8)) [
+          | inl lt ↦ absurd (not_leaf (omega arith))
+          | inr past ↦ past
+        ])
+      ]));
+}
