@@ -158,7 +158,8 @@ pub record IsTree (bits : List ℕ) (nodes : List Summary) : Type 0 where
   pub is_right : (low index : ℕ) → IsNode height low index →
       IsRight bits nodes height low index ⊎ IsHidden bits height low index
 
--- the same, but for the nodes of the leaves that changed, and those above them. No node of their blocks is hidden, and a
+-- the same, but for the nodes of the leaves that changed, and those above them. No node of their blocks is hidden,
+-- and a
 -- node with a part above all of them is that of its parts
 pub record IsTreeBeside (bits : List ℕ) (nodes : List Summary) (changed : Changed) : Type 0 where
   pub height : ℕ
