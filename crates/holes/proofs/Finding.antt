@@ -14,7 +14,8 @@ use Rattle.std.proofs.lemmas.Bool.{cases_lt, cases_Bool, false≢true}
 use Rattle.holes.proofs.Bits.{word_in}
 use Rattle.holes.proofs.Bitmaps.{widest_none, summary_all}
 use Rattle.holes.proofs.Nodes.{word_past, length-node_words, left_part, right_part, span, alike_words, same_block}
-use Rattle.holes.proofs.Nodes.{inner, leaf_first, leaf_height, node_words-split, width-pos, width-pow, first_leaf-next, first_leaf-root, leaf_node, between_leaf}
+use Rattle.holes.proofs.Nodes.{inner, leaf_first, leaf_height, node_words-split, width-pos}
+use Rattle.holes.proofs.Nodes.{width-pow, first_leaf-next, first_leaf-root, leaf_node, between_leaf}
 
 -- the lowest fit is that of the node at an index, whose words begin at a place and aren't all free
 pub record At (bits : List ℕ) (nodes : List Summary) (len index place wide : ℕ) : Type 0 where

@@ -1,5 +1,6 @@
 -- Opening a block: all nodes below it are right then.
-use Rattle.std.proofs.Common.{◌≡◌, ◌≢◌, ℕ, ◌+◌, ◌-◌, ◌*◌, ◌/◌, ◌^◌, ◌<◌, ◌≤◌, Bool, true, false, cond, List, length, ◌⊎◌}
+use Rattle.std.proofs.Common.{◌≡◌, ◌≢◌, ℕ, ◌+◌, ◌-◌, ◌*◌, ◌/◌, ◌^◌}
+use Rattle.std.proofs.Common.{◌<◌, ◌≤◌, Bool, true, false, cond, List, length, ◌⊎◌}
 use Rattle.std.proofs.Common.{refl, sym, ◌∙◌, ap, subst, inl, inr, arith, zero, suc}
 use Rattle.std.specs.Prelude.{replicate}
 use Rattle.std.proofs.lemmas.Bool.{cases_lt, cases_eq, cases_Bool, true≢false}
@@ -274,7 +275,8 @@ opened_two old new first last order within power same opens bits tree low index 
 pub opened_both : (old middle new : List Summary) (first last : ℕ) → length middle ≡ length old →
     AreOpened old middle first first → AreOpened middle new last last → AreOpened old new first last
 opened_both old middle new first last len left right bits tree low index is which =
-    let between = tree_opened bits old middle tree len (λ height other node r. left bits tree height other node (inl r)) in
+    let between = tree_opened bits old middle tree len (λ height other node r. left bits tree height other node (inl
+    r)) in
     right bits between low index is (elim which [
       | inl r ↦ inl (left bits tree low index is (inl r))
       | inr at ↦ elim at [

@@ -153,7 +153,8 @@ tree_wider bits nodes changed first end tree some low high within block = record
 }
 
 -- Blocks are opened.
-abbrev pub tree_opened : (bits : List ℕ) (nodes new : List Summary) (tree : IsTree bits nodes) → length new ≡ length nodes →
+abbrev pub tree_opened : (bits : List ℕ) (nodes new : List Summary) (tree : IsTree bits nodes) →
+    length new ≡ length nodes →
     ((low index : ℕ) → IsNode tree.height low index → IsRight bits nodes tree.height low index →
     IsRight bits new tree.height low index) → IsTree bits new
 tree_opened bits nodes new tree len keeps = record {
@@ -209,7 +210,8 @@ joined_open bits nodes top first last low index small blocks is from to =
     let next = first_leaf-next low (2 * index) in
     above_right bits nodes top first last (suc low) index blocks is from to
     ∙ sym (join_right bits nodes top low index small is
-    (below_right bits nodes top first last low index (2 * index) blocks (left_part top low index is) from to (omega arith)
+    (below_right bits nodes top first last low index (2 * index) blocks (left_part top low index is) from to (omega
+    arith)
     (omega (arith, width-pos low)))
     (below_right bits nodes top first last low index (2 * index + 1) blocks (right_part top low index is) from to
     (omega (arith, next)) (omega (arith, next, width-pos low))))
@@ -380,7 +382,8 @@ changed_joining bits old new changed tree some few joined =
                   | inl inside ↦
                       let at : 2 ^ top + (index - 2 ^ top) ≡ index = omega arith in
                       inl (subst (IsRight bits new top 0) at (leaf_right bits new top (index - 2 ^ top)
-                      (subst (λ n. node_at new (n + (index - 2 ^ top)) ≡ summary (leaf_words bits (index - 2 ^ top))) count
+                      (subst (λ n. node_at new (n + (index - 2 ^ top)) ≡ summary (leaf_words bits (index - 2 ^ top)))
+                      count
                       (joined.leaves (index - 2 ^ top) (omega arith) (omega arith)))))
                   | inr past ↦ changed_right bits old new changed tree 0 index joined leaf_node_is (inr past) some
                       (beside index (inr past))
@@ -607,7 +610,8 @@ long_of bits old one two new first last value tree order words len written left 
       last_right = leaf_right bits new top last
           (subst (λ n. node_at new (n + last) ≡ summary (leaf_words bits last)) count_two
           (right.leaves last (omega arith) (omega arith)));
-      outside = λ low index is not_first not_last out. after index not_first not_last ∙ written.outside low index is out;
+      outside = λ low index is not_first not_last out. after index not_first not_last
+          ∙ written.outside low index is out;
       inside = λ low index is from to.
           let within : index ≢ 2 ^ top + first = not_first_of top low index first is from in
           let apart : index ≢ 2 ^ top + last = not_last_of top low index last is to in

@@ -115,7 +115,13 @@ between height left right index from to =
       elim (cases_lt index (above height right)) [
         | inl lt ↦ lt
         | inr ge ↦ elim (cases_lt (above height right) index) [
-          | inl past ↦ absurd (omega (arith, last.to, first_leaf-lt height (above height right) index past, width-pos height))
+          | inl past ↦ absurd (omega (
+            arith,
+            last.to,
+            first_leaf-lt height (above height right) index past,
+            width-pos
+                height,
+          ))
           | inr same ↦ absurd (omega (
             arith,
             last.to,

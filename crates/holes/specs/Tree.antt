@@ -158,14 +158,8 @@ pub record IsTree (bits : List ℕ) (nodes : List Summary) : Type 0 where
   pub is_right : (low index : ℕ) → IsNode height low index →
       IsRight bits nodes height low index ⊎ IsHidden bits height low index
 
--- a node of new nodes is right if it was right before, or if it is one of the blocks of two leaves
-abbrev pub AreOpened : List Summary → List Summary → ℕ → ℕ → Type 0
-AreOpened old new first last =
-    (bits : List ℕ) (tree : IsTree bits old) (low index : ℕ) → IsNode tree.height low index →
-    IsRight bits old tree.height low index ⊎ ((first_leaf low index / 8 ≡ (leaf_count old + first) / 8)
-    ⊎ (first_leaf low index / 8 ≡ (leaf_count old + last) / 8)) → IsRight bits new tree.height low index
-
--- the same, but for the nodes of the leaves that changed, and those above them. No node of their blocks is hidden, and a
+-- the same, but for the nodes of the leaves that changed, and those above them. No node of their blocks is hidden,
+-- and a
 -- node with a part above all of them is that of its parts
 pub record IsTreeBeside (bits : List ℕ) (nodes : List Summary) (changed : Changed) : Type 0 where
   pub height : ℕ
@@ -181,6 +175,13 @@ pub record IsTreeBeside (bits : List ℕ) (nodes : List Summary) (changed : Chan
   pub joined : changed.first < changed.end → (low index : ℕ) → IsNode height low index → 1 < index →
       first_leaf low index ≤ 2 ^ height + changed.first →
       2 ^ height + changed.end ≤ first_leaf low index + width low → IsJoined nodes (index / 2)
+
+-- a node of new nodes is right if it was right before, or if it is one of the blocks of two leaves
+abbrev pub AreOpened : List Summary → List Summary → ℕ → ℕ → Type 0
+AreOpened old new first last =
+    (bits : List ℕ) (tree : IsTree bits old) (low index : ℕ) → IsNode tree.height low index →
+    IsRight bits old tree.height low index ⊎ ((first_leaf low index / 8 ≡ (leaf_count old + first) / 8)
+    ⊎ (first_leaf low index / 8 ≡ (leaf_count old + last) / 8)) → IsRight bits new tree.height low index
 
 -- the index of the node of some height above a leaf
 unfoldable pub above : ℕ → ℕ → ℕ

@@ -9,8 +9,9 @@ ghost use Rattle.std.specs.Prelude.{◌≡◌, ℕ, ◌+◌, ◌-◌, ◌*◌, �
 ghost use Rattle.std.specs.Prelude.{IfSome, IfNone, IsNone, IsTrue, true, false};
 ghost use Rattle.holes.specs.FreeWords.{widest, hole_count};
 ghost use Rattle.holes.specs.Tree.{IsTree, IsTreeBeside, IsJoining, IsLevelWritten, AreWrittenBetween, IsWritten};
-ghost use Rattle.holes.specs.Tree.{AreSameBesideLeaves, IsNode, IsRight, NoneBelow, NoneBelowBeside, IsFilled};
-ghost use Rattle.holes.specs.Tree.{AreOpened, AreTwoLeaves, IsBlockWritten, IsPowerOfTwo, first_leaf, leaf_count, leaf_words, lowest_fit, node_at, summary};
+ghost use Rattle.holes.specs.Tree.{AreSameBesideLeaves, IsNode, NoneBelow, NoneBelowBeside, IsFilled};
+ghost use Rattle.holes.specs.Tree.{AreOpened, AreTwoLeaves, IsBlockWritten, IsPowerOfTwo, leaf_count, leaf_words};
+ghost use Rattle.holes.specs.Tree.{lowest_fit, node_at, summary};
 ghost use Rattle.holes.specs.Tree.{words_of, words_between, words_from, word_at};
 
 use crate::bitmap::{self, WORDS};
@@ -242,7 +243,8 @@ fn write_between(nodes: &mut [Summary], first: usize, last: usize, value: bool)
     requires order { first < last }
     requires within { last < length nodes.old }
     requires leaves { AreTwoLeaves first last }
-    ensures { (top : ℕ) → IsNode top 0 first → IsNode top 0 last → AreWrittenBetween nodes.old nodes.new top first last value }
+    ensures { (top : ℕ) → IsNode top 0 first → IsNode top 0 last →
+        AreWrittenBetween nodes.old nodes.new top first last value }
 {
     let mut first = first;
     let mut last = last;
@@ -370,7 +372,8 @@ fn with_more(bits: &[u64], nodes: &mut [Summary], changed: Changed, more: Change
     more
 }
 
-/// Makes the words `place..place + len` free or not free, which have words of some leaves, and joins the nodes above.
+/// Makes the words `place..place + len` free or not free, which reach from one leaf to another, and joins the nodes
+/// above them. No node below the blocks of these two leaves is hidden.
 #[inline(never)]
 fn fill_long(
     bits: &mut [u64],
