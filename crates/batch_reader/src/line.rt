@@ -63,7 +63,7 @@ pub(crate) fn count_line_feeds(text: &[u8]) -> u64
     count + u64::from(count_in_piece(rest))
 }
 
-/// How many LFs a short text has: a byte counts them, so many bytes are looked at in one instruction.
+/// How many LFs a text of at most 255 bytes has. The count is a byte, so that one instruction looks at many bytes.
 fn count_in_piece(piece: &[u8]) -> u8
     requires { length piece.now ≤ 255 }
     ensures { result ≡ line_feeds piece.now }

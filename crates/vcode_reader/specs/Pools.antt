@@ -46,7 +46,7 @@ unfoldable pub least_number : List CodeLine → ℕ
 least_number [] = 0
 least_number (x ∷ xs) = least_with x.number xs
 
--- the number of the first line, if a line of this number comes after so many others
+-- the number of the first line once a line of this number is added, where `len` lines are there
 abbrev pub first_with : ℕ → ℕ → ℕ → ℕ
 first_with first zero number = number
 first_with first (suc len) number = first

@@ -219,8 +219,8 @@ impl<A: Allocator> CodeLines<A> {
     }
 }
 
-/// The number of the first line, if a line of this number comes after so many others. A number that a distance of 32
-/// bits may pass the greatest number from is out of memory.
+/// The number of the first line once a line of this number is added, where `len` lines are there. Memory is refused if
+/// this number and a distance of 32 bits might not fit 64 bits.
 #[inline(always)]
 fn first_with(first: u64, len: usize, number: u64) -> Result<u64, AllocError>
     requires { first + 2 ^ 32 ≤ 2 ^ 64 }

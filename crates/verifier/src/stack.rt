@@ -11,7 +11,7 @@ use std::marker::Model;
 use std::mem;
 use vcode_base::Kind;
 
-/// Lists of up to so many entries keep their memory for other ones, and are copied entry by entry.
+/// A list of at most 16 entries leaves its memory to the next list, and is copied entry by entry.
 const FEW: usize = 16;
 
 /// Whether two lists of kinds are one.
