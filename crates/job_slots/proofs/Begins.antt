@@ -15,13 +15,13 @@ use Rattle.job_steps.specs.States.{Task, Active, State}
 use Rattle.job_steps.specs.Steps.{Running, next_item, question_of, sources_of}
 use Rattle.job_steps.specs.StepLaws.{CanBegin, StepsCanBegin}
 use Rattle.job_steps.specs.Tickets.{question_by}
-use Rattle.job_steps.specs.Tracks.{TrackState, functions_of}
+use Rattle.job_steps.specs.Tracks.{TrackState}
 use Rattle.refcounts.specs.SharedState.{Slot}
 use Rattle.verifier.specs.Typed.{TypedProgram}
 use Rattle.job_slots.specs.Slots.{IsRunningSlot}
 use Rattle.job_slots.specs.Answers.{question_before, question_in, question_at, line_before, line_in, line_at}
 use Rattle.job_slots.specs.Answers.{early_end_of, early_end_at, IsNext}
-use Rattle.job_slots.specs.Lines.{IsLineOf}
+use Rattle.job_slots.specs.Lines.{IsLineOf, IsOpOfNext}
 use Rattle.job_slots.proofs.Operands.{deep_enough}
 
 -- ---- the definitions at a state at which the job runs
@@ -72,6 +72,13 @@ pub same_instruction : (task : Task) (t : TrackState ℕ) (s : State) (line own 
     IsLineOf task t line → IsLineOf task t own → instruction_in own.item ≡ instruction_in line.item
 same_instruction task t s line own can is_line is_own =
     ap (λ (x : Numbered Item). x.item) (sym (is_own can.call can.outer can.stands) ∙ is_line can.call can.outer can.stands)
+
+-- the instruction that is the next is that of the line of the next one
+pub op_of_line : (task : Task) (t : TrackState ℕ) (s : State) (line : CodeLine) (op : Op) →
+    CanBegin task t.executed s t → IsLineOf task t line → IsOpOfNext task t op → op ≡ op_of (instruction_in line.item)
+op_of_line task t s line op can is_line is_next =
+    is_next can.call can.outer can.stands
+    ∙ ap (λ (x : Numbered Item). op_of x.item) (is_line can.call can.outer can.stands)
 
 pub record IsKindly (task : Task) (n : ℕ) (op : Op) (line : ℕ) (sources : List (List ℤ)) : Type 0 where
   pub next : IsNext task n op line sources

@@ -12,7 +12,7 @@ use Rattle.vcode_base.specs.declared.op.StackMove.TheVariants.{Copy, Pop, MoveTo
 use Rattle.vcode_base.specs.declared.rule.Rule.{Rule}
 use Rattle.vcode_base.specs.declared.rule.Rule.TheVariants.{First, Second}
 use Rattle.vcode_base.specs.Kinds.{result_kinds}
-use Rattle.refcounts.specs.SharedState.{state_after_shares, state_after_releases, AreLive}
+use Rattle.refcounts.specs.SharedState.{state_after_shares, AreLive}
 use Rattle.refcounts.specs.Laws.{SharesAreCounted, ReleasesAreCounted, ReleasesKeepBlocks, ReleaseStaysTidy}
 use Rattle.job_steps.specs.Motions.{top_entries, operand_count, stack_after, stack_after_move}
 use Rattle.job_steps.specs.States.{Vector, StackEntry, new_entries}

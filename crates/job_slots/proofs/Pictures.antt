@@ -11,7 +11,6 @@ use Rattle.job_steps.specs.Steps.{Running}
 use Rattle.job_steps.specs.Tracks.{TrackState}
 use Rattle.job_slots.specs.declared.status.Status.{Status}
 use Rattle.job_slots.specs.declared.status.Status.TheVariants.{Waiting, Live, InFlight, Ended, Collected}
-use Rattle.job_slots.specs.Holdings.{HoldNothing}
 use Rattle.job_slots.specs.Laws.{IsPicture, ShownAreLive, ShownAreReached}
 use Rattle.job_slots.specs.Slots.{ShowsAs, IsRunningSlot, Leaves, standing_by}
 use Rattle.job_slots.proofs.Held.{are_there}

@@ -1,22 +1,22 @@
 -- What counts as held while an instruction's results are made.
-use Rattle.std.proofs.Common.{◌≡◌, ℕ, ◌+◌, ◌<◌, ◌≤◌, List, [], ◌∷◌, drop, sym, ◌∙◌, ap, subst, arith}
+use Rattle.std.proofs.Common.{◌≡◌, ℕ, List, [], ◌∷◌, drop, sym, ◌∙◌, ap, subst, arith}
 use Rattle.std.proofs.lemmas.List.{drop-map}
 use Rattle.vcode_base.specs.declared.rule.Rule.{Rule}
 use Rattle.vcode_base.specs.declared.rule.Rule.TheVariants.{First, Second}
 use Rattle.vcode_base.specs.Instructions.{op_of}
 use Rattle.vcode_reader.specs.Trees.{Item}
 use Rattle.refcounts.specs.Laws.{ReleasesAreCounted, ReleaseStaysTidy}
-use Rattle.refcounts.specs.SharedState.{SharedState, slot_at, occurrences, IsTidy, IsLive, AreNamed}
+use Rattle.refcounts.specs.SharedState.{SharedState, IsTidy, IsLive, AreNamed}
 use Rattle.refcounts.specs.SharedState.{state_after_release, state_after_releases}
 use Rattle.job_memory.specs.JobBlocks.{JobBlocks, AreOwn, own_slots, held_words}
 use Rattle.job_steps.specs.Motions.{operand_count, top_entries}
 use Rattle.job_steps.specs.States.{StackEntry, State, held_words as stack_words}
 use Rattle.job_steps.specs.Steps.{held_at}
 use Rattle.job_slots.specs.Commits.{taken_ids, with_releases, held_under}
-use Rattle.job_slots.specs.Executions.{IsCounted, HeldIsCounted}
+use Rattle.job_slots.specs.Executions.{HeldIsCounted}
 use Rattle.job_slots.specs.Holdings.{Cell, ids_of, HoldStack}
 use Rattle.job_slots.proofs.Commits.{BlockLaws, without_top}
-use Rattle.job_slots.proofs.Holding.{held_is_stack, own_are_tidy, named_here, named_more, named_sum}
+use Rattle.job_slots.proofs.Holding.{held_is_stack, own_are_tidy, named_here, named_sum}
 use Rattle.job_slots.proofs.LettingGo.{own_named}
 
 -- a memory stays tidy when references are released

@@ -1,5 +1,7 @@
 -- Which line of the code is that of a job's next instruction.
 use Rattle.std.specs.Prelude.{◌≡◌, ℕ, List, ◌∷◌}
+use Rattle.vcode_base.specs.declared.op.Op.{Op}
+use Rattle.vcode_base.specs.Instructions.{op_of}
 use Rattle.vcode_reader.specs.Trees.{CodeLine}
 use Rattle.job_steps.specs.Frames.{StandAll, instruction_of}
 use Rattle.job_steps.specs.States.{Task, Active}
@@ -11,3 +13,9 @@ abbrev pub IsLineOf : Task → TrackState ℕ → CodeLine → Type 0
 IsLineOf task t line =
     (call : Active) (outer : List Active) → StandAll (functions_of task.verified) t.frames (call ∷ outer) →
     next_item call ≡ instruction_of line
+
+-- this is the next instruction without its list and without the name that it calls
+abbrev pub IsOpOfNext : Task → TrackState ℕ → Op → Type 0
+IsOpOfNext task t op =
+    (call : Active) (outer : List Active) → StandAll (functions_of task.verified) t.frames (call ∷ outer) →
+    op ≡ op_of (next_item call).item

@@ -17,6 +17,7 @@ ghost use Rattle.job_slots.specs.Executions.{CanGoPast, CanSettle, CanShare, Has
 ghost use Rattle.job_slots.specs.Slots.{IsFlyingSlot, IsAfter};
 ghost use Rattle.job_slots.specs.Answers.{IsAnswered};
 
+use crate::class::Class;
 use crate::execution::steps_execute;
 use block_memory::BlockId;
 use job_memory::JobMemory;
@@ -49,8 +50,7 @@ impl NewBlocks {
 }
 
 /// Executes the next instruction of a job that runs, whose results are these words.
-#[inline(always)]
-pub(crate) fn execute<A: Allocator>(
+pub(crate) fn execute<C: Class, A: Allocator>(
     rule: Rule,
     job: &Job<A>,
     track: &mut Track<BlockId, A>,
@@ -76,7 +76,7 @@ pub(crate) fn execute<A: Allocator>(
     steps_execute();
     let _used = blocks.used();
     let words = held_under(rule, track, number, blocks, op) + first.len() + second.len();
-    let results = settle(rule, track, number, blocks, op, first, second);
+    let results = settle::<C, A>(rule, track, number, blocks, op, first, second);
     go_past(job, track, op, flag, results.as_slice(), words);
 }
 
@@ -103,8 +103,7 @@ pub(crate) fn held_under<A: Allocator>(
 
 /// Takes the operands of an instruction off the blocks, and places its results.
 #[tactic(auto, using(crate::proofs::Placed::same_grants))]
-#[inline(always)]
-fn settle<A: Allocator>(
+fn settle<C: Class, A: Allocator>(
     rule: Rule,
     track: &Track<BlockId, A>,
     number: usize,
@@ -129,12 +128,34 @@ fn settle<A: Allocator>(
             NewBlocks::Without
         }
         [_] => NewBlocks::One([exchange(rule, track, number, blocks, op, first)]),
-        _ => {
-            let below = exchange(rule, track, number, blocks, op, first);
-            let top = place(number, blocks, second);
-            NewBlocks::Two([below, top])
-        }
+        _ => settle_two(rule, track, number, blocks, op, first, second),
     }
+}
+
+/// The same for an instruction of two results.
+#[inline(never)]
+fn settle_two<A: Allocator>(
+    rule: Rule,
+    track: &Track<BlockId, A>,
+    number: usize,
+    blocks: &mut JobMemory<A>,
+    op: Op,
+    first: &[i64],
+    second: &[i64],
+) -> NewBlocks
+    requires has_grant { HasGrant blocks.old number }
+    requires numbers { block_count blocks.old.memory + 2 ≤ length blocks.old.memory.slots }
+    requires two { length (result_kinds op) ≡ 2 }
+    requires room { held_under rule number op track.now.cells blocks.old + length first.now + length second.now
+        ≤ words_of (grant_of blocks.old number) }
+    requires can { CanSettle number op track.now.cells blocks.old }
+    ensures settled { (form : Rule) × HasSettled form number op first.now second.now track.now.cells (ids_in result)
+        blocks.old blocks.new }
+    ensures grants { blocks.new.grants ≡ blocks.old.grants }
+{
+    let below = exchange(rule, track, number, blocks, op, first);
+    let top = place(number, blocks, second);
+    NewBlocks::Two([below, top])
 }
 
 /// One reference less to each block that the instruction takes off the stack, and one more to each that it copies.

@@ -8,6 +8,7 @@
 #![tactic(auto)]
 
 mod answer;
+mod class;
 mod collect;
 mod commit;
 mod execution;

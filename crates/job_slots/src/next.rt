@@ -1,7 +1,7 @@
 //! The next instruction of a job, with the words of its operands.
 
 ghost use Rattle.std.specs.Prelude.{◌≡◌, ◌≤◌, ◌↔◌, ℤ, List, [], ◌∷◌, IsTrue, length, map, take, Some};
-ghost use Rattle.vcode_base.specs.declared.instr.Instr.TheVariants as instr;
+ghost use Rattle.vcode_base.specs.declared.op.Op.TheVariants.{Const};
 ghost use Rattle.vcode_base.specs.declared.kind.Scalar.{Scalar};
 ghost use Rattle.vcode_base.specs.Instructions.{op_of};
 ghost use Rattle.vcode_base.specs.Kinds.{HaveKinds, source_kinds};
@@ -110,8 +110,8 @@ pub(crate) fn next_at<'a, A: Allocator>(
         (contents (take result.operands.count result.operands.lists)) }
     ensures kinds { HaveKinds (source_kinds result.op) (contents (take result.operands.count result.operands.lists)) }
     ensures op { result.op ≡ op }
-    ensures constant { (k : Scalar) (list : List ℤ) → instruction_in line.now.item ≡ instr.Const k list
-        → contents (take result.operands.count result.operands.lists) ≡ list ∷ [] }
+    ensures constant { (elements : Scalar) → op ≡ Const elements
+        → contents (take result.operands.count result.operands.lists) ≡ list_in (instruction_in line.now.item) ∷ [] }
 {
     steps_can_begin::<BlockId>();
     let list = own_list(rule, job, track, number, blocks, line, op);
@@ -168,8 +168,8 @@ fn next_of_list<'a, A: Allocator>(
         (contents (take result.operands.count result.operands.lists)) }
     ensures kinds { HaveKinds (source_kinds result.op) (contents (take result.operands.count result.operands.lists)) }
     ensures op { result.op ≡ op }
-    ensures constant { (k : Scalar) (list : List ℤ) → instruction_in line.now.item ≡ instr.Const k list
-        → contents (take result.operands.count result.operands.lists) ≡ list ∷ [] }
+    ensures constant { (elements : Scalar) → op ≡ Const elements
+        → contents (take result.operands.count result.operands.lists) ≡ list.now ∷ [] }
 {
     steps_can_begin::<BlockId>();
     Next {
@@ -208,7 +208,7 @@ pub(crate) fn op_of(line: &CodeLine<'_>) -> Op
 
 /// The list of a line's `CONST`; no element for another line.
 #[inline(always)]
-fn list_of<'a>(line: &CodeLine<'a>) -> &'a [i64]
+pub(crate) fn list_of<'a>(line: &CodeLine<'a>) -> &'a [i64]
     ensures { result.now ≡ list_in (instruction_in line.now.item) }
 {
     match &line.item {
@@ -233,7 +233,7 @@ fn list_of_instruction<'a>(instruction: &Instruction<'a>) -> &'a [i64]
     }
 }
 
-/// The operands of a line of code of this instruction.
+/// The list of a `CONST`, or the words of the cells at the top that another instruction takes.
 #[inline(always)]
 fn operands_of<'a, A: Allocator>(
     line: &CodeLine<'_>,
@@ -246,34 +246,17 @@ fn operands_of<'a, A: Allocator>(
     requires op { op ≡ op_of (instruction_in line.now.item) }
     requires deep { operand_count op ≤ length track.now.cells }
     requires live { AreLive blocks.now.memory track.now.cells }
-    ensures { (stack : List StackEntry) → map (λ id. (slot_at blocks.now.memory id).words) track.now.cells ≡ words_of stack
+    ensures sources { (stack : List StackEntry)
+        → map (λ id. (slot_at blocks.now.memory id).words) track.now.cells ≡ words_of stack
         → contents (take result.count result.lists) ≡ sources_of (instruction_in line.now.item) stack }
+    ensures constant { (elements : Scalar) → op ≡ Const elements
+        → contents (take result.count result.lists) ≡ list.now ∷ [] }
 {
-    match &line.item {
-        CodeItem::Do(instruction) => sources(instruction, list, op, track, blocks),
-        CodeItem::If | CodeItem::Else | CodeItem::Endif => top_operands(op, track, blocks),
-    }
-}
-
-/// The list of a `CONST`, or the words of the cells at the top that another instruction takes.
-#[inline(always)]
-fn sources<'a, A: Allocator>(
-    instruction: &Instruction<'_>,
-    list: &'a [i64],
-    op: Op,
-    track: &Track<BlockId, A>,
-    blocks: &'a JobMemory<A>,
-) -> Operands<'a>
-    requires list { list.now ≡ list_in instruction.now }
-    requires op { op ≡ op_of instruction.now }
-    requires deep { operand_count op ≤ length track.now.cells }
-    requires live { AreLive blocks.now.memory track.now.cells }
-    ensures { (stack : List StackEntry) → map (λ id. (slot_at blocks.now.memory id).words) track.now.cells ≡ words_of stack
-        → contents (take result.count result.lists) ≡ sources_of instruction.now stack }
-{
-    match instruction {
-        Instr::Const(_, _) => constant(list),
-        _ => top_operands(op, track, blocks),
+    match op {
+        Op::Const(_) => constant(list),
+        Op::Elementwise(_) | Op::Segmented(_) | Op::If | Op::Move(..) | Op::Call | Op::Return => {
+            top_operands(op, track, blocks)
+        }
     }
 }
 

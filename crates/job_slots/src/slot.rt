@@ -3,6 +3,7 @@
 ghost use Rattle.std.specs.Prelude.{◌≡◌, ◌+◌, ◌<◌, ◌≤◌, ◌↔◌, ℕ, [], false, true, length, IsErr, IfOk, IfErr};
 ghost use Rattle.std.specs.Prelude.{OnOk, OnErr, None, Some, option_copied};
 ghost use Rattle.vcode_base.specs.declared.limits.TheConstants.{MOST_WORDS};
+ghost use Rattle.vcode_base.specs.declared.op.Op.TheVariants.{Const};
 ghost use Rattle.vcode_base.specs.declared.outcome.Outcome.TheVariants.{Returned};
 ghost use Rattle.vcode_base.specs.Meaning.{value_fault};
 ghost use Rattle.refcounts.specs.SharedState.{block_count};
@@ -13,10 +14,8 @@ ghost use Rattle.job_steps.specs.Events.{next_standing};
 ghost use Rattle.job_steps.specs.Runs.{outcome, executed_count, peak, state_after};
 ghost use Rattle.job_steps.specs.Standings.{Live, InFlight, Ended};
 ghost use Rattle.job_steps.specs.States.{ruled};
-ghost use Rattle.job_steps.specs.Frames.{instruction_in};
-ghost use Rattle.vcode_base.specs.Instructions.{op_of};
 ghost use Rattle.job_slots.specs.Answers.{IsAnswered, demand_in, early_end_at, line_at};
-ghost use Rattle.job_slots.specs.Lines.{IsLineOf};
+ghost use Rattle.job_slots.specs.Lines.{IsOpOfNext};
 ghost use Rattle.job_slots.specs.declared.status.Status.TheVariants as status;
 ghost use Rattle.job_slots.specs.declared.answer.Finished.TheVariants as finished;
 ghost use Rattle.job_slots.specs.InPlace.{Carries, IsPlaceable, operands_in};
@@ -28,10 +27,11 @@ ghost use Rattle.job_slots.specs.Answers.{or_same, question_at, standing_after_b
 ghost use Rattle.job_slots.specs.Answers.{Steps, IsPassedOver, after_stepped, standing_after_step};
 
 use crate::answer::{Begun, Finished, Stepped};
+use crate::class::{self, Class, Constant};
 use crate::collect::results;
 use crate::commit::execute;
 use crate::in_place::{Placement, execute_in_place, placement_of};
-use crate::next::{is_asked, line_of_next, next_at, next_line, op_of};
+use crate::next::{is_asked, line_of_next, list_of, next_at, next_line};
 use crate::status::Status;
 use crate::ticket::{Halted, demand_of, early_end, ticket_of};
 use block_memory::BlockId;
@@ -39,13 +39,13 @@ use job_memory::laws::{
     changes_join, grants_change_only_their_job, releases_change_only_their_job,
 };
 use job_memory::{JobMemory, NotNow};
-use job_steps::laws::{early_ends_end, end_is_own, others_are_ready, reached};
+use job_steps::laws::{early_ends_end, end_is_own, others_are_ready, reached, steps_can_begin};
 use job_steps::{Desk, Filled, Job, Track, flag};
 use refcounts::laws::{releases_are_counted, releases_keep_blocks};
 use std::alloc::{AllocError, Allocator};
 use std::marker::Model;
-use vcode_base::{DataFault, Elementwise, Instr, Op, Outcome, Rule, StackMove, Values};
-use vcode_reader::{CodeItem, CodeLine};
+use vcode_base::{DataFault, Elementwise, Instr, Op, Outcome, Rule, Scalar, StackMove, Values};
+use vcode_reader::CodeItem;
 
 /// The place of a job in its run, and how it ended, once that is known.
 ///
@@ -309,63 +309,65 @@ impl<A: Allocator> Slot<A> {
         }
         let line = next_line(rule, job, &self.track, number, blocks);
         match &line.item {
-            CodeItem::Do(Instr::Const(kind, _)) => {
-                self.step_line(rule, job, number, blocks, desk, &line, Op::Const(*kind))
+            CodeItem::Do(Instr::Const(elements, _)) => {
+                self.step_constant(rule, job, number, blocks, *elements)
             }
             CodeItem::Do(Instr::Elementwise(Elementwise::Arith(op))) => {
-                let op = Op::Elementwise(Elementwise::Arith(*op));
-                self.step_line(rule, job, number, blocks, desk, &line, op)
+                self.step_as(rule, job, number, blocks, desk, *op)
             }
             CodeItem::Do(Instr::Elementwise(Elementwise::Compare(op))) => {
-                let op = Op::Elementwise(Elementwise::Compare(*op));
-                self.step_line(rule, job, number, blocks, desk, &line, op)
+                self.step_as(rule, job, number, blocks, desk, *op)
             }
-            CodeItem::Do(Instr::Elementwise(_) | Instr::Segmented(_)) => {
-                self.step_long(rule, job, number, blocks, desk)
+            CodeItem::Do(Instr::Elementwise(op)) => {
+                self.step_as(rule, job, number, blocks, desk, *op)
+            }
+            CodeItem::Do(Instr::Segmented(op)) => {
+                self.step_as(rule, job, number, blocks, desk, *op)
             }
             CodeItem::Do(Instr::Move(StackMove::Copy, lower, upper)) => {
-                let op = Op::Move(StackMove::Copy, *lower, *upper);
-                self.step_line(rule, job, number, blocks, desk, &line, op)
+                self.step_as(rule, job, number, blocks, desk, class::Copy(*lower, *upper))
             }
             CodeItem::Do(Instr::Move(StackMove::Pop, lower, upper)) => {
-                let op = Op::Move(StackMove::Pop, *lower, *upper);
-                self.step_line(rule, job, number, blocks, desk, &line, op)
+                self.step_as(rule, job, number, blocks, desk, class::Pop(*lower, *upper))
             }
             CodeItem::Do(Instr::Move(StackMove::MoveToTop, lower, upper)) => {
-                let op = Op::Move(StackMove::MoveToTop, *lower, *upper);
-                self.step_line(rule, job, number, blocks, desk, &line, op)
+                self.step_as(
+                    rule,
+                    job,
+                    number,
+                    blocks,
+                    desk,
+                    class::MoveToTop(*lower, *upper),
+                )
             }
             CodeItem::Do(Instr::Call(_)) => {
-                self.step_line(rule, job, number, blocks, desk, &line, Op::Call)
+                self.step_as(rule, job, number, blocks, desk, class::Call)
             }
             CodeItem::Do(Instr::Return) => {
-                self.step_line(rule, job, number, blocks, desk, &line, Op::Return)
+                self.step_as(rule, job, number, blocks, desk, class::Return)
             }
             CodeItem::Do(Instr::If) | CodeItem::If | CodeItem::Else | CodeItem::Endif => {
-                self.step_line(rule, job, number, blocks, desk, &line, Op::If)
+                self.step_as(rule, job, number, blocks, desk, class::If)
             }
         }
     }
 
-    /// Carries out the next instruction of a job that is live, which is this one, of this line. A call for each kind of
-    /// instruction is fitted to it.
-    #[inline(always)]
-    fn step_line(
+    /// Carries out the next instruction of a job that is live, which is this one. It is compiled for each class apart. It
+    /// looks up the line itself, since a line that is lent is written to memory at each step.
+    fn step_as<C: Class>(
         &mut self,
         rule: Rule,
         job: &Job<A>,
         number: usize,
         blocks: &mut JobMemory<A>,
         desk: &mut Desk<A>,
-        line: &CodeLine<'_>,
-        op: Op,
+        class: C,
     ) -> Stepped
         requires shows { Shows number blocks.old (ruled rule job.now) self.old }
         requires live { self.old.status ≡ status.Live }
         requires numbers { block_count blocks.old.memory + 2 ≤ length blocks.old.memory.slots }
         requires enough { job.now.limits.words ≤ desk.old }
-        requires line { IsLineOf (ruled rule job.now) self.old.trace line.now }
-        requires op { op ≡ op_of (instruction_in line.now.item) }
+        requires next { IsOpOfNext (ruled rule job.now) self.old.trace (C.among_all class) }
         ensures answer { Steps number desk.old (ruled rule job.now) (standing_of self.old) result }
         ensures shows { Shows number blocks.new (ruled rule job.now) self.new }
         ensures others { ChangesOnlyOf number blocks.old blocks.new }
@@ -378,7 +380,10 @@ impl<A: Allocator> Slot<A> {
         early_ends_end();
         others_are_ready();
         end_is_own();
-        let next = next_at(rule, job, &self.track, number, blocks, line, op);
+        steps_can_begin::<BlockId>();
+        let op = class.op();
+        let line = next_line(rule, job, &self.track, number, blocks);
+        let next = next_at(rule, job, &self.track, number, blocks, &line, op);
         if let Some(ending) = early_end(rule, job, &self.track, number, blocks, &next) {
             self.end(rule, job, number, blocks, ending);
             return Stepped::Ended;
@@ -389,12 +394,9 @@ impl<A: Allocator> Slot<A> {
         }
         let (op, number_of_line, operands) = (next.op, next.line, next.operands.as_slice());
         let flag = flag(operands);
-        if let CodeItem::Do(Instr::Const(_, list)) = &line.item {
-            return self.take_results(rule, job, number, blocks, op, flag, list.as_slice(), &[]);
-        }
         match desk.fill(op, operands) {
             Ok((first, second)) => {
-                self.take_results(rule, job, number, blocks, op, flag, first, second)
+                self.take_results::<C>(rule, job, number, blocks, op, flag, first, second)
             }
             Err(fault) => {
                 let ending = Outcome::Fault(fault, number_of_line);
@@ -404,9 +406,44 @@ impl<A: Allocator> Slot<A> {
         }
     }
 
+    /// Carries out the next instruction of a job that is live, which is a `CONST`. Its result is its list, which lies in
+    /// the code.
+    fn step_constant(
+        &mut self,
+        rule: Rule,
+        job: &Job<A>,
+        number: usize,
+        blocks: &mut JobMemory<A>,
+        elements: Scalar,
+    ) -> Stepped
+        requires shows { Shows number blocks.old (ruled rule job.now) self.old }
+        requires live { self.old.status ≡ status.Live }
+        requires numbers { block_count blocks.old.memory + 2 ≤ length blocks.old.memory.slots }
+        requires next { IsOpOfNext (ruled rule job.now) self.old.trace (Const elements) }
+        ensures answer { (words : ℕ) → job.now.limits.words ≤ words
+            → Steps number words (ruled rule job.now) (standing_of self.old) result }
+        ensures shows { Shows number blocks.new (ruled rule job.now) self.new }
+        ensures others { ChangesOnlyOf number blocks.old blocks.new }
+        ensures standing { standing_of self.new
+            ≡ standing_after_step number (ruled rule job.now) (standing_of self.old) }
+        ensures steps { IsPassedOver result → ⊥ }
+    {
+        early_ends_end();
+        steps_can_begin::<BlockId>();
+        let op = Op::Const(elements);
+        let line = next_line(rule, job, &self.track, number, blocks);
+        let next = next_at(rule, job, &self.track, number, blocks, &line, op);
+        if let Some(ending) = early_end(rule, job, &self.track, number, blocks, &next) {
+            self.end(rule, job, number, blocks, ending);
+            return Stepped::Ended;
+        }
+        let flag = flag(next.operands.as_slice());
+        let list = list_of(&line);
+        self.take_results::<Constant>(rule, job, number, blocks, op, flag, list, &[])
+    }
+
     /// Executes the next instruction of a job that is live, whose results are these words.
-    #[inline(always)]
-    fn take_results(
+    fn take_results<C: Class>(
         &mut self,
         rule: Rule,
         job: &Job<A>,
@@ -431,39 +468,11 @@ impl<A: Allocator> Slot<A> {
         ensures steps { IsPassedOver result → ⊥ }
     {
         self.status = Status::InFlight;
-        if self.carry_out(rule, job, number, blocks, op, flag, first, second) {
+        if self.carry_out::<C>(rule, job, number, blocks, op, flag, first, second) {
             Stepped::Done
         } else {
             Stepped::Ended
         }
-    }
-
-    /// Carries out the next instruction of a job that is live, of any kind. It looks at the line itself: a line that is
-    /// lent to a function of its own is written to memory at each step of the caller.
-    #[inline(never)]
-    fn step_long(
-        &mut self,
-        rule: Rule,
-        job: &Job<A>,
-        number: usize,
-        blocks: &mut JobMemory<A>,
-        desk: &mut Desk<A>,
-    ) -> Stepped
-        requires shows { Shows number blocks.old (ruled rule job.now) self.old }
-        requires live { self.old.status ≡ status.Live }
-        requires numbers { block_count blocks.old.memory + 2 ≤ length blocks.old.memory.slots }
-        requires enough { job.now.limits.words ≤ desk.old }
-        ensures answer { Steps number desk.old (ruled rule job.now) (standing_of self.old) result }
-        ensures shows { Shows number blocks.new (ruled rule job.now) self.new }
-        ensures others { ChangesOnlyOf number blocks.old blocks.new }
-        ensures standing { standing_of self.new
-            ≡ standing_after_step number (ruled rule job.now) (standing_of self.old) }
-        ensures desk { desk.new ≡ desk.old }
-        ensures steps { IsPassedOver result → ⊥ }
-    {
-        let line = next_line(rule, job, &self.track, number, blocks);
-        let op = op_of(&line);
-        self.step_line(rule, job, number, blocks, desk, &line, op)
     }
 
     /// Carries out the next instruction of a job that is live, whose result is computed where it is placed.
@@ -658,7 +667,7 @@ impl<A: Allocator> Slot<A> {
             }
             Ok((first, second)) => {
                 let (op, flag) = (filled.op(), filled.flag());
-                if self.carry_out(rule, job, number, blocks, op, flag, first, second) {
+                if self.carry_out::<Op>(rule, job, number, blocks, op, flag, first, second) {
                     Finished::Done
                 } else {
                     Finished::Ended
@@ -669,8 +678,7 @@ impl<A: Allocator> Slot<A> {
 
     /// Executes the instruction of the step in flight, whose results are these words: true if the job goes on after
     /// it, and false if it has returned.
-    #[inline(always)]
-    fn carry_out(
+    fn carry_out<C: Class>(
         &mut self,
         rule: Rule,
         job: &Job<A>,
@@ -697,7 +705,7 @@ impl<A: Allocator> Slot<A> {
     {
         reached();
         end_is_own();
-        execute(
+        execute::<C, A>(
             rule,
             job,
             &mut self.track,

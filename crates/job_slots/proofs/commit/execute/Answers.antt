@@ -1,4 +1,4 @@
-use Rattle.std.proofs.Common.{◌≡◌, ◌+◌, ◌≤◌, List, ℕ, length, ap, subst, arith}
+use Rattle.std.proofs.Common.{◌+◌, List, ℕ, length, ap, subst, arith}
 use Rattle.job_memory.specs.JobBlocks.{words_of}
 use Rattle.job_steps.specs.States.{ruled}
 use Rattle.job_steps.specs.Tracks.{Advances}

@@ -1,13 +1,9 @@
-use Rattle.std.proofs.Common.{◌≡◌, ◌≤◌, length, ap, arith}
-use Rattle.vcode_base.specs.Kinds.{result_kinds}
+use Rattle.std.proofs.Common.{length, ap, arith}
 use Rattle.job_slots.proofs.Operands.{deep_enough}
 use Rattle.job_slots.proofs.commit.settle.Goals as goal
 
 pub exchange-requires-clause-deep : goal.exchange-requires-clause-deep
 exchange-requires-clause-deep g c = deep_enough c.args.op _ c.requires.can.deep
-
-pub exchange-below-requires-clause-deep : goal.exchange-below-requires-clause-deep
-exchange-below-requires-clause-deep g c = deep_enough c.args.op _ c.requires.can.deep
 
 pub returns-in-len1-clause-settled : goal.returns-in-len1-clause-settled
 returns-in-len1-clause-settled g c = (
@@ -18,17 +14,6 @@ returns-in-len1-clause-settled g c = (
   },
 )
 
-pub returns-in_default-clause-settled : goal.returns-in_default-clause-settled
-returns-in_default-clause-settled g c = (
-  c.exchange-below.ensures.exchanged.0,
-  record {
-    given = omega (arith, c.in_default.len_at_least, c.requires.two, ap length c.result_kinds.ensures);
-    settled = (
-      c.exchange-below.new.blocks,
-      c.exchange-below.ensures.exchanged.1,
-      c.place-top.ensures.fresh.0,
-      c.place-top.ensures.fresh.1,
-      c.place-top.ensures.placed,
-    );
-  },
-)
+pub settle_two-requires-clause-two : goal.settle_two-requires-clause-two
+settle_two-requires-clause-two g c =
+    omega (arith, c.in_default.len_at_least, c.requires.two, ap length c.result_kinds.ensures)

@@ -1,7 +1,6 @@
-use Rattle.std.proofs.Common.{◌≡◌, ◌∙◌, ◌≤◌, length, take, sym, subst, ap}
+use Rattle.std.proofs.Common.{◌≡◌, ◌≤◌, length, take, sym, subst}
 use Rattle.vcode_base.specs.declared.op.Op.{Op}
 use Rattle.vcode_base.specs.Operands.{contents}
-use Rattle.vcode_reader.specs.Trees.{Item}
 use Rattle.job_steps.specs.Frames.{instruction_in}
 use Rattle.job_steps.specs.Motions.{operand_count}
 use Rattle.job_steps.specs.StepLaws.{CanBegin}
@@ -39,7 +38,7 @@ listed : (g : Over) (c : After-operands_of g) →
     ≡ sources_of (instruction_in c.args.line.now.item) c.requires.running.state.stack
 listed g c =
     let run = c.requires.running in
-    c.operands_of.ensures run.state.stack
+    c.operands_of.ensures.sources run.state.stack
     (are_there c.args.number c.args.blocks.now.memory c.args.track.now.cells run.state.stack run.holds).lists
 
 known : (g : Over) (c : After-operands_of g) →
@@ -55,7 +54,3 @@ returns-clause-next g c = (known g c).next
 
 pub returns-clause-kinds : goal.returns-clause-kinds
 returns-clause-kinds g c = (known g c).kinds
-
-pub returns-clause-constant : goal.returns-clause-constant
-returns-clause-constant g c k list is =
-    listed g c ∙ ap (λ (i : Item). sources_of i c.requires.running.state.stack) is

@@ -1,10 +1,5 @@
-use Rattle.std.proofs.Common.{rules, ◌≡◌, ℤ, List, [], ◌∷◌, take, Some, None, refl, subst, sym, ap, ◌∙◌}
+use Rattle.std.proofs.Common.{◌≡◌, ℤ, List, take, Some, None, refl, subst, sym, ap, ◌∙◌}
 use Rattle.std.specs.Borrow.{Bor}
-use Rattle.vcode_base.specs.declared.instr.Instr.TheVariants as instr
-use Rattle.vcode_base.specs.declared.op.Op.TheVariants.{Const}
-use Rattle.vcode_base.specs.Instructions.{op_of}
-use Rattle.vcode_reader.specs.declared.line.CodeItem.TheVariants as code_item
-use Rattle.job_steps.specs.Frames.{instruction_in}
 use Rattle.vcode_base.specs.declared.outcome.Outcome.TheVariants.{Fault}
 use Rattle.vcode_base.specs.Meaning.{value_fault}
 use Rattle.vcode_base.specs.Operands.{contents}
@@ -14,12 +9,13 @@ use Rattle.job_steps.specs.Steps.{flag_of}
 use Rattle.job_steps.specs.Tickets.{AreResults, question_by}
 use Rattle.job_slots.specs.Answers.{EndsByStep, IsAnswered, early_end_at}
 use Rattle.job_slots.specs.Slots.{SlotState, IsRunningSlot}
-use Rattle.job_slots.proofs.Constants.{constant_is_list}
+use Rattle.job_slots.specs.Lines.{IsOpOfNext}
+use Rattle.job_slots.proofs.Begins.{can_begin, op_of_line}
 use Rattle.job_slots.proofs.Started.{runs}
 use Rattle.job_slots.proofs.OneGo.{ends_early, ends_by_fault, is_halted, stands_halted}
-use Rattle.job_slots.proofs.slot.Slot.step_line.Given.{Over}
-use Rattle.job_slots.proofs.slot.Slot.step_line.Goals as goal
-use Rattle.job_slots.proofs.slot.Slot.step_line.Goals.{In-Some, In-Err, After-next_at-next, After-flag-flag}
+use Rattle.job_slots.proofs.slot.Slot.step_as.Given.{Over}
+use Rattle.job_slots.proofs.slot.Slot.step_as.Goals as goal
+use Rattle.job_slots.proofs.slot.Slot.step_as.Goals.{In-Some, In-Err, After-next_at-next, After-flag-flag}
 
 running : (g : Over) (c : goal.After-next_at-next g) →
     IsRunningSlot (own_slots c.args.number c.args.blocks.now) (ruled c.args.rule c.args.job.now) c.self.inside.track
@@ -28,6 +24,22 @@ running g c =
     subst (λ (s : SlotState). IsRunningSlot (own_slots c.args.number c.args.blocks.now) task s.trace)
     (sym c.self.view_is)
     (runs c.args.number c.args.blocks.now task c.args.self.now c.requires.shows c.requires.live)
+
+-- the instruction is that of the line
+pub next_at-next-requires-clause-op : goal.next_at-next-requires-clause-op
+next_at-next-requires-clause-op g c =
+    let task = ruled c.args.rule c.args.job.now in
+    let run =
+    subst (λ (s : SlotState). IsRunningSlot (own_slots c.args.number c.args.blocks.now) task s.trace)
+    (sym c.self.view_is)
+    (runs c.args.number c.args.blocks.now task c.args.self.now c.requires.shows c.requires.live) in
+    let next =
+    subst (λ (s : SlotState). IsOpOfNext task s.trace (g.C.Class.among_all c.args.class)) (sym c.self.view_is)
+    c.requires.next in
+    c.op-op.ensures
+    ∙ op_of_line task c.self.inside.track run.state c.next_line-line.result (g.C.Class.among_all c.args.class)
+    (can_begin c.steps_can_begin.ensures _ task c.self.inside.track run c.requires.shows.verified)
+    c.next_line-line.ensures next
 
 -- ---- the job ends before its operands' values are looked at
 
@@ -87,28 +99,9 @@ answered g c first second results =
       results = rw (← c.as_slice-operands.ensures) results;
     }
 
--- the result of a CONST is its list
 pub take_results-requires-clause-answered : goal.take_results-requires-clause-answered
 take_results-requires-clause-answered g c =
     let at = goal.at.take_results-requires-clause-answered g c in
-    let next = c.next_at-next.result in
-    let kind = c.in-Do-Const.field-0-0 in
-    let list = c.in-Do-Const.list in
-    let item_is : c.args.line.now.item ≡ code_item.Do (instr.Const kind list) = first_of (search rules, cc) in
-    let instruction : instruction_in c.args.line.now.item ≡ instr.Const kind list = ap instruction_in item_is in
-    let op_is : next.op ≡ Const kind = c.next_at-next.ensures.op ∙ (c.requires.op ∙ ap op_of instruction) in
-    let sources : contents c.as_slice-operands.result.now ≡ list ∷ [] =
-    ap (λ (lists : List (Bor (List ℤ))). contents lists) c.as_slice-operands.ensures
-    ∙ c.next_at-next.ensures.constant kind list instruction in
-    let results : AreResults (question_by next.op (contents c.as_slice-operands.result.now)) c.as_slice.result.now [] =
-    subst (λ (first : List ℤ). AreResults (question_by next.op (contents c.as_slice-operands.result.now)) first [])
-    (sym c.as_slice.ensures) (constant_is_list next.op kind list _ op_is sources) in
-    subst (λ (s : SlotState). IsAnswered (ruled c.args.rule c.args.job.now) s.trace.executed next.op c.flag-flag.result
-    c.as_slice.result.now []) c.self.view_is (answered g at.After-flag-flag c.as_slice.result.now [] results)
-
-pub take_results-requires-in-Ok-clause-answered : goal.take_results-requires-in-Ok-clause-answered
-take_results-requires-in-Ok-clause-answered g c =
-    let at = goal.at.take_results-requires-in-Ok-clause-answered g c in
     subst (λ (s : SlotState). IsAnswered (ruled c.args.rule c.args.job.now) s.trace.executed c.next_at-next.result.op
     c.flag-flag.result c.in-Ok.first.now c.in-Ok.second.now) c.self.view_is
     (answered g at.After-flag-flag c.in-Ok.first.now c.in-Ok.second.now c.in-Ok.ensures.answer)
