@@ -79,7 +79,7 @@ pub record CanGoPast (verified : TypedProgram) (t : TrackState ℕ) (op : Op) : 
   pub unspent : t.executed < t.limits.budget
   pub deep : IsDeep op (length t.cells)
   pub cells : depth_after op (length t.cells) ≤ t.limits.cells
-  pub follows : CanFollow verified t.frames t.limits.calls
+  pub follows : CanFollow verified op t.frames t.limits.calls
 
 -- track and blocks are at the job's state after one instruction more, and no other job's blocks changed
 pub record IsExecuted (job : ℕ) (old new : JobBlocks) (task : Task) (t u : TrackState ℕ) : Type 0 where

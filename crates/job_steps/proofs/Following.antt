@@ -7,6 +7,8 @@ use Rattle.std.specs.Str.{bytes_eq}
 use Rattle.std.proofs.lemmas.List.{length-drop}
 use Rattle.std.proofs.lemmas.Option.{slice_get-map}
 use Rattle.vcode_base.specs.declared.instr.Instr.TheVariants as instr
+use Rattle.vcode_base.specs.declared.op.Op.{Op}
+use Rattle.vcode_base.specs.declared.op.Op.TheVariants as op
 use Rattle.vcode_base.specs.Instructions.{op_of}
 use Rattle.vcode_base.specs.Kinds.{result_kinds}
 use Rattle.vcode_base.specs.Names.{main_name}
@@ -15,28 +17,26 @@ use Rattle.vcode_reader.specs.declared.line.CodeItem.TheVariants as code_item
 use Rattle.vcode_reader.specs.Callees.{callee_of as callee_in_line, callees_of, callee_in, callee_at as callee_at_line}
 use Rattle.vcode_reader.specs.Decode.{then_body}
 use Rattle.vcode_reader.specs.Targets.{target_in}
-use Rattle.vcode_reader.specs.Trees.{Item, Body, End, Do, Choice, CodeLine, Function, Program}
-use Rattle.vcode_reader.specs.Trees.{body_lines}
+use Rattle.vcode_reader.specs.Trees.{Item, Body, End, Do, Choice, CodeLine, Function, Program, IsBodyInstruction}
+use Rattle.vcode_reader.specs.Trees.{IsProperBody, body_lines}
 use Rattle.vcode_reader.specs.Trees.{lines_of, instruction_line}
-use Rattle.vcode_reader.specs.declared.line.Numbered.{Numbered}
 use Rattle.signatures.specs.Signatures.{FunctionType}
 use Rattle.verifier.specs.Typed.{TypedProgram}
 use Rattle.job_steps.specs.declared.frame.Frame.{Frame}
 use Rattle.job_steps.specs.Reached.{IsVerifiedBySome}
 use Rattle.job_steps.specs.Frames.{StopAt, Stands, StandAll, remaining, lines_at, first_line, next_line}
-use Rattle.job_steps.specs.Frames.{instruction_in}
 use Rattle.job_steps.specs.Motions.{stack_after, depth_after}
 use Rattle.job_steps.specs.States.{Task, StackEntry, Active, State, Callee, callee_of, callee_at, callee_named}
 use Rattle.job_steps.specs.States.{calls_with}
 use Rattle.job_steps.specs.States.{first_state, new_entries}
-use Rattle.job_steps.specs.Steps.{next_item, calls_past, calls_after, can_call, can_run, is_call, question_of}
-use Rattle.job_steps.specs.Steps.{results_of}
+use Rattle.job_steps.specs.Steps.{first_item, next_item, calls_past, calls_after, can_call, can_run, is_call}
+use Rattle.job_steps.specs.Steps.{question_of, results_of}
 use Rattle.job_steps.specs.Steps.{flag_of, words_at, progress_past}
 use Rattle.job_steps.specs.Tracks.{CanCall, CanFollow, Follow, IsCallOf, first_call, functions_of, TrackState, IsAt}
 use Rattle.job_steps.specs.Tracks.{IsWhere, IsDeep, Advances, EachTrackFollows}
 use Rattle.job_steps.proofs.Passing.{remaining_of_all}
 use Rattle.job_steps.proofs.StackLemmas.{length-stack_after, length-results}
-use Rattle.job_steps.proofs.Standing.{stands_at, next_item_is}
+use Rattle.job_steps.proofs.Standing.{stands_at, line_at}
 use Rattle.job_steps.proofs.Typed.{callee}
 
 -- ---- the innermost frame
@@ -60,6 +60,58 @@ top_frame fs (f ∷ frames) frame call outer e s =
     let same : f ≡ frame = let h : ◌≡◌ {A = Option Frame} (Some f) (Some frame) = e in cc in
     record { inner = subst (λ x. Stands fs x call) same s.0; others = s.1 }
 
+-- ---- the line that is next, by its instruction without list or name
+
+-- whichever calls a frame is at, the same line is next
+one_line : (fs : List Function) (frame : Frame) (a b : Active) → Stands fs frame a → Stands fs frame b →
+    next_line a ≡ next_line b
+one_line fs frame a b s t =
+    let at = stands_at fs frame a s in
+    at.next ∙ line_at fs frame b at.function at.line at.found t (sym at.there)
+
+-- a CALL, with its name
+call_named : (item : Item) → op_of item ≡ op.Call → (name : List ℕ) × (item ≡ instr.Call name)
+call_named (instr.Const k list) e = absurd (let h : op.Const k ≡ op.Call = e in cc)
+call_named (instr.Elementwise x) e = absurd (let h : op.Elementwise x ≡ op.Call = e in cc)
+call_named (instr.Segmented x) e = absurd (let h : op.Segmented x ≡ op.Call = e in cc)
+call_named instr.If e = absurd (let h : op.If ≡ op.Call = e in cc)
+call_named (instr.Move motion lower upper) e = absurd (let h : op.Move motion lower upper ≡ op.Call = e in cc)
+call_named (instr.Call name) e = (name, refl)
+call_named instr.Return e = absurd (let h : op.Return ≡ op.Call = e in cc)
+
+is_return : (item : Item) → op_of item ≡ op.Return → item ≡ instr.Return
+is_return (instr.Const k list) e = absurd (let h : op.Const k ≡ op.Return = e in cc)
+is_return (instr.Elementwise x) e = absurd (let h : op.Elementwise x ≡ op.Return = e in cc)
+is_return (instr.Segmented x) e = absurd (let h : op.Segmented x ≡ op.Return = e in cc)
+is_return instr.If e = absurd (let h : op.If ≡ op.Return = e in cc)
+is_return (instr.Move motion lower upper) e = absurd (let h : op.Move motion lower upper ≡ op.Return = e in cc)
+is_return (instr.Call name) e = absurd (let h : op.Call ≡ op.Return = e in cc)
+is_return instr.Return e = refl
+
+-- no instruction of a body is an IF, which is a choice of two bodies
+no_if : (item : Item) → IsBodyInstruction item → op_of item ≡ op.If → ⊥
+no_if (instr.Const k list) proper e = let h : op.Const k ≡ op.If = e in cc
+no_if (instr.Elementwise x) proper e = let h : op.Elementwise x ≡ op.If = e in cc
+no_if (instr.Segmented x) proper e = let h : op.Segmented x ≡ op.If = e in cc
+no_if instr.If proper e = proper
+no_if (instr.Move motion lower upper) proper e = let h : op.Move motion lower upper ≡ op.If = e in cc
+no_if (instr.Call name) proper e = let h : op.Call ≡ op.If = e in cc
+no_if instr.Return proper e = proper
+
+-- the line of an IF
+if_line : (rest : Body) (ret : ℕ) → IsProperBody rest → op_of (first_item rest ret).item ≡ op.If →
+    (first_line rest ret).item ≡ code_item.If
+if_line End ret proper e = absurd (let h : op.Return ≡ op.If = e in cc)
+if_line (Do i l r) ret proper e = absurd (no_if i proper.0 e)
+if_line (Choice l x y end r) ret proper e = refl
+
+-- the line of any other instruction
+do_line : (rest : Body) (ret : ℕ) → (op_of (first_item rest ret).item ≡ op.If → ⊥) →
+    (first_line rest ret).item ≡ code_item.Do (first_item rest ret).item
+do_line End ret other = refl
+do_line (Do i l r) ret other = refl
+do_line (Choice l x y end r) ret other = absurd (other refl)
+
 -- ---- the calls after an instruction
 
 do_return : (item : Item) → item ≡ instr.Return → (verified : TypedProgram) (call : Active) (outer : List Active) →
@@ -76,18 +128,8 @@ same_item : (i j : Item) → code_item.Do i ≡ code_item.Do j → i ≡ j
 unfolding return_in
 same_item i j e = ap return_in e
 
-is_return : Item → Bool
-is_return (instr.Const k list) = false
-is_return (instr.Elementwise e) = false
-is_return (instr.Segmented s) = false
-is_return instr.If = false
-is_return (instr.Move motion lower upper) = false
-is_return (instr.Call name) = false
-is_return instr.Return = true
-
 return_call : (name : List ℕ) → ◌≡◌ {A = Item} instr.Return (instr.Call name) → ⊥
-unfolding is_return
-return_call name e = let h : true ≡ false = ap is_return e in cc
+return_call name e = let h : op.Return ≡ op.Call = ap op_of e in cc
 
 is_do : CodeItem Item → Bool
 is_do (code_item.Do i) = true
@@ -106,19 +148,22 @@ module _ (verified : TypedProgram) (flag : Bool) (ret : ℕ) (outer : List Activ
   after_return (Do i l r) e = do_return i (same_item i instr.Return e) verified (record { rest = r; ret = ret }) outer
   after_return (Choice l x y end r) e = absurd (if_do instr.Return e)
 
--- neither a CALL nor a RET
-abbrev pub GoesOn : Item → Type 0
-GoesOn item = (item ≡ instr.Return → ⊥) × ((name : List ℕ) → item ≡ instr.Call name → ⊥)
+-- none of IF, CALL and RET
+abbrev pub is_plain : Op → Bool
+is_plain op.If = false
+is_plain op.Call = false
+is_plain op.Return = false
+is_plain _ = true
 
-past_plain : (item : Item) → GoesOn item → (verified : TypedProgram) (call : Active) (outer : List Active) →
-    calls_past verified item call outer ≡ call ∷ outer
-past_plain (instr.Const k list) on verified call outer = refl
-past_plain (instr.Elementwise e) on verified call outer = refl
-past_plain (instr.Segmented s) on verified call outer = refl
-past_plain instr.If on verified call outer = refl
-past_plain (instr.Move motion lower upper) on verified call outer = refl
-past_plain (instr.Call name) on verified call outer = absurd (on.1 name refl)
-past_plain instr.Return on verified call outer = absurd (on.0 refl)
+past_plain : (item : Item) → is_plain (op_of item) ≡ true → (verified : TypedProgram) (call : Active)
+    (outer : List Active) → calls_past verified item call outer ≡ call ∷ outer
+past_plain (instr.Const k list) plain verified call outer = refl
+past_plain (instr.Elementwise e) plain verified call outer = refl
+past_plain (instr.Segmented s) plain verified call outer = refl
+past_plain instr.If plain verified call outer = absurd (let h : false ≡ true = plain in cc)
+past_plain (instr.Move motion lower upper) plain verified call outer = refl
+past_plain (instr.Call name) plain verified call outer = absurd (let h : false ≡ true = plain in cc)
+past_plain instr.Return plain verified call outer = absurd (let h : false ≡ true = plain in cc)
 
 -- what the frame after an instruction promises
 abbrev pub IsBehind : List Function → Frame → Frame → Type 0
@@ -138,31 +183,32 @@ module _ (verified : TypedProgram) (frames : List Frame) (frame : Frame) (top : 
   abbrev pub LineIs : CodeItem Item → Type 0
   LineIs item = (call : Active) → Stands (functions_of verified) frame call → (next_line call).item ≡ item
 
-  pub follow_return : LineIs (code_item.Do instr.Return) → (flag : Bool) → Follow verified flag frames (drop 1 frames)
-  follow_return line flag = λ call outer s.
+  return_by : LineIs (code_item.Do instr.Return) → (flag : Bool) → Follow verified flag frames (drop 1 frames)
+  return_by line flag = λ call outer s.
       let t = top_frame (functions_of verified) frames frame call outer top s in
       subst (StandAll (functions_of verified) (drop 1 frames))
       (sym (after_return verified flag call.ret outer call.rest (line call t.inner))) t.others
 
   module _ (next : Frame) (behind : IsBehind (functions_of verified) frame next) where
-    plain_by : (item : Item) → GoesOn item → (flag : Bool) (rest : Body) (ret : ℕ) (outer : List Active) →
-        (first_line rest ret).item ≡ code_item.Do item →
+    past_by : (item : Item) → is_plain (op_of item) ≡ true →
+        (flag : Bool) (rest : Body) (ret : ℕ) (outer : List Active) → (first_line rest ret).item ≡ code_item.Do item →
         Stands (functions_of verified) frame (record { rest = rest; ret = ret }) →
         StandAll (functions_of verified) (drop 1 frames) outer →
         StandAll (functions_of verified) (next ∷ drop 1 frames) (calls_after verified flag rest ret outer)
-    plain_by item on flag End ret outer e s others = absurd (on.0 (sym (same_item instr.Return item e)))
-    plain_by item on flag (Do i l r) ret outer e s others =
+    past_by item plain flag End ret outer e s others =
+        absurd (let h : false ≡ true = ap (λ i. is_plain (op_of i)) (same_item instr.Return item e) ∙ plain in cc)
+    past_by item plain flag (Do i l r) ret outer e s others =
         let same : i ≡ item = same_item i item e in
-        let goes : GoesOn i = subst GoesOn (sym same) on in
+        let here : is_plain (op_of i) ≡ true = ap (λ j. is_plain (op_of j)) same ∙ plain in
         subst (StandAll (functions_of verified) (next ∷ drop 1 frames))
-        (sym (past_plain i goes verified (record { rest = r; ret = ret }) outer)) (behind i l ret r s, others)
-    plain_by item on flag (Choice l x y end r) ret outer e s others = absurd (if_do item e)
+        (sym (past_plain i here verified (record { rest = r; ret = ret }) outer)) (behind i l ret r s, others)
+    past_by item plain flag (Choice l x y end r) ret outer e s others = absurd (if_do item e)
 
-    pub follow_plain : (item : Item) → LineIs (code_item.Do item) → GoesOn item → (flag : Bool) →
+    plain_by : (item : Item) → LineIs (code_item.Do item) → is_plain (op_of item) ≡ true → (flag : Bool) →
         Follow verified flag frames (next ∷ drop 1 frames)
-    follow_plain item line on flag = λ call outer s.
+    plain_by item line plain flag = λ call outer s.
         let t = top_frame (functions_of verified) frames frame call outer top s in
-        plain_by item on flag call.rest call.ret outer (line call t.inner) t.inner t.others
+        past_by item plain flag call.rest call.ret outer (line call t.inner) t.inner t.others
 
     call_by : (name : List ℕ) (c : Callee) (inner : Frame) → callee_named verified name ≡ Some c →
         Stands (functions_of verified) inner (first_call c) →
@@ -187,53 +233,88 @@ module _ (verified : TypedProgram) (frames : List Frame) (frame : Frame) (top : 
         absurd (if_do (instr.Call name) e)
 
   module _ (flag : Bool) (part : Frame) (chosen : IsChosen (functions_of verified) flag frame part) where
-    if_by : (rest : Body) (ret : ℕ) (outer : List Active) →
-        ((i : Item) → (first_line rest ret).item ≡ code_item.Do i → ⊥) →
+    part_by : (rest : Body) (ret : ℕ) (outer : List Active) →
+        (first_line rest ret).item ≡ code_item.If →
         Stands (functions_of verified) frame (record { rest = rest; ret = ret }) →
         StandAll (functions_of verified) (drop 1 frames) outer →
         StandAll (functions_of verified) (part ∷ drop 1 frames) (calls_after verified flag rest ret outer)
-    if_by End ret outer none s others = absurd (none instr.Return refl)
-    if_by (Do i l r) ret outer none s others = absurd (none i refl)
-    if_by (Choice l x y end r) ret outer none s others = (chosen l end ret x y r s, others)
+    part_by End ret outer e s others = absurd (if_do instr.Return (sym e))
+    part_by (Do i l r) ret outer e s others = absurd (if_do i (sym e))
+    part_by (Choice l x y end r) ret outer e s others = (chosen l end ret x y r s, others)
 
-    -- a line that is no instruction is an IF
-    pub follow_if : (x : CodeLine) →
-        ((call : Active) → Stands (functions_of verified) frame call → x ≡ next_line call) →
-        ((i : Item) → x.item ≡ code_item.Do i → ⊥) → Follow verified flag frames (part ∷ drop 1 frames)
-    follow_if x line none = λ call outer s.
+    if_by : LineIs code_item.If → Follow verified flag frames (part ∷ drop 1 frames)
+    if_by line = λ call outer s.
         let t = top_frame (functions_of verified) frames frame call outer top s in
-        let item : x.item ≡ (next_line call).item = ap (λ (y : CodeLine). y.item) (line call t.inner) in
-        if_by call.rest call.ret outer (λ i e. none i (item ∙ e)) t.inner t.others
+        part_by call.rest call.ret outer (line call t.inner) t.inner t.others
 
   -- a CALL that can be followed
-  pub record CallIs (name : List ℕ) (room : ℕ) : Type 0 where
+  pub record CallIs (room : ℕ) : Type 0 where
+    pub name : List ℕ
+    pub line : LineIs (code_item.Do (instr.Call name))
     pub callee : Callee
     pub is : IsCallOf verified frame name callee
     pub few : length frames < room
 
-  pub call_is : (name : List ℕ) (room : ℕ) → LineIs (code_item.Do (instr.Call name)) → CanFollow verified frames room →
-      CallIs name room
-  call_is name room line can =
-      let t = top_frame (functions_of verified) frames frame can.call can.outer top can.stands in
-      let item : (next_item can.call).item ≡ instr.Call name =
-      ap (λ (x : Numbered Item). x.item) (next_item_is can.call) ∙ ap instruction_in (line can.call t.inner) in
-      let called = subst (λ i. CanCall verified i (length frames) room) item can.called in
-      record {
-        callee = called.0;
-        is = record { call = can.call; stands = t.inner; next = line can.call t.inner; is = called.1 };
-        few = called.2;
-      }
+  -- where the next instruction, without its list or name, is this one
+  module _ (o : Op) (room : ℕ) (can : CanFollow verified o frames room) where
+    pub inner_call : Stands (functions_of verified) frame can.call
+    inner_call =
+        let t = top_frame (functions_of verified) frames frame can.call can.outer top can.stands in
+        t.inner
 
-  pub follow_call : (next inner : Frame) → IsBehind (functions_of verified) frame next →
-      ((name : List ℕ) (callee : Callee) → IsCallOf verified frame name callee →
-      Stands (functions_of verified) inner (first_call callee)) →
-      (name : List ℕ) (room : ℕ) → LineIs (code_item.Do (instr.Call name)) → CanFollow verified frames room →
-      (flag : Bool) → Follow verified flag frames (inner ∷ next ∷ drop 1 frames)
-  follow_call next inner behind first name room line can flag = λ call outer s.
-      let t = top_frame (functions_of verified) frames frame call outer top s in
-      let c = call_is name room line can in
-      call_by next behind name c.callee inner c.is.is (first name c.callee c.is) flag call.rest call.ret outer
-      (line call t.inner) t.inner t.others
+    next_is : LineIs (next_line can.call).item
+    next_is call s =
+        ap (λ (x : CodeLine). x.item) (one_line (functions_of verified) frame call can.call s inner_call)
+
+    do_is : (o ≡ op.If → ⊥) → LineIs (code_item.Do (next_item can.call).item)
+    do_is other call s =
+        next_is call s ∙ do_line can.call.rest can.call.ret (λ e. other (sym can.op_is ∙ e))
+
+    pub follow_if : o ≡ op.If → (flag : Bool) (part : Frame) → IsChosen (functions_of verified) flag frame part →
+        Follow verified flag frames (part ∷ drop 1 frames)
+    follow_if is flag part chosen =
+        if_by flag part chosen
+        (λ call s. next_is call s ∙ if_line can.call.rest can.call.ret can.proper (can.op_is ∙ is))
+
+    pub follow_return : o ≡ op.Return → (flag : Bool) → Follow verified flag frames (drop 1 frames)
+    follow_return is flag =
+        let other : o ≡ op.If → ⊥ = λ e. let h : op.Return ≡ op.If = sym is ∙ e in cc in
+        let returns = is_return (next_item can.call).item (can.op_is ∙ is) in
+        return_by (λ call s. do_is other call s ∙ ap code_item.Do returns) flag
+
+    pub follow_plain : is_plain o ≡ true → (flag : Bool) (next : Frame) →
+        IsBehind (functions_of verified) frame next → Follow verified flag frames (next ∷ drop 1 frames)
+    follow_plain plain flag next behind =
+        let other : o ≡ op.If → ⊥ = λ e. let h : true ≡ false = sym plain ∙ ap is_plain e in cc in
+        plain_by next behind (next_item can.call).item (do_is other) (ap is_plain can.op_is ∙ plain) flag
+
+    call_line : (is : o ≡ op.Call) →
+        LineIs (code_item.Do (instr.Call (call_named (next_item can.call).item (can.op_is ∙ is)).0))
+    call_line is call s =
+        let other : o ≡ op.If → ⊥ = λ e. let h : op.Call ≡ op.If = sym is ∙ e in cc in
+        do_is other call s ∙ ap code_item.Do (call_named (next_item can.call).item (can.op_is ∙ is)).1
+
+    pub call_is : o ≡ op.Call → CallIs room
+    call_is is =
+        let named = call_named (next_item can.call).item (can.op_is ∙ is) in
+        let called = subst (λ i. CanCall verified i (length frames) room) named.1 can.called in
+        record {
+          name = named.0;
+          line = call_line is;
+          callee = called.0;
+          is = record { call = can.call; stands = inner_call; next = call_line is can.call inner_call; is = called.1 };
+          few = called.2;
+        }
+
+    pub follow_call : o ≡ op.Call → (flag : Bool) (next inner : Frame) → IsBehind (functions_of verified) frame next →
+        ((name : List ℕ) (callee : Callee) → IsCallOf verified frame name callee →
+        Stands (functions_of verified) inner (first_call callee)) →
+        Follow verified flag frames (inner ∷ next ∷ drop 1 frames)
+    follow_call is flag next inner behind first = λ call outer s.
+        let t = top_frame (functions_of verified) frames frame call outer top s in
+        let c = call_is is in
+        call_by next behind c.name c.callee inner c.is.is (first c.name c.callee c.is) flag call.rest call.ret outer
+        (c.line call t.inner) t.inner t.others
 
 pub long_again : (frame : Frame) (frames : List Frame) → 0 < length frames →
     length (frame ∷ drop 1 frames) ≡ length frames
@@ -356,12 +437,11 @@ same_functions p v verified program same =
     ap (λ (q : Program). q.functions) (program ∙ ap (λ (w : TypedProgram). w.program) same)
 
 -- the innermost frame is at some call
-pub inner_stands : (verified : TypedProgram) (frames : List Frame) (frame : Frame) (room : ℕ) (fs : List Function) →
-    slice_get frames 0 ≡ Some frame → CanFollow verified frames room → fs ≡ functions_of verified →
-    (call : Active) × Stands fs frame call
-inner_stands verified frames frame room fs top can same =
-    let t = top_frame (functions_of verified) frames frame can.call can.outer top can.stands in
-    (can.call, subst (λ gs. Stands gs frame can.call) (sym same) t.inner)
+pub inner_stands : (verified : TypedProgram) (frames : List Frame) (frame : Frame) (o : Op) (room : ℕ)
+    (fs : List Function) → slice_get frames 0 ≡ Some frame → CanFollow verified o frames room →
+    fs ≡ functions_of verified → (call : Active) × Stands fs frame call
+inner_stands verified frames frame o room fs top can same =
+    (can.call, subst (λ gs. Stands gs frame can.call) (sym same) (inner_call verified frames frame top o room can))
 
 -- ---- when a job's next instruction can be followed
 
@@ -393,12 +473,15 @@ can_call_by verified instr.Return stack active room runs few = tt
 -- An instruction that can run can be followed, if at a CALL there is room for one call more.
 pub can_follow : (verified : TypedProgram) (frames : List Frame) (call : Active) (outer : List Active)
     (stack : List StackEntry) (room : ℕ) → StandAll (functions_of verified) frames (call ∷ outer) →
-    can_run verified (next_item call).item stack ≡ true →
-    (is_call (op_of (next_item call).item) ≡ true → length frames < room) → CanFollow verified frames room
-can_follow verified frames call outer stack room stands runs few = record {
+    IsProperBody call.rest → can_run verified (next_item call).item stack ≡ true →
+    (is_call (op_of (next_item call).item) ≡ true → length frames < room) →
+    CanFollow verified (op_of (next_item call).item) frames room
+can_follow verified frames call outer stack room stands proper runs few = record {
   call = call;
   outer = outer;
   stands = stands;
+  op_is = refl;
+  proper = proper;
   called = can_call_by verified (next_item call).item stack (length frames) room runs few;
 }
 

@@ -133,6 +133,8 @@ module _ {C : Type 0} (signatures : List Signature) (task : Task) (v : IsVerifie
       let item = (next_item call).item in
       let runs = runs_next signatures task n s v r call outer is in
       let stands = subst (StandAll (functions_of task.verified) t.frames) is at.frames in
+      let scope = scope_of signatures task.verified.program in
+      let typed = subst (λ cs. AreTyped scope task.verified.results cs (stack_kinds s.stack)) is r.typed in
       let late : early_ending task (next_item call) s ≡ None =
       ap (early_end_in task s) (sym is) ∙ unspent.late in
       let none = neither (next_item call).number _ _ late in
@@ -148,7 +150,7 @@ module _ {C : Type 0} (signatures : List Signature) (task : Task) (v : IsVerifie
         deep = subst (IsDeep (op_of item)) (sym at.cells) (deep_of task.verified item s.stack runs);
         cells = subst (λ (l : Limits). depth_after (op_of item) (length t.cells) ≤ l.cells) (sym at.limits)
             (subst (λ m. depth_after (op_of item) m ≤ task.limits.cells) (sym at.cells) fit.cells_fit);
-        follows = can_follow task.verified t.frames call outer s.stack t.limits.calls stands runs
+        follows = can_follow task.verified t.frames call outer s.stack t.limits.calls stands typed.5 runs
             (λ called. subst (λ (l : Limits). length t.frames < l.calls) (sym at.limits)
             (omega (arith, same, fit.calls_fit called)));
         room = fit.words_fit;

@@ -41,7 +41,7 @@ pub record CanAdvance {C : Type 0} (task : Task) (s : State) (t : TrackState C) 
   pub unspent : t.executed < t.limits.budget
   pub deep : IsDeep (op_of item) (length t.cells)
   pub cells : depth_after (op_of item) (length t.cells) ≤ t.limits.cells
-  pub follows : CanFollow task.verified t.frames t.limits.calls
+  pub follows : CanFollow task.verified (op_of item) t.frames t.limits.calls
   pub room : words_at task.rule item s ≤ task.limits.words
   pub shaped : shape (op_of item) (sources_of item s.stack) ≡ None
   pub answers : (words : ℕ) → task.limits.words ≤ words →

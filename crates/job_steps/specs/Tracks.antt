@@ -7,7 +7,7 @@ use Rattle.vcode_base.specs.Instructions.{op_of}
 use Rattle.vcode_base.specs.Kinds.{result_kinds}
 use Rattle.vcode_base.specs.declared.op.Op.TheVariants.{Move}
 use Rattle.vcode_reader.specs.declared.line.CodeItem.TheVariants as code_item
-use Rattle.vcode_reader.specs.Trees.{Item, Function}
+use Rattle.vcode_reader.specs.Trees.{Item, Function, IsProperBody}
 use Rattle.verifier.specs.Typed.{TypedProgram}
 use Rattle.job_steps.specs.declared.frame.Frame.{Frame}
 use Rattle.job_steps.specs.Frames.{Stands, StandAll, next_line}
@@ -64,11 +64,14 @@ pub record IsCallOf (verified : TypedProgram) (frame : Frame) (name : List ℕ) 
   pub next : (next_line call).item ≡ code_item.Do (Call name)
   pub is : callee_named verified name ≡ Some callee
 
--- a call is active whose next instruction can be followed, if there is room for `room` frames
-pub record CanFollow (verified : TypedProgram) (frames : List Frame) (room : ℕ) : Type 0 where
+-- A call is active whose next instruction is this one without its list or name, and can be followed if there is room
+-- for `room` frames. What remains of the call is a proper body, in which each IF is a choice of two bodies.
+pub record CanFollow (verified : TypedProgram) (op : Op) (frames : List Frame) (room : ℕ) : Type 0 where
   pub call : Active
   pub outer : List Active
   pub stands : StandAll (functions_of verified) frames (call ∷ outer)
+  pub op_is : op_of (next_item call).item ≡ op
+  pub proper : IsProperBody call.rest
   pub called : CanCall verified (next_item call).item (length frames) room
 
 -- the frames are at the calls after the next instruction, whichever calls they were at

@@ -1,17 +1,15 @@
 //! The frames of the active calls after an instruction.
 
-ghost use Rattle.std.specs.Prelude.{◌≡◌, ◌<◌, ℕ, Bool, List, [], ◌∷◌, length, drop, slice_get, Some, IfOk};
-ghost use Rattle.vcode_reader.specs.declared.line.CodeItem.TheVariants as code_item;
-ghost use Rattle.job_steps.specs.Frames.{Stands, StandAll, next_line};
-ghost use Rattle.job_steps.specs.States.{Active, Callee, first_state};
+ghost use Rattle.std.specs.Prelude.{◌≡◌, ℕ, List, [], ◌∷◌, IfOk};
+ghost use Rattle.job_steps.specs.Frames.{Stands, StandAll};
+ghost use Rattle.job_steps.specs.States.{Callee, first_state};
 ghost use Rattle.job_steps.specs.Tracks.{CanFollow, Follow, IsCallOf, first_call, functions_of};
 
 use crate::bounded_stack::BoundedStack;
 use crate::frame::Frame;
 use crate::job::Job;
 use std::alloc::{AllocError, Allocator};
-use vcode_base::{Instr, Instruction};
-use vcode_reader::CodeItem;
+use vcode_base::Op;
 
 /// The frame of the first line of `MAIN`, with room for as many as the job may have calls.
 pub(crate) fn first_frames<A: Allocator>(
@@ -36,44 +34,32 @@ fn main_frame<A: Allocator>(job: &Job<A>) -> Frame
     Frame::first(program.position(b"MAIN").unwrap())
 }
 
-/// Follows the next instruction of the innermost call, whose flag is given if it is an `IF`.
+/// Follows the next instruction of the innermost call, which is this one without its list or name. The flag is
+/// that of an `IF`, and of no account elsewhere.
 #[inline(always)]
-pub(crate) fn follow<A: Allocator>(frames: &mut BoundedStack<Frame, A>, job: &Job<A>, flag: bool)
-    requires { CanFollow job.now.verified frames.old.entries frames.old.room }
+pub(crate) fn follow<A: Allocator>(
+    frames: &mut BoundedStack<Frame, A>,
+    job: &Job<A>,
+    op: Op,
+    flag: bool,
+)
+    requires { CanFollow job.now.verified op frames.old.entries frames.old.room }
     ensures room { frames.new.room ≡ frames.old.room }
     ensures frames { Follow job.now.verified flag frames.old.entries frames.new.entries }
 {
     let program = job.verified().program();
     let frame = frames.at(0);
-    match &frame.line(program).item {
-        CodeItem::Do(instruction) => follow_instruction(frames, job, frame, instruction),
-        _ => frames.replace_top(frame.chosen(program, flag)),
-    }
-}
-
-/// Follows the instruction of the innermost frame, which is no `IF`.
-#[inline(always)]
-fn follow_instruction<A: Allocator>(
-    frames: &mut BoundedStack<Frame, A>,
-    job: &Job<A>,
-    frame: Frame,
-    instruction: &Instruction<'_>,
-)
-    requires frame { slice_get frames.old.entries 0 ≡ Some frame }
-    requires line { (call : Active) → Stands (functions_of job.now.verified) frame call
-        → (next_line call).item ≡ code_item.Do instruction.now }
-    requires calls { CanFollow job.now.verified frames.old.entries frames.old.room }
-    ensures room { frames.new.room ≡ frames.old.room }
-    ensures frames { (flag : Bool) → Follow job.now.verified flag frames.old.entries frames.new.entries }
-{
-    match instruction {
-        Instr::Return => frames.lower(1),
-        Instr::Call(_) => {
+    match op {
+        Op::If => frames.replace_top(frame.chosen(program, flag)),
+        Op::Return => frames.lower(1),
+        Op::Call => {
             let callee = called(frame, job);
-            frames.replace_top(frame.next(job.verified().program()));
+            frames.replace_top(frame.next(program));
             frames.push(callee);
         }
-        _ => frames.replace_top(frame.next(job.verified().program())),
+        Op::Const(_) | Op::Elementwise(_) | Op::Segmented(_) | Op::Move(..) => {
+            frames.replace_top(frame.next(program))
+        }
     }
 }
 

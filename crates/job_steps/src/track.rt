@@ -155,11 +155,11 @@ impl<C: Copy, A: Allocator> Track<C, A> {
         requires deep { IsDeep op (length self.old.cells) }
         requires given { length results.now ≡ length (result_kinds op) }
         requires cells { depth_after op (length self.old.cells) ≤ self.old.limits.cells }
-        requires calls { CanFollow job.now.verified self.old.frames self.old.limits.calls }
+        requires calls { CanFollow job.now.verified op self.old.frames self.old.limits.calls }
         ensures { Advances job.now.verified op flag results.now words self.old self.new }
     {
         replace(&mut self.cells, op, results);
-        follow(&mut self.frames, job, flag);
+        follow(&mut self.frames, job, op, flag);
         count(&mut self.executed, &mut self.peak, words);
     }
 
