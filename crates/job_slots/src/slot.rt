@@ -352,8 +352,8 @@ impl<A: Allocator> Slot<A> {
         }
     }
 
-    /// Carries out the next instruction of a job that is live, which is this one. It is compiled for each class apart. It
-    /// looks up the line itself, since a line that is lent is written to memory at each step.
+    /// Carries out the next instruction of a job that is live, which is this one. It is compiled for each class apart.
+    /// It looks up the line itself, since a line that is lent is written to memory at each step.
     fn step_as<C: Class>(
         &mut self,
         rule: Rule,

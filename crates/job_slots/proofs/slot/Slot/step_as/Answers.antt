@@ -9,9 +9,7 @@ use Rattle.job_steps.specs.Steps.{flag_of}
 use Rattle.job_steps.specs.Tickets.{AreResults, question_by}
 use Rattle.job_slots.specs.Answers.{EndsByStep, IsAnswered, early_end_at}
 use Rattle.job_slots.specs.Slots.{SlotState, IsRunningSlot}
-use Rattle.job_slots.specs.Lines.{IsOpOfNext}
-use Rattle.job_slots.proofs.Begins.{can_begin, op_of_line}
-use Rattle.job_slots.proofs.Started.{runs}
+use Rattle.job_slots.proofs.Started.{is_op_of_line, runs_inside}
 use Rattle.job_slots.proofs.OneGo.{ends_early, ends_by_fault, is_halted, stands_halted}
 use Rattle.job_slots.proofs.slot.Slot.step_as.Given.{Over}
 use Rattle.job_slots.proofs.slot.Slot.step_as.Goals as goal
@@ -20,26 +18,16 @@ use Rattle.job_slots.proofs.slot.Slot.step_as.Goals.{In-Some, In-Err, After-next
 running : (g : Over) (c : goal.After-next_at-next g) →
     IsRunningSlot (own_slots c.args.number c.args.blocks.now) (ruled c.args.rule c.args.job.now) c.self.inside.track
 running g c =
-    let task = ruled c.args.rule c.args.job.now in
-    subst (λ (s : SlotState). IsRunningSlot (own_slots c.args.number c.args.blocks.now) task s.trace)
-    (sym c.self.view_is)
-    (runs c.args.number c.args.blocks.now task c.args.self.now c.requires.shows c.requires.live)
+    runs_inside c.args.number c.args.blocks.now (ruled c.args.rule c.args.job.now) _ c.args.self.now c.self.view_is
+    c.requires.shows c.requires.live
 
 -- the instruction is that of the line
 pub next_at-next-requires-clause-op : goal.next_at-next-requires-clause-op
 next_at-next-requires-clause-op g c =
-    let task = ruled c.args.rule c.args.job.now in
-    let run =
-    subst (λ (s : SlotState). IsRunningSlot (own_slots c.args.number c.args.blocks.now) task s.trace)
-    (sym c.self.view_is)
-    (runs c.args.number c.args.blocks.now task c.args.self.now c.requires.shows c.requires.live) in
-    let next =
-    subst (λ (s : SlotState). IsOpOfNext task s.trace (g.C.Class.among_all c.args.class)) (sym c.self.view_is)
-    c.requires.next in
     c.op-op.ensures
-    ∙ op_of_line task c.self.inside.track run.state c.next_line-line.result (g.C.Class.among_all c.args.class)
-    (can_begin c.steps_can_begin.ensures _ task c.self.inside.track run c.requires.shows.verified)
-    c.next_line-line.ensures next
+    ∙ is_op_of_line c.steps_can_begin.ensures c.args.number c.args.blocks.now (ruled c.args.rule c.args.job.now) _
+    c.args.self.now c.self.view_is c.requires.shows c.requires.live c.next_line-line.result
+    (g.C.Class.among_all c.args.class) c.next_line-line.ensures c.requires.next
 
 -- ---- the job ends before its operands' values are looked at
 
