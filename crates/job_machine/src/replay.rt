@@ -107,7 +107,7 @@ impl<A: Allocator> Machine<A> {
         let Some(mut desk) = workbench.take_desk(job) else {
             return self.play_finish(job, workbench);
         };
-        self.step(job, &mut desk);
+        self.take_steps(job, &mut desk, true);
         workbench.exchange(job, Workplace::Free(desk));
     }
 

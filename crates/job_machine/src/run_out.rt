@@ -1,9 +1,9 @@
 //! A machine's jobs, run to their ends on the calling thread.
 
-ghost use Rattle.std.specs.Prelude.{◌≡◌, ◌≤◌, ℕ, false, All, OnOk, OnErr};
+ghost use Rattle.std.specs.Prelude.{◌≡◌, ◌≤◌, ℕ, false, true, All, OnOk, OnErr};
 ghost use Rattle.job_steps.specs.Events.{all_events_left};
 ghost use Rattle.job_steps.specs.Standings.{Collected, of_job};
-ghost use Rattle.job_machine.specs.Machines.{recalled, Leads, GoesOn, HasNoStep, HasReturnedIn, IsDone};
+ghost use Rattle.job_machine.specs.Machines.{recalled, Leads, GoesOn, HasNoStep, HasReturnedIn, IsDone, IsStepped};
 ghost use Rattle.job_machine.specs.Machines.{IsWaitingOrCollected, is_running};
 
 use crate::machine::{Admission, Machine};
@@ -28,21 +28,27 @@ impl<A: Allocator> Machine<A> {
         }
     }
 
-    /// Takes the steps of a job as long as it goes on.
-    fn take_steps(&mut self, job: usize, desk: &mut Desk<A>)
-        requires words { All (λ task. task.limits.words ≤ desk.old) self.old.tasks }
-        requires no_step { HasNoStep self.old }
-        ensures goes_on { GoesOn job self.old self.new }
-        ensures no_more { all_events_left self.new.tasks self.new.standings
+    /// Takes one step of a job, or its steps as long as it goes on. No other function of the machine takes steps in one
+    /// go, so all that a step does is inlined here.
+    pub(crate) fn take_steps(&mut self, job: usize, desk: &mut Desk<A>, once: bool)
+        requires words { once ≡ false → All (λ task. task.limits.words ≤ desk.old) self.old.tasks }
+        requires no_step { once ≡ false → HasNoStep self.old }
+        ensures one { once ≡ true → IsStepped job desk.old self.old self.new }
+        ensures goes_on { once ≡ false → GoesOn job self.old self.new }
+        ensures no_more { once ≡ false → all_events_left self.new.tasks self.new.standings
             ≤ all_events_left self.old.tasks self.old.standings }
-        ensures idle { is_running (of_job job self.new.standings) ≡ false }
+        ensures idle { once ≡ false → is_running (of_job job self.new.standings) ≡ false }
         ensures desk { desk.new ≡ desk.old }
     {
         let _jobs = self.jobs();
         events_keep();
         events_use_up();
         leads_join();
-        while let Stepped::Done = self.step(job, desk) {}
+        while let Stepped::Done = self.step(job, desk) {
+            if once {
+                return;
+            }
+        }
     }
 }
 
@@ -66,7 +72,7 @@ impl<A: Allocator + Clone> Machine<A> {
         events_keep();
         events_use_up();
         leads_join();
-        self.take_steps(job, desk);
+        self.take_steps(job, desk, false);
         match self.collect(job) {
             Ok(_) => Ok(()),
             Err(fault) => Err(fault),

@@ -1,4 +1,4 @@
-use Rattle.std.proofs.Common.{◌∙◌, ap}
+use Rattle.std.proofs.Common.{◌∙◌, ap, refl}
 use Rattle.job_steps.specs.declared.event.Event.TheVariants.{Begin, Finish}
 use Rattle.job_machine.specs.Machines.{machine_after}
 use Rattle.job_machine.proofs.WorkbenchLemmas.{Played, plays_step, plays_no_begin}
@@ -25,11 +25,12 @@ returns-in_default-clause-state g c =
 -- ---- a step in one go
 
 stepped : (g : Over) (c : goal.Joined-exchange g) →
-    Played (Finish c.args.job) (machine_after (Begin c.args.job) c.args.self.now) c.step.new.self c.exchange.new.self
+    Played (Finish c.args.job) (machine_after (Begin c.args.job) c.args.self.now) c.take_steps.new.self c.exchange.new.self
 stepped g c =
-    plays_step c.others_stay.ensures c.args.self.now c.step.new.self c.args.workbench.now c.take_desk.new.self
-    c.exchange.new.self c.args.job c.in-Some.desk c.step.new.desk c.step.result c.requires c.in-Some.ensures
-    c.step.ensures.answer c.step.ensures.state c.step.ensures.desk c.exchange.ensures.state
+    plays_step c.others_stay.ensures c.args.self.now c.take_steps.new.self c.args.workbench.now c.take_desk.new.self
+    c.exchange.new.self c.args.job c.in-Some.desk c.take_steps.new.desk (c.take_steps.ensures.one refl).0 c.requires
+    c.in-Some.ensures (c.take_steps.ensures.one refl).1 (c.take_steps.ensures.one refl).2 c.take_steps.ensures.desk
+    c.exchange.ensures.state
 
 pub returns-clause-state : goal.returns-clause-state
 returns-clause-state g c = (stepped g c).state
