@@ -20,7 +20,8 @@ use Rattle.job_slots.specs.declared.answer.Finished.{Finished}
 use Rattle.job_slots.specs.declared.answer.Finished.TheVariants as finished
 use Rattle.job_slots.specs.declared.answer.Stepped.{Stepped}
 use Rattle.job_slots.specs.declared.answer.Stepped.TheVariants as stepped
-use Rattle.job_slots.specs.Answers.{after_stepped, Begins, Finishes, Steps, is_live, is_in_flight, is_ended, question_at}
+use Rattle.job_slots.specs.Answers.{Begins, Finishes, Steps, after_stepped, is_live, is_in_flight, is_ended}
+use Rattle.job_slots.specs.Answers.{question_at}
 use Rattle.job_slots.specs.Slots.{IsReturned}
 use Rattle.job_machine.specs.declared.machine.Admission.{Admission}
 use Rattle.job_machine.specs.declared.machine.Admission.TheVariants.{Admitted, NotNow, NoneWaiting}
@@ -158,7 +159,7 @@ StepsIn job words None standing answer = ⊥
 StepsIn job words (Some task) None stepped.NotReady = Unit {0}
 StepsIn job words (Some task) None answer = ⊥
 
--- a step in one go was taken, with a desk of so many words
+-- a step of a job was taken in one go, on a desk of `words` words
 abbrev pub IsStepped : (job words : ℕ) → MachineState → MachineState → Type 0
 IsStepped job words old new =
     (answer : Stepped) × StepsIn job words (of_job job old.tasks) (of_job job old.standings) answer

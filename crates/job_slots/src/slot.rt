@@ -406,8 +406,8 @@ impl<A: Allocator> Slot<A> {
         }
     }
 
-    /// Carries out the next instruction of a job that is live, which is a `CONST`. Its result is its list, which lies in
-    /// the code.
+    /// Carries out the next instruction of a job that is live, which is a `CONST`. Its result is its list, which lies
+    /// in the code.
     fn step_constant(
         &mut self,
         rule: Rule,

@@ -25,7 +25,8 @@ returns-in_default-clause-state g c =
 -- ---- a step in one go
 
 stepped : (g : Over) (c : goal.Joined-exchange g) →
-    Played (Finish c.args.job) (machine_after (Begin c.args.job) c.args.self.now) c.take_steps.new.self c.exchange.new.self
+    Played (Finish c.args.job) (machine_after (Begin c.args.job) c.args.self.now) c.take_steps.new.self
+    c.exchange.new.self
 stepped g c =
     plays_step c.others_stay.ensures c.args.self.now c.take_steps.new.self c.args.workbench.now c.take_desk.new.self
     c.exchange.new.self c.args.job c.in-Some.desk c.take_steps.new.desk (c.take_steps.ensures.one refl).0 c.requires
