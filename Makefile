@@ -11,11 +11,11 @@
 # make cluster runs job files of strangers by vjobs-spread on a Slurm of three nodes and by GNU parallel, with faults: by
 #              the programs of bin, or of the folder VJOBS_PROGRAMS; as root it installs the packages if they are missing
 # make cluster-hard   does so with 1,000 files, cut cables, dead hosts and killed daemons, as root; not in the gate
-# make test    runs all tests, tables and examples without proving anything; with WITHIN=600 as far as they come in 600 s
+# make test    runs all tests, tables and examples without proving anything; with WITHIN=180 as far as they come in 180 s
 # make gate    the gate: every proof from nothing, the wrong bodies to be refused, all tests, tables and examples
 # make install PREFIX=..   installs what was built, the man pages, the pages and the examples; /usr/local without PREFIX
 # make dist LOG=FILE   packs the same into bin/vjobs-COMMIT.tar.gz; FILE is the output of make gate on this commit
-# make names   checks that every name exists which a page, a comment or a wrong body uses
+# make names   checks that every name exists which a page, a comment or a wrong body uses, and what pages say of all contracts
 # make check CRATE=name   proves one crate and runs its tests
 # make fast CRATE=name   builds a program unproved and optimised, at bin/unproved/name, to measure a form before its proof
 # make bench   times reading, the steps of jobs, workers, the instructions beside plain C, the memory, and the verifier; no test
@@ -92,6 +92,7 @@ bin/vjobs:
 
 names:
 	.ci/names
+	.ci/claims
 
 check:
 	.ci/check $(CRATE)
@@ -117,7 +118,7 @@ hostile: all
 	python3 models/hostile.py $(MINUTES)
 
 models: all packing kinds
-	.ci/prove worked_texts worked_vectors worked_regions worked_machine
+	.ci/prove worked_texts worked_vectors worked_regions worked_batches
 	python3 models/examples.py
 	python3 models/packing.py bin/vjobs bin/vjobs-pack bin/vjobs-split
 	python3 models/signatures.py bin/vjobs-kinds

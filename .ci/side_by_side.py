@@ -43,8 +43,9 @@ def side_by_side(uses, work, weight=lines_of):
     with concurrent.futures.ThreadPoolExecutor(free) as pool:
         while True:
             ready = [crate for crate in waiting if done.issuperset(uses[crate])]
-            for place, crate in enumerate(ready[:free]):
-                jobs = -(-free // (len(ready) - place))
+            # With two jobs a check takes a third more processor time, so several crates get one each.
+            jobs = free if len(ready) == 1 else 1
+            for crate in ready[:free]:
                 running[pool.submit(timed, work, crate, jobs)] = jobs
                 waiting.remove(crate)
                 free -= jobs

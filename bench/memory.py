@@ -3,10 +3,10 @@
 ranges of words beside a plain list of holes in C. It also prints the most memory that `bin/vjobs` takes for results
 that share a vector.
 
-Run it at the top of the repository, after `make`. It builds crates/bench_memory (proving it and what it stands on,
-unless that was done) and bench/plain_holes.c. The words that packing moves are those of the same load by a plain model
-of first fit with packing, written here: the memory itself counts none. The programs and the model have to end with the
-same blocks, words and holes.
+Run it at the top of the repository, after `make`. It builds crates/bench_ops (proving it and what it stands on, unless
+that was done) and bench/plain_holes.c. The words that packing moves are those of the same load by a plain model of
+first fit with packing, written here: the memory itself tells only those of its last block. The programs and the model
+have to end with the same blocks, words and holes.
 """
 import bisect
 import pathlib
@@ -15,7 +15,7 @@ import tempfile
 
 TOP = pathlib.Path(__file__).resolve().parent.parent
 PROGRAM = str(TOP / "bin" / "vjobs")
-# The words of the region, the live blocks, the words of the longest and the operations, as in crates/bench_memory.
+# The words of the region, the live blocks, the words of the longest and the operations, as in crates/bench_ops.
 SHORT = (2_048, 64, 48, 2_000)
 LONG = (1_048_576, 4_096, 495, 200_000)
 MASK = (1 << 64) - 1
@@ -172,11 +172,11 @@ def print_shared_results():
 
 
 def main():
-    crate = TOP / "crates" / "bench_memory"
+    crate = TOP / "crates" / "bench_ops"
     subprocess.run(["rt", "run"], cwd=crate, check=True, stdout=subprocess.DEVNULL)
-    program = str(crate / "out" / "bench_memory")
-    print_blocks(lines_of(program)[:1], SHORT)
-    lines = lines_of(program, "time")
+    program = str(crate / "out" / "bench_ops")
+    print_blocks(lines_of(program, "memory")[:1], SHORT)
+    lines = lines_of(program, "memory", "time")
     print_blocks(lines[:2], LONG)
     print_takes(lines[2:])
     print_shared_results()

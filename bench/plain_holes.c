@@ -1,4 +1,4 @@
-/* The loads of takes and gives of crates/bench_memory, over a plain list of holes in order of place: first fit by going
+/* The loads of takes and gives of crates/bench_ops, over a plain list of holes in order of place: first fit by going
    over the list, and a binary search for what is given back.
 
    Arguments: the words of the region, the turns before and those that are timed, and then of each load the numbers, the

@@ -1,4 +1,4 @@
-"""Which waiting job is admitted, and random calls on machines for the table of `worked_machine`.
+"""Which waiting job is admitted, and random calls on machines for the table of `worked_batches`.
 
 Each job has one instruction, so it ends as soon as its step is finished.
 """

@@ -8,7 +8,7 @@ Python what docs/LANGUAGE.md and docs/FORMATS.md say of reading, kinds, vectors,
 with the crates. Each of COUNT texts of code and signatures goes to `worked_texts`, each of COUNT instructions to
 `worked_vectors`, each of a hundredth as many batches, of either rule, to `bin/vjobs`, once on 1, 2 or 16 workers and
 once with a schedule, COUNT calls on free words and memories, one after another, to `worked_regions`, and COUNT calls on
-machines to `worked_machine`; their answers, reports and exit statuses must be those of the modules, which know of no
+machines to `worked_batches`; their answers, reports and exit statuses must be those of the modules, which know of no
 schedule.
 
 Where a PROGRAM of the same behaviour is named, only COUNT batches are compared, with it.
@@ -140,7 +140,7 @@ def main(count=10_000, seed=1, *program):
     instructions = differing_lines("worked_vectors", vector_case, cases, count)
     reports = differing_batches([TOP / "bin" / "vjobs"], jobs, count // 100)
     regions = differing_lines("worked_regions", RandomTable.case, RandomTable(source), count)
-    machines = differing_lines("worked_machine", admissions.RandomMachines.case, admissions.RandomMachines(source), count)
+    machines = differing_lines("worked_batches", admissions.RandomMachines.case, admissions.RandomMachines(source), count)
     of_programs = f"{texts} of {count} texts, {instructions} of {count} instructions, {reports} of {count // 100} batches"
     of_calls = f"{regions} of {count} calls on memories, {machines} of {count} on machines"
     print(f"differing: {of_programs}, {of_calls} (seed {seed})")

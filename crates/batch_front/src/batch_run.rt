@@ -1,6 +1,6 @@
 //! A whole run, from a batch's bytes to its report's.
 
-ghost use Rattle.std.specs.Prelude.{◌≡◌, IsErrOf, IsSome};
+ghost use Rattle.std.specs.Prelude.{◌≡◌, IsErrOf};
 ghost use Rattle.batch_front.specs.Devices.{IsFresh};
 ghost use Rattle.batch_front.specs.Runs.{Runs};
 
@@ -59,8 +59,8 @@ pub fn run_alone<A: Allocator + Copy, R: Read, W: Write>(
 /// # Errors
 ///
 /// As of [`run_alone`]; [`FrontFault::Memory`] is also answered if memory was refused to the calling thread for what
-/// the workers left. [`FrontFault::Mixed`] if the machine that the workers hand back holds other jobs than the
-/// batch; it comes before the first write too.
+/// the workers left. [`FrontFault::Mixed`], of a machine that comes back with other jobs than the batch has, never
+/// comes.
 pub fn run<A, H, I, O, G>(
     rt: &H,
     alloc: A,
@@ -78,8 +78,7 @@ where
     requires reader { IsFresh reader.old }
     requires writer { IsFresh writer.old }
     ensures runs { Runs I.remaining O.contents options.now.region reader.old reader.new writer.old writer.new result }
-    // Only workers can hand back other jobs, and none is started beside a schedule.
-    ensures never_mixed { IsSome options.now.schedule → IsErrOf result FrontFault.Mixed → ⊥ }
+    ensures never_mixed { IsErrOf result FrontFault.Mixed → ⊥ }
 {
     if options.schedule.is_some() {
         return run_alone(alloc, reader, writer, options);

@@ -35,6 +35,8 @@ impl<D> Device<D> {
     pub fn new(inner: D) -> Device<D>
         ensures inner { inner_of result ≡ inner }
         ensures fresh { IsFresh result }
+        ensures not_flushing { is_flushing result ≡ false }
+        ensures not_flushed { is_flushed result ≡ false }
     {
         Device {
             inner,

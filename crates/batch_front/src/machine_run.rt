@@ -1,6 +1,6 @@
 //! A batch's jobs, run to their ends.
 
-ghost use Rattle.std.specs.Prelude.{◌≡◌, ◌≤◌, All, IfOk, IfSome, IfNone, OnOk};
+ghost use Rattle.std.specs.Prelude.{◌≡◌, ◌≤◌, All, IfOk, IfSome, IfNone, IsErrOf, OnOk};
 ghost use Rattle.job_steps.specs.Standings.{first_standings};
 ghost use Rattle.job_machine.specs.Machines.{Leads};
 ghost use Rattle.batch_front.specs.LoadedBatches.{IsWaiting, RanOut};
@@ -103,7 +103,8 @@ where
     H: Threads + Wait + Sync,
     G: Gate + Sync,
     requires { IsWaiting batch }
-    ensures { IfOk result (RanOut batch) }
+    ensures out { IfOk result (RanOut batch) }
+    ensures never_mixed { IsErrOf result RunFault.Mixed → ⊥ }
 {
     match batch {
         Loaded::Refused(line, fault) => Ok(Loaded::Refused(line, fault)),

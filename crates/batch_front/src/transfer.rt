@@ -3,7 +3,8 @@
 ghost use Rattle.std.specs.Prelude.{◌≡◌, ◌⊎◌, ℕ, ◌+◌, ◌≤◌, true, false, List, [], take, IfOk, OnOk, OnErr, IsErrOf};
 ghost use Rattle.std.specs.Io.KnownBytes.{Appends, Keeps};
 ghost use Rattle.batch_front.specs.declared.device.TheConstants.{MOST_INTERRUPTIONS};
-ghost use Rattle.batch_front.specs.Devices.{inner_of, has_failed, interrupts_of, is_flushed, is_flushing, IsFresh, HasWorked, IsAtFault};
+ghost use Rattle.batch_front.specs.Devices.{inner_of, has_failed, interrupts_of, is_flushed, is_flushing, IsFresh};
+ghost use Rattle.batch_front.specs.Devices.{HasWorked, IsAtFault};
 ghost use Rattle.batch_reader.specs.Feeds.{HasCome, HasFewJobs};
 ghost use Rattle.batch_front.specs.ReportedJobs.{BatchFits};
 ghost use Rattle.batch_front.specs.Inputs.{AreFirstBytes, IsBatchIn, ReadsFirstBytes, ReadsNoFurther};

@@ -9,7 +9,8 @@ use Rattle.std.proofs.lemmas.List.Elements.{All-head, All-tail}
 use Rattle.vcode_base.specs.Lines.{is_line_feed}
 use Rattle.vcode_base.specs.LineWords.{begins_plain, is_separator, with_plain, words_of_line}
 use Rattle.vcode_base.specs.declared.line_words.Parentheses.TheVariants.{StandInWords}
-use Rattle.batch_reader.specs.Headings.{BatchLine, heading_of, is_blank, is_second_rule, line_of, line_past_limit, marker_of, numbered_lines, pair_of}
+use Rattle.batch_reader.specs.Headings.{BatchLine, heading_of, is_blank, is_second_rule, line_of, line_past_limit}
+use Rattle.batch_reader.specs.Headings.{marker_of, numbered_lines, pair_of}
 use Rattle.batch_reader.specs.Batches.{lines_behind_blanks}
 use Rattle.batch_reader.specs.Lines.{batch_words, lines}
 use Rattle.batch_packer.specs.Joins.{blank_to_feed, without_first_words}

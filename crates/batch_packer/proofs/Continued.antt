@@ -1,10 +1,13 @@
 -- Lines that are those of a file further on in a batch, with the lines of other files after them.
-use Rattle.std.proofs.Common.{◌≡◌, ℕ, zero, suc, ◌+◌, ◌<◌, Bool, true, false, List, [], ◌∷◌, ◌++◌, length, Option, Some, None}
+use Rattle.std.proofs.Common.{◌≡◌, ℕ, zero, suc, ◌+◌, ◌<◌, Bool, true, false, List, [], ◌∷◌, ◌++◌, length, Option, Some}
+use Rattle.std.proofs.Common.{None}
 use Rattle.std.proofs.Common.{Result, Ok, Err, refl, sym, ap, ◌∙◌, arith, subst, inl, inr, ◌⊎◌}
 use Rattle.std.specs.Prelude.{◌||◌}
 use Rattle.batch_reader.specs.declared.fault.BatchFault.TheVariants.{BadJobLine, TooLarge, UnfinishedJob}
-use Rattle.batch_reader.specs.Batches.{JobAndRest, JobText, PartText, Refusal, head_of, head_or_refusal, job_and_later, job_from_code}
-use Rattle.batch_reader.specs.Batches.{job_from_signatures, job_without_parts, jobs_after, jobs_in, lines_behind_blanks, no_job}
+use Rattle.batch_reader.specs.Batches.{JobAndRest, JobText, PartText, Refusal, head_of, head_or_refusal, job_and_later}
+use Rattle.batch_reader.specs.Batches.{job_from_code}
+use Rattle.batch_reader.specs.Batches.{job_from_signatures, job_without_parts, jobs_after, jobs_in, lines_behind_blanks}
+use Rattle.batch_reader.specs.Batches.{no_job}
 use Rattle.batch_reader.specs.Batches.{part_at_end, part_in, whole_job, one_job as one_job_in}
 use Rattle.batch_reader.specs.Blocks.{Block, block_of, ends_signatures, is_code, is_end, longer_block}
 use Rattle.batch_reader.specs.Chains.{result_and_then}

@@ -8,16 +8,21 @@ use Rattle.vcode_base.specs.LineWords.{words_of_line}
 use Rattle.vcode_base.specs.declared.limits.TheConstants.{MOST_BATCH_BYTES, MOST_JOBS}
 use Rattle.vcode_base.specs.declared.rule.Rule.{Rule}
 use Rattle.vcode_base.specs.declared.rule.Rule.TheVariants.{First, Second}
-use Rattle.batch_reader.specs.Batches.{JobText, Refusal, RuledJobs, batch_in, jobs_after, jobs_in, jobs_of, lines_behind_blanks, under}
+use Rattle.batch_reader.specs.Batches.{JobText, Refusal, RuledJobs, batch_in, jobs_after, jobs_in, jobs_of}
+use Rattle.batch_reader.specs.Batches.{lines_behind_blanks, under}
 use Rattle.batch_reader.specs.Headings.{BatchLine, heading_of, is_blank, is_second_rule, line_of, numbered_lines}
 use Rattle.batch_reader.specs.Lines.{batch_words, lines}
-use Rattle.batch_packer.specs.Joins.{IsOneJob, OneJob, joined, jobs_behind_lines, moved, rule_line, ruled_text, text_of, texts_of}
+use Rattle.batch_packer.specs.Joins.{IsOneJob, OneJob, joined, jobs_behind_lines, moved, rule_line, ruled_text, text_of}
+use Rattle.batch_packer.specs.Joins.{texts_of}
 use Rattle.batch_packer.specs.Joins.{with_last_feed}
 use Rattle.batch_packer.specs.Laws.{JoinedJobs}
 use Rattle.batch_packer.proofs.Blanked.{are_lines, blanked_lines, first_behind}
-use Rattle.batch_packer.proofs.Continued.{IsContinued, IsContinuedBehind, blank_line, continued_behind, finds_first, head_within}
-use Rattle.batch_packer.proofs.Continued.{job_follows, jobs_by_behind, jobs_none, no_both, no_line, no_ok, one_ok, other_line}
-use Rattle.batch_packer.proofs.JoinedLines.{bytes_in, bytes_of_lines, continued_lines, ended, feeds_of_text, length_ended}
+use Rattle.batch_packer.proofs.Continued.{IsContinued, IsContinuedBehind, blank_line, continued_behind, finds_first}
+use Rattle.batch_packer.proofs.Continued.{head_within}
+use Rattle.batch_packer.proofs.Continued.{job_follows, jobs_by_behind, jobs_none, no_both, no_line, no_ok, one_ok}
+use Rattle.batch_packer.proofs.Continued.{other_line}
+use Rattle.batch_packer.proofs.JoinedLines.{bytes_in, bytes_of_lines, continued_lines, ended, feeds_of_text}
+use Rattle.batch_packer.proofs.JoinedLines.{length_ended}
 use Rattle.batch_packer.proofs.JoinedLines.{lines_joined, numbered_plain, plain_append, plain_lines}
 
 -- ---- the rule of a batch

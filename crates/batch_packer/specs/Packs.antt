@@ -1,5 +1,6 @@
 -- What is kept of files and of batches, and why a file isn't packed.
-use Rattle.std.specs.Prelude.{◌≡◌, ◌+◌, ◌≤◌, ℕ, nat_lt, nat_le, Bool, true, false, ◌&&◌, ◌-◌, List, [], ◌∷◌, length, All, Result, Ok, Err}
+use Rattle.std.specs.Prelude.{◌≡◌, ◌+◌, ◌≤◌, ℕ, nat_lt, nat_le, Bool, true, false, ◌&&◌, ◌-◌, List, [], ◌∷◌, length}
+use Rattle.std.specs.Prelude.{All, Result, Ok, Err}
 use Rattle.vcode_base.specs.declared.limits.TheConstants.{MOST_BATCH_BYTES, MOST_JOBS}
 use Rattle.vcode_base.specs.declared.rule.Rule.{Rule}
 use Rattle.vcode_base.specs.declared.rule.Rule.TheVariants.{First, Second}

@@ -1,11 +1,11 @@
 -- Lines of code that are taken at once.
-use Rattle.std.proofs.Common.{◌≡◌, ℕ, zero, suc, ◌+◌, ◌≤◌, List, [], ◌∷◌, ◌++◌, length, refl, sym}
+use Rattle.std.proofs.Common.{◌≡◌, ℕ, zero, suc, ◌+◌, ◌-◌, ◌≤◌, List, [], ◌∷◌, ◌++◌, length, refl, sym}
 use Rattle.std.proofs.Common.{ap, subst, ◌∙◌, take, arith, add-one, append_assoc, length-append}
 use Rattle.std.proofs.lemmas.List.{append-nil}
 use Rattle.vcode_base.specs.Lines.{line_feeds}
+use Rattle.vcode_base.specs.declared.limits.TheConstants.{MOST_BATCH_BYTES}
 use Rattle.vcode_base.specs.declared.rule.Rule.{Rule}
 use Rattle.batch_reader.specs.declared.head.JobHeader.{JobHeader}
-use Rattle.batch_reader.specs.declared.part.Part.TheVariants.{Reading, Refused as PartRefused}
 use Rattle.batch_reader.specs.declared.stage.Stage.TheVariants as stage
 use Rattle.batch_reader.specs.Batches.{JobText, job_and_later, jobs_in, under}
 use Rattle.batch_reader.specs.Feeds.{ByLines, FeedState, HasCome, HasComeIn, IsWholeLine, LinesState, Stands}
@@ -13,10 +13,10 @@ use Rattle.batch_reader.specs.Headings.{BatchLine, line_of, numbered_lines}
 use Rattle.batch_reader.specs.Lines.{lines}
 use Rattle.batch_reader.specs.Runs.{AreCodeLines, GoesOn, IsCodeLine, TakesCode}
 use Rattle.batch_reader.specs.Standings.{BatchStanding, Fresh, Between, Headed, InSignatures, InCode, Ended, Refused}
-use Rattle.batch_reader.specs.Standings.{CodeFits, CodePart, HasRoom, JobStage, StageShows}
+use Rattle.batch_reader.specs.Standings.{CodePart, HasRoom, JobStage, StageFits, StageShows}
 use Rattle.batch_reader.specs.Standings.{jobs_behind, jobs_from, with_code}
 use Rattle.batch_reader.specs.Batches.{jobs_of}
-use Rattle.batch_reader.proofs.LineLemmas.{feeds_of_whole, lines_of_whole, numbered_next}
+use Rattle.batch_reader.proofs.LineLemmas.{lines_of_whole, numbered_next}
 use Rattle.batch_reader.proofs.StepLemmas.{code_goes_on}
 
 -- ---- how many lines
@@ -33,18 +33,6 @@ line_more n m front line e h l = rw (e, add-one) (front, line, refl, h, l)
 pub feeds_append : (xs ys : List ℕ) → line_feeds (xs ++ ys) ≡ line_feeds xs + line_feeds ys
 feeds_append [] ys = omega arith
 feeds_append (x ∷ xs) ys = rw (feeds_append xs ys) (omega arith)
-
-pub feeds_of_lines : (n : ℕ) (text : List ℕ) → AreCodeLines n text → line_feeds text ≡ n
-unfolding AreCodeLines
-feeds_of_lines zero text h = ap line_feeds h
-feeds_of_lines (suc n) text h =
-    omega (
-      arith,
-      ap line_feeds h.2,
-      feeds_append h.0 h.1,
-      feeds_of_lines n h.0 h.3,
-      feeds_of_whole h.1 h.4.whole,
-    )
 
 pub some_in_line : (line : List ℕ) → IsWholeLine line → 1 ≤ length line
 some_in_line line whole = omega (arith, ap length whole.2, length-append whole.0 (10 ∷ []))
@@ -176,8 +164,13 @@ code_has_come f text before held old s none same same_lines takes h =
       stands = taken.stands;
     }
 
--- ---- the numbers of lines
+-- ---- how far a stage has come
 
-pub code_fits : (n m : ℕ) (part : CodePart) → n ≤ m → CodeFits n part → CodeFits m part
-code_fits n m (Reading read) few h = λ going. omega (arith, few, h going)
-code_fits n m (PartRefused line fault) few h = tt
+-- so many bytes of a batch have come when so many are left
+pub bytes_come : (left len left2 : ℕ) (stage : JobStage) → left ≤ MOST_BATCH_BYTES → left2 + len ≡ left →
+    StageFits (MOST_BATCH_BYTES - left + len) stage → StageFits (MOST_BATCH_BYTES - left2) stage
+bytes_come left len left2 stage most sum fits = subst (λ (n : ℕ). StageFits n stage) (omega (arith, most, sum)) fits
+
+-- a stage at another count of the same bytes
+pub at_place : (n m : ℕ) (stage : JobStage) → n ≡ m → StageFits n stage → StageFits m stage
+at_place n m stage e fits = subst (λ (k : ℕ). StageFits k stage) e fits

@@ -1,5 +1,6 @@
 -- A batch that comes in pieces: what is kept of it, and which bytes have come.
-use Rattle.std.specs.Prelude.{◌≡◌, ◌+◌, ◌≤◌, ℕ, Bool, true, false, List, [], ◌∷◌, ◌++◌, length, Result, Ok, Err, refl}
+use Rattle.std.specs.Prelude.{◌≡◌, ◌+◌, ◌-◌, ◌≤◌, ℕ, Bool, true, false, List, [], ◌∷◌, ◌++◌, length, Result, Ok, Err}
+use Rattle.std.specs.Prelude.{refl}
 use Rattle.std.specs.Coded.{Coded, code_by, coded_ℕ, coded×, coded_list}
 use Rattle.vcode_base.specs.declared.limits.TheConstants.{MOST_BATCH_BYTES, MOST_JOBS}
 use Rattle.vcode_base.specs.Lines.{is_line_feed}
@@ -13,7 +14,8 @@ use Rattle.batch_reader.specs.Batches.{JobText, Refusal, RuledJobs, jobs_of}
 use Rattle.batch_reader.specs.Fates.{JobEntry, AreEntries}
 use Rattle.batch_reader.specs.Headings.{BatchLine, line_past_limit, numbered_lines}
 use Rattle.batch_reader.specs.Lines.{lines}
-use Rattle.batch_reader.specs.Standings.{JobStage, JobStep, BatchStanding, StageShows, HasRoom, StageFits, jobs_behind, jobs_from}
+use Rattle.batch_reader.specs.Standings.{JobStage, JobStep, BatchStanding, StageShows, HasRoom, StageFits, jobs_behind}
+use Rattle.batch_reader.specs.Standings.{jobs_from}
 
 -- a batch between two lines: the number of the next, how many bytes there may be from there on, the rule of the batch
 -- (which counts once a line that isn't blank has come), the standing of the batch, and the jobs that have ended
@@ -50,10 +52,11 @@ feed_code lines =
     code_by (List ℕ × LinesState) (coded× (coded_list coded_ℕ) lines) (λ f. (f.held, f.lines))
     (λ t. record { held = t.0; lines = t.1 }) (λ _. refl)
 
--- the number of the line and the stage are within their limits
+-- the number of the line, the bytes and the stage are within their limits
 pub record AreLinesWithin (next left : ℕ) (kept : JobStage) : Type 0 where
   pub number : next + left ≤ MOST_BATCH_BYTES + 1
-  pub stage : StageFits next kept
+  pub bytes : left ≤ MOST_BATCH_BYTES
+  pub stage : StageFits (MOST_BATCH_BYTES - left) kept
 
 abbrev pub HoldsNoLineFeed : List ℕ → Type 0
 HoldsNoLineFeed [] = Unit {0}

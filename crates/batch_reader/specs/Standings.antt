@@ -153,24 +153,24 @@ pub record Turns (region ended room : ℕ) (standing : BatchStanding) (l : Batch
 -- ---- what each stage may be
 
 abbrev pub SignaturesFit : ℕ → SignaturesPart → Type 0
-SignaturesFit number (Reading r) = r.failed ≡ false → r.scan.number ≤ number
-SignaturesFit number (PartRefused line fault) = Unit {0}
+SignaturesFit place (Reading r) = r.failed ≡ false → r.scan.number ≤ place + 1
+SignaturesFit place (PartRefused line fault) = Unit {0}
 
 abbrev pub CodeFits : ℕ → CodePart → Type 0
-CodeFits number (Reading (signatures, r)) = r.failed ≡ false → r.scan.line ≤ number
-CodeFits number (PartRefused line fault) = Unit {0}
+CodeFits place (Reading (signatures, r)) = r.failed ≡ false → (r.scan.line ≤ place + 1) × (r.size ≤ place)
+CodeFits place (PartRefused line fault) = Unit {0}
 
--- a job's name is one, and its readers have come no further than the line of this number
+-- a job's name is one, and its readers have come no further than so many bytes of the batch
 abbrev pub StageFits : ℕ → JobStage → Type 0
-StageFits number (stage.Headed kept) = IsName kept.name
-StageFits number (stage.Signatures kept part) = IsName kept.name × SignaturesFit number part
-StageFits number (stage.Code kept part) = IsName kept.name × CodeFits number part
-StageFits number _ = Unit {0}
+StageFits place (stage.Headed kept) = IsName kept.name
+StageFits place (stage.Signatures kept part) = IsName kept.name × SignaturesFit place part
+StageFits place (stage.Code kept part) = IsName kept.name × CodeFits place part
+StageFits place _ = Unit {0}
 
 abbrev pub StepFits : ℕ → JobStep → Type 0
-StepFits number (To s) = StageFits number s
-StepFits number (Ends entry) = Unit {0}
-StepFits number (Begins rule s) = StageFits number s
+StepFits place (To s) = StageFits place s
+StepFits place (Ends entry) = Unit {0}
+StepFits place (Begins rule s) = StageFits place s
 
 -- a line of this heading is one more of the signatures or of the code
 abbrev pub Stays : JobStage → Heading → Type 0

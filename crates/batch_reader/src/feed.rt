@@ -94,33 +94,29 @@ impl<A: Allocator + Copy> Feed<A> {
     /// # Errors
     ///
     /// [`AllocError`] if memory is refused, or was in a piece.
-    pub fn end(self) -> Result<Batch<JobEntries<A>>, AllocError>
+    pub fn end(mut self) -> Result<Batch<JobEntries<A>>, AllocError>
         ensures batch { IfOk result (λ batch. (bytes : List ℕ) → HasCome self bytes
             → IsBatch self.lines.region bytes batch) }
         // No more than a batch may have.
         ensures few { IfOk result (λ batch. (bytes : List ℕ) → HasCome self bytes → HasFewJobs batch) }
         ensures failed { HasFailed self.lines → IsErr result }
     {
-        let lines = self.into_lines()?;
-        lines.finish()
+        self.end_open()?;
+        self.lines.finish()
     }
 
-    /// The lines with the open one, which nothing follows.
-    fn into_lines(self) -> Result<LineReader<A>, AllocError>
-        ensures ended { IfOk result (λ lines. (bytes : List ℕ) → HasCome self bytes → HasEnded lines bytes) }
-        ensures region { IfOk result (λ lines. lines.region ≡ self.lines.region) }
-        ensures failed { HasFailed self.lines → IfOk result HasFailed }
+    /// Takes the open line, which nothing follows.
+    fn end_open(&mut self) -> Result<(), AllocError>
+        ensures ended { OnOk result ((bytes : List ℕ) → HasCome self.old bytes → HasEnded self.new.lines bytes) }
+        ensures region { self.new.lines.region ≡ self.old.lines.region }
+        ensures failed { HasFailed self.old.lines → OnOk result (HasFailed self.new.lines) }
     {
-        let Feed {
-            held,
-            mut lines,
-            ..
-        } = self;
-        if held.is_empty() {
-            return Ok(lines);
+        if self.held.is_empty() {
+            return Ok(());
         }
-        lines.take(held.as_slice())?;
-        Ok(lines)
+        let taken = self.lines.take(self.held.as_slice());
+        self.held.clear();
+        taken
     }
 
     /// Takes the lines of a piece that an LF ends, and answers the rest after them.

@@ -2,7 +2,8 @@
 
 ghost use Rattle.std.specs.Prelude.{◌≡◌, ◌∷◌, List, false, ℕ};
 ghost use Rattle.batch_reader.specs.Blocks.{is_end};
-ghost use Rattle.batch_reader.specs.Headings.{heading_of, marker_of, may_be_around_end, may_begin_end, may_begin_heading};
+ghost use Rattle.batch_reader.specs.Headings.{heading_of, marker_of, may_be_around_end, may_begin_end};
+ghost use Rattle.batch_reader.specs.Headings.{may_begin_heading};
 ghost use Rattle.batch_reader.specs.Headings.{may_go_on_in_code, pair_of};
 ghost use Rattle.batch_reader.specs.Lines.{batch_words};
 ghost use Rattle.batch_reader.specs.declared.heading.Heading.TheVariants.{Other};

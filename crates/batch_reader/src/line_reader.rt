@@ -4,13 +4,15 @@ ghost use Rattle.std.specs.Prelude.{◌≡◌, ◌+◌, ◌≤◌, ◌↔◌, �
 ghost use Rattle.std.specs.Prelude.{OnOk, OnErr, IfOk};
 ghost use Rattle.vcode_base.specs.Lines.{line_feeds};
 ghost use Rattle.vcode_base.specs.declared.limits.TheConstants.{MOST_BATCH_BYTES};
-ghost use Rattle.batch_reader.specs.Feeds.{AnswersLines, ByLines, HasFailed, HasFewJobs, IsFirstLine, IsOutside, IsRefused};
+ghost use Rattle.batch_reader.specs.Feeds.{AnswersLines, ByLines, HasFailed, HasFewJobs, IsFirstLine, IsOutside};
+ghost use Rattle.batch_reader.specs.Feeds.{IsRefused};
 ghost use Rattle.batch_reader.specs.Feeds.{Keeps};
 ghost use Rattle.batch_reader.specs.Feeds.{RefusesLongLine, Stands, is_settled};
 ghost use Rattle.batch_reader.specs.Headings.{heading_of, line_of};
 ghost use Rattle.batch_reader.specs.Lines.{batch_words};
 ghost use Rattle.batch_reader.specs.Runs.{AreCodeLines, IsInCode, TakesCode};
-ghost use Rattle.batch_reader.specs.Standings.{Stays, rule_by};
+ghost use Rattle.batch_reader.specs.Standings.{BatchStanding, HasRoom, StageFits, StageShows, StepFits, Stays, Turns};
+ghost use Rattle.batch_reader.specs.Standings.{rule_by, shown_line};
 ghost use Rattle.batch_reader.specs.declared.heading.Heading.TheVariants as headings;
 ghost use Rattle.batch_reader.specs.declared.stage.Stage.TheVariants as stages;
 
@@ -140,6 +142,7 @@ impl<A: Allocator + Copy> LineReader<A> {
         }
         let line = BatchLine {
             number: self.number,
+            place: MOST_BATCH_BYTES - self.left,
             text,
             heading,
         };
@@ -197,6 +200,7 @@ impl<A: Allocator + Copy> LineReader<A> {
         requires within { length line.text.now ≤ self.old.left }
         requires some { 1 ≤ length line.text.now }
         requires number { line.number ≡ self.old.number }
+        requires place { line.place + self.old.left ≡ MOST_BATCH_BYTES }
         requires heading { line.heading ≡ heading_of (batch_words line.text.now) }
         ensures taken { OnOk result ((come : ByLines) → Stands self.old come
             → Stands self.new (λ ls. come (line_of line.entry.number line.entry.text.now ∷ ls))) }
@@ -207,13 +211,11 @@ impl<A: Allocator + Copy> LineReader<A> {
         ensures failed { OnErr result (HasFailed self.new) }
         ensures again { HasFailed self.old → IsErr result }
     {
-        let len = line.text.len();
-        let stage = mem::replace(&mut self.stage, Stage::Failed);
-        let step = step(self.alloc, self.region, self.entries.len(), stage, line)?;
-        let next = stage_behind(step, &mut self.entries, &mut self.rule)?;
-        set_stage(&mut self.stage, next);
+        let ended = self.entries.len();
+        let step = take_step(self.alloc, self.region, ended, &mut self.stage, line)?;
+        keep_step(step, &mut self.entries, &mut self.rule, &mut self.stage)?;
         self.number += 1;
-        self.left -= len;
+        self.left -= line.text.len();
         Ok(())
     }
 
@@ -303,24 +305,47 @@ fn stays<A: Allocator>(stage: &JobStage<A>, heading: Heading) -> bool
     }
 }
 
-/// The stage after a step, with the rule that it gives; a job that ends goes after the others.
-fn stage_behind<A: Allocator>(
+/// Takes a line at a stage, and answers its step. The stage has failed until the step is kept.
+fn take_step<A: Allocator + Copy>(
+    alloc: A,
+    region: usize,
+    ended: usize,
+    stage: &mut JobStage<A>,
+    line: BatchLine<'_>,
+) -> Result<JobStep<A>, AllocError>
+    requires { StageFits line.place stage.old }
+    ensures stage { stage.new ≡ stages.Failed }
+    ensures fits { IfOk result (StepFits (line.entry.place + length line.entry.text.now)) }
+    ensures turns { IfOk result (λ s. (room : ℕ) (standing : BatchStanding) → StageShows region stage.old standing
+        → HasRoom ended room standing → Turns region ended room standing (shown_line line.entry) s) }
+    ensures failed { stage.old ≡ stages.Failed → IsErr result }
+{
+    let taken = mem::replace(stage, Stage::Failed);
+    step(alloc, region, ended, taken, line)
+}
+
+/// Keeps a step: its stage, and the rule that it gives; a job that ends goes after the others. If memory is refused,
+/// the stage stays.
+fn keep_step<A: Allocator>(
     step: JobStep<A>,
     entries: &mut JobEntries<A>,
     rule: &mut Rule,
-) -> Result<JobStage<A>, AllocError>
-    ensures kept { IfOk result (Keeps step entries.old entries.new) }
+    stage: &mut JobStage<A>,
+) -> Result<(), AllocError>
+    ensures kept { OnOk result (Keeps step entries.old entries.new stage.new) }
     ensures rule { rule.new ≡ rule_by step rule.old }
+    ensures unchanged { OnErr result (stage.new ≡ stage.old) }
 {
     match step {
-        StageStep::To(next) => Ok(next),
+        StageStep::To(next) => set_stage(stage, next),
         StageStep::Ends(entry) => {
             entries.push(entry)?;
-            Ok(Stage::Between)
+            set_stage(stage, Stage::Between);
         }
         StageStep::Begins(given, next) => {
             *rule = given;
-            Ok(next)
+            set_stage(stage, next);
         }
     }
+    Ok(())
 }

@@ -1,7 +1,7 @@
 //! What a line makes of a stage.
 
-ghost use Rattle.std.specs.Prelude.{◌≡◌, ◌+◌, ◌<◌, ◌^◌, ℕ, [], IsErr, IfOk, OnOk};
-ghost use Rattle.vcode_base.specs.Lines.{line_feeds};
+ghost use Rattle.std.specs.Prelude.{◌≡◌, ◌+◌, ◌≤◌, ℕ, [], length, IsErr, IfOk, OnOk};
+ghost use Rattle.vcode_base.specs.declared.limits.TheConstants.{MOST_BATCH_BYTES};
 ghost use Rattle.job_steps.specs.Jobs.{IsName};
 ghost use Rattle.batch_reader.specs.declared.stage.Stage.TheVariants as stages;
 ghost use Rattle.batch_reader.specs.declared.stage.StageStep.TheVariants.{To};
@@ -29,6 +29,7 @@ use job_steps::JobName;
 use signatures::{SigFault, SigReader};
 use std::alloc::{AllocError, Allocator};
 use vcode_base::Rule;
+use vcode_base::laws::line_feeds_are_few;
 use vcode_base::limits::MOST_JOBS;
 use vcode_reader::{CodeFault, CodeReader};
 
@@ -40,8 +41,8 @@ pub(crate) fn step<A: Allocator + Copy>(
     stage: JobStage<A>,
     line: BatchLine<'_>,
 ) -> Result<JobStep<A>, AllocError>
-    requires { StageFits line.number stage }
-    ensures fits { IfOk result (StepFits (line.entry.number + 1)) }
+    requires { StageFits line.place stage }
+    ensures fits { IfOk result (StepFits (line.entry.place + length line.entry.text.now)) }
     ensures turns { IfOk result (λ s. (room : ℕ) (standing : BatchStanding) → StageShows region stage standing
         → HasRoom ended room standing → Turns region ended room standing (shown_line line.entry) s) }
     ensures failed { stage ≡ stages.Failed → IsErr result }
@@ -65,7 +66,7 @@ fn step_at_front<A: Allocator + Copy>(
     ended: usize,
     line: BatchLine<'_>,
 ) -> Result<JobStep<A>, AllocError>
-    ensures fits { IfOk result (StepFits (line.entry.number + 1)) }
+    ensures fits { IfOk result (StepFits (line.entry.place + length line.entry.text.now)) }
     ensures turns { IfOk result (λ s. (region room : ℕ) → HasRoom ended room Fresh
         → Turns region ended room Fresh (shown_line line.entry) s) }
 {
@@ -82,7 +83,7 @@ fn step_between<A: Allocator + Copy>(
     ended: usize,
     line: BatchLine<'_>,
 ) -> Result<JobStage<A>, AllocError>
-    ensures fits { IfOk result (StageFits (line.entry.number + 1)) }
+    ensures fits { IfOk result (StageFits (line.entry.place + length line.entry.text.now)) }
     ensures turns { IfOk result (λ s. (region room : ℕ) → HasRoom ended room Between
         → Turns region ended room Between (shown_line line.entry) (To s)) }
 {
@@ -102,7 +103,7 @@ fn step_at_job<A: Allocator + Copy>(
     job: JobLine<'_>,
     line: u64,
 ) -> Result<JobStage<A>, AllocError>
-    ensures fits { IfOk result (StageFits (line + 1)) }
+    ensures fits { IfOk result (λ s. (place : ℕ) → StageFits place s) }
     ensures turns { IfOk result (λ s. (region room : ℕ) (l : SpecLine) → HasRoom ended room Between
         → SaysJob l (record { name = job.entry.name.now; limits = job.entry.limits }) line
         → Turns region ended room Between l (To s)) }
@@ -126,7 +127,7 @@ fn step_behind_head<A: Allocator + Copy>(
     line: BatchLine<'_>,
 ) -> JobStage<A>
     requires { IsName head.name }
-    ensures fits { StageFits (line.entry.number + 1) result }
+    ensures fits { StageFits (line.entry.place + length line.entry.text.now) result }
     ensures turns { (ended room : ℕ) (job : JobLineOf) (number : ℕ) → ShowsHead head job number
         → HasRoom ended room (Headed job number)
         → Turns region ended room (Headed job number) (shown_line line.entry) (To result) }
@@ -147,7 +148,7 @@ fn signatures_part<A: Allocator + Copy>(
     head: &JobHeader<JobName<A>>,
     first_line: u64,
 ) -> Part<SigReader<A>>
-    ensures fits { SignaturesFit first_line result }
+    ensures fits { (place : ℕ) → first_line ≤ place + 1 → SignaturesFit place result }
     ensures shown { (job : JobLineOf) (number : ℕ) → ShowsHead head.now job number
         → ShowsSignatures region result (job_without_parts job number first_line) }
 {
@@ -165,8 +166,8 @@ fn step_in_signatures<A: Allocator + Copy>(
     line: BatchLine<'_>,
 ) -> Result<JobStage<A>, AllocError>
     requires name { IsName head.name }
-    requires part { SignaturesFit line.number part }
-    ensures fits { IfOk result (StageFits (line.entry.number + 1)) }
+    requires part { SignaturesFit line.place part }
+    ensures fits { IfOk result (StageFits (line.entry.place + length line.entry.text.now)) }
     ensures turns { IfOk result (λ s. (region ended room : ℕ) (job : JobText)
         → StageShows region (stages.Signatures head part) (InSignatures job) → HasRoom ended room (InSignatures job)
         → Turns region ended room (InSignatures job) (shown_line line.entry) (To s)) }
@@ -189,8 +190,8 @@ fn more_signatures<A: Allocator + Copy>(
     part: &mut Part<SigReader<A>>,
     line: BatchLine<'_>,
 ) -> Result<(), AllocError>
-    requires { SignaturesFit line.number part.old }
-    ensures fits { OnOk result (SignaturesFit (line.entry.number + 1) part.new) }
+    requires { SignaturesFit line.place part.old }
+    ensures fits { OnOk result (SignaturesFit (line.entry.place + length line.entry.text.now) part.new) }
     ensures shown { OnOk result ((region : ℕ) (job : JobText) → ShowsSignatures region part.old job
         → ShowsSignatures region part.new (with_signatures job line.entry.text.now)) }
 {
@@ -206,7 +207,7 @@ fn code_part<A: Allocator + Copy>(
     part: Part<SigReader<A>>,
     first_line: u64,
 ) -> Result<Part<CodeReading<A>>, AllocError>
-    ensures fits { IfOk result (CodeFits first_line) }
+    ensures fits { IfOk result (λ p. (place : ℕ) → first_line ≤ place + 1 → CodeFits place p) }
     ensures shown { IfOk result (λ p. (region : ℕ) (job : JobText) → ShowsSignatures region part job → job.code ≡ []
         → ShowsCode region p (with_code_line job first_line)) }
 {
@@ -231,8 +232,8 @@ fn step_in_code<A: Allocator + Copy>(
     line: BatchLine<'_>,
 ) -> Result<JobStep<A>, AllocError>
     requires name { IsName head.name }
-    requires part { CodeFits line.number part }
-    ensures fits { IfOk result (StepFits (line.entry.number + 1)) }
+    requires part { CodeFits line.place part }
+    ensures fits { IfOk result (StepFits (line.entry.place + length line.entry.text.now)) }
     ensures turns { IfOk result (λ s. (region ended room : ℕ) (job : JobText)
         → StageShows region (stages.Code head part) (InCode job) → HasRoom ended room (InCode job)
         → Turns region ended room (InCode job) (shown_line line.entry) s) }
@@ -255,9 +256,9 @@ pub(crate) fn step_inside<A: Allocator + Copy>(
     stage: &mut JobStage<A>,
     line: BatchLine<'_>,
 ) -> Result<(), AllocError>
-    requires fits { StageFits line.number stage.old }
+    requires fits { StageFits line.place stage.old }
     requires stays { Stays stage.old line.heading }
-    ensures fits { OnOk result (StageFits (line.entry.number + 1) stage.new) }
+    ensures fits { OnOk result (StageFits (line.entry.place + length line.entry.text.now) stage.new) }
     ensures turns { OnOk result ((region ended room : ℕ) (standing : BatchStanding) → StageShows region stage.old standing
         → HasRoom ended room standing → Turns region ended room standing (shown_line line.entry) (To stage.new)) }
 {
@@ -278,9 +279,9 @@ pub(crate) fn step_through<A: Allocator + Copy>(
     text: &[u8],
 ) -> Result<(), AllocError>
     requires in_code { IsInCode stage.old }
-    requires fits { (number : ℕ) × StageFits number stage.old × (number + line_feeds text.now < 2 ^ 64) }
-    ensures fits { OnOk result ((number : ℕ) → StageFits number stage.old
-        → StageFits (number + line_feeds text.now) stage.new) }
+    requires fits { (place : ℕ) × StageFits place stage.old × (place + length text.now ≤ MOST_BATCH_BYTES) }
+    ensures fits { OnOk result ((place : ℕ) → StageFits place stage.old
+        → StageFits (place + length text.now) stage.new) }
     ensures shown { OnOk result (GoesOn stage.old stage.new text.now) }
 {
     match stage {
@@ -294,12 +295,12 @@ fn more_code<A: Allocator + Copy>(
     part: &mut Part<CodeReading<A>>,
     text: &[u8],
 ) -> Result<(), AllocError>
-    requires { (number : ℕ) × CodeFits number part.old × (number + line_feeds text.now < 2 ^ 64) }
-    ensures fits { OnOk result ((number : ℕ) → CodeFits number part.old
-        → CodeFits (number + line_feeds text.now) part.new) }
+    requires { (place : ℕ) × CodeFits place part.old × (place + length text.now ≤ MOST_BATCH_BYTES) }
+    ensures fits { OnOk result ((place : ℕ) → CodeFits place part.old → CodeFits (place + length text.now) part.new) }
     ensures shown { OnOk result ((region : ℕ) (job : JobText) → ShowsCode region part.old job
         → ShowsCode region part.new (with_code job text.now)) }
 {
+    line_feeds_are_few();
     match part {
         Part::Reading((_, reader)) => {
             reader.feed(text)?;

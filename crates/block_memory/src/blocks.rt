@@ -278,10 +278,8 @@ impl<A: Allocator> Blocks<A> {
     }
 
     /// Puts a block of `len` words at a place where no block covers a word. A writer writes it, and is lent the words
-    /// of
-    /// other blocks for that. Answers its number, which had none, and what the writer answers. If that is a fault,
-    /// nothing
-    /// is said of the block's words.
+    /// of other blocks for that. Answers its number, which had none, and what the writer answers. If that is a fault,
+    /// nothing is said of the block's words.
     pub(crate) fn put_with<W: Writer>(
         &mut self,
         owner: usize,

@@ -17,7 +17,8 @@ mod span;
 mod table;
 mod writer;
 
-pub use memory::{BlockId, LendingMemory, NoRoom, RewritableMemory, VectorMemory};
+pub use holes::LONGEST_REGION;
+pub use memory::{BlockId, LendingMemory, MOST_BLOCKS, NoRoom, RewritableMemory, VectorMemory};
 pub use plain::PlainMemory;
 pub use region::{PackedRegion, RegionMemory, SlidingMemory};
 pub use writer::{MOST_LENT, Writer};

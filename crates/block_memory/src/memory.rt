@@ -8,6 +8,9 @@ ghost use Rattle.block_memory.specs.Placing.{IsPlacedWith};
 use crate::writer::{MOST_LENT, Writer};
 use std::marker::Model;
 
+/// The most blocks that a memory may be made for.
+pub const MOST_BLOCKS: usize = 1 << 30;
+
 /// The number of a block in a memory. It may be used again for another block once its block is freed.
 #[derive(Clone, Copy, Debug, PartialEq, Eq)]
 pub struct BlockId {
@@ -163,8 +166,7 @@ pub trait RewritableMemory: VectorMemory {
 /// A memory that lends the words of its blocks to a [`Writer`] of a new one.
 pub trait LendingMemory: VectorMemory {
     /// Places a new block of `len` words, which fit, for an owner. A writer writes it where it lies, and is lent the
-    /// words
-    /// of other blocks for that. There has to be a number without a block.
+    /// words of other blocks for that. There has to be a number without a block.
     ///
     /// # Errors
     ///

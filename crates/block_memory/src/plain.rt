@@ -1,8 +1,8 @@
 //! A vector memory with a list of its own for each block.
-ghost use Rattle.std.specs.Prelude.{◌≡◌, ◌≢◌, IfOk};
+ghost use Rattle.std.specs.Prelude.{◌≡◌, ◌≢◌, ◌≤◌, IfOk};
 ghost use Rattle.block_memory.specs.Content.{no_blocks};
 
-use crate::memory::{BlockId, NoRoom, VectorMemory};
+use crate::memory::{BlockId, MOST_BLOCKS, NoRoom, VectorMemory};
 use crate::table::Table;
 use std::alloc::{AllocError, Allocator};
 use std::marker::Model;
@@ -37,10 +37,12 @@ impl<A: Allocator> Model for PlainMemory<A> {
 }
 
 impl<A: Allocator + Clone> PlainMemory<A> {
-    /// A memory for `size` words in at most `most_blocks` blocks, with no block yet.
+    /// A memory for `size` words in at most `most_blocks` blocks, with no block yet. There are numbers for at most
+    /// [`MOST_BLOCKS`] blocks.
     ///
     /// An error means that the allocator refused the room for the numbers of the blocks.
     pub fn new(alloc: A, size: usize, most_blocks: usize) -> Result<Self, AllocError>
+        requires { most_blocks ≤ MOST_BLOCKS }
         ensures empty { IfOk result (λ m. m.content ≡ no_blocks most_blocks) }
         ensures size { IfOk result (λ m. m.room ≡ size) }
     {

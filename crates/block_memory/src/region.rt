@@ -5,13 +5,13 @@ ghost use Rattle.block_memory.specs.Content.{IsLive, no_blocks, block_count, use
 ghost use Rattle.block_memory.specs.Placing.{IsPlacedWith};
 
 use crate::blocks::Blocks;
-use crate::memory::{BlockId, LendingMemory, NoRoom, RewritableMemory, VectorMemory};
+use crate::memory::{BlockId, LendingMemory, MOST_BLOCKS, NoRoom, RewritableMemory, VectorMemory};
 use crate::pack::{WholePacking, give_room, pack_region, take_room};
 use crate::packing::{MoveCounts, Packing};
 use crate::slide::SlidingPacking;
 use crate::writer::{MOST_LENT, Writer};
-use holes::Holes;
 use holes::laws::one_hole_more_than_ranges;
+use holes::{Holes, LONGEST_REGION};
 use std::alloc::{AllocError, Allocator};
 use std::marker::{Model, PhantomData};
 
@@ -59,12 +59,15 @@ impl<P, A: Allocator> Model for PackedRegion<P, A> {
 }
 
 impl<P: Packing, A: Allocator> PackedRegion<P, A> {
-    /// A memory for `size` words in at most `most_blocks` blocks, with no block yet. All words are free.
+    /// A memory for `size` words in at most `most_blocks` blocks, with no block yet. All words are free. There are at
+    /// most [`LONGEST_REGION`] words, and numbers for at most [`MOST_BLOCKS`] blocks.
     ///
     /// An error means that the allocator refused the room for the words, the numbers of the blocks or the holes.
     pub fn new(alloc: A, size: usize, most_blocks: usize) -> Result<Self, AllocError>
     where
         A: Clone,
+        requires region { size ≤ LONGEST_REGION }
+        requires blocks { most_blocks ≤ MOST_BLOCKS }
         ensures empty { IfOk result (λ m. m.content ≡ no_blocks most_blocks) }
         ensures size { IfOk result (λ m. m.room ≡ size) }
         ensures free { IfOk result (λ m. m.free ≡ replicate size true) }
@@ -119,6 +122,8 @@ impl<P: Packing, A: Allocator> PackedRegion<P, A> {
     }
 
     /// How many words of other blocks the last `place` moved that placed a block, 0 before the first.
+    ///
+    /// That it is 0 before the first is a clause of `new`. After a `place` no clause says what it is: tests compare it.
     pub fn moved(&self) -> usize
         ensures { result ≡ self.now.moved }
     {

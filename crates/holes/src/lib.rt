@@ -56,8 +56,8 @@ impl<A: Allocator> Model for Holes<A> {
     ghost invariant = { λ a. IsHoles a.bits.items a.nodes.items a.changed a.near a.size a.free a.most };
 }
 
-/// The words of the longest region, a quarter of what a number of a node can count.
-const LONGEST: usize = u32::MAX as usize / 4;
+/// The most words of a region, a quarter of the numbers of 32 bits.
+pub const LONGEST_REGION: usize = 1 << 30;
 
 /// The number of leaves for a region of this number of words, a power of two.
 fn leaves_for(size: usize) -> usize
@@ -73,18 +73,16 @@ fn leaves_for(size: usize) -> usize
 }
 
 impl<A: Allocator> Holes<A> {
-    /// A region of `size` words, all free, with room for `most` holes.
+    /// A region of `size` words, all free, with room for `most` holes. It has at most [`LONGEST_REGION`] words.
     ///
-    /// An error means that the allocator refused the room, or that the region has more than 1,073,741,823 words.
+    /// An error means that the allocator refused the room.
     pub fn new(alloc: A, size: usize, most: usize) -> Result<Self, AllocError>
     where
         A: Clone,
-        requires { 1 ≤ most }
+        requires some { 1 ≤ most }
+        requires region { size ≤ LONGEST_REGION }
         ensures { IfOk result (λ holes. holes ≡ record { free = replicate size true; most = most }) }
     {
-        if size > LONGEST {
-            return Err(AllocError);
-        }
         let leaves = leaves_for(size);
         let nodes = vec![in alloc.clone()?; Summary::TAKEN; 2 * leaves]?;
         let bits = vec![in alloc; 0; LEAF * leaves]?;

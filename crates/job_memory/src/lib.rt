@@ -18,11 +18,12 @@ mod placing;
 mod rewriting;
 
 use block_memory::{BlockId, SlidingMemory};
+pub use block_memory::{LONGEST_REGION, MOST_BLOCKS};
 use refcounts::SharedMemory;
 use refcounts::laws::{making_changes_only_own, releases_only_free, releasing_changes_only_own};
 use reservations::Book;
 use reservations::laws::{granted_words_are_there, held_is_within_granted};
-pub use reservations::{NotNow, Spent};
+pub use reservations::{MOST_BOOKED, NotNow, Spent};
 use std::alloc::{AllocError, Allocator};
 use std::marker::Model;
 
@@ -50,12 +51,15 @@ impl<A: Allocator> Model for JobMemory<A> {
 
 impl<A: Allocator> JobMemory<A> {
     /// A region of `region` words without a block, with numbers for `most_blocks` blocks, for jobs `1..=jobs`, none of
-    /// which has a grant.
+    /// which has a grant. There are at most [`LONGEST_REGION`] words, [`MOST_BLOCKS`] numbers and [`MOST_BOOKED`] jobs.
     ///
     /// An error means that the allocator refused the memory. No other call takes memory.
     pub fn new(alloc: A, region: usize, jobs: usize, most_blocks: usize) -> Result<Self, AllocError>
     where
         A: Clone,
+        requires region { region ≤ LONGEST_REGION }
+        requires blocks { most_blocks ≤ MOST_BLOCKS }
+        requires jobs { jobs ≤ MOST_BOOKED }
         ensures memory { IfOk result
             (λ blocks. blocks.memory ≡ record { room = region; slots = replicate most_blocks empty_slot }) }
         ensures grants { IfOk result (λ blocks. blocks.grants ≡ replicate jobs None) }

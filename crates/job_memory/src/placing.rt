@@ -14,8 +14,7 @@ use std::alloc::Allocator;
 
 impl<A: Allocator> JobMemory<A> {
     /// A new block of `len` words for a job whose grant has room for them, with one reference. A writer writes it, and
-    /// is
-    /// lent the words of other blocks for that. There has to be a number without a block.
+    /// is lent the words of other blocks for that. There has to be a number without a block.
     ///
     /// # Errors
     ///

@@ -15,9 +15,9 @@ use Rattle.job_steps.specs.Standings.{held_in}
 use Rattle.job_steps.specs.States.{Task, State, Active}
 use Rattle.job_steps.specs.Steps.{Ending, Progress, Running, Over, Stuck, progress_by, progress_past, words_at}
 use Rattle.job_slots.specs.Answers.{demand_before, demand_in}
-use Rattle.job_walk.specs.Walks.{RunState, HasCome, progress_of}
+use Rattle.job_profile.specs.Walks.{RunState, HasCome, progress_of}
 use Rattle.job_profile.specs.declared.strip.Column.{Column}
-use Rattle.job_profile.specs.Columns.{AreColumns, column_at, highest}
+use Rattle.job_profile.specs.Columns.{AreColumns, AreFine, column_at, highest}
 use Rattle.job_profile.specs.Counts.{line_in}
 use Rattle.job_profile.specs.Strips.{IsDrawn, IsStrip}
 use Rattle.job_profile.proofs.Strips.{same_column}
@@ -86,6 +86,7 @@ module _ (ends : EarlyEndsEnd) (ready : OthersAreReady) (never : NeverStuck) (re
     come = come;
     verified = h.verified;
     strip = subst (λ (n : ℕ). IsStrip (column_at task) n columns each room) (sym executed) h.strip;
+    fine = subst (λ (n : ℕ). AreFine n each) (sym executed) h.fine;
     highest_is = h.highest_is ∙ sym peak;
   }
 
@@ -139,13 +140,14 @@ module _ (ends : EarlyEndsEnd) (ready : OthersAreReady) (never : NeverStuck) (re
   -- the columns with it
   pub grows : (p q : Progress) (new : List Column) (each' room' most : ℕ) → IsDrawn task p columns each room →
       HasGone p q → most ≡ demand_in task.rule p →
-      IsStrip (column_at task) (executed_count_in p + 1) new each' room' → highest new ≡ max (highest columns) most →
-      IsDrawn task q new each' room'
-  grows p q new each' room' most h g most_is strip greatest = record {
+      IsStrip (column_at task) (executed_count_in p + 1) new each' room' → AreFine (executed_count_in p + 1) each' →
+      highest new ≡ max (highest columns) most → IsDrawn task q new each' room'
+  grows p q new each' room' most h g most_is strip fine greatest = record {
     steps = suc (executed_count_in p);
     come = g.after;
     verified = h.verified;
     strip = subst (λ (n : ℕ). IsStrip (column_at task) n new each' room') (sym g.executed) strip;
+    fine = subst (λ (n : ℕ). AreFine n each') (sym g.executed) fine;
     highest_is =
         greatest ∙ ap (λ (m : ℕ). max m most) h.highest_is ∙ ap (max (peak_in p)) most_is ∙ sym g.peak_is;
   }
@@ -160,8 +162,10 @@ first_drawn task verified = record {
   strip = record {
     shape = record { covered = refl; left = omega arith; few = omega arith };
     power = (0, refl);
+    fine = inl refl;
     means = λ i below. absurd (omega arith);
   };
+  fine = inl refl;
   highest_is = refl;
 }
 
@@ -177,6 +181,7 @@ pub are_columns : (task : Task) (p : Progress) (columns : List Column) (each roo
     IsDrawn task p columns each room → AreColumns task (executed_count_in p) each columns
 are_columns task p columns each room h = record {
   power = h.strip.power;
+  fine = h.fine;
   few = h.strip.shape.few;
   enough = omega (arith, h.strip.shape.covered);
   none_beyond = omega (arith, h.strip.shape.covered, h.strip.shape.left);

@@ -1,6 +1,9 @@
 pub mod Counted
 pub mod Drawn
+pub mod First
 pub mod Lists
+pub mod Shown
 pub mod Strips
+pub mod Turns
 pub mod Used
 pub mod Whole

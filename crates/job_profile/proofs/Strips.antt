@@ -1,5 +1,6 @@
 -- Columns after an instruction, and after each two became one.
-use Rattle.std.proofs.Common.{◌≡◌, ◌≢◌, ℕ, zero, suc, ◌+◌, ◌-◌, ◌*◌, ◌<◌, ◌≤◌, ◌^◌, Bool, cond, ltb, List, [], ◌∷◌, ◌++◌}
+use Rattle.std.proofs.Common.{◌≡◌, ◌≢◌, ℕ, zero, suc, ◌+◌, ◌-◌, ◌*◌, ◌/◌, ◌<◌, ◌≤◌, ◌^◌, Bool, cond, ltb}
+use Rattle.std.proofs.Common.{List, [], ◌∷◌, ◌++◌}
 use Rattle.std.proofs.Common.{length, take, get_or, max, min, refl, sym, ◌∙◌, ap, subst, inl, inr, arith, add-one}
 use Rattle.std.proofs.Common.{add-mul, mul-add, mul_comm, one-mul, pow-suc, length-append, length-set}
 use Rattle.std.proofs.Common.{get_or-set_same, get_or-set_other, get_or-take, ext_get_or, length-take-le}
@@ -10,7 +11,7 @@ use Rattle.std.proofs.lemmas.Nat.{mul-le}
 use Rattle.std.specs.Prelude.{◌⊎◌}
 use Rattle.job_profile.specs.declared.strip.Column.{Column}
 use Rattle.job_profile.specs.declared.strip.TheConstants.{MOST_COLUMNS}
-use Rattle.job_profile.specs.Columns.{joined, no_column, column_over, column_of, highest, halved}
+use Rattle.job_profile.specs.Columns.{AreFine, joined, no_column, column_over, column_of, highest, halved}
 use Rattle.job_profile.specs.Strips.{HasShape, IsStrip, AreJoined}
 
 -- ---- columns as one
@@ -95,6 +96,11 @@ first_half old new h even j =
 
 -- ---- what an instruction adds
 
+-- with one instruction more they are fine again
+pub finer : (n each : ℕ) → AreFine n each → AreFine (n + 1) each
+finer n each (inl one) = inl one
+finer n each (inr many) = inr (omega (arith, many))
+
 -- a column with room is there
 pub some_columns : (n count each room : ℕ) → HasShape n count each room → 0 < room → 0 < count
 some_columns n zero each room h some = absurd (omega (arith, h.covered))
@@ -126,6 +132,7 @@ module _ (of : ℕ → Column) (n : ℕ) (cs : List Column) (each room : ℕ) (s
       few = omega (arith, length-append cs (of n ∷ []));
     };
     power = s.power;
+    fine = finer (n + 1) each s.fine;
     means = λ i h. at i (either i h);
   }
     where
@@ -161,6 +168,7 @@ module _ (of : ℕ → Column) (n : ℕ) (cs : List Column) (each room : ℕ) (s
       few = omega (arith, long, s.shape.few);
     };
     power = s.power;
+    fine = finer (n + 1) each s.fine;
     means = λ i h. at i (either i (omega (arith, long)));
   }
     where
@@ -200,14 +208,16 @@ module _ (of : ℕ → Column) (n : ℕ) (cs : List Column) (each room : ℕ) (s
           ∙ sym (ap (column_over of (i * each)) more)
 
   -- each two became one
-  pub folded : (h : ℕ) → length cs ≡ h + h → room ≡ 0 → IsStrip of n (halved cs) (each * 2) 0
-  folded h even none = record {
+  pub folded : (h : ℕ) → h ≡ MOST_COLUMNS / 2 → length cs ≡ h + h → room ≡ 0 →
+      IsStrip of n (halved cs) (each * 2) 0
+  folded h half even none = record {
     shape = record {
       covered = omega (arith, ap (λ (k : ℕ). k * (each * 2)) long, count_is, s.shape.covered, none);
       left = omega (arith, s.shape.left);
       few = omega (arith, long, even, s.shape.few);
     };
     power = (s.power.0 + 1, doubled s.power.0 s.power.1);
+    fine = inr many;
     means = λ i below. at i (omega (arith, long));
   }
     where
@@ -228,6 +238,9 @@ module _ (of : ℕ → Column) (n : ℕ) (cs : List Column) (each room : ℕ) (s
             ap (λ (k : ℕ). k * each) even,
             ap (λ (k : ℕ). h * k) (twice each),
           )
+
+      many : MOST_COLUMNS / 2 * (each * 2) < n + 1
+      many = omega (arith, ap (λ (k : ℕ). k * (each * 2)) half, count_is, s.shape.covered, none)
 
       at : (i : ℕ) → i < h → get_or (halved cs) i no_column ≡ column_of of (each * 2) n i
       at i below =

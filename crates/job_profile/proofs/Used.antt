@@ -12,7 +12,7 @@ use Rattle.job_steps.specs.Runs.{executed_count, executed_count_in, outcome, pea
 use Rattle.job_steps.specs.Standings.{Standing, Waiting, Live, InFlight, Ended, Collected, outcome_at}
 use Rattle.job_steps.specs.States.{Task, State}
 use Rattle.job_steps.specs.Steps.{Ending, Progress, Running, Over, Stuck}
-use Rattle.job_walk.specs.Walks.{HasCome, RunState, ending_of, progress_at, progress_of}
+use Rattle.job_profile.specs.Walks.{HasCome, RunState, ending_of, progress_at, progress_of}
 use Rattle.job_profile.specs.Used.{AreLeast, AreUses, most_so_far}
 use Rattle.job_profile.proofs.Counted.{Goes, goes_by}
 
@@ -91,7 +91,8 @@ uses_after ends ready never reaches old new cells calls later_cells later_calls 
         most_so_far f old.task (progress_of new)
         ≡ max (most_so_far f old.task (progress_of old)) (f (progress_of new))
     after f none =
-        most_after ends ready never reaches f none old.task h.verified h.steps (progress_of old) (progress_of new) h.come
+        most_after ends ready never reaches f none old.task h.verified h.steps (progress_of old) (progress_of new)
+        h.come
         come.progress_is
 
 -- ---- a job that returned

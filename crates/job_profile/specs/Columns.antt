@@ -1,5 +1,6 @@
 -- The words that a job holds over time, by columns of as many instructions that follow one another.
-use Rattle.std.specs.Prelude.{◌≡◌, ℕ, zero, suc, ◌+◌, ◌-◌, ◌*◌, ◌<◌, ◌≤◌, ◌^◌, nat_lt, max, min, if◌then◌else◌}
+use Rattle.std.specs.Prelude.{◌≡◌, ◌⊎◌, ℕ, zero, suc, ◌+◌, ◌-◌, ◌*◌, ◌/◌, ◌<◌, ◌≤◌, ◌^◌, nat_lt, max, min}
+use Rattle.std.specs.Prelude.{if◌then◌else◌}
 use Rattle.std.specs.Prelude.{List, [], ◌∷◌, length, slice_index_or}
 use Rattle.job_steps.specs.Runs.{state_after}
 use Rattle.job_steps.specs.Standings.{held_in}
@@ -20,8 +21,8 @@ joined a b = record {
   line = if nat_lt a.most b.most then b.line else a.line;
 }
 
--- of the instruction that n others come before: the words that it holds and needs, those that are held after it, and its
--- line
+-- of the instruction that n others come before: the words that it holds and needs, those that are held after it, and
+-- its line
 abbrev pub column_at : Task → ℕ → Column
 column_at task n = record {
   most = demand_in task.rule (state_after task n);
@@ -49,9 +50,14 @@ halved [] = []
 halved (a ∷ []) = a ∷ []
 halved (a ∷ b ∷ columns) = joined a b ∷ halved columns
 
+-- n instructions are in columns of one, or in more than half as many columns as there may be
+abbrev pub AreFine : ℕ → ℕ → Type 0
+AreFine n each = (each ≡ 1) ⊎ (MOST_COLUMNS / 2 * each < n)
+
 -- The columns of the first n instructions of a job: each is of `each` instructions, and the last of what is left.
 pub record AreColumns (task : Task) (n each : ℕ) (columns : List Column) : Type 0 where
   pub power : (k : ℕ) × (each ≡ 2 ^ k)
+  pub fine : AreFine n each
   pub few : length columns ≤ MOST_COLUMNS
   pub enough : n ≤ length columns * each
   pub none_beyond : length columns * each < n + each

@@ -4,7 +4,7 @@ use Rattle.vcode_reader.specs.Trees.{CodeLine}
 use Rattle.job_steps.specs.Runs.{state_after, peak_in}
 use Rattle.job_steps.specs.States.{Task}
 use Rattle.job_steps.specs.Steps.{Progress}
-use Rattle.job_walk.specs.Walks.{next_line_in}
+use Rattle.job_profile.specs.Walks.{next_line_in}
 
 abbrev pub number_of : Option CodeLine → ℕ
 number_of None = 0

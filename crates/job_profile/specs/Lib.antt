@@ -1,5 +1,7 @@
 pub mod Columns
 pub mod Counts
 pub mod Sound
+pub mod SoundRun
 pub mod Strips
 pub mod Used
+pub mod Walks

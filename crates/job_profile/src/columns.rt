@@ -3,7 +3,7 @@
 ghost use Rattle.std.specs.Prelude.{◌≡◌, IfOk, OnErr, OnOk};
 ghost use Rattle.job_steps.specs.Runs.{executed_count_in, peak_in, progress_from, whole_run};
 ghost use Rattle.job_steps.specs.States.{ruled};
-ghost use Rattle.job_walk.specs.Walks.{HasCome, ending_at, ending_of, first_run, goes_on, progress_of};
+ghost use Rattle.job_profile.specs.Walks.{HasCome, HasComeOn, ending_at, ending_of, first_run, goes_on, progress_of};
 ghost use Rattle.job_profile.specs.Columns.{AreColumns, highest};
 
 use crate::profile::{Profile, next_place};
@@ -29,21 +29,22 @@ pub struct Columns<A: Allocator> {
 }
 
 impl<A: Allocator> Model for Columns<A> {
-    ghost use Rattle.job_walk.specs.Walks.{RunState, progress_of};
+    ghost use Rattle.job_profile.specs.Walks.{RunState, progress_of};
     ghost use Rattle.job_profile.specs.Strips.{IsDrawn};
 
     ghost Value = { RunState };
 
     ghost use Rattle.std.specs.Coded.{codes};
     ghost use Rattle.job_steps.specs.Jobs.{job_code};
-    ghost use Rattle.job_walk.specs.Walks.{run_code};
+    ghost use Rattle.job_profile.specs.Walks.{run_code};
 
     ghost coded = { run_code (Prim.hlevel codes)
         (job_code (Prim.hlevel codes) (Prim.hlevel codes) (Prim.hlevel codes)) (Prim.hlevel codes) };
 
     ghost view = { λ c. c.profile };
 
-    ghost invariant = { λ c. IsDrawn c.profile.task (progress_of c.profile) c.strip.columns.items c.strip.each c.strip.room };
+    ghost invariant = { λ c. IsDrawn c.profile.task (progress_of c.profile) c.strip.columns.items c.strip.each
+        c.strip.room };
 }
 
 impl<A: Allocator + Clone> Columns<A> {
@@ -81,7 +82,8 @@ impl<A: Allocator> Columns<A> {
     ///
     /// [`AllocError`] if memory for the counts was refused. Nothing changes then.
     pub fn step(&mut self) -> Result<bool, AllocError>
-        ensures run { OnOk result (HasCome self.old.task (progress_from self.old.task (progress_of self.old)) self.new) }
+        ensures run { OnOk result
+            (HasCome self.old.task (progress_from self.old.task (progress_of self.old)) self.new) }
         ensures goes_on { IfOk result (λ on. on ≡ goes_on (progress_of self.new)) }
         ensures unchanged { OnErr result (self.new ≡ self.old) }
     {
@@ -105,9 +107,11 @@ impl<A: Allocator> Columns<A> {
     ///
     /// # Errors
     ///
-    /// [`AllocError`] if memory for the counts was refused. The run may have come farther then.
+    /// [`AllocError`] if memory for the counts was refused. The run has come to some later state then, or is where it
+    /// was, and may be run out again.
     pub fn run_out(&mut self) -> Result<(), AllocError>
-        ensures { OnOk result (HasCome self.old.task (whole_run self.old.task) self.new) }
+        ensures whole { OnOk result (HasCome self.old.task (whole_run self.old.task) self.new) }
+        ensures come_on { OnErr result (HasComeOn self.old self.new) }
     {
         never_stuck();
         reached();

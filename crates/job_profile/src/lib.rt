@@ -1,8 +1,14 @@
-//! How often each line of a job is executed, when the job first holds its peak, the words that it holds over time, and
-//! what it uses of its limits.
+//! One job alone, from its first instruction to its end: what there is at each state of its run, how often each line is
+//! executed, when the job first holds its peak, the words that it holds over time, and what it uses of its limits.
 //!
-//! A [`Profile`] runs one job alone to its end, by `job_walk`, and counts on the way. `specs/Counts.antt` says what is
-//! counted, over the states of the job's run. `specs/Sound.antt` says when what a profile keeps is that of its run.
+//! A [`Run`] executes a job an instruction at a time, over a slot and a memory of its own. Between two instructions it
+//! shows the state of the run: the words of the entries and which of them are copies, the calls, the next line, and the
+//! counts. A run is a function of its job, so nothing is recorded: to look at an earlier state the run is made anew.
+//! `specs/Walks.antt` says what there is at a state, over the definitions of `job_steps`. `specs/SoundRun.antt` says
+//! when what a run keeps is that of its job.
+//!
+//! A [`Profile`] runs a job to its end, and counts on the way. `specs/Counts.antt` says what is counted, over the
+//! states of the job's run. `specs/Sound.antt` says when what a profile keeps is that of its run.
 //!
 //! [`Columns`] are a profile with the words that were held. `specs/Columns.antt` says what a column is, and
 //! `specs/Strips.antt` when what is kept is that of the run.
@@ -13,11 +19,13 @@
 
 mod columns;
 mod profile;
+mod run;
 mod strip;
 mod times;
 mod uses;
 
 pub use columns::Columns;
 pub use profile::Profile;
+pub use run::Run;
 pub use strip::{Column, MOST_COLUMNS};
 pub use uses::Uses;

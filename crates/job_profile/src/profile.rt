@@ -3,16 +3,16 @@
 ghost use Rattle.std.specs.Prelude.{◌≡◌, ℕ, nat_lt, if◌then◌else◌, IfOk, OnErr, OnOk, slice_index, sum};
 ghost use Rattle.job_steps.specs.Runs.{executed_count_in, peak_in, progress_from, whole_run};
 ghost use Rattle.job_steps.specs.States.{ruled};
-ghost use Rattle.job_walk.specs.Walks.{HasCome, ending_at, ending_of, first_run, goes_on, progress_of};
+ghost use Rattle.job_profile.specs.Walks.{HasCome, HasComeOn, ending_at, ending_of, first_run, goes_on, progress_of};
 ghost use Rattle.job_profile.specs.Counts.{IsFirstPeak, line_in, times_of, times_until};
 
+use crate::run::Run;
 use crate::times::{add, grow, part, sum_of};
 use crate::uses::Uses;
 use job_steps::Job;
 use job_steps::laws::{
     each_ends, early_ends_end, end_is_own, never_stuck, others_are_ready, reached,
 };
-use job_walk::Run;
 use std::alloc::{AllocError, Allocator};
 use std::marker::Model;
 use vcode_base::Rule;
@@ -28,14 +28,14 @@ pub struct Profile<A: Allocator> {
 }
 
 impl<A: Allocator> Model for Profile<A> {
-    ghost use Rattle.job_walk.specs.Walks.{RunState, progress_of};
+    ghost use Rattle.job_profile.specs.Walks.{RunState, progress_of};
     ghost use Rattle.job_profile.specs.Sound.{IsCounted};
 
     ghost Value = { RunState };
 
     ghost use Rattle.std.specs.Coded.{codes};
     ghost use Rattle.job_steps.specs.Jobs.{job_code};
-    ghost use Rattle.job_walk.specs.Walks.{run_code};
+    ghost use Rattle.job_profile.specs.Walks.{run_code};
 
     ghost coded = { run_code (Prim.hlevel codes)
         (job_code (Prim.hlevel codes) (Prim.hlevel codes) (Prim.hlevel codes)) (Prim.hlevel codes) };
@@ -99,7 +99,8 @@ impl<A: Allocator> Profile<A> {
     ///
     /// [`AllocError`] if memory for the counts was refused. Nothing changes then.
     pub fn step(&mut self) -> Result<bool, AllocError>
-        ensures run { OnOk result (HasCome self.old.task (progress_from self.old.task (progress_of self.old)) self.new) }
+        ensures run { OnOk result
+            (HasCome self.old.task (progress_from self.old.task (progress_of self.old)) self.new) }
         ensures goes_on { IfOk result (λ on. on ≡ goes_on (progress_of self.new)) }
         ensures unchanged { OnErr result (self.new ≡ self.old) }
     {
@@ -121,9 +122,11 @@ impl<A: Allocator> Profile<A> {
     ///
     /// # Errors
     ///
-    /// [`AllocError`] if memory for the counts was refused. The run may have come farther then.
+    /// [`AllocError`] if memory for the counts was refused. The run has come to some later state then, or is where it
+    /// was, and may be run out again.
     pub fn run_out(&mut self) -> Result<(), AllocError>
-        ensures { OnOk result (HasCome self.old.task (whole_run self.old.task) self.new) }
+        ensures whole { OnOk result (HasCome self.old.task (whole_run self.old.task) self.new) }
+        ensures come_on { OnErr result (HasComeOn self.old self.new) }
     {
         never_stuck();
         reached();

@@ -1,7 +1,8 @@
 //! Columns that follow one another, of which there are never too many.
 
-ghost use Rattle.std.specs.Prelude.{◌≡◌, ◌+◌, ◌-◌, ◌*◌, ◌<◌, ◌≤◌, ◌^◌, ◌++◌, ℕ, IfOk, [], ◌∷◌, length, slice_index_or, slice_set, max, vec_capacity};
-ghost use Rattle.job_profile.specs.Columns.{joined, no_column, halved, highest};
+ghost use Rattle.std.specs.Prelude.{◌≡◌, ◌+◌, ◌-◌, ◌*◌, ◌<◌, ◌≤◌, ◌^◌, ◌++◌, ℕ, IfOk, [], ◌∷◌};
+ghost use Rattle.std.specs.Prelude.{length, slice_index_or, slice_set, max, vec_capacity};
+ghost use Rattle.job_profile.specs.Columns.{AreFine, joined, no_column, halved, highest};
 ghost use Rattle.job_profile.specs.Strips.{IsStrip, AreJoined, HasShape};
 ghost use Rattle.job_profile.specs.declared.strip.TheConstants.{MOST_COLUMNS};
 
@@ -74,6 +75,8 @@ impl<A: Allocator> Strip<A> {
         requires { (n : ℕ) × HasShape n (length self.old.columns.items) self.old.each self.old.room × (n < 2 ^ 64) }
         ensures strip { (of : ℕ → Column) (n : ℕ) → IsStrip of n self.old.columns.items self.old.each self.old.room
             → next ≡ of n → IsStrip of (n + 1) self.new.columns.items self.new.each self.new.room }
+        ensures fine { (of : ℕ → Column) (n : ℕ) → IsStrip of n self.old.columns.items self.old.each self.old.room
+            → AreFine (n + 1) self.new.each }
         ensures highest { highest self.new.columns.items ≡ max (highest self.old.columns.items) next.most }
     {
         if self.room > 0 {

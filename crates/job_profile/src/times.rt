@@ -6,7 +6,7 @@ ghost use Rattle.job_profile.specs.Sound.{CountAlike};
 use std::alloc::{AllocError, Allocator};
 
 /// Appends counts of 0 until there is one at this place. An error means that the allocator refused memory.
-pub fn grow<A: Allocator>(times: &mut Vec<u64, A>, place: usize) -> Result<(), AllocError>
+pub(crate) fn grow<A: Allocator>(times: &mut Vec<u64, A>, place: usize) -> Result<(), AllocError>
     ensures same { CountAlike times.old.items times.new.items }
     ensures long { OnOk result (place < length times.new.items) }
 {
@@ -18,7 +18,7 @@ pub fn grow<A: Allocator>(times: &mut Vec<u64, A>, place: usize) -> Result<(), A
 
 /// Adds to the count at a place.
 #[inline(always)]
-pub fn add(times: &mut [u64], place: usize, more: u64)
+pub(crate) fn add(times: &mut [u64], place: usize, more: u64)
     requires there { place < length times.old }
     requires fits { slice_index times.old place + more < 2 ^ 64 }
     ensures { times.new ≡ slice_set times.old place (slice_index times.old place + more) }
@@ -27,7 +27,7 @@ pub fn add(times: &mut [u64], place: usize, more: u64)
 }
 
 /// The counts at `count` places from the first on, or as many as there are.
-pub fn part(times: &[u64], first: usize, count: usize) -> &[u64]
+pub(crate) fn part(times: &[u64], first: usize, count: usize) -> &[u64]
     ensures { result.now ≡ take count (drop first times.now) }
 {
     let rest = times.get(first..).unwrap_or(&[]);
@@ -35,7 +35,7 @@ pub fn part(times: &[u64], first: usize, count: usize) -> &[u64]
 }
 
 /// The sum of counts.
-pub fn sum_of(times: &[u64]) -> u64
+pub(crate) fn sum_of(times: &[u64]) -> u64
     requires { sum times.now < 2 ^ 64 }
     ensures { result ≡ sum times.now }
 {

@@ -4,12 +4,12 @@ ghost use Rattle.std.specs.Prelude.{◌≡◌, IfOk, MatchOption, OnErr, OnOk};
 ghost use Rattle.job_steps.specs.LeastLimits.{calls_in, cells_in};
 ghost use Rattle.job_steps.specs.Runs.{executed_count_in, peak_in, progress_from};
 ghost use Rattle.job_steps.specs.States.{ruled};
-ghost use Rattle.job_walk.specs.Walks.{HasCome, ending_at, ending_of, first_run, goes_on, progress_of};
+ghost use Rattle.job_profile.specs.Walks.{HasCome, ending_at, ending_of, first_run, goes_on, progress_of};
 ghost use Rattle.job_profile.specs.Used.{AreLeast, HasNotReturned, most_so_far};
 
+use crate::run::Run;
 use job_steps::Job;
 use job_steps::laws::{early_ends_end, never_stuck, others_are_ready, reached, used_are_least};
-use job_walk::Run;
 use std::alloc::{AllocError, Allocator};
 use std::marker::Model;
 use vcode_base::{Limits, Outcome, Rule};
@@ -25,14 +25,14 @@ pub struct Uses<A: Allocator> {
 }
 
 impl<A: Allocator> Model for Uses<A> {
-    ghost use Rattle.job_walk.specs.Walks.{RunState, progress_of};
+    ghost use Rattle.job_profile.specs.Walks.{RunState, progress_of};
     ghost use Rattle.job_profile.specs.Used.{AreUses};
 
     ghost Value = { RunState };
 
     ghost use Rattle.std.specs.Coded.{codes};
     ghost use Rattle.job_steps.specs.Jobs.{job_code};
-    ghost use Rattle.job_walk.specs.Walks.{run_code};
+    ghost use Rattle.job_profile.specs.Walks.{run_code};
 
     ghost coded = { run_code (Prim.hlevel codes)
         (job_code (Prim.hlevel codes) (Prim.hlevel codes) (Prim.hlevel codes)) (Prim.hlevel codes) };

@@ -31,7 +31,8 @@ use Rattle.job_steps.specs.Steps.{held_at, is_call}
 use Rattle.job_steps.specs.StepLaws.{CanBegin, StepsCanBegin, StepsCanAdvance}
 use Rattle.job_steps.specs.Tickets.{CanAnswer, question_by}
 use Rattle.job_steps.specs.Tracks.{TrackState, IsAt, functions_of}
-use Rattle.job_slots.specs.Answers.{demand_before, demand_in, early_end_at, IsNext, IsEnding, CanAsk}
+use Rattle.job_slots.specs.Answers.{demand_before, demand_in, early_end_at, IsNext, IsEnding, CanAsk, told_demand}
+use Rattle.job_slots.specs.Answers.{told_demand_before, told_demand_in}
 use Rattle.job_slots.specs.Commits.{held_under, taken_ids}
 use Rattle.job_slots.specs.Executions.{IsCounted, HeldIsCounted}
 use Rattle.job_slots.specs.Slots.{IsRunningSlot, IsReturned}
@@ -225,6 +226,15 @@ module _ (law : StepsCanBegin ℕ) (counted : HeldIsCounted) (number : ℕ) (blo
       ap (λ (h : ℕ). h + need_words (question_by op sources)) counts
       ∙ ap (λ (q : Question). held_at task.rule (next_item at_next.call).item run.state + need_words q) (sym asked)
       ∙ sym (ap (demand_in task.rule) run.running ∙ ap (demand_before task.rule run.state) at_next.calls)
+
+  -- what is answered of its words
+  pub told_is : told_demand (shape op sources) held (need_words (question_by op sources))
+      ≡ told_demand_in task.rule (state_after task t.executed)
+  told_is =
+      ap (λ (h : ℕ). told_demand (shape op sources) h (need_words (question_by op sources))) counts
+      ∙ ap (λ (q : Question). told_demand (shape q.op q.sources)
+      (held_at task.rule (next_item at_next.call).item run.state) (need_words q)) (sym asked)
+      ∙ sym (ap (told_demand_in task.rule) run.running ∙ ap (told_demand_before task.rule run.state) at_next.calls)
 
   -- if nothing ends the job before it, its operands fit one another, and its demand is within the limit
   pub demand_fits : early_end_at task t.executed ≡ None →

@@ -9,7 +9,8 @@ use Rattle.vcode_base.specs.declared.rule.Rule.{Rule}
 use Rattle.vcode_base.specs.declared.rule.Rule.TheVariants.{First, Second}
 use Rattle.refcounts.specs.Laws.{ReleasesOnlyFree}
 use Rattle.refcounts.specs.SharedState.{Slot, SharedState, empty_slot, slot_at, with_slot, lowered_slot, block_count}
-use Rattle.refcounts.specs.SharedState.{IsLive, AreLive, new_slot, occurrences, state_after_release, state_after_releases}
+use Rattle.refcounts.specs.SharedState.{IsLive, AreLive, new_slot, occurrences, state_after_release}
+use Rattle.refcounts.specs.SharedState.{state_after_releases}
 use Rattle.job_memory.specs.JobBlocks.{JobBlocks, AreOwn, held_words, with_block, with_memory}
 use Rattle.job_memory.specs.Laws.{ReleasesChangeOnlyTheirJob}
 use Rattle.job_slots.specs.Commits.{IsExchanged, blocks_beside, with_releases}

@@ -1,15 +1,20 @@
 -- What a begin and a finish answer, and in which standing they leave the job.
-use Rattle.std.specs.Prelude.{◌≡◌, ℕ, ℤ, ◌+◌, ◌<◌, ◌≤◌, Bool, true, false, ⊤, List, [], ◌∷◌, Option, Some, None}
+use Rattle.std.specs.Prelude.{◌≡◌, ℕ, ℤ, ◌+◌, ◌-◌, ◌^◌, ◌<◌, ◌≤◌, min, Bool, true, false, ⊤, List, [], ◌∷◌, Option}
+use Rattle.std.specs.Prelude.{Some, None}
+use Rattle.vcode_base.specs.declared.fault.DataFault.{DataFault}
 use Rattle.vcode_base.specs.declared.op.Op.{Op}
 use Rattle.vcode_base.specs.declared.rule.Rule.{Rule}
+use Rattle.vcode_base.specs.Instructions.{op_of}
+use Rattle.vcode_base.specs.Meaning.{shape}
 use Rattle.job_steps.specs.declared.event.Event.TheVariants as event
 use Rattle.job_steps.specs.Buffers.{HaveAtMost}
 use Rattle.job_steps.specs.Events.{early_end, next_standing}
-use Rattle.job_steps.specs.Questions.{Question}
+use Rattle.job_steps.specs.Questions.{Question, need_words}
 use Rattle.job_steps.specs.Runs.{state_after, outcome, executed_count, peak}
 use Rattle.job_steps.specs.Standings.{Standing, Live, InFlight, Ended}
 use Rattle.job_steps.specs.States.{Task, Active, State}
 use Rattle.job_steps.specs.Steps.{Ending, Progress, Running, Over, Stuck, next_item, question_of, flag_of, words_at}
+use Rattle.job_steps.specs.Steps.{held_at, sources_of}
 use Rattle.job_steps.specs.Tickets.{Asked, AreResults, CanAnswer, question_by}
 use Rattle.job_slots.specs.declared.answer.Begun.{Begun}
 use Rattle.job_slots.specs.declared.answer.Begun.TheVariants as begun
@@ -57,6 +62,26 @@ abbrev pub demand_in : Rule → Progress → ℕ
 demand_in rule (Running s) = demand_before rule s s.calls
 demand_in rule (Over ending executed peak) = 0
 demand_in rule Stuck = 0
+
+-- The words that are answered of an instruction, if this many are held and this many are needed: both, or the greatest
+-- number if they are more. Only those that are held, if its operands don't fit one another.
+abbrev pub told_demand : Option DataFault → ℕ → ℕ → ℕ
+told_demand (Some fault) held needed = held
+told_demand None held needed = min (held + needed) (2 ^ 64 - 1)
+
+-- what is answered of the next instruction of these calls
+abbrev pub told_demand_before : Rule → State → List Active → ℕ
+told_demand_before rule s [] = 0
+told_demand_before rule s (call ∷ outer) =
+    let item = (next_item call).item in
+    told_demand (shape (op_of item) (sources_of item s.stack)) (held_at rule item s)
+    (need_words (question_of item s.stack))
+
+-- what is answered of the next instruction, whether it is executed or ends the job
+abbrev pub told_demand_in : Rule → Progress → ℕ
+told_demand_in rule (Running s) = told_demand_before rule s s.calls
+told_demand_in rule (Over ending executed peak) = 0
+told_demand_in rule Stuck = 0
 
 abbrev pub early_end_of : Task → Progress → Option Ending
 early_end_of task (Running s) = early_end task s

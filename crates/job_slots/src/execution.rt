@@ -34,8 +34,7 @@ pub(crate) fn steps_execute()
 }
 
 /// What counts as held at the next instruction of a job is what counts when it runs alone, and the blocks of its
-/// operands
-/// are the job's.
+/// operands are the job's.
 pub(crate) fn held_is_counted()
     ensures { HeldIsCounted }
 {

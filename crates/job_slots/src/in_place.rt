@@ -62,8 +62,7 @@ impl Writer for Computation {
 }
 
 /// How the next instruction of a job computes its result where it is placed. None if it has not one result of many
-/// words,
-/// if its operand is not on the stack, or if the job's words have no room for the result beside its operands.
+/// words, if its operand is not on the stack, or if the job's words have no room for the result beside its operands.
 #[inline(always)]
 pub(crate) fn placement_of<A: Allocator>(
     rule: Rule,

@@ -14,7 +14,7 @@ ghost use Rattle.job_steps.specs.Events.{next_standing};
 ghost use Rattle.job_steps.specs.Runs.{outcome, executed_count, peak, state_after};
 ghost use Rattle.job_steps.specs.Standings.{Live, InFlight, Ended};
 ghost use Rattle.job_steps.specs.States.{ruled};
-ghost use Rattle.job_slots.specs.Answers.{IsAnswered, demand_in, early_end_at, line_at};
+ghost use Rattle.job_slots.specs.Answers.{IsAnswered, demand_in, early_end_at, line_at, told_demand_in};
 ghost use Rattle.job_slots.specs.Lines.{IsOpOfNext};
 ghost use Rattle.job_slots.specs.declared.status.Status.TheVariants as status;
 ghost use Rattle.job_slots.specs.declared.answer.Finished.TheVariants as finished;
@@ -110,12 +110,14 @@ impl<A: Allocator> Slot<A> {
 
     /// The words that the job, which is live, holds and needs at its next instruction.
     ///
-    /// It says nothing of an instruction that isn't executed, since the job ends before it.
+    /// If the instruction's operands don't fit one another, these are only the words that it holds. If they are more
+    /// than the greatest `u64`, they are answered as that.
     pub fn demand(&self, rule: Rule, job: &Job<A>, number: usize, blocks: &JobMemory<A>) -> usize
         requires shows { Shows number blocks.now (ruled rule job.now) self.now }
         requires live { self.now.status ≡ status.Live }
-        ensures { early_end_at (ruled rule job.now) self.now.trace.executed ≡ None
+        ensures executed { early_end_at (ruled rule job.now) self.now.trace.executed ≡ None
             → result ≡ demand_in rule (state_after (ruled rule job.now) self.now.trace.executed) }
+        ensures told { result ≡ told_demand_in rule (state_after (ruled rule job.now) self.now.trace.executed) }
     {
         demand_of(rule, job, &self.track, number, blocks)
     }
@@ -307,6 +309,31 @@ impl<A: Allocator> Slot<A> {
         if desk.words() < job.limits().words {
             return Stepped::SmallDesk;
         }
+        self.step_live(rule, job, number, blocks, desk)
+    }
+
+    /// Carries out the next instruction of a job that is live, by its class.
+    #[inline(always)]
+    fn step_live(
+        &mut self,
+        rule: Rule,
+        job: &Job<A>,
+        number: usize,
+        blocks: &mut JobMemory<A>,
+        desk: &mut Desk<A>,
+    ) -> Stepped
+        requires shows { Shows number blocks.old (ruled rule job.now) self.old }
+        requires live { self.old.status ≡ status.Live }
+        requires numbers { block_count blocks.old.memory + 2 ≤ length blocks.old.memory.slots }
+        requires enough { job.now.limits.words ≤ desk.old }
+        ensures answer { Steps number desk.old (ruled rule job.now) (standing_of self.old) result }
+        ensures shows { Shows number blocks.new (ruled rule job.now) self.new }
+        ensures others { ChangesOnlyOf number blocks.old blocks.new }
+        ensures standing { standing_of self.new
+            ≡ standing_after_step number (ruled rule job.now) (standing_of self.old) }
+        ensures desk { desk.new ≡ desk.old }
+        ensures steps { IsPassedOver result → ⊥ }
+    {
         let line = next_line(rule, job, &self.track, number, blocks);
         match &line.item {
             CodeItem::Do(Instr::Const(elements, _)) => {
@@ -521,8 +548,7 @@ impl<A: Allocator> Slot<A> {
     }
 
     /// Executes the instruction of the step in flight, whose result is computed where it is placed: true if the job
-    /// goes
-    /// on after it, and false if it has returned.
+    /// goes on after it, and false if it has returned.
     ///
     /// # Errors
     ///

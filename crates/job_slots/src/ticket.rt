@@ -14,7 +14,8 @@ ghost use Rattle.job_steps.specs.States.{ruled};
 ghost use Rattle.job_steps.specs.Steps.{ending_by, memory_fault};
 ghost use Rattle.job_steps.specs.Tickets.{question_by};
 ghost use Rattle.job_slots.specs.Slots.{IsRunningSlot};
-ghost use Rattle.job_slots.specs.Answers.{CanAsk, IsAskedOf, IsNext, demand_in, early_end_at};
+ghost use Rattle.job_slots.specs.Answers.{CanAsk, IsAskedOf, IsNext, demand_in, early_end_at, told_demand};
+ghost use Rattle.job_slots.specs.Answers.{told_demand_in};
 
 use crate::commit::held_under;
 use crate::execution::held_is_counted;
@@ -134,7 +135,8 @@ fn limit_ending<A: Allocator>(
     Some(Outcome::Memory(fault, next.line))
 }
 
-/// The words that a job that runs holds and needs at its next instruction, if nothing ends the job before it.
+/// The words that a job that runs holds and needs at its next instruction. If its operands don't fit one another, only
+/// those that it holds.
 pub(crate) fn demand_of<A: Allocator>(
     rule: Rule,
     job: &Job<A>,
@@ -145,8 +147,9 @@ pub(crate) fn demand_of<A: Allocator>(
     requires running { IsRunningSlot (own_slots number blocks.now) (ruled rule job.now) track.now }
     requires verified { IsVerified (ruled rule job.now) }
     requires has_grant { HasGrant blocks.now number }
-    ensures { early_end_at (ruled rule job.now) track.now.executed ≡ None
+    ensures executed { early_end_at (ruled rule job.now) track.now.executed ≡ None
         → result ≡ demand_in rule (state_after (ruled rule job.now) track.now.executed) }
+    ensures told { result ≡ told_demand_in rule (state_after (ruled rule job.now) track.now.executed) }
 {
     steps_can_begin::<BlockId>();
     held_is_counted();
@@ -158,13 +161,12 @@ pub(crate) fn demand_of<A: Allocator>(
     demand_by(held, &next)
 }
 
-/// The words of the results of an instruction whose operands fit one another, and `held` words.
+/// `held` words, and those of the results of an instruction, if its operands fit one another.
 fn demand_by(held: usize, next: &Next<'_>) -> usize
     requires kinds { HaveKinds (source_kinds next.now.op)
         (contents (take next.now.operands.count next.now.operands.lists)) }
     ensures { let sources = contents (take next.now.operands.count next.now.operands.lists) in
-        shape next.now.op sources ≡ None → held + need_words (question_by next.now.op sources) < 2 ^ 64
-        → result ≡ held + need_words (question_by next.now.op sources) }
+        result ≡ told_demand (shape next.now.op sources) held (need_words (question_by next.now.op sources)) }
 {
     match shape(next.op, next.operands.as_slice()) {
         Err(_) => held,

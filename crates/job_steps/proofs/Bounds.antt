@@ -21,7 +21,8 @@ use Rattle.verifier.specs.Typed.{TypedProgram}
 use Rattle.job_steps.specs.Motions.{stack_after, depth_after}
 use Rattle.job_steps.specs.Reached.{AreAlike}
 use Rattle.job_steps.specs.Runs.{progress_from, state_after}
-use Rattle.job_steps.specs.States.{Vector, Task, StackEntry, Active, State, Callee, callee_named, calls_with, first_state}
+use Rattle.job_steps.specs.States.{Vector, Task, StackEntry, Active, State, Callee, callee_named, calls_with}
+use Rattle.job_steps.specs.States.{first_state}
 use Rattle.job_steps.specs.States.{held_words, new_entries}
 use Rattle.job_steps.specs.Steps.{Progress, Running, Over, Stuck, next_item, sources_of, question_of, results_of}
 use Rattle.job_steps.specs.Steps.{words_at, is_call, memory_fault, ending_by, calls_past, calls_after}

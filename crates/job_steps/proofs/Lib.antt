@@ -1,3 +1,4 @@
+mod Admissions
 mod Bounds
 mod BufferLemmas
 mod EqualJobs

@@ -1,5 +1,6 @@
 -- Lists of jobs in which one job has another standing.
-use Rattle.std.proofs.Common.{◌≡◌, ℕ, zero, suc, ◌+◌, ◌≤◌, Bool, true, false, ◌&&◌, List, [], ◌∷◌, length, map, set}
+use Rattle.std.proofs.Common.{◌≡◌, ℕ, zero, suc, ◌+◌, ◌<◌, ◌≤◌, Bool, true, false, ◌&&◌, List, [], ◌∷◌, length, map}
+use Rattle.std.proofs.Common.{set}
 use Rattle.std.proofs.Common.{slice_get, All, Option, Some, None, refl, sym, ◌∙◌, ap, subst, arith}
 use Rattle.std.proofs.Common.{length-set, cond}
 use Rattle.std.proofs.lemmas.Bool.{and_parts, leb-true, leb-false, false≢true}
@@ -168,20 +169,27 @@ few_more (InFlight n) count e few = few
 few_more Ended count e few = few
 few_more Collected count e few = few
 
+-- each job that waits before this place doesn't fit, and was passed by fewer times than the most
+abbrev pub PassableBefore : (Task → Bool) → List Task → List Standing → List ℕ → ℕ → Type 0
+PassableBefore fits tasks standings passes place =
+    (i : ℕ) (task : Task) → i < place → slice_get tasks i ≡ Some task → slice_get standings i ≡ Some Waiting →
+    (fits task ≡ false) × ((count : ℕ) → slice_get passes i ≡ Some count → count < MOST_PASSES)
+
 -- the job that is admitted next among those from a number on, by its place among them
-record IsNext (first : ℕ) (fits : Task → Bool) (tasks : List Task) (standings : List Standing) (passes : List ℕ)
+pub record Found (first : ℕ) (fits : Task → Bool) (tasks : List Task) (standings : List Standing) (passes : List ℕ)
     (job : ℕ) : Type 0 where
-  place : ℕ
-  task : Task
-  job_is : job ≡ place + first
-  task_is : slice_get tasks place ≡ Some task
-  waits : slice_get standings place ≡ Some Waiting
-  fits_is : fits task ≡ true
-  few : AreFew passes → AreFew (passes_before place standings passes)
+  pub place : ℕ
+  pub task : Task
+  pub job_is : job ≡ place + first
+  pub task_is : slice_get tasks place ≡ Some task
+  pub waits : slice_get standings place ≡ Some Waiting
+  pub fits_is : fits task ≡ true
+  pub few : AreFew passes → AreFew (passes_before place standings passes)
+  pub before : PassableBefore fits tasks standings passes place
 
 next_here : (first : ℕ) (fits : Task → Bool) (t : Task) (tasks : List Task) (s : Standing) (standings : List Standing)
     (count : ℕ) (passes : List ℕ) (job : ℕ) → (is_waiting s && fits t) ≡ true → first ≡ job →
-    IsNext first fits (t ∷ tasks) (s ∷ standings) (count ∷ passes) job
+    Found first fits (t ∷ tasks) (s ∷ standings) (count ∷ passes) job
 next_here first fits t tasks s standings count passes job b e =
     let parts = and_parts (is_waiting s) (fits t) b in
     record {
@@ -192,13 +200,30 @@ next_here first fits t tasks s standings count passes job b e =
       waits = ap (λ (k : Standing). Some k) (waiting_is s parts.0);
       fits_is = parts.1;
       few = λ all. all;
+      before = λ i task less t w. absurd (omega (arith, less));
     }
 
+-- one job more, which may be passed by
+passable_more : (fits : Task → Bool) (t : Task) (tasks : List Task) (s : Standing) (standings : List Standing)
+    (count : ℕ) (passes : List ℕ) (place : ℕ) → (is_waiting s && fits t) ≡ false → is_passed_enough s count ≡ false →
+    PassableBefore fits tasks standings passes place →
+    PassableBefore fits (t ∷ tasks) (s ∷ standings) (count ∷ passes) (suc place)
+passable_more fits t tasks s standings count passes place b c before zero task less t_is w =
+    let s_is : s ≡ Waiting = same_Some s Waiting w in
+    let unfit : fits t ≡ false = subst (λ (k : Standing). (is_waiting k && fits t) ≡ false) s_is b in
+    let kept : is_passed_enough Waiting count ≡ false = subst (λ (k : Standing). is_passed_enough k count ≡ false) s_is c in (
+      ap fits (sym (same_Some t task t_is)) ∙ unfit,
+      λ other o. let same : count ≡ other = same_Some count other o in
+          let below = leb-false MOST_PASSES count kept in omega (arith, same, below),
+    )
+passable_more fits t tasks s standings count passes place b c before (suc i) task less t_is w =
+    before i task (omega (arith, less)) t_is w
+
 next_behind : (first : ℕ) (fits : Task → Bool) (t : Task) (tasks : List Task) (s : Standing) (standings : List Standing)
-    (count : ℕ) (passes : List ℕ) (job : ℕ) → is_passed_enough s count ≡ false →
-    IsNext (suc first) fits tasks standings passes job →
-    IsNext first fits (t ∷ tasks) (s ∷ standings) (count ∷ passes) job
-next_behind first fits t tasks s standings count passes job c n = record {
+    (count : ℕ) (passes : List ℕ) (job : ℕ) → (is_waiting s && fits t) ≡ false → is_passed_enough s count ≡ false →
+    Found (suc first) fits tasks standings passes job →
+    Found first fits (t ∷ tasks) (s ∷ standings) (count ∷ passes) job
+next_behind first fits t tasks s standings count passes job b c n = record {
   place = suc n.place;
   task = n.task;
   job_is = omega (arith, n.job_is);
@@ -208,23 +233,24 @@ next_behind first fits t tasks s standings count passes job c n = record {
   few = λ all. All-cons (λ (k : ℕ). k ≤ MOST_PASSES) (passed_once_more s count) (passes_before n.place standings passes)
       (few_more s count c (All-head (λ (k : ℕ). k ≤ MOST_PASSES) count passes all))
       (n.few (All-tail (λ (k : ℕ). k ≤ MOST_PASSES) count passes all));
+  before = passable_more fits t tasks s standings count passes n.place b c n.before;
 }
 
 next_at : (first : ℕ) (fits : Task → Bool) (t : Task) (tasks : List Task) (s : Standing) (standings : List Standing)
     (count : ℕ) (passes : List ℕ) (job : ℕ) (b c : Bool) → (is_waiting s && fits t) ≡ b →
     is_passed_enough s count ≡ c → (o : Option ℕ) → (o ≡ Some job
-    → IsNext (suc first) fits tasks standings passes job) →
+    → Found (suc first) fits tasks standings passes job) →
     cond b (Some first) (cond c None o) ≡ Some job →
-    IsNext first fits (t ∷ tasks) (s ∷ standings) (count ∷ passes) job
+    Found first fits (t ∷ tasks) (s ∷ standings) (count ∷ passes) job
 next_at first fits t tasks s standings count passes job true c b_is c_is o rest e =
     next_here first fits t tasks s standings count passes job b_is (same_Some first job e)
 next_at first fits t tasks s standings count passes job false true b_is c_is o rest e = absurd (none-some job e)
 next_at first fits t tasks s standings count passes job false false b_is c_is o rest e =
-    next_behind first fits t tasks s standings count passes job c_is (rest e)
+    next_behind first fits t tasks s standings count passes job b_is c_is (rest e)
 
 is_next : (first : ℕ) (fits : Task → Bool) (tasks : List Task) (standings : List Standing) (passes : List ℕ)
     (job : ℕ) → admission_from first fits tasks standings passes ≡ Some job →
-    IsNext first fits tasks standings passes job
+    Found first fits tasks standings passes job
 is_next first fits [] standings passes job e = absurd (none-some job e)
 is_next first fits (t ∷ tasks) [] passes job e = absurd (none-some job e)
 is_next first fits (t ∷ tasks) (s ∷ standings) [] job e = absurd (none-some job e)
@@ -234,8 +260,8 @@ is_next first fits (t ∷ tasks) (s ∷ standings) (count ∷ passes) job e =
     (admission_from (suc first) fits tasks standings passes)
     (λ h. is_next (suc first) fits tasks standings passes job h) e
 
-admitted_next : (region : ℕ) (tasks : List Task) (queue : Queue) (job : ℕ) → admission region tasks queue ≡ Some job →
-    IsNext 1 (has_room region (granted_words tasks queue.standings)) tasks queue.standings queue.passes job
+pub admitted_next : (region : ℕ) (tasks : List Task) (queue : Queue) (job : ℕ) → admission region tasks queue ≡ Some job →
+    Found 1 (has_room region (granted_words tasks queue.standings)) tasks queue.standings queue.passes job
 unfolding admission
 admitted_next region tasks queue job e =
     is_next 1 (has_room region (granted_words tasks queue.standings)) tasks queue.standings queue.passes job e

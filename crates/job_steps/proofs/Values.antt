@@ -15,7 +15,8 @@ use Rattle.verifier.specs.Kinded.{Turns, scope_of}
 use Rattle.job_steps.specs.Motions.{top_entries}
 use Rattle.job_steps.specs.Reached.{IsVerifiedTask, AreTyped, HasItsKind, ValuesHaveKinds}
 use Rattle.job_steps.specs.Runs.{state_after}
-use Rattle.job_steps.specs.States.{Vector, Task, StackEntry, Active, State, first_state, words_of, stack_kinds, new_entries}
+use Rattle.job_steps.specs.States.{Vector, Task, StackEntry, Active, State, first_state, words_of, stack_kinds}
+use Rattle.job_steps.specs.States.{new_entries}
 use Rattle.job_steps.specs.Steps.{Running, first_item, sources_of, question_of}
 use Rattle.job_steps.specs.Steps.{results_of}
 use Rattle.job_steps.proofs.Bounds.{running_from, Went, went}

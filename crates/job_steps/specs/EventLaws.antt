@@ -1,6 +1,7 @@
 -- What holds of jobs under events, whatever their order.
-use Rattle.std.specs.Prelude.{◌≡◌, ◌≢◌, ◌⊎◌, ℕ, ◌+◌, ◌*◌, ◌<◌, ◌≤◌, true, false, List, ◌∷◌, ◌++◌, length, All}
-use Rattle.std.specs.Prelude.{suc, Some, None, is_some}
+use Rattle.std.specs.Prelude.{◌≡◌, ◌≢◌, ◌⊎◌, ◌↔◌, ℕ, ◌+◌, ◌*◌, ◌<◌, ◌≤◌, true, false, List, ◌∷◌, ◌++◌, length, All}
+use Rattle.std.specs.Prelude.{suc, Option, Some, None, is_some}
+use Rattle.vcode_base.specs.declared.limits.TheConstants.{MOST_PASSES}
 use Rattle.vcode_base.specs.Instructions.{op_of}
 use Rattle.vcode_base.specs.Meaning.{value_fault}
 use Rattle.signatures.specs.Signatures.{Signature}
@@ -92,6 +93,39 @@ abbrev pub AdmittedHaveRoom : Type 0
 AdmittedHaveRoom =
     (region : ℕ) (tasks : List Task) (queue : Queue) (job : ℕ) →
     admission region tasks queue ≡ Some job → HasRoom region tasks queue.standings job
+
+-- ---- who is admitted
+
+-- a waiting job that another may pass by: it doesn't fit beside what is granted, and was passed by fewer times than the most
+pub record MayBePassed (region : ℕ) (tasks : List Task) (queue : Queue) (job : ℕ) (task : Task) : Type 0 where
+  pub no_room : region < granted_words tasks queue.standings + task.limits.words
+  pub few : (count : ℕ) → of_job job queue.passes ≡ Some count → count < MOST_PASSES
+
+-- the job waits and fits, and each job that waits before it may be passed by
+pub record IsNext (region : ℕ) (tasks : List Task) (queue : Queue) (job : ℕ) : Type 0 where
+  pub room : HasRoom region tasks queue.standings job
+  pub before : (earlier : ℕ) (task : Task) → earlier < job → of_job earlier tasks ≡ Some task →
+      of_job earlier queue.standings ≡ Some Waiting → MayBePassed region tasks queue earlier task
+
+-- exactly such a job is admitted next
+abbrev pub AdmissionsAreNext : Type 0
+AdmissionsAreNext =
+    (region : ℕ) (tasks : List Task) (queue : Queue) (job : ℕ) →
+    length queue.standings ≡ length tasks → length queue.passes ≡ length tasks →
+    (admission region tasks queue ≡ Some job) ↔ IsNext region tasks queue job
+
+-- an admission of this job passes by another one once more, if that waits before it, and else not
+pub record PassesBy (job other : ℕ) (standing : Standing) (before after : Option ℕ) : Type 0 where
+  pub once_more : other < job → standing ≡ Waiting → (count : ℕ) → before ≡ Some count → after ≡ Some (count + 1)
+  pub at_or_after : job ≤ other → after ≡ before
+  pub not_waiting : standing ≢ Waiting → after ≡ before
+
+abbrev pub AdmissionsPassThoseBefore : Type 0
+AdmissionsPassThoseBefore =
+    (region : ℕ) (tasks : List Task) (queue : Queue) (job : ℕ) → admission region tasks queue ≡ Some job →
+    (other : ℕ) (standing : Standing) → of_job other queue.standings ≡ Some standing →
+    PassesBy job other standing (of_job other queue.passes)
+    (of_job other (after_event region tasks Admit queue).passes)
 
 -- ---- who is passed by
 

@@ -10,6 +10,7 @@ ghost use Rattle.job_steps.specs.StepLaws.{StepsCanBegin, StepsCanAdvance};
 ghost use Rattle.job_steps.specs.Tracks.{EachTrackFollows};
 ghost use Rattle.job_steps.specs.EventLaws.{EarlyEndsEnd, OthersAreReady, EventsChangeTheirJob};
 ghost use Rattle.job_steps.specs.EventLaws.{ClosedChangeNothing, MissingAreClosed, AdmittedHaveRoom};
+ghost use Rattle.job_steps.specs.EventLaws.{AdmissionsAreNext, AdmissionsPassThoseBefore};
 ghost use Rattle.job_steps.specs.EventLaws.{OthersPassNobody, AdmissionsPassOnce, PassesAreFew, PassesStay};
 ghost use Rattle.job_steps.specs.EventLaws.{FirstAreKept, EventsKeep, RecallsKeep, EndedAreOver};
 ghost use Rattle.job_steps.specs.EventLaws.{UseIsWithin, SumsFollowStandings, UsedIsGranted, EventsGoOn, EventsUseUp};
@@ -159,6 +160,17 @@ pub fn admitted_have_room()
     ensures { AdmittedHaveRoom }
 {}
 
+/// A job is admitted next exactly if it waits and fits, and each job that waits before it doesn't fit and was passed by
+/// fewer than [`MOST_PASSES`](vcode_base::limits::MOST_PASSES) times.
+pub fn admissions_are_next()
+    ensures { AdmissionsAreNext }
+{}
+
+/// An admission passes by each job that waits before the admitted one, once more, and no other job.
+pub fn admissions_pass_those_before()
+    ensures { AdmissionsPassThoseBefore }
+{}
+
 /// An event other than an admission passes by no job.
 pub fn others_pass_nobody()
     ensures { OthersPassNobody }
@@ -170,8 +182,7 @@ pub fn admissions_pass_once()
 {}
 
 /// If each job was passed by at most [`MOST_PASSES`](vcode_base::limits::MOST_PASSES) times, that is so after any
-/// events
-/// too. It is so before the first event.
+/// events too. It is so before the first event.
 pub fn passes_are_few()
     ensures { PassesAreFew }
 {}
@@ -213,8 +224,7 @@ pub fn ended_are_over()
 }
 
 /// At each standing a verified job has executed at most its budget's instructions, it held and needed at most its
-/// words,
-/// and what it holds is at most what is reserved for it.
+/// words, and what it holds is at most what is reserved for it.
 pub fn use_is_within()
     ensures { UseIsWithin }
 {

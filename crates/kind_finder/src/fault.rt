@@ -65,8 +65,19 @@ impl<N> From<AllocError> for FindFault<N> {
     }
 }
 
-/// A fault that names a function by its place.
-pub(crate) type PlacedFault = FindFault<usize>;
+/// A fault of a search, which names a function by its place.
+#[derive(Drop)]
+pub(crate) enum PlacedFault {
+    Memory,
+    Function(Obstacle, usize, u64),
+    Program(KindFault, u64),
+}
+
+impl From<AllocError> for PlacedFault {
+    fn from(_: AllocError) -> PlacedFault {
+        PlacedFault::Memory
+    }
+}
 
 /// Why a path can't go on.
 #[derive(Drop)]

@@ -1,6 +1,6 @@
 //! The walks through all functions.
 
-use crate::fault::{FindFault, Obstacle, PathFault, PlacedFault};
+use crate::fault::{Obstacle, PathFault, PlacedFault};
 use crate::operands::{Entry, Operands};
 use crate::walk::{Finding, Walk, operands_of};
 use signatures::FunctionType;
@@ -24,14 +24,14 @@ pub(crate) struct Finder<'a, A: Allocator> {
 /// The fault that ends a walk through a function at a line, which may call one.
 fn fault_at(fault: PathFault, function: usize, callee: Option<usize>, line: u64) -> PlacedFault {
     match fault {
-        PathFault::Memory => FindFault::Memory,
-        PathFault::Refused(fault) => FindFault::Program(fault, line),
-        PathFault::ManyOperands => FindFault::Function(Obstacle::ManyOperands, function, line),
+        PathFault::Memory => PlacedFault::Memory,
+        PathFault::Refused(fault) => PlacedFault::Program(fault, line),
+        PathFault::ManyOperands => PlacedFault::Function(Obstacle::ManyOperands, function, line),
         PathFault::OtherKind(entry) => match (callee, entry) {
             (Some(used), _) | (None, Entry::Operand(used, _)) => {
-                FindFault::Function(Obstacle::TwoKinds, used, line)
+                PlacedFault::Function(Obstacle::TwoKinds, used, line)
             }
-            (None, Entry::Of(_)) => FindFault::Program(KindFault::WrongKind, line),
+            (None, Entry::Of(_)) => PlacedFault::Program(KindFault::WrongKind, line),
         },
     }
 }
@@ -74,7 +74,7 @@ impl<'a, A: Allocator + Copy> Finder<'a, A> {
             self.assume(place)?;
             match self.settle() {
                 Ok(()) => {}
-                Err(FindFault::Memory) => return Err(FindFault::Memory),
+                Err(PlacedFault::Memory) => return Err(PlacedFault::Memory),
                 Err(_) => return Err(self.never_returns(place)),
             }
         }
@@ -202,6 +202,6 @@ impl<'a, A: Allocator + Copy> Finder<'a, A> {
             Some(function) => function.line(),
             None => self.program.first_line(),
         };
-        FindFault::Function(Obstacle::NeverReturns, place, line)
+        PlacedFault::Function(Obstacle::NeverReturns, place, line)
     }
 }

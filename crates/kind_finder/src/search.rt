@@ -1,9 +1,12 @@
 //! Signatures that are found, and by which the program is verified.
 
-ghost use Rattle.std.specs.Prelude.{◌≡◌, Ok, IfOk, OnOk};
+ghost use Rattle.std.specs.Prelude.{◌≡◌, ◌≤◌, Ok, Some, IsTrue, IfOk, IfSome, MatchResult, length, slice_get};
+ghost use Rattle.vcode_base.specs.TextAnswers.{Answers};
+ghost use Rattle.vcode_reader.specs.declared.reader.TheConstants.{MOST_CODE_BYTES};
 ghost use Rattle.vcode_reader.specs.Reading.{reading};
 ghost use Rattle.signatures.specs.First.{TextSays};
-ghost use Rattle.kind_finder.specs.Texts.{SaysSignatures, SaysSignaturesOf};
+ghost use Rattle.signatures.specs.Signatures.{Signature};
+ghost use Rattle.kind_finder.specs.Texts.{AreOfFunctions, IsFaultOf, IsOfProgram, SaysSignatures, SaysSignaturesOf};
 
 use crate::fault::{FindFault, Obstacle, PlacedFault};
 use crate::finder::Finder;
@@ -12,7 +15,7 @@ use signatures::{SigFault, Signatures};
 use std::alloc::{AllocError, Allocator};
 use vcode_base::TextFault;
 use vcode_base::laws::line_feeds_are_few;
-use vcode_reader::{Program, ReadFault};
+use vcode_reader::{Function, Program, ReadFault};
 use verifier::{KindFault, verify};
 
 /// The text of the signatures that a search finds.
@@ -32,7 +35,10 @@ pub fn find_signatures<A: Allocator + Copy>(
     alloc: A,
     code: &[u8],
 ) -> Result<Vec<u8, A>, FindFault<Vec<u8, A>>>
-    ensures { IfOk result (λ text. SaysSignaturesOf code.now text.items) }
+    requires { length code.now ≤ MOST_CODE_BYTES }
+    ensures { MatchResult result
+        (λ text. SaysSignaturesOf code.now text.items)
+        (λ fault. IsFaultOf code.now fault) }
 {
     match program_of(alloc, code) {
         Ok(program) => signatures_of(alloc, program),
@@ -43,7 +49,8 @@ pub fn find_signatures<A: Allocator + Copy>(
 
 /// The program of a code.
 fn program_of<A: Allocator + Copy>(alloc: A, code: &[u8]) -> Result<Program<A>, ReadFault>
-    ensures { IfOk result (λ program. reading 1 code.now ≡ Ok program) }
+    requires { length code.now ≤ MOST_CODE_BYTES }
+    ensures { Answers result (reading 1 code.now) }
 {
     line_feeds_are_few();
     vcode_reader::read(alloc, code, 1)
@@ -54,7 +61,7 @@ fn signatures_of<A: Allocator + Copy>(
     alloc: A,
     program: Program<A>,
 ) -> Result<Vec<u8, A>, FindFault<Vec<u8, A>>>
-    ensures { IfOk result (λ text. SaysSignatures program text.items) }
+    ensures { MatchResult result (λ text. SaysSignatures program text.items) (λ fault. IsOfProgram fault) }
 {
     let Guess { text, blame } = match make_guess(alloc, &program) {
         Ok(guess) => guess,
@@ -66,11 +73,24 @@ fn signatures_of<A: Allocator + Copy>(
     }
 }
 
-/// The text of the signatures that a search finds, which may not fit the program.
-fn make_guess<A: Allocator + Copy>(
+/// That a function returns on no path, if the search assumed of one that it returns.
+fn blame_of<A: Allocator + Copy>(
     alloc: A,
     program: &Program<A>,
-) -> Result<Guess<A>, PlacedFault> {
+    finder: &Finder<'_, A>,
+) -> Option<FindFault<Vec<u8, A>>>
+    ensures { IfSome result (λ fault. IsOfProgram fault) }
+{
+    match finder.blame() {
+        Some(fault) => Some(named(alloc, program, fault)),
+        None => None,
+    }
+}
+
+/// The text of the signatures that a search finds, which may not fit the program.
+fn make_guess<A: Allocator + Copy>(alloc: A, program: &Program<A>) -> Result<Guess<A>, PlacedFault>
+    ensures { IfOk result (λ guess. IfSome guess.blame (λ fault. IsOfProgram fault)) }
+{
     let mut finder = Finder::new(alloc, program)?;
     finder.find()?;
     let mut text = Vec::new(alloc);
@@ -78,12 +98,16 @@ fn make_guess<A: Allocator + Copy>(
         let kinds = finder.function_type(place)?;
         put_signature(&mut text, function.name(), &kinds)?;
     }
-    let blame = finder.blame().map(|fault| named(alloc, program, fault));
+    let blame = blame_of(alloc, program, &finder);
     Ok(Guess { text, blame })
 }
 
 /// The fault of a program by a guess that doesn't fit it. What is wrong with its MAIN is so by any signatures.
-fn blamed<N: Drop>(fault: FindFault<N>, blame: Option<FindFault<N>>) -> FindFault<N> {
+fn blamed<N: Drop>(fault: FindFault<N>, blame: Option<FindFault<N>>) -> FindFault<N>
+    requires fault { IsOfProgram fault }
+    requires blame { IfSome blame (λ fault. IsOfProgram fault) }
+    ensures { IsOfProgram result }
+{
     match &fault {
         FindFault::Program(KindFault::NoMain | KindFault::MainTakes, _) => fault,
         FindFault::Program(..) => blame.unwrap_or(fault),
@@ -92,16 +116,13 @@ fn blamed<N: Drop>(fault: FindFault<N>, blame: Option<FindFault<N>>) -> FindFaul
 }
 
 /// A fault with the name of its function.
-fn named<A: Allocator>(
-    alloc: A,
-    program: &Program<A>,
-    fault: PlacedFault,
-) -> FindFault<Vec<u8, A>> {
+fn named<A: Allocator>(alloc: A, program: &Program<A>, fault: PlacedFault) -> FindFault<Vec<u8, A>>
+    ensures { IsOfProgram result }
+{
     match fault {
-        FindFault::Memory => FindFault::Memory,
-        FindFault::Code(fault, line) => FindFault::Code(fault, line),
-        FindFault::Program(fault, line) => FindFault::Program(fault, line),
-        FindFault::Function(obstacle, place, line) => match name_of(alloc, program, place) {
+        PlacedFault::Memory => FindFault::Memory,
+        PlacedFault::Program(fault, line) => FindFault::Program(fault, line),
+        PlacedFault::Function(obstacle, place, line) => match name_of(alloc, program, place) {
             Ok(name) => FindFault::Function(obstacle, name, line),
             Err(_) => FindFault::Memory,
         },
@@ -120,19 +141,48 @@ fn name_of<A: Allocator>(
     }
 }
 
-/// Verifies a program by the signatures that a text says.
+/// Whether the signature at a place has this name.
+fn is_of<A: Allocator>(signatures: &Signatures<A>, place: usize, name: &[u8]) -> bool
+    ensures { IsTrue result → (s : Signature) → slice_get signatures.now place ≡ Some s → s.name ≡ name.now }
+{
+    match signatures.at(place) {
+        Some((found, _, _)) => found == name,
+        None => false,
+    }
+}
+
+/// Whether signatures are those of functions, in their order.
+fn are_of<A: Allocator>(signatures: &Signatures<A>, functions: &[Function<A>]) -> bool
+    ensures { IsTrue result → AreOfFunctions signatures.now functions.now }
+{
+    if signatures.len() != functions.len() {
+        return false;
+    }
+    for (place, function) in functions.iter().enumerate() {
+        if !is_of(signatures, place, function.name()) {
+            return false;
+        }
+    }
+    true
+}
+
+/// Verifies a program by the signatures that a text says, which have to be those of its functions, in their order.
 fn check<A: Allocator + Copy>(
     alloc: A,
     program: Program<A>,
     text: &[u8],
 ) -> Result<(), FindFault<Vec<u8, A>>>
-    ensures { OnOk result (SaysSignatures program text.now) }
+    ensures { MatchResult result (λ _. SaysSignatures program text.now) (λ fault. IsOfProgram fault) }
 {
     let signatures = match read(alloc, text) {
         Ok(signatures) => signatures,
         Err(SigFault::Memory) => return Err(FindFault::Memory),
         Err(SigFault::At(_, line)) => return Err(many_results(alloc, &program, line)),
     };
+    // The search says a line for each function. No other text is answered in any case.
+    if !are_of(&signatures, program.functions()) {
+        return Err(FindFault::Program(KindFault::NoSignature, program.first_line()));
+    }
     match verify(alloc, program, &signatures) {
         Ok(_) => Ok(()),
         Err(TextFault::Memory) => Err(FindFault::Memory),
@@ -149,10 +199,12 @@ fn read<A: Allocator + Copy>(alloc: A, text: &[u8]) -> Result<Signatures<A>, Sig
 }
 
 /// That the function on this line of the text gives too many results, since no other limit can be passed.
-fn many_results<A: Allocator>(alloc: A, program: &Program<A>, line: u64) -> FindFault<Vec<u8, A>> {
+fn many_results<A: Allocator>(alloc: A, program: &Program<A>, line: u64) -> FindFault<Vec<u8, A>>
+    ensures { IsOfProgram result }
+{
     for (place, function) in program.functions().iter().enumerate() {
         if place as u64 + 1 == line {
-            let fault = FindFault::Function(Obstacle::ManyResults, place, function.line());
+            let fault = PlacedFault::Function(Obstacle::ManyResults, place, function.line());
             return named(alloc, program, fault);
         }
     }

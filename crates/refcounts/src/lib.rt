@@ -24,8 +24,7 @@ use std::marker::Model;
 /// A vector memory whose blocks are counted.
 ///
 /// The counts are reserved once, when it is made. Its other calls take no memory of their own. A call that names a
-/// block
-/// has the condition that the block lives; [`count`](SharedMemory::count) alone takes any number.
+/// block has the condition that the block lives; [`count`](SharedMemory::count) alone takes any number.
 #[derive(Drop)]
 pub struct SharedMemory<M: VectorMemory, A: Allocator> {
     memory: M,

@@ -10,8 +10,7 @@ use std::alloc::Allocator;
 
 impl<M: LendingMemory, A: Allocator> SharedMemory<M, A> {
     /// A new block of `len` words, which fit, for an owner, with one reference. A writer writes it, and is lent the
-    /// words
-    /// of other blocks for that. There has to be a number without a block.
+    /// words of other blocks for that. There has to be a number without a block.
     ///
     /// # Errors
     ///

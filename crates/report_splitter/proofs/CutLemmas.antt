@@ -1,5 +1,6 @@
 -- What is cut off the front of a report.
-use Rattle.std.proofs.Common.{◌≡◌, ◌≢◌, ◌<◌, ◌≤◌, ◌+◌, ◌^◌, ℕ, Bool, true, false, List, [], ◌∷◌, ◌++◌, length, refl, sym, ap, subst, ◌∙◌, arith, ltb, ⊎_elim}
+use Rattle.std.proofs.Common.{◌≡◌, ◌≢◌, ◌<◌, ◌≤◌, ◌+◌, ◌^◌, ℕ, Bool, true, false, List, [], ◌∷◌, ◌++◌, length, refl}
+use Rattle.std.proofs.Common.{sym, ap, subst, ◌∙◌, arith, ltb, ⊎_elim}
 use Rattle.std.specs.Prelude.{All, codes, decimal, if◌then◌else◌}
 use Rattle.std.proofs.lemmas.Bool.{cases_lt}
 use Rattle.std.proofs.lemmas.Bool.Decides.{Decides-ltb}
@@ -7,7 +8,8 @@ use Rattle.std.proofs.lemmas.List.{append_assoc, get_or-append-add, get_or_appen
 use Rattle.std.proofs.lemmas.List.Elements.{All-append, All-from_recursion, All-head}
 use Rattle.memchr.specs.Find.{OccursAt}
 use Rattle.report_splitter.specs.Fronts.{HasFeed, IsTail}
-use Rattle.report_splitter.specs.ReportTexts.{EntryText, IsEntryText, head_text, last_head, next_head, report_from, tail_text}
+use Rattle.report_splitter.specs.ReportTexts.{EntryText, IsEntryText, head_text, last_head, next_head, report_from}
+use Rattle.report_splitter.specs.ReportTexts.{tail_text}
 use Rattle.report_splitter.proofs.EntryLemmas.{digits_apart}
 
 -- ---- texts with an LF

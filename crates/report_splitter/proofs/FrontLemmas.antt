@@ -1,6 +1,9 @@
 -- Where the tail of an entry ends in a text, and what is cut there.
-use Rattle.std.proofs.Common.{◌≡◌, ◌<◌, ◌≤◌, ◌+◌, ◌-◌, ℕ, zero, suc, List, ◌∷◌, ◌++◌, length, get_or, take, drop, refl, sym, ap, subst, ◌∙◌, arith, ⊎_elim, Option, Some, None, Result, Ok, Err}
-use Rattle.std.proofs.lemmas.List.{get_or-take, get_or_append_left, get_or-append-add, get_or_push, length-take, length-append, take_all, take_at, take-take, drop_at, drop-take, length_push, take-append-drop, take-append-le, append_cancel_left}
+use Rattle.std.proofs.Common.{◌≡◌, ◌<◌, ◌≤◌, ◌+◌, ◌-◌, ℕ, zero, suc, List, ◌∷◌, ◌++◌, length, get_or, take, drop, refl}
+use Rattle.std.proofs.Common.{sym, ap, subst, ◌∙◌, arith, ⊎_elim, Option, Some, None, Result, Ok, Err}
+use Rattle.std.proofs.lemmas.List.{get_or-take, get_or_append_left, get_or-append-add, get_or_push, length-take}
+use Rattle.std.proofs.lemmas.List.{length-append, take_all, take_at, take-take, drop_at, drop-take, length_push}
+use Rattle.std.proofs.lemmas.List.{take-append-drop, take-append-le, append_cancel_left}
 use Rattle.std.proofs.lemmas.Bool.{cases_lt}
 use Rattle.std.specs.Prelude.{IfSome, MatchResult, option_map}
 use Rattle.memchr.specs.Find.{FindsNeedle, NoneBefore, Nowhere, OccursAt}
@@ -127,7 +130,7 @@ module _ (rest next : List ℕ) where
 
 module _ (text : List ℕ) (at : ℕ) (tail head more : List ℕ) where
   abbrev CutAt : Result (Bor (List ℕ) × Bor (List ℕ)) CutFault → Type 0
-  CutAt r = MatchResult r (λ x. (x.0.now ≡ take at text) × (x.1.now ≡ drop at text)) (λ fault. (fault ≡ BrokenOff) × (HasFeed (drop at text) → ⊥))
+  CutAt r = MatchResult r (λ x. (x.0.now ≡ take at text) × (x.1.now ≡ drop at text) × HasFeed (drop at text)) (λ fault. (fault ≡ BrokenOff) × (HasFeed (drop at text) → ⊥))
 
   pub cut_of_front : (n : ℕ) (r : Result (Bor (List ℕ) × Bor (List ℕ)) CutFault) → CutAt r → IsTail tail head
       → text ≡ take n (tail ++ (head ++ more)) → (at ≡ length tail) × (at ≤ length text)
@@ -138,6 +141,11 @@ module _ (text : List ℕ) (at : ℕ) (tail head more : List ℕ) where
         h.1 ∙ ap (λ (k : ℕ). drop k text) p.0 ∙ cut_rest tail head more t n text is le,
       )
   cut_of_front n (Err fault) h t is p = h.0
+
+  pub feed_of_cut : (r : Result (Bor (List ℕ) × Bor (List ℕ)) CutFault) → CutAt r
+      → MatchResult r (λ _. HasFeed (drop at text)) (λ fault. (fault ≡ BrokenOff) × (HasFeed (drop at text) → ⊥))
+  feed_of_cut (Ok x) h = h.2
+  feed_of_cut (Err fault) h = h
 
   pub cut_of_whole : (r : Result (Bor (List ℕ) × Bor (List ℕ)) CutFault) → CutAt r → HasFeed (head ++ more)
       → text ≡ tail ++ (head ++ more) → at ≡ length tail

@@ -1,3 +1,4 @@
+mod AnswerLemmas
 mod FrontLemmas
 mod EntryLemmas
 mod CutLemmas

@@ -1,8 +1,11 @@
 //! A report, cut job by job.
 
-ghost use Rattle.std.specs.Prelude.{◌≡◌, ◌⊎◌, ◌+◌, ◌∷◌, [], ℕ, List, All, length, take, IfOk, MatchOption, MatchResult};
+ghost use Rattle.std.specs.Prelude.{◌≡◌, ◌≢◌, ◌⊎◌, ◌+◌, ◌∷◌, [], ℕ, List, All, length, take, IfOk, OnErr, MatchOption};
+ghost use Rattle.std.specs.Prelude.{MatchResult};
 ghost use Rattle.report_splitter.specs.declared.fault.CutFault.TheVariants.{BrokenOff, Memory};
-ghost use Rattle.report_splitter.specs.ReportTexts.{EntryText, IsEndFrom, IsEntryText, own_report, refused_in, report_from, tail_text};
+ghost use Rattle.report_splitter.specs.Answers.{HasEntry, IsEarlyEnd, IsFaultOf};
+ghost use Rattle.report_splitter.specs.ReportTexts.{EntryText, IsEndFrom, IsEntryText, head_text, next_head};
+ghost use Rattle.report_splitter.specs.ReportTexts.{own_report, refused_in, report_from, tail_text};
 
 use crate::ending::{LineEnd, own_end, split_blank, split_end};
 use crate::fault::CutFault;
@@ -68,8 +71,11 @@ fn report_on<A: Allocator>(
 
 /// The report of the job's own file for an entry of this tail, if the file begins at this line.
 fn own_report<A: Allocator>(alloc: A, tail: &[u8], first_line: u64) -> Result<Vec<u8, A>, CutFault>
-    ensures { (entry : EntryText) → IsEntryText entry → IsEndFrom first_line entry.end → tail.now ≡ tail_text entry
+    ensures own { (entry : EntryText) → IsEntryText entry → IsEndFrom first_line entry.end → tail.now ≡ tail_text entry
         → MatchResult result (λ report. report.items ≡ own_report first_line entry) (λ fault. fault ≡ Memory) }
+    ensures early { (entry : EntryText) → IsEntryText entry → IsEarlyEnd first_line entry.end
+        → tail.now ≡ tail_text entry → IfOk result (λ _. ⊥) }
+    ensures not_broken { MatchResult result (λ _. Unit {0}) (λ fault. fault ≢ BrokenOff) }
 {
     match entry_of(tail) {
         Some(entry) => match own_end(entry.end, first_line) {
@@ -95,6 +101,9 @@ fn cut_of<'a, A: Allocator>(
         → tail.now ≡ tail_text entry → rest.now ≡ take n more → MatchResult result
         (λ cut. (cut.report.items ≡ own_report first_line entry) × ((m : ℕ) × (cut.rest.now ≡ take m more)))
         (λ fault. (fault ≡ Memory) ⊎ (fault ≡ BrokenOff)) }
+    ensures early { (entry : EntryText) → IsEntryText entry → IsEarlyEnd first_line entry.end
+        → tail.now ≡ tail_text entry → IfOk result (λ _. ⊥) }
+    ensures not_broken { MatchResult result (λ _. Unit {0}) (λ fault. fault ≢ BrokenOff) }
 {
     match own_report(alloc, tail, first_line) {
         Ok(report) => Ok(Cut { report, rest }),
@@ -133,6 +142,14 @@ pub fn cut_job<'a, A: Allocator + Copy>(
         (λ cut. (cut.report.items ≡ own_report first_line entry)
         × ((m : ℕ) × (cut.rest.now ≡ take m (report_from (place + 1) jobs refused entries))))
         (λ fault. (fault ≡ Memory) ⊎ (fault ≡ BrokenOff)) }
+    // Off one whose entry names a line before the file comes nothing.
+    ensures early { (n refused : ℕ) (entry : EntryText) (entries : List EntryText) → All IsEntryText (entry ∷ entries)
+        → place + length entries ≡ jobs → IsEarlyEnd first_line entry.end
+        → report.now ≡ take n (report_from place jobs refused (entry ∷ entries)) → IfOk result (λ _. ⊥) }
+    // Any report whatever: what comes has the entry; it is said to break off exactly if it does.
+    ensures answer { MatchResult result
+        (λ _. HasEntry (head_text place) (next_head place jobs) report.now)
+        (λ fault. IsFaultOf (head_text place) (next_head place jobs) report.now fault) }
 {
     let head = head(alloc, place)?;
     let next = next_head(alloc, place, jobs)?;

@@ -1,7 +1,10 @@
 //! How a job ends, as the first line of its entry says it.
 
-ghost use Rattle.std.specs.Prelude.{◌≡◌, ◌≢◌, ◌<◌, ◌≤◌, ◌^◌, ◌++◌, ◌-◌, ◌+◌, ℕ, List, All, None, Some, Option, codes, decimal, length, option_map, MatchOption, IfSome};
-ghost use Rattle.report_splitter.specs.ReportTexts.{IsEnd, IsEndFrom, IsPlain, end_text, own_end, stop_refused, stop_text};
+ghost use Rattle.std.specs.Prelude.{◌≡◌, ◌≢◌, ◌<◌, ◌≤◌, ◌^◌, ◌++◌, ◌-◌, ◌+◌, ℕ, List, All, None, Some, Option, codes};
+ghost use Rattle.std.specs.Prelude.{decimal, length, option_map, MatchOption, IfSome};
+ghost use Rattle.report_splitter.specs.Answers.{IsEarlyEnd};
+ghost use Rattle.report_splitter.specs.ReportTexts.{IsEnd, IsEndFrom, IsPlain, end_text, own_end, stop_refused};
+ghost use Rattle.report_splitter.specs.ReportTexts.{stop_text};
 
 use memchr::memchr;
 
@@ -50,7 +53,8 @@ pub struct LineEnd {
 
 /// The end with its line counted from the first line of a file, if it names a line; `None` if that is before the file.
 pub(crate) fn own_end(end: Option<LineEnd>, first_line: u64) -> Option<Option<LineEnd>>
-    ensures { IsEndFrom first_line end → result ≡ Some (option_map (own_end first_line) end) }
+    ensures own { IsEndFrom first_line end → result ≡ Some (option_map (own_end first_line) end) }
+    ensures early { IsEarlyEnd first_line end → result ≡ None }
 {
     let Some(LineEnd { stop, line }) = end else {
         return Some(None);

@@ -1,8 +1,11 @@
 //! The entry at the front of a report.
 
-ghost use Rattle.std.specs.Prelude.{◌≡◌, ◌<◌, ◌≤◌, ◌+◌, ◌-◌, ◌++◌, ◌∷◌, ℕ, List, Some, length, take, drop, IfSome, MatchResult};
+ghost use Rattle.std.specs.Prelude.{◌≡◌, ◌<◌, ◌≤◌, ◌+◌, ◌-◌, ◌++◌, ◌∷◌, ℕ, List, Some, length, take, drop, IfSome};
+ghost use Rattle.std.specs.Prelude.{MatchOption, MatchResult};
+ghost use Rattle.memchr.specs.Find.{OccursAt};
 ghost use Rattle.report_splitter.specs.declared.fault.CutFault.TheVariants.{BrokenOff};
-ghost use Rattle.report_splitter.specs.Fronts.{HasFeed, IsTail};
+ghost use Rattle.report_splitter.specs.Answers.{HasEntry, IsFaultOf, IsHeadFault};
+ghost use Rattle.report_splitter.specs.Fronts.{HasFeed, HasLine, IsTail};
 
 use crate::ending::after;
 use crate::fault::CutFault;
@@ -14,6 +17,8 @@ fn end_of_tail(rest: &[u8], next: &[u8]) -> Option<usize>
         → rest.now ≡ take n (tail ++ (head ++ more)) → IfSome result (λ at. (at ≡ length tail) × (at ≤ length rest.now)) }
     ensures whole { (tail head more : List ℕ) → IsTail tail head → next.now ≡ 10 ∷ head
         → rest.now ≡ tail ++ (head ++ more) → result ≡ Some (length tail) }
+    ensures first { MatchOption result ((k : ℕ) → OccursAt rest.now next.now k → ⊥) (λ at. (k : ℕ) × (at ≡ k + 1)
+        × OccursAt rest.now next.now k × ((j : ℕ) → OccursAt rest.now next.now j → k ≤ j)) }
 {
     match memmem::find(rest, next) {
         Some(at) => Some(at + 1),
@@ -24,7 +29,7 @@ fn end_of_tail(rest: &[u8], next: &[u8]) -> Option<usize>
 /// Cuts a text at this place, if an LF is after it.
 fn cut_at(text: &[u8], at: usize) -> Result<(&[u8], &[u8]), CutFault>
     ensures { MatchResult result
-        (λ r. (r.0.now ≡ take at text.now) × (r.1.now ≡ drop at text.now))
+        (λ r. (r.0.now ≡ take at text.now) × (r.1.now ≡ drop at text.now) × HasFeed (drop at text.now))
         (λ fault. (fault ≡ BrokenOff) × (HasFeed (drop at text.now) → ⊥)) }
 {
     if at > text.len() {
@@ -47,6 +52,9 @@ fn cut_tail<'a>(rest: &'a [u8], next: &[u8]) -> Result<(&'a [u8], &'a [u8]), Cut
         → rest.now ≡ tail ++ (head ++ more) → MatchResult result
         (λ r. (r.0.now ≡ tail) × (r.1.now ≡ head ++ more))
         (λ _. ⊥) }
+    ensures line { (head : List ℕ) → next.now ≡ 10 ∷ head → MatchResult result
+        (λ _. HasLine head rest.now)
+        (λ fault. (fault ≡ BrokenOff) × (HasLine head rest.now → ⊥)) }
 {
     match end_of_tail(rest, next) {
         Some(at) => cut_at(rest, at),
@@ -56,7 +64,7 @@ fn cut_tail<'a>(rest: &'a [u8], next: &[u8]) -> Result<(&'a [u8], &'a [u8]), Cut
 
 /// Why a report doesn't begin with a head.
 fn head_fault(report: &[u8], head: &[u8]) -> CutFault
-    ensures { (n : ℕ) → report.now ≡ take n head.now → result ≡ BrokenOff }
+    ensures { IsHeadFault head.now report.now result }
 {
     if head.starts_with(report) {
         CutFault::BrokenOff
@@ -84,6 +92,9 @@ pub(crate) fn cut_front<'a>(
         → HasFeed (next_head ++ more) → report.now ≡ head.now ++ (tail ++ (next_head ++ more)) → MatchResult result
         (λ r. (r.0.now ≡ tail) × (r.1.now ≡ next_head ++ more))
         (λ _. ⊥) }
+    ensures answer { (next_head : List ℕ) → next.now ≡ 10 ∷ next_head → MatchResult result
+        (λ _. HasEntry head.now next_head report.now)
+        (λ fault. IsFaultOf head.now next_head report.now fault) }
 {
     match after(report, head) {
         Some(rest) => cut_tail(rest, next),

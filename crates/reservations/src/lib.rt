@@ -16,6 +16,9 @@ pub mod laws;
 use std::alloc::{AllocError, Allocator};
 use std::marker::Model;
 
+/// The most jobs of a book.
+pub const MOST_BOOKED: usize = 1 << 30;
+
 /// The words that a job was granted, and how many of them it holds.
 #[derive(Clone, Copy, Debug, PartialEq, Eq)]
 pub struct Grant {
@@ -59,10 +62,12 @@ impl<A: Allocator> Model for Book<A> {
 }
 
 impl<A: Allocator> Book<A> {
-    /// A book over a region of `region` words, for jobs `1..=jobs`, none of which has a grant.
+    /// A book over a region of `region` words, for jobs `1..=jobs`, none of which has a grant. There are at most
+    /// [`MOST_BOOKED`] jobs.
     ///
     /// An error means that the allocator refused the memory.
     pub fn new(alloc: A, region: usize, jobs: usize) -> Result<Self, AllocError>
+        requires { jobs ≤ MOST_BOOKED }
         ensures { IfOk result (λ book. book ≡ record { region = region; grants = replicate jobs None }) }
     {
         let grants = vec![in alloc; None; jobs]?;

@@ -4,6 +4,11 @@
 pub trait Gate {
     /// `job` is the number of the job, from 1 on, and `step` how many instructions it executed before.
     fn between(&self, job: usize, step: u64);
+
+    /// A worker was to go on with this job, and the job couldn't begin a step. The worker doesn't hold the lock. This
+    /// isn't called if each job is with one worker at a time, or left open by the one that had it. So a gate that
+    /// counts can show that it is so.
+    fn refused(&self, _job: usize) {}
 }
 
 /// A gate that does nothing.

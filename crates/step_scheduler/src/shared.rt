@@ -42,6 +42,8 @@ pub(crate) enum Turn<L: Opening, A: Allocator> {
     },
     /// It has done another event, and goes on with this job, if there is one.
     Moved(Option<usize>, Desk<A>),
+    /// The job that it was to go on with can't begin a step.
+    Refused(usize, Desk<A>),
     /// It found nothing to go on with for now.
     Idle(Desk<A>),
     /// There is nothing left to go on with, memory for results was refused, or the rest is left to the calling thread.
@@ -101,7 +103,7 @@ impl<L: Opening, A: Allocator> SharedState<L, A> {
                 Turn::Began { ticket, rings }
             }
             Begun::Ended(desk) => Turn::Moved(Some(job), desk),
-            Begun::NotReady(desk) | Begun::SmallDesk(desk) => Turn::Moved(None, desk),
+            Begun::NotReady(desk) | Begun::SmallDesk(desk) => Turn::Refused(job, desk),
         }
     }
 

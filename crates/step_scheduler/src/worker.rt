@@ -71,6 +71,10 @@ fn go_on<L: Opening, A: Allocator + Clone, R: Wait, G: Gate>(
             Some(finish(rt, shared, mine, own))
         }
         Turn::Moved(job, desk) => Some((job, desk)),
+        Turn::Refused(job, desk) => {
+            gate.refused(job);
+            Some((None, desk))
+        }
         Turn::Idle(desk) => Some((None, desk)),
         Turn::Over => {
             shared.bell.notify_all();

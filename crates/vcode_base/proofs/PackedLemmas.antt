@@ -1,5 +1,6 @@
 -- Words in fewer bytes, and back.
-use Rattle.std.proofs.Common.{◌≡◌, ℕ, zero, suc, ◌<◌, ◌≤◌, ◌*◌, ◌+◌, ◌/◌, ◌%◌, ℤ, pos, negsuc, min, List, [], ◌∷◌, length}
+use Rattle.std.proofs.Common.{◌≡◌, ℕ, zero, suc, ◌<◌, ◌≤◌, ◌*◌, ◌+◌, ◌/◌, ◌%◌, ℤ, pos, negsuc, min, List, [], ◌∷◌}
+use Rattle.std.proofs.Common.{length}
 use Rattle.std.proofs.Common.{map, take, drop, get_or, refl, ap, sym, ◌∙◌, arith, ◌-ℤ◌, ◌+ℤ◌, unsigned_abs}
 use Rattle.std.specs.List.{All}
 use Rattle.std.specs.Int.Bits.{bit_or}

@@ -1,6 +1,7 @@
 -- The bodies of a program hold no RET and no instruction IF, and each list of a CONST is of its kind.
 use Rattle.std.proofs.Common.{◌≡◌, ◌∙◌, ℕ, ℤ, pos, suc, Bool, true, false, inl, inr, List, Option, Some, None, [], ◌∷◌}
-use Rattle.std.proofs.Common.{Ok, ap, subst, sym, codes}
+use Rattle.std.proofs.Common.{Ok, ap, subst, sym, codes, length, ◌≤◌}
+use Rattle.vcode_base.specs.declared.limits.TheConstants.{MOST_FUNCTIONS}
 use Rattle.std.specs.Prelude.{if◌then◌else◌}
 use Rattle.std.specs.Str.{bytes_eq}
 use Rattle.std.proofs.lemmas.List.Elements.{All-nil, All-cons}
@@ -128,11 +129,25 @@ proper_reading first bytes fs e =
     let read = subst (λ r. IsReading r first bytes) e (every_text_is_read first bytes) in
     proper_functions fs _ read.1.1.spelled
 
--- the functions that bytes spell
-pub proper_outcome : (s : Scan Parse) (first : ℕ) (failed : Bool) (fs : List Function) →
-    IsOfBytes s first failed → failed ≡ false → outcome s ≡ Ok fs → HaveProperBodies fs
+few_reading : (first : ℕ) (bytes : List ℕ) (fs : List Function) →
+    reading first bytes ≡ Ok (record { first_line = first; functions = fs }) → length fs ≤ MOST_FUNCTIONS
+few_reading first bytes fs e =
+    let read = subst (λ r. IsReading r first bytes) e (every_text_is_read first bytes) in read.1.1.few
+
+-- no more functions are read than a program may have
+pub few_outcome : (s : Scan Parse) (first size : ℕ) (failed : Bool) (fs : List Function) →
+    IsOfBytes s first size failed → failed ≡ false → outcome s ≡ Ok fs → length fs ≤ MOST_FUNCTIONS
 unfolding reading
-proper_outcome s first failed fs h going e =
+few_outcome s first size failed fs h going e =
+    let bytes = h going in
+    few_reading first bytes.0 fs
+    (ap (λ r. program_at first (outcome r)) (sym bytes.1) ∙ ap (program_at first) e)
+
+-- the functions that bytes spell
+pub proper_outcome : (s : Scan Parse) (first size : ℕ) (failed : Bool) (fs : List Function) →
+    IsOfBytes s first size failed → failed ≡ false → outcome s ≡ Ok fs → HaveProperBodies fs
+unfolding reading
+proper_outcome s first size failed fs h going e =
     let bytes = h going in
     proper_reading first bytes.0 fs
     (ap (λ r. program_at first (outcome r)) (sym bytes.1) ∙ ap (program_at first) e)

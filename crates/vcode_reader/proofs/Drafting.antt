@@ -70,15 +70,15 @@ alone_endings is lines l e b cs =
 
 -- ---- an innermost IF that was taken off
 
-or_else : OpenIf → Option OpenIf → OpenIf
+pub or_else : OpenIf → Option OpenIf → OpenIf
 or_else x None = x
 or_else x (Some y) = y
 
-the_first : (i j : OpenIf) → Some i ≡ Some j → i ≡ j
+pub the_first : (i j : OpenIf) → Some i ≡ Some j → i ≡ j
 unfolding or_else
 the_first i j h = ap (or_else i) h
 
-some_none : {B : Type 0} (i : OpenIf) → Some i ≡ None → B
+pub some_none : {B : Type 0} (i : OpenIf) → Some i ≡ None → B
 some_none i h = absurd (differ i h)
   where
     differ : (i : OpenIf) → Some i ≡ None → ⊥
@@ -113,7 +113,7 @@ open_else is lines l h = record {
       (h.closes End (closing b c.end c.after ∷ other_closings cs));
 }
 
-not_false : (b : Bool) → not b ≡ true → b ≡ false
+pub not_false : (b : Bool) → not b ≡ true → b ≡ false
 not_false true h = absurd (differ h)
   where
     differ : false ≡ true → ⊥

@@ -8,7 +8,8 @@ use Rattle.std.specs.Prelude.{nat_eq}
 use Rattle.std.proofs.lemmas.Bool.Decides.{Decides-and, Decides-like, Decides-eqb, Decides-int_eq}
 use Rattle.std.proofs.lemmas.Slice.Eq.{slice_eq-Decides}
 use Rattle.vcode_reader.specs.declared.code_lines.Span.{Span}
-use Rattle.vcode_reader.specs.Pools.{PooledItem, PooledLine, least_number, linked_lines, shown_lines, all_lists, all_names}
+use Rattle.vcode_reader.specs.Pools.{PooledItem, PooledLine, least_number, linked_lines, shown_lines, all_lists}
+use Rattle.vcode_reader.specs.Pools.{all_names}
 use Rattle.vcode_reader.specs.Trees.{CodeLine, Function, Program, lines_of}
 use Rattle.vcode_reader.specs.Programs.{held_callees}
 use Rattle.vcode_reader.specs.Decode.{function_of, function_of-lines_of}

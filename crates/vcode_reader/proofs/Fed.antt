@@ -1,11 +1,12 @@
 -- What has come in pieces.
 use Rattle.std.proofs.Common.{◌≡◌, ℕ, ◌+◌, Bool, true, false, List, [], ◌∷◌, ◌++◌, Option, Some, None, Result, Ok, Err}
-use Rattle.std.proofs.Common.{ap, ◌∙◌, sym}
+use Rattle.std.proofs.Common.{ap, ◌∙◌, ◌≤◌, arith, length, length-append, sym}
 use Rattle.std.specs.Prelude.{OnOk, is_err, is_some, if◌then◌else◌}
 use Rattle.vcode_base.specs.declared.fault.TextFault.TheVariants.{Memory, At}
 use Rattle.vcode_reader.specs.declared.class.Class.{Class}
 use Rattle.vcode_reader.specs.declared.class.Class.TheVariants.{LineFeed, Blank, OpenBrace, CloseBrace, Parenthesis}
 use Rattle.vcode_reader.specs.declared.class.Class.TheVariants.{Plain, Refused}
+use Rattle.vcode_reader.specs.declared.reader.TheConstants.{MOST_CODE_BYTES}
 use Rattle.vcode_reader.specs.Classes.{class_of}
 use Rattle.vcode_reader.specs.Parsing.{Parse, at_place, start, take}
 use Rattle.vcode_reader.specs.Reading.{ReaderState, HasCome, HasScanned, IsOfBytes, outcome, program_at, reading}
@@ -23,21 +24,27 @@ fed_more old new first piece e before h = e
     ∙ (ap (λ r. scan_all take r piece) h ∙ sym (scan_all-append take before piece (beginning start first)))
 
 -- the bytes of the piece follow the bytes before
-pub of_more_bytes : {A E : Type 0} (r : Result A E) (old new : Scan Parse) (first : ℕ)
+pub of_more_bytes : {A E : Type 0} (r : Result A E) (old new : Scan Parse) (first size more : ℕ)
     (failed : Bool) (piece : List ℕ) → false ≡ is_err r → OnOk r (new ≡ scan_all take old piece) →
-    IsOfBytes old first failed → IsOfBytes new first failed
-of_more_bytes (Ok x) old new first failed piece fine h before = λ going.
-    let b = before going in
-    (b.0 ++ piece, fed_more old new first piece h b.0 b.1)
-of_more_bytes (Err x) old new first failed piece fine h before = absurd (let e : false ≡ true = fine in cc)
+    more ≡ size + length piece → more ≤ MOST_CODE_BYTES → IsOfBytes old first size failed →
+    IsOfBytes new first more failed
+of_more_bytes (Ok x) old new first size more failed piece fine h sum within before = λ going.
+    let b = before going in (
+      b.0 ++ piece,
+      fed_more old new first piece h b.0 b.1,
+      omega (arith, sum, b.2, length-append b.0 piece),
+      within,
+    )
+of_more_bytes (Err x) old new first size more failed piece fine h sum within before =
+    absurd (let e : false ≡ true = fine in cc)
 
-pub fed_all : {A E : Type 0} (r : Result A E) (o : ReaderState) (old new : Scan Parse) (first : ℕ)
+pub fed_all : {A E : Type 0} (r : Result A E) (o : ReaderState) (old new : Scan Parse) (first size more : ℕ)
     (failed : Bool) (piece : List ℕ) →
-    o ≡ record { scan = old; first_line = first; failed = failed } → failed ≡ false →
-    OnOk r (new ≡ scan_all take old piece) →
+    o ≡ record { scan = old; first_line = first; size = size; failed = failed } → failed ≡ false →
+    more ≡ size + length piece → OnOk r (new ≡ scan_all take old piece) →
     OnOk r ((before : List ℕ) → HasCome o before →
-    HasCome (record { scan = new; first_line = first; failed = failed }) (before ++ piece))
-fed_all (Ok x) o old new first failed piece v f h = λ before k.
+    HasCome (record { scan = new; first_line = first; size = more; failed = failed }) (before ++ piece))
+fed_all (Ok x) o old new first size more failed piece v f sum h = λ before k.
     record {
       going = f;
       scanned =
@@ -45,8 +52,9 @@ fed_all (Ok x) o old new first failed piece v f h = λ before k.
           (ap (λ (r : ReaderState). r.scan) (sym v)
           ∙ (k.scanned
           ∙ ap (λ (r : ReaderState). scan_all take (beginning start r.first_line) before) v));
+      size = omega (arith, sum, k.size, ap (λ (r : ReaderState). r.size) v, length-append before piece);
     }
-fed_all (Err x) o old new first failed piece v f h = tt
+fed_all (Err x) o old new first size more failed piece v f sum h = tt
 
 pub fed_line : {A E : Type 0} (r : Result A E) (old new : Scan Parse) (piece : List ℕ) →
     OnOk r (new ≡ scan_all take old piece) → OnOk r (new.line ≡ old.line + line_feeds piece)

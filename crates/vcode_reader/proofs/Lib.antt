@@ -4,6 +4,7 @@ pub mod Callees
 pub mod Codes
 pub mod Digits
 pub mod Drafting
+pub mod Earlier
 pub mod Enums
 pub mod Equal
 pub mod Fed
@@ -13,10 +14,13 @@ pub mod Good
 pub mod Least
 pub mod Lines
 pub mod Linking
+pub mod Measures
 pub mod Numerals
 pub mod Pieces
 pub mod Pooling
+pub mod Rooms
 pub mod Runs
+pub mod Sizes
 pub mod Sound
 pub mod Spelling
 pub mod Whole

@@ -1,5 +1,6 @@
 -- Pooled lines with their targets.
-use Rattle.std.proofs.Common.{◌≡◌, ◌∙◌, ℕ, ℤ, suc, zero, ◌+◌, ◌^◌, ◌<◌, ◌≤◌, List, [], ◌∷◌, ◌++◌, length, take, drop, Option, Some}
+use Rattle.std.proofs.Common.{◌≡◌, ◌∙◌, ℕ, ℤ, suc, zero, ◌+◌, ◌<◌, ◌≤◌, List, [], ◌∷◌, ◌++◌, length, take, drop}
+use Rattle.std.proofs.Common.{Option, Some}
 use Rattle.std.proofs.Common.{None, refl, ap, sym, subst, length-append, arith, add-one, drop-cons, get_or, get_or-take}
 use Rattle.std.proofs.Common.{set}
 use Rattle.std.proofs.Math.Seq.{take-append_seam}
@@ -12,9 +13,12 @@ use Rattle.vcode_reader.specs.declared.code_lines.PooledItem.TheVariants as pool
 use Rattle.vcode_reader.specs.declared.line.CodeItem.{CodeItem}
 use Rattle.vcode_reader.specs.declared.line.CodeItem.TheVariants as code_item
 use Rattle.vcode_reader.specs.Callees.{called_by}
-use Rattle.vcode_reader.specs.Pools.{PooledItem, PooledLine, least_number, list_of, name_of, all_lists, all_names, pooled_item, pooled_line}
-use Rattle.vcode_reader.specs.Pools.{pooled_lines, shown_item, shown_line, shown_lines, ItemLiesIn, ArePooled, AreLinked}
-use Rattle.vcode_reader.specs.Pools.{target_of, with_target, line_with_target, with_targets, waits_before, linked_lines}
+use Rattle.vcode_reader.specs.Pools.{PooledItem, PooledLine, least_number, list_of, name_of, all_lists, all_names}
+use Rattle.vcode_reader.specs.Pools.{pooled_item, pooled_line}
+use Rattle.vcode_reader.specs.Pools.{pooled_lines, shown_item, shown_line, shown_lines, ItemLiesIn, ArePooled}
+use Rattle.vcode_reader.specs.Pools.{AreLinked}
+use Rattle.vcode_reader.specs.Pools.{NumbersFit, target_of, with_target, line_with_target, with_targets}
+use Rattle.vcode_reader.specs.Pools.{waits_before, linked_lines}
 use Rattle.vcode_reader.specs.Targets.{Jumps, first_of, others_of, jumps_before, jumps_from, target_in, target_at}
 use Rattle.vcode_reader.specs.Targets.{targets_of}
 use Rattle.vcode_reader.specs.Trees.{Item, CodeLine, line_of}
@@ -56,10 +60,10 @@ module _ (first : ℕ) (ps : List PooledLine) (ls : List ℤ) (ns : List ℕ) (x
       ∙ (targets_unseen first ls ns (targets_of xs) (pooled_lines first 0 0 xs)
       ∙ lines_back first xs [] ls [] ns 0 0 (are_from first xs least) f g refl refl))
 
-  pub are_linked : first + 2 ^ 32 ≤ 2 ^ 64 → AreLinked first ps ls ns
+  pub are_linked : NumbersFit xs → AreLinked first ps ls ns
   are_linked room = record {
     least = least ∙ ap least_number (sym linked_shown);
-    room = room;
+    room = subst NumbersFit (sym linked_shown) room;
     lines = e ∙ ap linked_lines (sym linked_shown);
     lists = f ∙ ap all_lists (sym linked_shown);
     names = g ∙ ap all_names (sym linked_shown);

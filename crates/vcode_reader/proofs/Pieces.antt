@@ -1,5 +1,6 @@
 -- Words that lie whole in a piece.
-use Rattle.std.proofs.Common.{◌≡◌, ◌∙◌, ℕ, zero, suc, ◌+◌, ◌==◌, ◌<◌, ◌≤◌, Bool, true, false, List, [], ◌∷◌, ◌++◌, Some, None}
+use Rattle.std.proofs.Common.{◌≡◌, ◌∙◌, ℕ, zero, suc, ◌+◌, ◌==◌, ◌<◌, ◌≤◌, Bool, true, false, List, [], ◌∷◌, ◌++◌, Some}
+use Rattle.std.proofs.Common.{None}
 use Rattle.std.proofs.Common.{refl, arith, ap, sym, length, take, drop, get_or, append_assoc}
 use Rattle.std.specs.Prelude.{if◌then◌else◌, Option, codes, is_some}
 use Rattle.std.proofs.lemmas.Bool.Decides.{nat_tests}
@@ -8,7 +9,8 @@ use Rattle.vcode_reader.specs.declared.class.Class.TheVariants.{LineFeed, Blank,
 use Rattle.vcode_reader.specs.declared.class.Class.TheVariants.{Plain, Refused}
 use Rattle.vcode_reader.specs.Ahead.{HasWord}
 use Rattle.vcode_reader.specs.Classes.{class_of, is_passed, is_plain, passed_length, plain_length}
-use Rattle.vcode_reader.specs.Scan.{Scan, Emit, end_word, ends_word, lone_word, by_comment, in_comment, scan_byte, scan_all}
+use Rattle.vcode_reader.specs.Scan.{Scan, Emit, end_word, ends_word, lone_word, by_comment, in_comment, scan_byte}
+use Rattle.vcode_reader.specs.Scan.{scan_all}
 use Rattle.vcode_reader.proofs.Lines.{drop_next}
 use Rattle.vcode_reader.proofs.Runs.{add_nil}
 

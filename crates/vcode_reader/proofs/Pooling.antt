@@ -1,18 +1,21 @@
 -- Lines whose lists and names lie in pools, one after another.
 use Rattle.std.proofs.Common.{◌≡◌, ◌∙◌, ℕ, ℤ, ◌+◌, ◌-◌, ◌^◌, ◌<◌, ◌≤◌, List, [], ◌∷◌, ◌++◌, length, take, drop, Some}
-use Rattle.std.proofs.Common.{None, true, false, refl, ap, sym, subst, append_assoc, length-append, arith, get_or}
+use Rattle.std.proofs.Common.{None, true, false, zero, suc, refl, ap, sym, subst, append_assoc, length-append, arith}
+use Rattle.std.proofs.Common.{get_or}
 use Rattle.std.proofs.Math.Seq.{drop-append_seam, take-append_seam}
 use Rattle.std.proofs.lemmas.Bool.Decides.{nat_tests}
 use Rattle.std.proofs.lemmas.List.{append-nil, length-map, map-append, take_more}
 use Rattle.std.proofs.lemmas.Option.{slice_get-map, slice_get_past, slice_get_read, slice_get_within}
-use Rattle.std.proofs.lemmas.Option.{get_or_from_slice_get}
+use Rattle.std.proofs.lemmas.Option.{get_or_from_slice_get, none-some, same_Some}
 use Rattle.std.specs.List.{slice_get}
 use Rattle.std.specs.Prelude.{map, nat_lt, option_map}
 use Rattle.vcode_base.specs.declared.instr.Instr.TheVariants as instr
 use Rattle.vcode_reader.specs.declared.line.CodeItem.{CodeItem}
 use Rattle.vcode_reader.specs.declared.line.CodeItem.TheVariants as code_item
-use Rattle.vcode_reader.specs.Pools.{PooledLine, first_with, least_number, list_of, name_of, all_lists, all_names, pooled_item}
+use Rattle.vcode_reader.specs.Pools.{PooledLine, first_with, least_number, list_of, name_of, all_lists, all_names}
+use Rattle.vcode_reader.specs.Pools.{pooled_item}
 use Rattle.vcode_reader.specs.Pools.{pooled_line, pooled_lines, shown_item, shown_line, shown_lines, ArePooled}
+use Rattle.vcode_reader.specs.Pools.{NumbersFit}
 use Rattle.vcode_reader.specs.Trees.{Item, CodeLine, line_of}
 use Rattle.vcode_reader.proofs.Least.{AreFrom, are_from, least_then}
 
@@ -71,10 +74,10 @@ module _ (first : ℕ) (ps : List PooledLine) (ls : List ℤ) (ns : List ℕ) (x
       ap (shown_lines first ls ns) e
       ∙ lines_back first xs [] ls [] ns 0 0 (are_from first xs least) f g refl refl
 
-  pub are_pooled : first + 2 ^ 32 ≤ 2 ^ 64 → ArePooled first ps ls ns
+  pub are_pooled : NumbersFit xs → ArePooled first ps ls ns
   are_pooled room = record {
     least = least ∙ ap least_number (sym shown_are);
-    room = room;
+    room = subst NumbersFit (sym shown_are) room;
     lines = e ∙ ap (pooled_lines first 0 0) (sym shown_are);
     lists = f ∙ ap all_lists (sym shown_are);
     names = g ∙ ap all_names (sym shown_are);
@@ -84,7 +87,7 @@ module _ (first : ℕ) (ps : List PooledLine) (ls : List ℤ) (ns : List ℕ) (x
 pub none_pooled : (ps : List PooledLine) (ls : List ℤ) (ns : List ℕ) → ps ≡ [] → ls ≡ [] → ns ≡ [] →
     ArePooled 0 ps ls ns
 unfolding pooled_lines all_lists all_names least_number
-none_pooled ps ls ns e f g = are_pooled 0 ps ls ns [] refl e f g (omega arith)
+none_pooled ps ls ns e f g = are_pooled 0 ps ls ns [] refl e f g tt
 
 pub none_shown : (first : ℕ) (ps : List PooledLine) (ls : List ℤ) (ns : List ℕ) → ps ≡ [] →
     shown_lines first ls ns ps ≡ []
@@ -93,13 +96,13 @@ none_shown first ps ls ns e = ap (shown_lines first ls ns) e
 
 -- ---- one line more
 
-lists_more : (xs : List CodeLine) (x : CodeLine) → all_lists (xs ++ x ∷ []) ≡ all_lists xs ++ list_of x.item
+pub lists_more : (xs : List CodeLine) (x : CodeLine) → all_lists (xs ++ x ∷ []) ≡ all_lists xs ++ list_of x.item
 unfolding all_lists
 lists_more [] x = append-nil (list_of x.item)
 lists_more (y ∷ ys) x =
     ap (λ z. list_of y.item ++ z) (lists_more ys x) ∙ sym (append_assoc (list_of y.item) (all_lists ys) (list_of x.item))
 
-names_more : (xs : List CodeLine) (x : CodeLine) → all_names (xs ++ x ∷ []) ≡ all_names xs ++ name_of x.item
+pub names_more : (xs : List CodeLine) (x : CodeLine) → all_names (xs ++ x ∷ []) ≡ all_names xs ++ name_of x.item
 unfolding all_names
 names_more [] x = append-nil (name_of x.item)
 names_more (y ∷ ys) x =
@@ -133,6 +136,17 @@ unfolding pooled_lines
 same_first first first2 number [] h = refl
 same_first first first2 number (x ∷ xs) h = ap (λ z. pooled_lines z 0 0 (x ∷ xs)) (sym h)
 
+numbers_more : (xs : List CodeLine) (x : CodeLine) → NumbersFit xs → x.number < 2 ^ 64 → NumbersFit (xs ++ x ∷ [])
+numbers_more [] x h fits = (fits, tt)
+numbers_more (y ∷ ys) x h fits = (h.0, numbers_more ys x h.1 fits)
+
+-- the number of a line at a place
+number_in : (xs : List CodeLine) (place : ℕ) (x : CodeLine) → NumbersFit xs → slice_get xs place ≡ Some x →
+    x.number < 2 ^ 64
+number_in [] place x h e = absurd (none-some x e)
+number_in (y ∷ ys) zero x h e = subst (λ (z : CodeLine). z.number < 2 ^ 64) (same_Some y x e) h.0
+number_in (y ∷ ys) (suc place) x h e = number_in ys place x h.1 e
+
 module _ (first first2 : ℕ) (ps ps2 : List PooledLine) (ls ls2 : List ℤ) (ns ns2 : List ℕ) (len : ℕ) (x : CodeLine)
     (held : ArePooled first ps ls ns) (long : len ≡ length ps) (begin : first2 ≡ first_with first len x.number)
     (after : first2 ≤ x.number) (e : ps2 ≡ ps ++ pooled_line first2 (length ls) (length ns) x ∷ [])
@@ -163,8 +177,10 @@ module _ (first first2 : ℕ) (ps ps2 : List PooledLine) (ls ls2 : List ℤ) (ns
   pub pushed_shown : shown_lines first2 ls2 ns2 ps2 ≡ shown_lines first ls ns ps ++ x ∷ []
   pushed_shown = shown_are first2 ps2 ls2 ns2 (xs ++ x ∷ []) least_now lines_then lists_then names_then
 
-  pub pushed_pooled : first2 + 2 ^ 32 ≤ 2 ^ 64 → ArePooled first2 ps2 ls2 ns2
-  pushed_pooled = are_pooled first2 ps2 ls2 ns2 (xs ++ x ∷ []) least_now lines_then lists_then names_then
+  pub pushed_pooled : x.number < 2 ^ 64 → ArePooled first2 ps2 ls2 ns2
+  pushed_pooled fits =
+      are_pooled first2 ps2 ls2 ns2 (xs ++ x ∷ []) least_now lines_then lists_then names_then
+      (numbers_more xs x held.room fits)
 
 -- the same pools
 pub same_pooled : (first : ℕ) (ps ps2 : List PooledLine) (ls ls2 : List ℤ) (ns ns2 : List ℕ) → ps2 ≡ ps → ls2 ≡ ls →
@@ -192,6 +208,11 @@ pub line_there : (first : ℕ) (ps : List PooledLine) (ls : List ℤ) (ns : List
 unfolding shown_lines
 line_there first ps ls ns place p e =
     slice_get-map (shown_line first ls ns) ps place ∙ ap (option_map (shown_line first ls ns)) e
+
+pub number_there : (first : ℕ) (ps : List PooledLine) (ls : List ℤ) (ns : List ℕ) (place : ℕ) (p : PooledLine) →
+    NumbersFit (shown_lines first ls ns ps) → slice_get ps place ≡ Some p → first + p.distance < 2 ^ 64
+number_there first ps ls ns place p h e =
+    number_in (shown_lines first ls ns ps) place (shown_line first ls ns p) h (line_there first ps ls ns place p e)
 
 pub no_line_there : (first : ℕ) (ps : List PooledLine) (ls : List ℤ) (ns : List ℕ) (place : ℕ) →
     slice_get ps place ≡ None → slice_get (shown_lines first ls ns ps) place ≡ None

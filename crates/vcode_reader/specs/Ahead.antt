@@ -1,5 +1,6 @@
 -- Words at the front of a text.
-use Rattle.std.specs.Prelude.{◌≡◌, ℕ, ℤ, suc, ◌-◌, ◌<◌, ◌≤◌, Bool, true, false, List, length, take, drop, get_or, None, Some, codes}
+use Rattle.std.specs.Prelude.{◌≡◌, ℕ, ℤ, suc, ◌-◌, ◌<◌, ◌≤◌, Bool, true, false, List, length, take, drop, get_or, None}
+use Rattle.std.specs.Prelude.{Some, codes}
 use Rattle.vcode_base.specs.Bytes.{decimal}
 use Rattle.vcode_base.specs.declared.kind.Scalar.{Scalar}
 use Rattle.vcode_base.specs.declared.kind.Scalar.TheVariants as scalar

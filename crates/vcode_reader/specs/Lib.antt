@@ -15,6 +15,7 @@ pub mod Pools
 pub mod Programs
 pub mod Reading
 pub mod Refusals
+pub mod Room
 pub mod Scan
 pub mod Targets
 pub mod Trees

@@ -42,6 +42,6 @@ scan_code {P} found comment =
 
 abbrev pub fed_code : Coded (Scan Parse) → Coded ReaderState
 fed_code scan =
-    code_by (Scan Parse × (ℕ × Bool)) (coded× scan (coded× coded_ℕ coded_bool))
-    (λ r. (r.scan, (r.first_line, r.failed))) (λ t. record { scan = t.0; first_line = t.1.0; failed = t.1.1 })
-    (λ _. refl)
+    code_by (Scan Parse × (ℕ × (ℕ × Bool))) (coded× scan (coded× coded_ℕ (coded× coded_ℕ coded_bool)))
+    (λ r. (r.scan, (r.first_line, (r.size, r.failed))))
+    (λ t. record { scan = t.0; first_line = t.1.0; size = t.1.1.0; failed = t.1.1.1 }) (λ _. refl)

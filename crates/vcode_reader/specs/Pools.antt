@@ -1,6 +1,7 @@
 -- The lines of a function whose lists and names lie in two pools: where each lies, the lines that they are, and the
 -- targets that are put into them.
-use Rattle.std.specs.Prelude.{◌≡◌, ◌≤◌, ℕ, zero, suc, ℤ, ◌+◌, ◌-◌, ◌^◌, min, List, [], ◌∷◌, ◌++◌, length, map, take, drop, Option, None}
+use Rattle.std.specs.Prelude.{◌≡◌, ◌<◌, ◌≤◌, ℕ, zero, suc, ℤ, ◌+◌, ◌-◌, ◌^◌, min, List, [], ◌∷◌, ◌++◌, length, map}
+use Rattle.std.specs.Prelude.{take, drop, Option, None}
 use Rattle.vcode_base.specs.declared.instr.Instr.TheVariants as instr
 pub use Rattle.vcode_reader.specs.declared.code_lines.PooledItem.{PooledItem}
 use Rattle.vcode_reader.specs.declared.code_lines.PooledItem.TheVariants as pooled
@@ -149,11 +150,16 @@ waits_before i place waits = waits
 unfoldable pub linked_lines : List CodeLine → List PooledLine
 linked_lines xs = with_targets (targets_of xs) (pooled_lines (least_number xs) 0 0 xs)
 
+-- the number of each line fits 64 bits
+abbrev pub NumbersFit : List CodeLine → Type 0
+NumbersFit [] = Unit {0}
+NumbersFit (x ∷ xs) = (x.number < 2 ^ 64) × NumbersFit xs
+
 -- the lists and the names are those of the lines, one after another, and the first number is the least; no line has a
 -- target
 pub record ArePooled (first : ℕ) (pooled : List PooledLine) (ls : List ℤ) (ns : List ℕ) : Type 0 where
   pub least : first ≡ least_number (shown_lines first ls ns pooled)
-  pub room : first + 2 ^ 32 ≤ 2 ^ 64
+  pub room : NumbersFit (shown_lines first ls ns pooled)
   pub lines : pooled ≡ pooled_lines first 0 0 (shown_lines first ls ns pooled)
   pub lists : ls ≡ all_lists (shown_lines first ls ns pooled)
   pub names : ns ≡ all_names (shown_lines first ls ns pooled)
@@ -161,7 +167,7 @@ pub record ArePooled (first : ℕ) (pooled : List PooledLine) (ls : List ℤ) (n
 -- the same, and the lines have their targets
 pub record AreLinked (first : ℕ) (pooled : List PooledLine) (ls : List ℤ) (ns : List ℕ) : Type 0 where
   pub least : first ≡ least_number (shown_lines first ls ns pooled)
-  pub room : first + 2 ^ 32 ≤ 2 ^ 64
+  pub room : NumbersFit (shown_lines first ls ns pooled)
   pub lines : pooled ≡ linked_lines (shown_lines first ls ns pooled)
   pub lists : ls ≡ all_lists (shown_lines first ls ns pooled)
   pub names : ns ≡ all_names (shown_lines first ls ns pooled)

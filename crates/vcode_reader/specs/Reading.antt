@@ -1,5 +1,6 @@
 -- The reading of a text: its program, or its first fault with the line.
-use Rattle.std.specs.Prelude.{◌≡◌, ℕ, Bool, false, List, Option, Some, None, Result, Ok, Err, Vec}
+use Rattle.std.specs.Prelude.{◌≡◌, ◌≤◌, ℕ, Bool, false, List, length, Option, Some, None, Result, Ok, Err, Vec}
+use Rattle.vcode_reader.specs.declared.reader.TheConstants.{MOST_CODE_BYTES}
 use Rattle.vcode_reader.specs.declared.fault.CodeFault.TheVariants.{Unfinished}
 use Rattle.vcode_base.specs.TextAnswers.{Fails}
 use Rattle.vcode_reader.specs.declared.place.Place.{Place}
@@ -51,17 +52,21 @@ Gives (Err fault) wanted = Fails fault wanted
 abbrev pub HasScanned : Scan Parse → ℕ → List ℕ → Type 0
 HasScanned s first bytes = s ≡ scan_all take (beginning start first) bytes
 
--- unless the reading has failed, some bytes have come
-abbrev pub IsOfBytes : Scan Parse → ℕ → Bool → Type 0
-IsOfBytes s first failed = failed ≡ false → (bytes : List ℕ) × HasScanned s first bytes
+-- unless the reading has failed, so many bytes have come, and no more than a code may have
+abbrev pub IsOfBytes : Scan Parse → ℕ → ℕ → Bool → Type 0
+IsOfBytes s first size failed =
+    failed ≡ false → (bytes : List ℕ) × HasScanned s first bytes × (size ≡ length bytes) × (size ≤ MOST_CODE_BYTES)
 
--- a reader of pieces: the state of its text, the number of the first line, and whether it failed for lack of memory
+-- a reader of pieces: the state of its text, the number of the first line, how many bytes have come, and whether it
+-- failed for lack of memory
 pub record ReaderState : Type 0 where
   pub scan : Scan Parse
   pub first_line : ℕ
+  pub size : ℕ
   pub failed : Bool
 
 -- the pieces so far are these bytes, and the reader hasn't failed
 pub record HasCome (r : ReaderState) (bytes : List ℕ) : Type 0 where
   pub going : r.failed ≡ false
   pub scanned : HasScanned r.scan r.first_line bytes
+  pub size : r.size ≡ length bytes

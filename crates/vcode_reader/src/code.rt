@@ -5,6 +5,7 @@ ghost use Rattle.vcode_reader.specs.Trees.{line_of};
 ghost use Rattle.vcode_reader.specs.Drafts.{no_lines, with_item, with_if, with_else, lines_after_endif, with_endif};
 ghost use Rattle.vcode_reader.specs.Drafts.{takes_else, is_open, innermost_line};
 ghost use Rattle.vcode_reader.specs.Decode.{AreBodyLines};
+ghost use Rattle.vcode_reader.specs.Room.{FitsDraft, FitsPools};
 
 use crate::code_lines::GrowingLines;
 use crate::front_list::FrontList;
@@ -50,6 +51,7 @@ impl<A: Allocator> Draft<A> {
     /// Adds an instruction, which is on this line.
     #[inline(always)]
     pub(crate) fn push(&mut self, instruction: Instruction<'_>, line: u64) -> Result<(), AllocError>
+        requires { FitsDraft (with_item instruction line self.old) }
         ensures { OnOk result (self.new ≡ with_item instruction.entry line self.old) }
     {
         self.lines.push(Numbered {
@@ -61,6 +63,7 @@ impl<A: Allocator> Draft<A> {
 
     /// An IF begins on this line.
     pub(crate) fn begin_if(&mut self, line: u64) -> Result<(), AllocError>
+        requires { FitsDraft (with_if line self.old) }
         ensures { OnOk result (self.new ≡ with_if line self.old) }
     {
         let open = OpenIf {
@@ -107,7 +110,8 @@ impl<A: Allocator> Draft<A> {
 
     /// The `ELSE` of the innermost IF.
     pub(crate) fn begin_else(&mut self) -> Result<(), AllocError>
-        requires { takes_else self.old.ifs ≡ true }
+        requires takes_else { takes_else self.old.ifs ≡ true }
+        requires fits { FitsDraft (with_else self.old) }
         ensures { OnOk result (self.new ≡ with_else self.old) }
     {
         if let Some(opened) = self.ifs.pop() {
@@ -122,6 +126,7 @@ impl<A: Allocator> Draft<A> {
 
     /// The `ENDIF` of the innermost IF is on this line. An IF that has no `ELSE` gets one.
     pub(crate) fn end_if(&mut self, line: u64) -> Result<(), AllocError>
+        requires { FitsDraft (with_endif line self.old) }
         ensures { OnOk result (self.new ≡ with_endif line self.old) }
     {
         if let Some(opened) = self.ifs.pop() {
@@ -161,6 +166,7 @@ fn add_open<A: Allocator>(
     item: CodeItem<Instruction<'_>>,
     opened: OpenIf,
 ) -> Result<(), AllocError>
+    requires { FitsPools (lines.old ++ line_of item opened.line ∷ []) }
     ensures lines { OnOk result (lines.new ≡ lines.old ++ line_of item.entry opened.line ∷ []) }
     ensures ifs { OnOk result (ifs.new ≡ opened ∷ ifs.old) }
     ensures no_lines { OnErr result (lines.new ≡ []) }
@@ -183,6 +189,7 @@ fn close<A: Allocator>(
     opened: OpenIf,
     line: u64,
 ) -> Result<(), AllocError>
+    requires { FitsPools (lines_after_endif opened line lines.old) }
     ensures lines { OnOk result (lines.new ≡ lines_after_endif opened line lines.old) }
     ensures ifs { OnOk result (ifs.new ≡ ifs.old) }
     ensures no_lines { OnErr result (lines.new ≡ []) }

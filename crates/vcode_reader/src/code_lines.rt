@@ -1,12 +1,15 @@
 //! The lines of a function, small and without a list of their own each.
 
-ghost use Rattle.std.specs.Prelude.{◌≡◌, ◌+◌, ◌-◌, ◌<◌, ◌≤◌, ◌^◌, ℕ, ℤ, List, [], ◌∷◌, ◌++◌, length, map, option_map, slice_get, IfOk};
+ghost use Rattle.std.specs.Prelude.{◌≡◌, ◌+◌, ◌-◌, ◌<◌, ◌≤◌, ◌^◌, ℕ, ℤ, List, [], ◌∷◌, ◌++◌, length, map, option_map};
+ghost use Rattle.std.specs.Prelude.{slice_get, IfOk};
 ghost use Rattle.std.specs.Prelude.{IfSome, MatchOption, OnOk, OnErr};
 ghost use Rattle.vcode_base.specs.declared.instr.Instr.TheVariants as instr;
 ghost use Rattle.vcode_reader.specs.Callees.{called_by};
 ghost use Rattle.vcode_reader.specs.Pools.{first_with, list_in, name_in, list_of, name_of, part_of};
-ghost use Rattle.vcode_reader.specs.Pools.{pooled_instruction, pooled_item, pooled_line, shown_item, shown_lines, span_of, target_of};
+ghost use Rattle.vcode_reader.specs.Pools.{pooled_instruction, pooled_item, pooled_line, shown_item, shown_lines};
+ghost use Rattle.vcode_reader.specs.Pools.{span_of, target_of};
 ghost use Rattle.vcode_reader.specs.Pools.{line_with_target, waits_before, with_targets, ItemLiesIn, LiesIn};
+ghost use Rattle.vcode_reader.specs.Room.{FitsPools};
 ghost use Rattle.vcode_reader.specs.Targets.{first_of, target_at, targets_of};
 ghost use Rattle.vcode_reader.specs.Trees.{line_of};
 
@@ -88,10 +91,11 @@ impl<A: Allocator> GrowingLines<A> {
     /// Adds a line at the end. If memory is refused, nothing changes.
     #[inline(always)]
     pub(crate) fn push(&mut self, line: CodeLine<'_>) -> Result<(), AllocError>
+        requires { FitsPools (self.old ++ line ∷ []) }
         ensures pushed { OnOk result (self.new ≡ self.old ++ line.entry ∷ []) }
         ensures unchanged { OnErr result (self.new ≡ self.old) }
     {
-        let first = first_with(self.first, self.lines.len(), line.number)?;
+        let first = first_with(self.first, self.lines.len(), line.number);
         add_line(
             first,
             &mut self.lines,
@@ -115,6 +119,7 @@ impl<A: Allocator> GrowingLines<A> {
 
     /// The lines with their targets, in no more memory than they need.
     pub(crate) fn into_lines(self, alloc: A) -> Result<CodeLines<A>, AllocError>
+        requires { length self < 2 ^ 32 }
         ensures { IfOk result (λ lines. lines ≡ self) }
     {
         let GrowingLines {
@@ -219,34 +224,22 @@ impl<A: Allocator> CodeLines<A> {
     }
 }
 
-/// The number of the first line once a line of this number is added, where `len` lines are there. Memory is refused if
-/// this number and a distance of 32 bits might not fit 64 bits.
+/// The number of the first line once a line of this number is added, where `len` lines are there.
 #[inline(always)]
-fn first_with(first: u64, len: usize, number: u64) -> Result<u64, AllocError>
-    requires { first + 2 ^ 32 ≤ 2 ^ 64 }
-    ensures first { IfOk result (λ f. f ≡ first_with first len number) }
-    ensures room { IfOk result (λ f. f + 2 ^ 32 ≤ 2 ^ 64) }
+fn first_with(first: u64, len: usize, number: u64) -> u64
+    ensures { result ≡ first_with first len number }
 {
-    if len > 0 {
-        return Ok(first);
-    }
-    if number > u64::MAX - u64::from(u32::MAX) {
-        return Err(AllocError);
-    }
-    Ok(number)
+    if len > 0 { first } else { number }
 }
 
-/// How far a number is from that of the first line. Distances take 32 bits: a line that is farther, or before the first,
-/// is out of memory.
+/// How far a number is from that of the first line. Distances take 32 bits.
 #[inline(always)]
-fn distance(first: u64, number: u64) -> Result<u32, AllocError>
-    ensures distance { IfOk result (λ d. d ≡ number - first) }
-    ensures after { OnOk result (first ≤ number) }
+fn distance(first: u64, number: u64) -> u32
+    requires after { first ≤ number }
+    requires near { number < first + 2 ^ 32 }
+    ensures { result ≡ number - first }
 {
-    if number < first || number - first > u64::from(u32::MAX) {
-        return Err(AllocError);
-    }
-    Ok((number - first) as u32)
+    (number - first) as u32
 }
 
 /// Adds a line, with its list or its name, after the others.
@@ -258,16 +251,19 @@ fn add_line<A: Allocator>(
     names: &mut Vec<u8, A>,
     line: CodeLine<'_>,
 ) -> Result<(), AllocError>
+    requires after { first ≤ line.number }
+    requires near { line.number < first + 2 ^ 32 }
+    requires list { length lists.old.items + length (list_of line.item) < 2 ^ 32 }
+    requires name { length names.old.items + length (name_of line.item) < 2 ^ 32 }
     ensures lines { OnOk result (lines.new.items
         ≡ lines.old.items ++ pooled_line first (length lists.old.items) (length names.old.items) line.entry ∷ []) }
-    ensures after { OnOk result (first ≤ line.entry.number) }
     ensures lists { OnOk result (lists.new.items ≡ lists.old.items ++ list_of line.entry.item) }
     ensures names { OnOk result (names.new.items ≡ names.old.items ++ name_of line.entry.item) }
     ensures same_lines { OnErr result (lines.new.items ≡ lines.old.items) }
     ensures same_lists { OnErr result (lists.new.items ≡ lists.old.items) }
     ensures same_names { OnErr result (names.new.items ≡ names.old.items) }
 {
-    let distance = distance(first, line.number)?;
+    let distance = distance(first, line.number);
     lines.reserve(1)?;
     let item = pooled_item(line.item, lists, names)?;
     lines.push_reserved(PooledLine { item, distance });
@@ -281,6 +277,8 @@ fn pooled_item<A: Allocator>(
     lists: &mut Vec<i64, A>,
     names: &mut Vec<u8, A>,
 ) -> Result<PooledItem, AllocError>
+    requires list { length lists.old.items + length (list_of item) < 2 ^ 32 }
+    requires name { length names.old.items + length (name_of item) < 2 ^ 32 }
     ensures item { IfOk result (λ i. i ≡ pooled_item (length lists.old.items) (length names.old.items) item.entry) }
     ensures lists { OnOk result (lists.new.items ≡ lists.old.items ++ list_of item.entry) }
     ensures names { OnOk result (names.new.items ≡ names.old.items ++ name_of item.entry) }
@@ -302,6 +300,8 @@ fn pooled_instruction<A: Allocator>(
     lists: &mut Vec<i64, A>,
     names: &mut Vec<u8, A>,
 ) -> Result<PooledItem, AllocError>
+    requires list { length lists.old.items + length (list_in instruction) < 2 ^ 32 }
+    requires name { length names.old.items + length (name_in instruction) < 2 ^ 32 }
     ensures instruction { IfOk result (λ i.
         i ≡ pooled_instruction (length lists.old.items) (length names.old.items) instruction.entry) }
     ensures lists { OnOk result (lists.new.items ≡ lists.old.items ++ list_in instruction.entry) }
@@ -320,26 +320,27 @@ fn pooled_instruction<A: Allocator>(
     }
 }
 
-/// Where a list of this length lies that is added to a pool of that many elements. Places take 32 bits: more elements
-/// than that are out of memory.
+/// Where a list of this length lies that is added to a pool of that many elements. Places take 32 bits.
 #[inline(always)]
-fn next_span(start: usize, len: usize) -> Result<Span, AllocError>
-    ensures { IfOk result (λ span. span ≡ record { start = start; len = len }) }
+fn next_span(start: usize, len: usize) -> Span
+    requires { start + len < 2 ^ 32 }
+    ensures { result ≡ record { start = start; len = len } }
 {
-    match (u32::try_from(start), u32::try_from(len)) {
-        (Ok(start), Ok(len)) => Ok(Span { start, len }),
-        _ => Err(AllocError),
+    Span {
+        start: start as u32,
+        len: len as u32,
     }
 }
 
 /// Adds the list of a constant to the others, and answers where it lies.
 #[inline(always)]
 fn add_words<A: Allocator>(lists: &mut Vec<i64, A>, list: &[i64]) -> Result<Span, AllocError>
+    requires { length lists.old.items + length list.now < 2 ^ 32 }
     ensures span { IfOk result (λ span. span ≡ span_of (length lists.old.items) list.now) }
     ensures added { OnOk result (lists.new.items ≡ lists.old.items ++ list.now) }
     ensures unchanged { OnErr result (lists.new.items ≡ lists.old.items) }
 {
-    let span = next_span(lists.len(), list.len())?;
+    let span = next_span(lists.len(), list.len());
     lists.extend_from_slice(list)?;
     Ok(span)
 }
@@ -347,11 +348,12 @@ fn add_words<A: Allocator>(lists: &mut Vec<i64, A>, list: &[i64]) -> Result<Span
 /// Adds the name of a `CALL` to the others, and answers where it lies.
 #[inline(always)]
 fn add_bytes<A: Allocator>(names: &mut Vec<u8, A>, name: &[u8]) -> Result<Span, AllocError>
+    requires { length names.old.items + length name.now < 2 ^ 32 }
     ensures span { IfOk result (λ span. span ≡ span_of (length names.old.items) name.now) }
     ensures added { OnOk result (names.new.items ≡ names.old.items ++ name.now) }
     ensures unchanged { OnErr result (names.new.items ≡ names.old.items) }
 {
-    let span = next_span(names.len(), name.len())?;
+    let span = next_span(names.len(), name.len());
     names.extend_from_slice(name)?;
     Ok(span)
 }
@@ -412,16 +414,14 @@ fn target_of(item: &PooledItem) -> Option<u32>
     }
 }
 
-/// Sets the targets of all lines, from the last to the first. Places take 32 bits: more lines than that are out of
-/// memory.
+/// Sets the targets of all lines, from the last to the first. Places take 32 bits.
 fn set_targets<A: Allocator>(alloc: A, lines: &mut [PooledLine]) -> Result<(), AllocError>
+    requires { length lines.old < 2 ^ 32 }
     ensures { OnOk result ((first : ℕ) (ls : List ℤ) (ns : List ℕ) →
         lines.new ≡ with_targets (targets_of (shown_lines first ls ns lines.old)) lines.old) }
 {
     let mut waits = FrontList::new(alloc);
-    let Ok(mut place) = u32::try_from(lines.len()) else {
-        return Err(AllocError);
-    };
+    let mut place = lines.len() as u32;
     while place > 0 {
         place -= 1;
         set_target(&mut lines[place as usize], place, &mut waits)?;

@@ -2,7 +2,8 @@
 
 ghost use Rattle.std.specs.Prelude.{◌≡◌, []};
 ghost use Rattle.vcode_reader.specs.Firsts.{TakesOff};
-ghost use Rattle.vcode_reader.specs.Keywords.{fold_of, folding_slots, keyword_slots, takes_int, takes_kind, instruction_of};
+ghost use Rattle.vcode_reader.specs.Keywords.{fold_of, folding_slots, keyword_slots, takes_int, takes_kind};
+ghost use Rattle.vcode_reader.specs.Keywords.{instruction_of};
 
 use crate::parts::InstructionParts;
 use std::alloc::Allocator;

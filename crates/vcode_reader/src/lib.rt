@@ -73,4 +73,4 @@ mod word;
 pub use fault::{CodeFault, ReadFault};
 pub use line::{CodeItem, CodeLine, Numbered};
 pub use program::{Function, Program};
-pub use reader::{CodeReader, read};
+pub use reader::{CodeReader, MOST_CODE_BYTES, read};

@@ -1,7 +1,8 @@
 //! The function that each CALL of a program goes to.
 
-ghost use Rattle.std.specs.Prelude.{◌≡◌, IfOk, length, map, position, unwrap_or};
+ghost use Rattle.std.specs.Prelude.{◌≡◌, ◌≤◌, IfOk, length, map, position, unwrap_or};
 ghost use Rattle.std.specs.Str.{bytes_eq};
+ghost use Rattle.vcode_base.specs.declared.limits.TheConstants.{MOST_FUNCTIONS};
 ghost use Rattle.vcode_reader.specs.Programs.{held_callee, held_callees};
 ghost use Rattle.vcode_reader.specs.Trees.{lines_of};
 
@@ -12,7 +13,7 @@ use std::marker::Model;
 use vcode_base::Sequence;
 
 /// The functions of a program, the place past the last of them, and the place of the first of each name. Places take
-/// 16 bits: more functions than a program may have are out of memory.
+/// 16 bits.
 #[derive(Drop)]
 struct Linker<'a, A: Allocator> {
     functions: &'a [Function<A>],
@@ -46,12 +47,11 @@ impl<'a, A: Allocator> Model for Linker<'a, A> {
 impl<'a, A: Allocator + Clone> Linker<'a, A> {
     /// These functions. Of several of one name the first stays, since it comes last.
     fn new(alloc: A, functions: &'a [Function<A>]) -> Result<Linker<'a, A>, AllocError>
+        requires { length functions.now ≤ MOST_FUNCTIONS }
         ensures { IfOk result (λ linker. linker ≡ functions.now) }
     {
         let mut places = BTreeMap::new(alloc);
-        let Ok(past) = u16::try_from(functions.len()) else {
-            return Err(AllocError);
-        };
+        let past = functions.len() as u16;
         let mut place = past;
         while place > 0 {
             place -= 1;
@@ -107,6 +107,7 @@ pub(crate) fn callees_of<A: Allocator + Clone>(
     alloc: A,
     functions: &[Function<A>],
 ) -> Result<Vec<Sequence<u16, A>, A>, AllocError>
+    requires { length functions.now ≤ MOST_FUNCTIONS }
     ensures { IfOk result (λ found. found.items ≡ held_callees functions.now) }
 {
     let linker = Linker::new(alloc.clone()?, functions)?;

@@ -15,6 +15,7 @@ ghost use Rattle.vcode_reader.specs.Parsing.{after_name, after_return, inside, t
 ghost use Rattle.vcode_reader.specs.Parsing.{is_no_name, no_value, int_of, kind_of, count_in};
 ghost use Rattle.vcode_reader.specs.Numbers.{natural_of, number_of, value_of};
 ghost use Rattle.vcode_reader.specs.Reading.{result_at_end, unless, Gives};
+ghost use Rattle.vcode_reader.specs.Room.{FitsParse};
 
 use crate::code::Draft;
 use crate::fault::{CodeFault, ReadFault};
@@ -123,6 +124,7 @@ impl<A: Allocator + Clone> Parser<A> {
     /// Goes on to the next words of an instruction, or ends it.
     #[inline(always)]
     fn next_slot(&mut self, keyword: Keyword, begun: u64) -> Result<(), AllocError>
+        requires fits { FitsParse (after_slot keyword begun self.old.slots self.old) }
         ensures { OnOk result (self.new ≡ after_slot keyword begun self.old.slots self.old) }
     {
         match self.slots.next() {
@@ -137,7 +139,8 @@ impl<A: Allocator + Clone> Parser<A> {
     /// An instruction whose words are all there goes after the others.
     #[inline(never)]
     fn end_instruction(&mut self, keyword: Keyword, begun: u64) -> Result<(), AllocError>
-        requires { self.old.slots ≡ [] }
+        requires slots { self.old.slots ≡ [] }
+        requires fits { FitsParse (after_slot keyword begun [] self.old) }
         ensures { OnOk result (self.new ≡ after_slot keyword begun [] self.old) }
     {
         self.add_instruction(keyword, begun)
@@ -146,7 +149,8 @@ impl<A: Allocator + Clone> Parser<A> {
     /// The same, in line.
     #[inline(always)]
     fn add_instruction(&mut self, keyword: Keyword, begun: u64) -> Result<(), AllocError>
-        requires { self.old.slots ≡ [] }
+        requires slots { self.old.slots ≡ [] }
+        requires fits { FitsParse (after_slot keyword begun [] self.old) }
         ensures { OnOk result (self.new ≡ after_slot keyword begun [] self.old) }
     {
         self.draft.push(keyword.instruction(&self.parts), begun)?;
@@ -163,6 +167,7 @@ impl<A: Allocator + Clone> Parser<A> {
         begun: u64,
         line: u64,
     ) -> Result<(), AllocError>
+        requires fits { FitsParse (after_part (with_kind kind self.old.parts) keyword begun line self.old) }
         ensures { OnOk result (self.new ≡ after_part (with_kind kind self.old.parts) keyword begun line self.old) }
     {
         match kind {
@@ -183,6 +188,8 @@ impl<A: Allocator + Clone> Parser<A> {
         word: &[u8],
         line: u64,
     ) -> Result<(), AllocError>
+        requires fits { let given = with_value (value_of self.old.parts.kind word.now) word.now self.old.parts in
+            FitsParse (after_part given keyword begun line self.old) }
         ensures { let given = with_value (value_of self.old.parts.kind word.now) word.now self.old.parts in
             OnOk result (self.new ≡ after_part given keyword begun line self.old) }
     {
@@ -206,6 +213,8 @@ impl<A: Allocator + Clone> Parser<A> {
         word: &[u8],
         line: u64,
     ) -> Result<(), AllocError>
+        requires fits { let given = with_count entries (count_in (natural_of word.now) word.now) self.old.parts in
+            FitsParse (after_part given keyword begun line self.old) }
         ensures { let given = with_count entries (count_in (natural_of word.now) word.now) self.old.parts in
             OnOk result (self.new ≡ after_part given keyword begun line self.old) }
     {
@@ -225,6 +234,8 @@ impl<A: Allocator + Clone> Parser<A> {
         keyword: Keyword,
         begun: u64,
     ) -> Result<(), AllocError>
+        requires fits { let parts = counted_parts entries count self.old.parts in
+            FitsParse (after_slot keyword begun self.old.slots (record self.old { parts = parts })) }
         ensures { let parts = counted_parts entries count self.old.parts in
             OnOk result (self.new ≡ after_slot keyword begun self.old.slots (record self.old { parts = parts })) }
     {
@@ -243,6 +254,7 @@ impl<A: Allocator + Clone> Parser<A> {
         word: &[u8],
         line: u64,
     ) -> Result<(), AllocError>
+        requires fits { FitsParse (after_part (with_callee word.now self.old.parts) keyword begun line self.old) }
         ensures { OnOk result (self.new ≡ after_part (with_callee word.now self.old.parts) keyword begun line self.old) }
     {
         if is_no_name(word) {
@@ -257,6 +269,8 @@ impl<A: Allocator + Clone> Parser<A> {
 
     /// Takes a good name of the function that is called.
     fn take_callee(&mut self, keyword: Keyword, begun: u64, word: &[u8]) -> Result<(), AllocError>
+        requires fits { let parts : ItemParts = record self.old.parts { callee = word.now } in
+            FitsParse (after_slot keyword begun self.old.slots (record self.old { parts = parts })) }
         ensures { let parts : ItemParts = record self.old.parts { callee = word.now } in
             OnOk result (self.new ≡ after_slot keyword begun self.old.slots (record self.old { parts = parts })) }
     {
@@ -273,6 +287,7 @@ impl<A: Allocator + Clone> Parser<A> {
         word: &[u8],
         line: u64,
     ) -> Result<(), AllocError>
+        requires fits { FitsParse (in_slot slot keyword begun word.now line self.old) }
         ensures { OnOk result (self.new ≡ in_slot slot keyword begun word.now line self.old) }
     {
         match slot {
@@ -315,6 +330,7 @@ impl<A: Allocator + Clone> Parser<A> {
         word: &[u8],
         line: u64,
     ) -> Result<(), AllocError>
+        requires fits { FitsParse (in_list keyword begun word.now line self.old) }
         ensures { OnOk result (self.new ≡ in_list keyword begun word.now line self.old) }
     {
         if word == b")".as_slice() {
@@ -366,7 +382,8 @@ impl<A: Allocator + Clone> Parser<A> {
     }
 
     fn end_function(&mut self, line: u64) -> Result<(), AllocError>
-        requires { is_open self.old.draft.ifs ≡ false }
+        requires closed { is_open self.old.draft.ifs ≡ false }
+        requires fits { FitsParse (after_return line self.old) }
         ensures { OnOk result (self.new ≡ after_return line self.old) }
     {
         let no_name = FunctionName::from_vec(Vec::new(self.alloc.clone()?));
@@ -380,6 +397,7 @@ impl<A: Allocator + Clone> Parser<A> {
     }
 
     fn at_return(&mut self, line: u64) -> Result<(), AllocError>
+        requires fits { FitsParse (inside Return [] line self.old) }
         ensures { OnOk result (self.new ≡ inside Return [] line self.old) }
     {
         if self.draft.is_open() {
@@ -390,6 +408,7 @@ impl<A: Allocator + Clone> Parser<A> {
     }
 
     fn at_if(&mut self, line: u64) -> Result<(), AllocError>
+        requires fits { FitsParse (inside If [] line self.old) }
         ensures { OnOk result (self.new ≡ inside If [] line self.old) }
     {
         if self.draft.depth() < MOST_OPEN_IFS {
@@ -402,6 +421,7 @@ impl<A: Allocator + Clone> Parser<A> {
     }
 
     fn at_else(&mut self, line: u64) -> Result<(), AllocError>
+        requires fits { FitsParse (inside Else [] line self.old) }
         ensures { OnOk result (self.new ≡ inside Else [] line self.old) }
     {
         if self.draft.takes_else() {
@@ -414,6 +434,7 @@ impl<A: Allocator + Clone> Parser<A> {
     }
 
     fn at_endif(&mut self, line: u64) -> Result<(), AllocError>
+        requires fits { FitsParse (inside Endif [] line self.old) }
         ensures { OnOk result (self.new ≡ inside Endif [] line self.old) }
     {
         if self.draft.is_open() {
@@ -432,6 +453,7 @@ impl<A: Allocator + Clone> Parser<A> {
         keyword: Keyword,
         line: u64,
     ) -> Result<(), AllocError>
+        requires fits { FitsParse (after_slot keyword line (keyword_slots keyword) self.old) }
         ensures { OnOk result (self.new ≡ after_slot keyword line (keyword_slots keyword) self.old) }
     {
         self.slots = keyword.slots();
@@ -441,6 +463,7 @@ impl<A: Allocator + Clone> Parser<A> {
     /// Takes a word that begins this, at the place of an item.
     #[inline(never)]
     pub(crate) fn inside(&mut self, head: Head, line: u64) -> Result<(), AllocError>
+        requires fits { FitsParse (inside head (head_slots head) line self.old) }
         ensures { OnOk result (self.new ≡ inside head (head_slots head) line self.old) }
     {
         match head {
@@ -489,6 +512,8 @@ impl<A: Allocator + Clone> Parser<A> {
         requires good { self.old.fault ≡ None }
         requires lower { IsDigit lower }
         requires upper { IsDigit upper }
+        requires fits { let begun = after_slot (Move motion) line (keyword_slots (Move motion)) self.old in
+            FitsParse (take (upper ∷ []) line (take (lower ∷ []) line begun)) }
         ensures { let first = take (lower ∷ []) line (after_slot (Move motion) line (keyword_slots (Move motion)) self.old) in
             OnOk result (self.new ≡ take (upper ∷ []) line first) }
     {
@@ -502,6 +527,8 @@ impl<A: Allocator + Clone> Parser<A> {
     #[inline(always)]
     pub(crate) fn take_constant(&mut self, number: i64, line: u64) -> Result<(), AllocError>
         requires good { self.old.fault ≡ None }
+        requires fits { let kind = take (codes "INT") line (after_slot Const line (keyword_slots Const) self.old) in
+            (word : List ℕ) × (number_of word ≡ Some number) × FitsParse (take word line kind) }
         ensures { let kind = take (codes "INT") line (after_slot Const line (keyword_slots Const) self.old) in
             OnOk result ((word : List ℕ) → number_of word ≡ Some number → self.new ≡ take word line kind) }
     {
@@ -517,6 +544,7 @@ impl<A: Allocator + Clone> Parser<A> {
     pub(crate) fn take_of_int(&mut self, keyword: Keyword, line: u64) -> Result<(), AllocError>
         requires good { self.old.fault ≡ None }
         requires kind { takes_kind keyword ≡ true }
+        requires fits { FitsParse (take (codes "INT") line (after_slot keyword line (keyword_slots keyword) self.old)) }
         ensures { OnOk result (self.new
             ≡ take (codes "INT") line (after_slot keyword line (keyword_slots keyword) self.old)) }
     {
@@ -529,6 +557,7 @@ impl<A: Allocator + Clone> Parser<A> {
     #[inline(never)]
     #[tactic(auto, unfolding(crate::specs::Parsing::take), using(crate::proofs::Spelling::slots_by_head))]
     pub(crate) fn take(&mut self, word: &[u8], line: u64) -> Result<(), AllocError>
+        requires fits { FitsParse (take word.now line self.old) }
         ensures { OnOk result (self.new ≡ take word.now line self.old) }
     {
         if self.fault.is_some() {

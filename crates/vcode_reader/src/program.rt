@@ -1,11 +1,14 @@
-ghost use Rattle.std.specs.Prelude.{◌≡◌, ◌<◌, false, length, option_map, IfOk, IfSome, position};
+ghost use Rattle.std.specs.Prelude.{◌≡◌, ◌<◌, ◌≤◌, [], ◌∷◌, ◌++◌, false, length, option_map, IfOk, IfSome, position};
 ghost use Rattle.std.specs.List.{slice_get};
 ghost use Rattle.std.specs.Str.{bytes_eq};
+ghost use Rattle.vcode_base.specs.declared.instr.Instr.TheVariants.{Return};
+ghost use Rattle.vcode_base.specs.declared.limits.TheConstants.{MOST_FUNCTIONS};
 ghost use Rattle.vcode_reader.specs.Callees.{callee_at, called_by};
 ghost use Rattle.vcode_reader.specs.Targets.{target_at};
-ghost use Rattle.vcode_reader.specs.Trees.{lines_of, HaveProperBodies};
+ghost use Rattle.vcode_reader.specs.Trees.{body_lines, instruction_line, lines_of, HaveProperBodies};
 ghost use Rattle.vcode_reader.specs.Decode.{tree_of};
 ghost use Rattle.vcode_reader.specs.Drafts.{is_open};
+ghost use Rattle.vcode_reader.specs.Room.{FitsPools};
 
 use crate::code::Draft;
 use crate::code_lines::CodeLines;
@@ -56,7 +59,8 @@ impl<A: Allocator> Function<A> {
         draft: Draft<A>,
         ret: u64,
     ) -> Result<Function<A>, AllocError>
-        requires { is_open draft.ifs ≡ false }
+        requires closed { is_open draft.ifs ≡ false }
+        requires fits { FitsPools (body_lines (tree_of draft.lines) ++ instruction_line Return ret ∷ []) }
         ensures { IfOk result (λ f. f ≡ record { name = name; line = line; body = tree_of draft.lines; ret = ret }) }
     {
         let mut lines = draft.into_lines();
@@ -160,7 +164,8 @@ impl<A: Allocator> Program<A> {
     ) -> Result<Program<A>, AllocError>
     where
         A: Clone,
-        requires { HaveProperBodies functions.items }
+        requires proper_bodies { HaveProperBodies functions.items }
+        requires few { length functions.items ≤ MOST_FUNCTIONS }
         ensures { IfOk result (λ p. p ≡ record { first_line = first_line; functions = functions.items }) }
     {
         let callees = callees_of(functions.allocator().clone()?, functions.as_slice())?;

@@ -1,7 +1,7 @@
 //! A text, byte by byte.
 
-ghost use Rattle.std.specs.Prelude.{◌≡◌, ◌+◌, ◌<◌, ◌≤◌, ◌^◌, OnOk, OnErr, IsErr, IsErrOf, IfNone, IfOk, IfSome, IsTrue, true, false, ℕ};
-ghost use Rattle.std.specs.Prelude.{List, [], ◌++◌, length, None, Some, Err};
+ghost use Rattle.std.specs.Prelude.{◌≡◌, ◌+◌, ◌<◌, ◌≤◌, ◌^◌, OnOk, OnErr, IsErr, IsErrOf, IfNone, IfOk, IfSome, IsTrue};
+ghost use Rattle.std.specs.Prelude.{true, false, ℕ, List, [], ◌++◌, length, None, Some, Err};
 ghost use Rattle.vcode_reader.specs.declared.class.Class.TheVariants.{LineFeed};
 ghost use Rattle.vcode_base.specs.Lines.{line_feeds};
 ghost use Rattle.vcode_base.specs.TextAnswers.{Answers};
@@ -13,6 +13,8 @@ ghost use Rattle.vcode_reader.specs.First.{IsAnswer};
 ghost use Rattle.vcode_reader.specs.Parsing.{start, take};
 ghost use Rattle.vcode_reader.specs.Reading.{outcome, reading, Gives, HasCome};
 ghost use Rattle.vcode_reader.specs.Refusals.{Fault};
+ghost use Rattle.vcode_reader.specs.Room.{FitsParse, FitsText};
+ghost use Rattle.vcode_reader.specs.declared.reader.TheConstants.{MOST_CODE_BYTES};
 ghost use Rattle.vcode_reader.specs.Scan.{beginning, end_word, lone_word, in_text, in_comment, scan_byte, scan_all};
 
 use crate::ahead::{digits_ahead, int_ahead, is_int_ahead, number_ahead};
@@ -25,6 +27,10 @@ use crate::program::{Function, Program};
 use std::alloc::{AllocError, Allocator};
 use std::marker::Model;
 use vcode_base::StackMove;
+
+/// The most bytes of a code. Its lines, the elements of its lists and the bytes of its names are then counted in 32
+/// bits.
+pub const MOST_CODE_BYTES: usize = 2_147_483_647;
 
 /// The state of a text that comes byte by byte.
 #[derive(Drop)]
@@ -64,6 +70,7 @@ impl<A: Allocator + Clone> Scanner<A> {
 
     #[tactic(auto, unfolding(crate::specs::Scan::end_word))]
     fn end_word(&mut self) -> Result<(), AllocError>
+        requires { FitsParse (end_word take self.old).found }
         ensures ok { OnOk result (self.new ≡ end_word take self.old) }
         ensures line { OnOk result (self.new.line ≡ self.old.line) }
     {
@@ -76,6 +83,7 @@ impl<A: Allocator + Clone> Scanner<A> {
 
     #[tactic(auto, unfolding(crate::specs::Scan::lone_word))]
     fn lone_word(&mut self, byte: u8) -> Result<(), AllocError>
+        requires { FitsParse (lone_word take byte self.old).found }
         ensures { OnOk result (self.new ≡ lone_word take byte self.old) }
     {
         self.parser.take(&[byte], self.line)?;
@@ -83,7 +91,8 @@ impl<A: Allocator + Clone> Scanner<A> {
     }
 
     fn in_text(&mut self, class: Class, byte: u8) -> Result<(), AllocError>
-        requires { class ≡ LineFeed → self.old.line + 1 < 2 ^ 64 }
+        requires room { class ≡ LineFeed → self.old.line + 1 < 2 ^ 64 }
+        requires fits { FitsParse (in_text take class byte self.old).found }
         ensures { OnOk result (self.new ≡ in_text take class byte self.old) }
     {
         match class {
@@ -118,7 +127,8 @@ impl<A: Allocator + Clone> Scanner<A> {
 
     #[tactic(auto, unfolding(crate::specs::Scan::scan_byte))]
     fn byte(&mut self, byte: u8) -> Result<(), AllocError>
-        requires { class_of byte ≡ LineFeed → self.old.line + 1 < 2 ^ 64 }
+        requires room { class_of byte ≡ LineFeed → self.old.line + 1 < 2 ^ 64 }
+        requires fits { FitsParse (scan_byte take self.old byte).found }
         ensures { OnOk result (self.new ≡ scan_byte take self.old byte) }
     {
         match self.comment {
@@ -134,6 +144,7 @@ impl<A: Allocator + Clone> Scanner<A> {
     fn plain_bytes<'p>(&mut self, text: &'p [u8]) -> Result<&'p [u8], AllocError>
         requires text { self.old.comment ≡ None }
         requires some { 1 ≤ plain_length text.now }
+        requires fits { FitsText self.old text.now }
         ensures same { IfOk result (λ rest. scan_all take self.old text.now ≡ scan_all take self.new rest.now) }
         ensures shorter { IfOk result (λ rest. length rest.now < length text.now) }
     {
@@ -162,6 +173,7 @@ impl<A: Allocator + Clone> Scanner<A> {
         requires text { self.old.comment ≡ None }
         requires word { self.old.word ≡ [] }
         requires good { self.old.found.fault ≡ None }
+        requires fits { FitsText (begun keyword self.old) text.now }
         ensures same { IfOk result (λ rest.
             scan_all take (begun keyword self.old) text.now ≡ scan_all take self.new rest.now) }
         ensures within { IfOk result (λ rest. length rest.now ≤ length text.now) }
@@ -176,6 +188,7 @@ impl<A: Allocator + Clone> Scanner<A> {
     /// Begins an instruction after its first word, and takes no other.
     #[inline(always)]
     fn begin<'p>(&mut self, keyword: Keyword, text: &'p [u8]) -> Result<&'p [u8], AllocError>
+        requires { FitsText (begun keyword self.old) text.now }
         ensures same { IfOk result (λ rest.
             scan_all take (begun keyword self.old) text.now ≡ scan_all take self.new rest.now) }
         ensures within { IfOk result (λ rest. length rest.now ≤ length text.now) }
@@ -190,6 +203,7 @@ impl<A: Allocator + Clone> Scanner<A> {
         requires text { self.old.comment ≡ None }
         requires word { self.old.word ≡ [] }
         requires good { self.old.found.fault ≡ None }
+        requires fits { FitsText (begun (Move motion) self.old) text.now }
         ensures same { IfOk result (λ rest.
             scan_all take (begun (Move motion) self.old) text.now ≡ scan_all take self.new rest.now) }
         ensures within { IfOk result (λ rest. length rest.now ≤ length text.now) }
@@ -208,6 +222,7 @@ impl<A: Allocator + Clone> Scanner<A> {
         requires text { self.old.comment ≡ None }
         requires word { self.old.word ≡ [] }
         requires good { self.old.found.fault ≡ None }
+        requires fits { FitsText (begun Const self.old) text.now }
         ensures same { IfOk result (λ rest.
             scan_all take (begun Const self.old) text.now ≡ scan_all take self.new rest.now) }
         ensures within { IfOk result (λ rest. length rest.now ≤ length text.now) }
@@ -226,6 +241,7 @@ impl<A: Allocator + Clone> Scanner<A> {
         requires text { self.old.comment ≡ None }
         requires word { self.old.word ≡ [] }
         requires good { self.old.found.fault ≡ None }
+        requires fits { FitsText (begun keyword self.old) text.now }
         ensures same { IfOk result (λ rest.
             scan_all take (begun keyword self.old) text.now ≡ scan_all take self.new rest.now) }
         ensures within { IfOk result (λ rest. length rest.now ≤ length text.now) }
@@ -291,6 +307,7 @@ impl<A: Allocator + Clone> Scanner<A> {
         requires number { awaits_number self.old.found.place self.old.found.parts.kind ≡ true }
         requires some { 1 ≤ plain_length text.now }
         requires room { self.old.line + line_feeds text.now < 2 ^ 64 }
+        requires fits { FitsText self.old text.now }
         ensures same { IfOk result (λ rest. scan_all take self.old text.now ≡ scan_all take self.new rest.now) }
         ensures shorter { IfOk result (λ rest. length rest.now < length text.now) }
     {
@@ -351,6 +368,7 @@ impl<A: Allocator + Clone> Scanner<A> {
     fn front<'p>(&mut self, text: &'p [u8]) -> Result<&'p [u8], AllocError>
         requires some { 1 ≤ length text.now }
         requires room { self.old.line + line_feeds text.now < 2 ^ 64 }
+        requires fits { FitsText self.old text.now }
         ensures same { IfOk result (λ rest. scan_all take self.old text.now ≡ scan_all take self.new rest.now) }
         ensures shorter { IfOk result (λ rest. length rest.now < length text.now) }
     {
@@ -368,7 +386,8 @@ impl<A: Allocator + Clone> Scanner<A> {
     }
 
     fn bytes(&mut self, piece: &[u8]) -> Result<(), AllocError>
-        requires { self.old.line + line_feeds piece.now < 2 ^ 64 }
+        requires room { self.old.line + line_feeds piece.now < 2 ^ 64 }
+        requires fits { FitsText self.old piece.now }
         ensures { OnOk result (self.new ≡ scan_all take self.old piece.now) }
     {
         let mut rest = piece;
@@ -380,6 +399,7 @@ impl<A: Allocator + Clone> Scanner<A> {
 
     #[tactic(auto, unfolding(crate::specs::Reading::outcome))]
     fn outcome(mut self) -> Result<Vec<Function<A>, A>, ReadFault>
+        requires { FitsParse (end_word take self).found }
         ensures { Gives result (outcome self) }
     {
         self.end_word()?;
@@ -396,6 +416,7 @@ impl<A: Allocator + Clone> Scanner<A> {
 pub struct CodeReader<A: Allocator> {
     scanner: Scanner<A>,
     first_line: u64,
+    size: usize,
     failed: bool,
 }
 
@@ -410,11 +431,11 @@ impl<A: Allocator> Model for CodeReader<A> {
     ghost coded = { fed_code (scan_code (parse_code (Prim.hlevel codes) (Prim.hlevel codes) (Prim.hlevel codes)
         (Prim.hlevel codes) (Prim.hlevel codes) (Prim.hlevel codes)) (Prim.hlevel codes)) };
 
-    ghost view = { λ r. record { scan = r.scanner; first_line = r.first_line; failed = r.failed } };
+    ghost view = { λ r. record { scan = r.scanner; first_line = r.first_line; size = r.size; failed = r.failed } };
 
     ghost use Rattle.vcode_reader.specs.Reading.{IsOfBytes};
 
-    ghost invariant = { λ r. IsOfBytes r.scanner r.first_line r.failed };
+    ghost invariant = { λ r. IsOfBytes r.scanner r.first_line r.size r.failed };
 }
 
 impl<A: Allocator + Clone> CodeReader<A> {
@@ -428,25 +449,30 @@ impl<A: Allocator + Clone> CodeReader<A> {
         ensures come { IfOk result (λ r. HasCome r []) }
         ensures first_line { IfOk result (λ r. r.first_line ≡ first_line) }
         ensures line { IfOk result (λ r. r.scan.line ≡ first_line) }
+        ensures size { IfOk result (λ r. r.size ≡ 0) }
     {
         Ok(CodeReader {
             scanner: Scanner::new(alloc, first_line)?,
             first_line,
+            size: 0,
             failed: false,
         })
     }
 
-    /// Takes the next piece of the text. The number of the line that is then open must fit.
+    /// Takes the next piece of the text. The number of the line that is then open must fit, and at most
+    /// [`MOST_CODE_BYTES`] may have come.
     ///
     /// # Errors
     ///
     /// [`AllocError`] if memory is refused, and from then on at each piece.
     pub fn feed(&mut self, piece: &[u8]) -> Result<(), AllocError>
-        requires { self.old.failed ≡ false → self.old.scan.line + line_feeds piece.now < 2 ^ 64 }
+        requires line { self.old.failed ≡ false → self.old.scan.line + line_feeds piece.now < 2 ^ 64 }
+        requires size { self.old.failed ≡ false → self.old.size + length piece.now ≤ MOST_CODE_BYTES }
         // The bytes of the piece follow the bytes before.
         ensures fed { OnOk result ((before : List ℕ) → HasCome self.old before → HasCome self.new (before ++ piece.now)) }
         ensures first_line { self.new.first_line ≡ self.old.first_line }
         ensures line { OnOk result (self.new.scan.line ≡ self.old.scan.line + line_feeds piece.now) }
+        ensures size { OnOk result (self.new.size ≡ self.old.size + length piece.now) }
         ensures failed { OnErr result (IsTrue self.new.failed) }
         ensures again { IsTrue self.old.failed → IsErr result }
     {
@@ -454,6 +480,7 @@ impl<A: Allocator + Clone> CodeReader<A> {
             return Err(AllocError);
         }
         let fed = self.scanner.bytes(piece);
+        self.size += piece.len();
         if fed.is_err() {
             self.failed = true;
         }
@@ -492,14 +519,15 @@ impl<A: Allocator + Clone> CodeReader<A> {
 ///
 /// The answer is the program that the grammar relates to the words of the text, or else the first fault
 /// of the text with its line, or out of memory. Lines are counted on from `first_line`; the number of
-/// the last must fit.
+/// the last must fit. The text has at most [`MOST_CODE_BYTES`].
 #[tactic(auto, using(crate::proofs::Answers::is_answer))]
 pub fn read<A: Allocator + Clone>(
     alloc: A,
     text: &[u8],
     first_line: u64,
 ) -> Result<Program<A>, ReadFault>
-    requires { first_line + line_feeds text.now < 2 ^ 64 }
+    requires line { first_line + line_feeds text.now < 2 ^ 64 }
+    requires size { length text.now ≤ MOST_CODE_BYTES }
     ensures answer { Answers result (reading first_line text.now) }
     // What is answered is by the grammar.
     ensures grammar { IsAnswer result first_line text.now }

@@ -1,5 +1,6 @@
 -- The body and the RET among a function's lines, and what the walk over the body says of the function.
-use Rattle.std.proofs.Common.{◌≡◌, ◌∙◌, ℕ, zero, suc, add-one, ◌+◌, ◌-◌, ◌<◌, ◌≤◌, false, cond, refl, sym, subst, ap, arith}
+use Rattle.std.proofs.Common.{◌≡◌, ◌∙◌, ℕ, zero, suc, add-one, ◌+◌, ◌-◌, ◌<◌, ◌≤◌, false, cond, refl, sym, subst, ap}
+use Rattle.std.proofs.Common.{arith}
 use Rattle.std.proofs.Common.{List, [], ◌∷◌, ◌++◌, length, take, drop, drop-cons, get_or, length-append}
 use Rattle.std.proofs.Common.{Option, Some, Result, Ok}
 use Rattle.std.proofs.Math.Seq.{take-append_seam}

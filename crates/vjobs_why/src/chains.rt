@@ -1,6 +1,6 @@
 //! The functions of a run that run inside one another.
 
-use job_walk::Run;
+use job_profile::Run;
 use std::alloc::{AllocError, Global};
 
 /// The most chains. A function that would begin one more counts in the chain that called it.

@@ -1,8 +1,7 @@
 //! The end of a job, and what it used.
 
-use job_profile::Uses;
+use job_profile::{Run, Uses};
 use job_steps::Job;
-use job_walk::Run;
 use std::alloc::{AllocError, Global};
 use vcode_base::limits::{MOST_BUDGET, MOST_CALLS, MOST_CELLS, MOST_WORDS};
 use vcode_base::{DataFault, Limits, MemoryFault, Outcome, Rule};

@@ -4,7 +4,7 @@ use signatures::SignatureFault;
 use std::alloc::{AllocError, Global};
 use vcode_base::TextFault;
 use vcode_base::laws::line_feeds_are_few;
-use vcode_reader::CodeReader;
+use vcode_reader::{CodeReader, MOST_CODE_BYTES};
 
 /// A name that hardly any function has.
 const SOME_NAME: &[u8] = b"?";
@@ -46,6 +46,9 @@ fn joined(alloc: Global, first: &[u8], second: &[u8]) -> Result<Vec<u8>, AllocEr
 pub fn is_fault_next(alloc: Global, front: &[u8], word: &[u8]) -> Result<bool, AllocError> {
     let text = joined(alloc, front, word)?;
     let text = joined(alloc, &text, b"")?;
+    if text.len() > MOST_CODE_BYTES {
+        return Ok(false);
+    }
     line_feeds_are_few();
     let mut reader = CodeReader::new(alloc, 1)?;
     reader.feed(&text)?;

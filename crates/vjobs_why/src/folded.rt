@@ -2,8 +2,8 @@
 
 use crate::chains::Chains;
 use crate::lines::printable;
+use job_profile::Run;
 use job_steps::Job;
-use job_walk::Run;
 use std::alloc::{AllocError, Global};
 use std::io;
 use vcode_base::Rule;

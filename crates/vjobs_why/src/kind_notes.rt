@@ -10,7 +10,7 @@ use std::alloc::{AllocError, Global};
 use std::io;
 use vcode_base::Kind;
 use vcode_base::laws::line_feeds_are_few;
-use vcode_reader::Program;
+use vcode_reader::{MOST_CODE_BYTES, Program};
 use verifier::KindFault;
 
 /// The most names that are shown.
@@ -32,6 +32,9 @@ fn read_parts(alloc: Global, source: Source<'_>) -> Option<(Program<Global>, Sig
     } = source.parts;
     line_feeds_are_few();
     let code = source.lines.between(code.first, code.end);
+    if code.len() > MOST_CODE_BYTES {
+        return None;
+    }
     let Ok(program) = vcode_reader::read(alloc, code, 1) else {
         return None;
     };

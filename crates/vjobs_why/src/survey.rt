@@ -2,9 +2,8 @@
 
 use crate::chains::Chains;
 use crate::end::{End, end_of};
-use job_profile::{Columns, Profile};
+use job_profile::{Columns, Profile, Run};
 use job_steps::Job;
-use job_walk::Run;
 use std::alloc::{AllocError, Global};
 use vcode_base::Rule;
 use vcode_base::limits::MOST_BUDGET;

@@ -2,8 +2,8 @@
 
 use crate::chains::innermost;
 use crate::watch::op_of;
+use job_profile::Run;
 use job_steps::Job;
-use job_walk::Run;
 use std::alloc::{AllocError, Global};
 use vcode_base::limits::MOST_BUDGET;
 use vcode_base::{Op, Rule};

@@ -1,5 +1,8 @@
 //! What was expected at a fault of the text of code.
 
+ghost use Rattle.std.specs.Prelude.{◌≤◌, length};
+ghost use Rattle.vcode_reader.specs.declared.reader.TheConstants.{MOST_CODE_BYTES};
+
 use crate::expected::{expected_in_code, is_fault_next, is_name_next};
 use crate::lines::Lines;
 use crate::parts::LineSpan;
@@ -9,7 +12,7 @@ use std::io;
 use vcode_base::TextFault;
 use vcode_base::laws::line_feeds_are_few;
 use vcode_base::limits::{LONGEST_NAME, MOST_ELEMENTS, MOST_FUNCTIONS, MOST_MOVED, MOST_OPEN_IFS};
-use vcode_reader::{CodeFault, Program, ReadFault};
+use vcode_reader::{CodeFault, MOST_CODE_BYTES, Program, ReadFault};
 
 /// The first word of a code that can't come there, the code before it, and the code before the word before it.
 #[derive(Clone, Copy, Drop)]
@@ -21,7 +24,9 @@ struct Misplaced<'a> {
 }
 
 /// The program of a code.
-fn read(alloc: Global, code: &[u8]) -> Result<Program<Global>, ReadFault> {
+fn read(alloc: Global, code: &[u8]) -> Result<Program<Global>, ReadFault>
+    requires { length code.now ≤ MOST_CODE_BYTES }
+{
     line_feeds_are_few();
     vcode_reader::read(alloc, code, 1)
 }
@@ -55,6 +60,9 @@ fn print_expected(rt: &HostRuntime, front: &[u8], place: &str) -> io::Result<()>
 
 /// The line, counted from the first of the code, at which the innermost of what is open at the end of a code begins.
 fn open_line(alloc: Global, code: &[u8]) -> Result<Option<u64>, AllocError> {
+    if code.len() > MOST_CODE_BYTES {
+        return Ok(None);
+    }
     match read(alloc, code) {
         Ok(_) => Ok(None),
         Err(TextFault::At(_, line)) => Ok(Some(line)),
@@ -80,6 +88,9 @@ pub fn absolute(code: LineSpan, line: u64) -> u64 {
 
 /// Prints where the function of this name is among those of a code.
 fn print_first(rt: &HostRuntime, found: Misplaced<'_>, code: LineSpan) -> io::Result<()> {
+    if found.earlier.len() > MOST_CODE_BYTES {
+        return Ok(());
+    }
     let Ok(program) = read(rt.alloc(), found.earlier) else {
         return Ok(());
     };

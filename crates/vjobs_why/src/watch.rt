@@ -1,8 +1,7 @@
 //! A run that is watched: for each entry of its stack where it comes from, and for each call where it was made.
 
-use job_profile::Uses;
+use job_profile::{Run, Uses};
 use job_steps::Job;
-use job_walk::Run;
 use std::alloc::{AllocError, Global};
 use vcode_base::{Kind, Op, Rule, StackMove};
 use vcode_reader::{CodeItem, CodeLine};

@@ -1,5 +1,6 @@
 //! Code in pieces.
-ghost use Rattle.std.specs.Prelude.{◌-◌, ◌^◌, cond};
+ghost use Rattle.std.specs.Prelude.{◌+◌, ◌-◌, ◌^◌, cond, min};
+ghost use Rattle.vcode_reader.specs.declared.reader.TheConstants.{MOST_CODE_BYTES};
 
 use crate::course::{End, Reader};
 use crate::shortage::HEAP;
@@ -27,7 +28,7 @@ const BAD_WORD: &[u8] = b"FUNC MAIN\r\nCONSTANT INT 1\r\nRET\r\n{ open";
 impl<'h> Reader<'h> for CodeReader<&'h LocalHeap> {
     type Reading = Result<Program<&'h LocalHeap>, ReadFault>;
 
-    ghost room = { λ r. cond r.failed (2 ^ 64) (2 ^ 64 - r.scan.line) };
+    ghost room = { λ r. cond r.failed (2 ^ 64) (min (2 ^ 64 - r.scan.line) (MOST_CODE_BYTES + 1 - r.size)) };
 
     fn at_once(heap: &'h LocalHeap, text: &[u8]) -> Self::Reading {
         line_feeds_are_few();
@@ -47,6 +48,30 @@ impl<'h> Reader<'h> for CodeReader<&'h LocalHeap> {
         let answer = self.finish();
         End::of(answer == Err(TextFault::Memory), answer == *whole)
     }
+}
+
+/// Two lines.
+const SHORT: &[u8] = b"FUNC MAIN\nRET\n";
+
+/// A number of a first line that is so high that no 2^32 lines can follow it.
+const HIGH_LINE: u64 = 18_446_744_069_414_584_321;
+
+/// The number of the first line of a program's first function.
+fn first_number(program: &Program<&LocalHeap>) -> Option<u64> {
+    let function = program.functions().first()?;
+    Some(function.item(0)?.number)
+}
+
+#[test]
+fn code_is_read_at_high_lines(rt: HostRuntime) -> Result<(), Fail> {
+    let heap = LocalHeap::new(rt.alloc(), HEAP)?;
+    line_feeds_are_few();
+    let number = match read(&heap, SHORT, HIGH_LINE) {
+        Ok(program) => first_number(&program),
+        Err(_) => None,
+    };
+    assert_eq!(rt; number, Some(HIGH_LINE + 1));
+    Ok(())
 }
 
 #[test]

@@ -1,21 +1,28 @@
-//! The largest region: filled, and filled again at the places of every other block.
-use block_memory::{BlockId, NoRoom, RegionMemory, SlidingMemory, VectorMemory};
-use holes::Holes;
-use std::alloc::{AllocError, Global};
+//! The largest region of a run: filled, and filled again at the places of every other block. And the longest holes.
+ghost use Rattle.std.specs.Prelude.{◌≤◌};
+
+use block_memory::{BlockId, MOST_BLOCKS, NoRoom, RegionMemory, SlidingMemory, VectorMemory};
+use holes::{Holes, LONGEST_REGION};
+use std::alloc::Global;
 use std::process::Abort;
 use std::test::Fail;
+use test_support::RefusingHeap;
 use vcode_base::limits::MOST_WORDS;
 
 /// The words of a block.
 const LEN: usize = 128;
 
 /// The words of the largest region, as a number that a proof doesn't compute with.
-fn largest_region() -> usize {
+fn largest_region() -> usize
+    ensures { result ≤ LONGEST_REGION }
+{
     MOST_WORDS
 }
 
 /// The blocks that fill it.
-fn most_blocks() -> usize {
+fn most_blocks() -> usize
+    ensures { result ≤ MOST_BLOCKS }
+{
     8_192
 }
 
@@ -120,10 +127,17 @@ fn the_largest_sliding_region_is_filled(rt: HostRuntime) -> Result<(), Fail> {
     is_filled_twice(&rt, rt.alloc(), &mut memory)
 }
 
+/// Makes the longest holes over a heap that refuses the growth of this number, and reports whether it was asked for.
+fn is_growth_refused(rt: &impl Abort, heap: &RefusingHeap<Global>, growth: u64) -> bool {
+    heap.refuse(growth);
+    let made = Holes::new(heap, LONGEST_REGION, 4);
+    assert_eq!(rt; made.is_ok(), !heap.has_refused());
+    heap.has_refused()
+}
+
 #[test]
-fn no_memory_is_as_large_as_the_largest_size(rt: HostRuntime) {
-    assert_eq!(rt;
-        Holes::new(rt.alloc(), usize::MAX, 1).err(),
-        Some(AllocError)
-    );
+fn the_longest_holes_are_refused_by_the_heap_alone(rt: HostRuntime) {
+    let heap = RefusingHeap::new(rt.alloc());
+    assert!(rt; is_growth_refused(&rt, &heap, 1));
+    assert!(rt; is_growth_refused(&rt, &heap, 2));
 }

@@ -3,7 +3,9 @@
 use crate::blocks::{Blocks, Placing};
 use crate::free_words::FreeWords;
 use crate::lines::{TableLine, read_line};
-use block_memory::{NoRoom, PlainMemory, RegionMemory, SlidingMemory, VectorMemory};
+use block_memory::{
+    LONGEST_REGION, MOST_BLOCKS, NoRoom, PlainMemory, RegionMemory, SlidingMemory, VectorMemory,
+};
 use std::alloc::{AllocError, Global};
 
 /// What the last line made that makes something.
@@ -32,18 +34,18 @@ pub fn answer(alloc: Global, made: &mut Made, line: &str) -> Result<String, Allo
 /// What a line makes, if it makes something that there can be.
 fn make(alloc: Global, line: &TableLine) -> Result<Option<Made>, AllocError> {
     match line {
-        TableLine::Holes { size, most } if *most >= 1 => {
+        TableLine::Holes { size, most } if *most >= 1 && *size <= LONGEST_REGION => {
             Ok(Some(Made::Holes(FreeWords::new(alloc, *size, *most)?)))
         }
-        TableLine::Plain { size, most } => {
+        TableLine::Plain { size, most } if *most <= MOST_BLOCKS => {
             let memory = PlainMemory::new(alloc, *size, *most)?;
             Ok(Some(Made::Plain(Blocks::new(alloc, memory))))
         }
-        TableLine::Packed { size, most } => {
+        TableLine::Packed { size, most } if *size <= LONGEST_REGION && *most <= MOST_BLOCKS => {
             let memory = RegionMemory::new(alloc, *size, *most)?;
             Ok(Some(Made::Packed(Blocks::new(alloc, memory))))
         }
-        TableLine::Sliding { size, most } => {
+        TableLine::Sliding { size, most } if *size <= LONGEST_REGION && *most <= MOST_BLOCKS => {
             let memory = SlidingMemory::new(alloc, *size, *most)?;
             Ok(Some(Made::Sliding(Blocks::new(alloc, memory))))
         }

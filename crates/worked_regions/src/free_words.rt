@@ -5,7 +5,7 @@ ghost use Rattle.std.specs.Prelude.{IfOk, IfSome, IsNone, IfNone};
 ghost use Rattle.holes.specs.FreeWords.{NoneFree, IsLowestFit, widest, free_from, hole_count, set_range};
 ghost use Rattle.holes.specs.FreeWords.{taken_from, given_to};
 
-use holes::Holes;
+use holes::{Holes, LONGEST_REGION};
 use std::alloc::{AllocError, Global};
 use std::marker::Model;
 
@@ -31,7 +31,8 @@ impl Model for FreeWords {
 impl FreeWords {
     /// `size` words, all free, with room for `most` holes.
     pub fn new(alloc: Global, size: usize, most: usize) -> Result<Self, AllocError>
-        requires { 1 ≤ most }
+        requires some { 1 ≤ most }
+        requires region { size ≤ LONGEST_REGION }
         ensures { IfOk result (λ words. words ≡ record { free = replicate size true; most = most }) }
     {
         let words = vec![in alloc; true; size]?;

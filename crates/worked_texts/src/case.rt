@@ -3,7 +3,10 @@
 use crate::escape::bytes_of;
 use crate::fault::CaseFault;
 use crate::pieces::{program_however_cut, signatures_however_cut};
-use crate::show::{kinds_text, program_text, shortened, signatures_text, verified_text};
+use crate::show::{
+    kinds_text, lines_text, program_text, shortened, signatures_text, verified_text,
+};
+use kind_finder::find_signatures;
 use signatures::Signatures;
 use std::alloc::Global;
 use vcode_reader::Program;
@@ -22,6 +25,7 @@ pub fn answer(alloc: Global, line: &str) -> Result<String, CaseFault> {
         "get" => get(alloc, text),
         "kinds" => kinds(alloc, text),
         "same" => same(alloc, text),
+        "find" => find(alloc, text),
         _ => Err(CaseFault::NoCase),
     }
 }
@@ -84,6 +88,15 @@ fn same(alloc: Global, text: &str) -> Result<String, CaseFault> {
     let (right, code) = halves(text)?;
     let is_equal = are_alike(alloc, left, right, code)?;
     Ok(format!(in alloc; "{is_equal}")?)
+}
+
+/// The signatures that are found for a code, or why there are none.
+fn find(alloc: Global, text: &str) -> Result<String, CaseFault> {
+    let code = bytes_of(alloc, text)?;
+    match find_signatures(alloc, code.as_slice()) {
+        Ok(found) => Ok(lines_text(alloc, found.as_slice())?),
+        Err(fault) => Ok(format!(in alloc; "{fault}")?),
+    }
 }
 
 /// Whether a code is verified alike by two signatures.

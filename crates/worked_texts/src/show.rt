@@ -3,6 +3,7 @@
 use bstr::ByteSlice;
 use signatures::Signatures;
 use std::alloc::{AllocError, Global};
+use std::str;
 use vcode_base::{Instr, Instruction, Kind};
 use vcode_reader::{CodeItem, CodeLine, Function, Program};
 use verifier::Verified;
@@ -77,6 +78,17 @@ fn put_instruction(text: &mut String, instruction: &Instruction<'_>) -> Result<(
         Instr::Call(name) => write!(text, "Call({})", name.as_slice().as_bstr()),
         other => write!(text, "{:?}", other.op()),
     }
+}
+
+/// The lines of a text, one after another.
+pub fn lines_text(alloc: Global, text: &[u8]) -> Result<String, AllocError> {
+    let text = str::from_utf8(text).unwrap_or("no text");
+    let mut lines = String::new(alloc);
+    for (number, line) in text.trim_end().split('\n').enumerate() {
+        lines.push_str(if number > 0 { " | " } else { "" })?;
+        lines.push_str(line)?;
+    }
+    Ok(lines)
 }
 
 /// Signatures: each name with the kinds that it takes and those that it gives.

@@ -15,7 +15,7 @@ use std::alloc::{AllocError, Global};
 use std::io;
 use vcode_base::Instr;
 use vcode_base::laws::line_feeds_are_few;
-use vcode_reader::{CodeItem, Function, ReadFault, read};
+use vcode_reader::{CodeItem, Function, MOST_CODE_BYTES, ReadFault, read};
 
 /// The lists of the first `count` lines of a function. None if one isn't a CONST.
 fn lists_of<'a>(
@@ -59,6 +59,9 @@ fn answer_of(alloc: Global, function: &Function<Global>) -> Result<Answer, Alloc
 fn read_case(alloc: Global, line: &str) -> Result<Answer, AllocError> {
     line_feeds_are_few();
     let text = format!(in alloc; "FUNC f {line} RET")?;
+    if text.len() > MOST_CODE_BYTES {
+        return Ok(Answer::NoCase);
+    }
     let program = match read(alloc, text.as_bytes(), 1) {
         Ok(program) => program,
         Err(ReadFault::At(fault, _)) => return Ok(Answer::Refused(fault)),

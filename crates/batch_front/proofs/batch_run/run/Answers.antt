@@ -12,11 +12,11 @@ returns-clause-runs g c =
       to_the_end = c.in_ok-batch.ensures.read_to_the_end;
       no_further = c.in_ok-batch.ensures.read_no_further;
     })
-    c.in_ok-loaded.ensures.report c.in_ok-loaded.ensures.status c.in_ok-ran.ensures c.interrupts.ensures
+    c.in_ok-loaded.ensures.report c.in_ok-loaded.ensures.status c.in_ok-ran.ensures.out c.interrupts.ensures
     c.write_report.ensures.status c.write_report.ensures.written
 
 pub write_report-requires-clause-out : goal.write_report-requires-clause-out
-write_report-requires-clause-out g c = c.in_ok-ran.ensures.out
+write_report-requires-clause-out g c = c.in_ok-ran.ensures.out.out
 
 pub returns-in_err-batch-clause-runs : goal.returns-in_err-batch-clause-runs
 returns-in_err-batch-clause-runs g c =

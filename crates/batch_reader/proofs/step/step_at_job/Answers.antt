@@ -10,7 +10,7 @@ returns-then-ended-ge-MOST_JOBS-clause-turns g c =
 
 pub returns-clause-fits : goal.returns-clause-fits
 returns-clause-fits g c =
-    subst (λ (name : List ℕ). IsName name) (sym (c.from_vec-name.ensures
+    λ place. subst (λ (name : List ℕ). IsName name) (sym (c.from_vec-name.ensures
     ∙ c.in_ok-from_slice.ensures.items)) c.args.job.named
 
 pub returns-clause-turns : goal.returns-clause-turns

@@ -1,8 +1,14 @@
-use Rattle.std.proofs.Common.{refl, ap}
+use Rattle.std.proofs.Common.{ap, arith, refl}
 use Rattle.batch_reader.specs.Headings.{is_signatures}
 use Rattle.batch_reader.specs.Standings.{shown_line}
 use Rattle.batch_reader.proofs.StepLemmas.{isnt_signatures, turns_at_signatures, turns_at_no_signatures}
 use Rattle.batch_reader.proofs.step.step_behind_head.Goals as goal
+
+pub returns-in-Signatures-clause-fits : goal.returns-in-Signatures-clause-fits
+returns-in-Signatures-clause-fits g c = (
+  c.requires,
+  c.signatures_part-part.ensures.fits _ (omega (arith, c.args.line.number_in_range, c.args.line.some)),
+)
 
 pub returns-in-Signatures-clause-turns : goal.returns-in-Signatures-clause-turns
 returns-in-Signatures-clause-turns g c =

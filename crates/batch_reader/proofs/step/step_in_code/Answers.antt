@@ -1,7 +1,5 @@
-use Rattle.std.proofs.Common.{arith, refl, ◌+◌}
-use Rattle.vcode_base.specs.Lines.{line_feeds}
+use Rattle.std.proofs.Common.{refl}
 use Rattle.batch_reader.specs.Standings.{shown_line}
-use Rattle.batch_reader.proofs.RunLemmas.{code_fits}
 use Rattle.batch_reader.proofs.StepLemmas.{isnt_end, turns_at_end, turns_in_code}
 use Rattle.batch_reader.proofs.step.step_in_code.Goals as goal
 
@@ -13,12 +11,7 @@ returns-in_ok-job_entry-in-End-clause-turns g c =
 
 pub returns-in_ok-more_code-in_default : goal.returns-in_ok-more_code-in_default
 returns-in_ok-more_code-in_default g c = record {
-  fits = (
-    c.requires.name,
-    code_fits (c.args.line.number + line_feeds c.args.line.text.now) (c.args.line.number + 1) _
-        (omega (arith, c.args.line.in_range.1))
-        (c.in_ok-more_code-in_default.ensures.fits c.args.line.number c.requires.part),
-  );
+  fits = (c.requires.name, c.in_ok-more_code-in_default.ensures.fits c.args.line.place c.requires.part);
   turns = λ region ended room job shown has. turns_in_code region ended room job (shown_line c.args.line) _ refl
       (isnt_end c.args.line.heading c.in_default.not-End) has (
         record { name = shown.0.name; limits = shown.0.limits; line = shown.0.line },

@@ -1,4 +1,4 @@
-use Rattle.std.proofs.Common.{refl}
+use Rattle.std.proofs.Common.{arith, refl}
 use Rattle.batch_reader.specs.Standings.{shown_line}
 use Rattle.batch_reader.proofs.StepLemmas.{ends_no_signatures, turns_at_code, turns_at_early_end, turns_in_signatures}
 use Rattle.batch_reader.proofs.step.step_in_signatures.Goals as goal
@@ -8,6 +8,12 @@ returns-in-End-clause-turns g c =
     λ region ended room job shown has. turns_at_early_end region ended room _ job (shown_line c.args.line) refl
     c.in-End.is
     shown.0.line has
+
+pub returns-in_ok-part-in-Code-clause-fits : goal.returns-in_ok-part-in-Code-clause-fits
+returns-in_ok-part-in-Code-clause-fits g c = (
+  c.requires.name,
+  c.in_ok-part-in-Code.ensures.fits _ (omega (arith, c.args.line.number_in_range, c.args.line.some)),
+)
 
 pub returns-in_ok-part-in-Code-clause-turns : goal.returns-in_ok-part-in-Code-clause-turns
 returns-in_ok-part-in-Code-clause-turns g c =

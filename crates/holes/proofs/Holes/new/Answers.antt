@@ -15,7 +15,7 @@ invariant_of-holes g c =
     same_holes (replicate (4 * leaves) 0) c.in_ok-bits.bits.items (replicate (2 * leaves) nothing_free)
     c.in_ok-nodes.nodes.items (record { first = 0; end = 0 }) 0 c.args.size 0 c.args.most bits nodes
     (holes_of_none leaves c.args.size c.args.most c.leaves_for-leaves.ensures.power
-    (omega (arith, c.leaves_for-leaves.ensures.few)) c.leaves_for-leaves.ensures.enough c.requires)
+    (omega (arith, c.leaves_for-leaves.ensures.few)) c.leaves_for-leaves.ensures.enough c.requires.some)
 
 pub returns : goal.returns
 returns g c =

@@ -4,7 +4,8 @@ use Rattle.holes.specs.declared.tree.Changed.{Changed}
 use Rattle.holes.specs.Tree.{IsTreeBeside}
 use Rattle.holes.proofs.Trees.{tree_filled, beside_none}
 use Rattle.holes.proofs.tree.fill.Goals as goal
-use Rattle.holes.proofs.tree.fill.Goals.{then-first-changed+else-last-first-ge-NEAR, else-first-changed+else-changed-last}
+use Rattle.holes.proofs.tree.fill.Goals.{then-first-changed+else-last-first-ge-NEAR}
+use Rattle.holes.proofs.tree.fill.Goals.{else-first-changed+else-changed-last}
 
 pub returns-then-last-first-ge-NEAR-clause-tree : goal.returns-then-last-first-ge-NEAR-clause-tree
 returns-then-last-first-ge-NEAR-clause-tree c =

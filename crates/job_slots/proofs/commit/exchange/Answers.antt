@@ -11,7 +11,8 @@ use Rattle.job_slots.proofs.Exchanges.{HasExchanged, held_whatever, own_are_live
 use Rattle.job_slots.proofs.Exchanges.{released_and_placed}
 use Rattle.job_slots.proofs.commit.exchange.Given.{Over}
 use Rattle.job_slots.proofs.commit.exchange.Goals as goal
-use Rattle.job_slots.proofs.commit.exchange.Goals.{After-top-operands, After-release_all, After-exchange, After-exchange_at}
+use Rattle.job_slots.proofs.commit.exchange.Goals.{After-top-operands, After-release_all, After-exchange}
+use Rattle.job_slots.proofs.commit.exchange.Goals.{After-exchange_at}
 
 operands_are : (g : Over) (c : goal.After-top-operands g) →
     c.top-operands.result.now ≡ taken_ids c.args.op c.args.track.now.cells

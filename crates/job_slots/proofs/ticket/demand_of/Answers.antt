@@ -1,7 +1,11 @@
-use Rattle.std.proofs.Common.{take, ◌∙◌, arith}
+use Rattle.std.proofs.Common.{◌≡◌, ◌+◌, ◌-◌, ◌^◌, min, take, Option, ap, ◌∙◌, arith}
+use Rattle.vcode_base.specs.declared.fault.DataFault.{DataFault}
 use Rattle.vcode_base.specs.Operands.{contents}
+use Rattle.job_steps.specs.Questions.{need_words}
 use Rattle.job_steps.specs.States.{ruled}
-use Rattle.job_slots.proofs.EarlyEnds.{demand_fits, demand_is, operands_are_own, operands_are_there}
+use Rattle.job_steps.specs.Tickets.{question_by}
+use Rattle.job_slots.specs.Answers.{told_demand}
+use Rattle.job_slots.proofs.EarlyEnds.{demand_fits, demand_is, operands_are_own, operands_are_there, told_is}
 use Rattle.job_slots.proofs.ticket.demand_of.Goals as goal
 
 pub held_under-held-requires-clause-own : goal.held_under-held-requires-clause-own
@@ -18,17 +22,30 @@ held_under-held-requires-clause-deep g c =
     (ruled c.args.rule c.args.job.now) c.args.track.now c.requires.running c.requires.verified c.used-used.ensures.tidy
     next.op next.line _ c.read_next-next.ensures.next
 
-pub returns : goal.returns
-returns g c = λ none.
+pub returns-clause-executed : goal.returns-clause-executed
+returns-clause-executed g c = λ none.
     let task = ruled c.args.rule c.args.job.now in
     let next = c.read_next-next.result in
     let sources = contents (take next.operands.count next.operands.lists) in
     let held = c.held_under-held.result in
+    let needed = need_words (question_by next.op sources) in
     let fits =
-    demand_fits c.steps_can_begin.ensures c.held_is_counted.ensures c.args.number c.args.blocks.now task c.args.track.now
-    c.requires.running c.requires.verified c.used-used.ensures.tidy next.op next.line sources
+    demand_fits c.steps_can_begin.ensures c.held_is_counted.ensures c.args.number c.args.blocks.now task
+    c.args.track.now c.requires.running c.requires.verified c.used-used.ensures.tidy next.op next.line sources
     c.read_next-next.ensures.next held c.held_under-held.ensures none in
-    c.demand_by.ensures fits.0 (omega (arith, fits.1))
+    let small : min (held + needed) (2 ^ 64 - 1) ≡ held + needed = omega (arith, fits.1, c.requires.running) in
+    c.demand_by.ensures
+    ∙ ap (λ (fault : Option DataFault). told_demand fault held needed) fits.0
+    ∙ small
     ∙ demand_is c.steps_can_begin.ensures c.held_is_counted.ensures c.args.number c.args.blocks.now task
     c.args.track.now c.requires.running c.requires.verified c.used-used.ensures.tidy next.op next.line sources
     c.read_next-next.ensures.next held c.held_under-held.ensures
+
+pub returns-clause-told : goal.returns-clause-told
+returns-clause-told g c =
+    let next = c.read_next-next.result in
+    c.demand_by.ensures
+    ∙ told_is c.steps_can_begin.ensures c.held_is_counted.ensures c.args.number c.args.blocks.now
+    (ruled c.args.rule c.args.job.now) c.args.track.now c.requires.running c.requires.verified
+    c.used-used.ensures.tidy next.op next.line (contents (take next.operands.count next.operands.lists))
+    c.read_next-next.ensures.next c.held_under-held.result c.held_under-held.ensures

@@ -1,7 +1,8 @@
 use Rattle.std.proofs.Common.{◌≡◌, ◌∙◌, ◌+◌, ◌*◌, ◌-◌, ap, sym, arith, length, get_or, drop, true, false}
 use Rattle.std.proofs.lemmas.List.{drop_all}
 use Rattle.vcode_base.specs.Bytes.{digit_count, is_digit}
-use Rattle.vcode_base.proofs.Digits.{value_at_front, count_ends, count_more, digit_more, is_below, is_empty, is_past, isnt_empty}
+use Rattle.vcode_base.proofs.Digits.{value_at_front, count_ends, count_more, digit_more, is_below, is_empty, is_past}
+use Rattle.vcode_base.proofs.Digits.{isnt_empty}
 use Rattle.vcode_base.proofs.Digits.{no_number, number_is, number_past, value_ends, value_grows}
 use Rattle.vcode_base.proofs.bytes.number_at_front.Goals as goal
 

@@ -5,7 +5,8 @@ use Rattle.vcode_reader.proofs.code_lines.set_targets.Goals as goal
 pub loop-place-init : goal.loop-place-init
 loop-place-init g c = record {
   within = omega arith;
-  done = λ first ls ns. none_set c.in-Ok.place c.args.lines.now c.args.lines.now c.new-waits.result first ls ns (omega arith) refl c.new-waits.ensures;
+  done = λ first ls ns. none_set _ c.args.lines.now c.args.lines.now c.new-waits.result first ls ns
+      (omega arith) refl c.new-waits.ensures;
 }
 
 pub loop-place-preserved : goal.loop-place-preserved
@@ -15,7 +16,8 @@ loop-place-preserved g c =
     let within : here < length c.loop-place.lines = omega arith in
     record {
       within = omega (arith, length-set c.loop-place.lines here c.set_target.new.line);
-      done = λ first ls ns. more_set here c.args.lines.now c.loop-place.lines c.loop-place.waits first ls ns _ c.set_target.new.line
+      done = λ first ls ns. more_set here c.args.lines.now c.loop-place.lines c.loop-place.waits first ls ns _
+          c.set_target.new.line
           (subst (λ z. AreSetFrom z c.args.lines.now c.loop-place.lines c.loop-place.waits first ls ns) next
           (c.loop-place.invariant.done first ls ns))
           within c.loop-place.auto.lines c.in_ok-set_target.ensures.line _ _ refl c.in_ok-set_target.ensures.waits;

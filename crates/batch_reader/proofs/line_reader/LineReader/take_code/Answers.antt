@@ -1,20 +1,14 @@
-use Rattle.std.proofs.Common.{ℕ, ◌+◌, ◌≤◌, arith, length, refl, subst}
-use Rattle.batch_reader.specs.Standings.{StageFits}
-use Rattle.batch_reader.proofs.RunLemmas.{code_taken, feeds_of_lines, few_lines}
+use Rattle.std.proofs.Common.{◌-◌, ◌≤◌, arith, length, refl}
+use Rattle.vcode_base.specs.declared.limits.TheConstants.{MOST_BATCH_BYTES}
+use Rattle.batch_reader.proofs.RunLemmas.{bytes_come, code_taken, few_lines}
 use Rattle.batch_reader.proofs.line_reader.LineReader.take_code.Goals as goal
 
 pub step_through-requires-clause-fits : goal.step_through-requires-clause-fits
 step_through-requires-clause-fits g c =
     let within : length c.args.run.text.now ≤ c.self.inside.left = rw (← c.self.view_is) at c.requires.within in (
-      c.self.inside.number,
+      MOST_BATCH_BYTES - c.self.inside.left,
       c.self.invariant.stage,
-      omega (
-        arith,
-        within,
-        c.self.invariant.number,
-        feeds_of_lines c.args.run.count c.args.run.text.now c.requires.lines,
-        few_lines c.args.run.count c.args.run.text.now c.requires.lines,
-      ),
+      omega (arith, within, c.self.invariant.bytes),
     )
 
 pub overflow_add-self : goal.overflow_add-self
@@ -37,9 +31,10 @@ invariant_of-self-2 g c =
         c.self.invariant.number,
         few_lines c.args.run.count c.args.run.text.now c.requires.lines,
       );
-      stage = subst (λ (n : ℕ). StageFits (c.self.inside.number + n) c.step_through.new.stage)
-          (feeds_of_lines c.args.run.count c.args.run.text.now c.requires.lines)
-          (c.in_default.ensures.fits c.self.inside.number c.self.invariant.stage);
+      bytes = omega (arith, c.self.invariant.bytes);
+      stage = bytes_come c.self.inside.left (length c.args.run.text.now) _ c.step_through.new.stage
+          c.self.invariant.bytes (omega (arith, within))
+          (c.in_default.ensures.fits (MOST_BATCH_BYTES - c.self.inside.left) c.self.invariant.stage);
     }
 
 pub returns-clause-taken : goal.returns-clause-taken

@@ -3,7 +3,7 @@ use Rattle.job_steps.specs.Runs.{executed_count_in, progress_from}
 use Rattle.job_steps.specs.Standings.{held_in}
 use Rattle.job_steps.specs.States.{Task}
 use Rattle.job_slots.specs.Answers.{demand_in}
-use Rattle.job_walk.specs.Walks.{RunState, progress_of}
+use Rattle.job_profile.specs.Walks.{RunState, progress_of}
 use Rattle.job_profile.specs.declared.strip.Column.{Column}
 use Rattle.job_profile.specs.Columns.{column_at}
 use Rattle.job_profile.specs.Counts.{line_in}
@@ -46,7 +46,7 @@ invariant_of-self-2 g c =
     subst
     (λ (r : RunState).
     executed_count_in (progress_from r.task (progress_of r)) ≡ executed_count_in (progress_of r) + 1 →
-    c.demand-most.result ≡ demand_in r.task.rule (progress_of r)) c.run-run.ensures c.demand-most.ensures in
+    c.demand-most.result ≡ demand_in r.task.rule (progress_of r)) c.run-run.ensures c.demand-most.ensures.executed in
     let most : c.demand-most.result ≡ demand_in old.task.rule (progress_of old) =
     asked (sym (ap executed_count_in come.progress_is) ∙ went.executed) in
     let least : c.held-least.result ≡ held_in (progress_of new) =
@@ -66,4 +66,5 @@ invariant_of-self-2 g c =
     strip.columns.items strip.each strip.room (progress_of old) (progress_of new) made.columns.items made.each made.room
     c.demand-most.result c.self.invariant went most
     (c.add.ensures.strip (column_at old.task) (executed_count_in (progress_of old)) c.self.invariant.strip is)
+    (c.add.ensures.fine (column_at old.task) (executed_count_in (progress_of old)) c.self.invariant.strip)
     c.add.ensures.highest)

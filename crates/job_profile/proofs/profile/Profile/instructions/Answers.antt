@@ -1,7 +1,7 @@
 use Rattle.std.proofs.Common.{◌≡◌, List, ℕ, drop, take, ◌∙◌, ap, arith}
 use Rattle.std.specs.Prelude.{sum}
 use Rattle.job_steps.specs.Runs.{executed_count_in}
-use Rattle.job_walk.specs.Walks.{RunState, progress_of}
+use Rattle.job_profile.specs.Walks.{RunState, progress_of}
 use Rattle.job_profile.specs.Counts.{times_of}
 use Rattle.job_profile.proofs.Lists.{part_sum_le}
 use Rattle.job_profile.proofs.Whole.{part_is}

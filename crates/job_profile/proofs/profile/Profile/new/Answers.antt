@@ -1,7 +1,7 @@
 use Rattle.std.proofs.Common.{ℕ, List, sym, subst}
 use Rattle.job_steps.specs.Runs.{state_after}
 use Rattle.job_steps.specs.States.{ruled}
-use Rattle.job_walk.specs.Walks.{RunState, progress_of}
+use Rattle.job_profile.specs.Walks.{RunState, progress_of}
 use Rattle.job_profile.specs.Sound.{IsCounted}
 use Rattle.job_profile.proofs.Counted.{first_counted}
 use Rattle.job_profile.proofs.profile.Profile.new.Goals as goal

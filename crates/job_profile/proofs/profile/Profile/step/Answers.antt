@@ -1,7 +1,7 @@
 use Rattle.std.proofs.Common.{◌≡◌, ◌+◌, ◌-◌, ℕ, List, get_or, refl, ◌∙◌, ap}
 use Rattle.std.proofs.Math.ListN.{set}
 use Rattle.job_steps.specs.Runs.{peak_in}
-use Rattle.job_walk.specs.Walks.{RunState, progress_of}
+use Rattle.job_profile.specs.Walks.{RunState, progress_of}
 use Rattle.job_profile.specs.Counts.{line_in}
 use Rattle.job_profile.proofs.Lists.{given_back}
 use Rattle.job_profile.proofs.Whole.{StepCounts, counted_after, no_less}

@@ -1,8 +1,8 @@
-use Rattle.std.proofs.Common.{ℕ, ◌+◌, ◌-◌, ◌∷◌, ◌++◌, [], ◌∙◌, ap, length, arith, get_or}
+use Rattle.std.proofs.Common.{ℕ, ◌+◌, ◌-◌, ◌∷◌, ◌++◌, [], ◌∙◌, ap, sym, subst, length, arith, get_or}
 use Rattle.std.specs.Prelude.{max}
 use Rattle.std.proofs.Math.ListN.{set}
 use Rattle.job_profile.specs.declared.strip.Column.{Column}
-use Rattle.job_profile.specs.Columns.{highest, joined, no_column}
+use Rattle.job_profile.specs.Columns.{AreFine, highest, joined, no_column}
 use Rattle.job_profile.proofs.Strips.{begun, highest_push, highest_set, some_columns, strip_as, widened}
 use Rattle.job_profile.proofs.strip.Strip.add.Goals as goal
 
@@ -14,6 +14,9 @@ returns-then-self-gt0-clause-strip g c = λ of n s is.
     (c.widen.ensures.columns
     ∙ ap (λ (x : Column). set cs (length cs - 1) (joined (get_or cs (length cs - 1) no_column) x)) is)
     c.widen.ensures.each c.widen.ensures.room (widened of n cs old.each old.room s c.if-self-gt0.true)
+
+pub returns-then-self-gt0-clause-fine : goal.returns-then-self-gt0-clause-fine
+returns-then-self-gt0-clause-fine g c = λ of n s. subst (AreFine (n + 1)) (sym c.widen.ensures.each) s.fine
 
 pub returns-then-self-gt0-clause-highest : goal.returns-then-self-gt0-clause-highest
 returns-then-self-gt0-clause-highest g c =
@@ -33,6 +36,10 @@ returns-clause-strip g c = λ of n s is.
     (c.begin.ensures.columns ∙ ap (λ (x : Column). made.columns.items ++ x ∷ []) is) c.begin.ensures.each
     c.begin.ensures.room
     (begun of n made.columns.items made.each made.room room c.make_room.ensures.room c.make_room.ensures.few)
+
+pub returns-clause-fine : goal.returns-clause-fine
+returns-clause-fine g c = λ of n s.
+    subst (AreFine (n + 1)) (sym c.begin.ensures.each) (c.make_room.ensures.strip of n s).fine
 
 pub returns-clause-highest : goal.returns-clause-highest
 returns-clause-highest g c =

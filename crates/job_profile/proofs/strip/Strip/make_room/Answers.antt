@@ -1,4 +1,4 @@
-use Rattle.std.proofs.Common.{◌∙◌, ◌*◌, ◌/◌, ap, length, arith}
+use Rattle.std.proofs.Common.{◌∙◌, ◌*◌, ◌/◌, ap, length, refl, arith}
 use Rattle.job_profile.specs.declared.strip.TheConstants.{MOST_COLUMNS}
 use Rattle.job_profile.specs.Columns.{halved, highest}
 use Rattle.job_profile.proofs.Strips.{folded, highest_halved, length_halved, strip_as}
@@ -9,7 +9,7 @@ returns-then-len-eq-MOST_COLUMNS-clause-strip g c = λ of n s.
     let old = c.args.self.now in
     strip_as of n (halved old.columns.items) _ (old.each * 2) _ 0 _ c.fold.ensures.columns c.fold.ensures.each
     (c.fold.ensures.room ∙ c.requires.room)
-    (folded of n old.columns.items old.each old.room s (MOST_COLUMNS / 2)
+    (folded of n old.columns.items old.each old.room s (MOST_COLUMNS / 2) refl
     (omega (arith, c.if-len-eq-MOST_COLUMNS.true, c.len.ensures)) c.requires.room)
 
 pub returns-then-len-eq-MOST_COLUMNS-clause-highest : goal.returns-then-len-eq-MOST_COLUMNS-clause-highest

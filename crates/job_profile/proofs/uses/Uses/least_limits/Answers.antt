@@ -1,6 +1,6 @@
 use Rattle.std.proofs.Common.{refl, sym, ◌∙◌, ap, arith}
 use Rattle.std.specs.Prelude.{option_copied}
-use Rattle.job_walk.specs.Walks.{progress_of}
+use Rattle.job_profile.specs.Walks.{progress_of}
 use Rattle.job_profile.proofs.Used.{Returned, are_least, returned_by}
 use Rattle.job_profile.proofs.uses.Uses.least_limits.Goals as goal
 

@@ -1,7 +1,7 @@
 use Rattle.std.proofs.Common.{sym, ◌∙◌, ap, subst}
 use Rattle.job_steps.specs.LeastLimits.{calls_in, cells_in}
 use Rattle.job_steps.specs.States.{ruled}
-use Rattle.job_walk.specs.Walks.{RunState, progress_of}
+use Rattle.job_profile.specs.Walks.{RunState, progress_of}
 use Rattle.job_profile.specs.Used.{AreUses}
 use Rattle.job_profile.proofs.Used.{first_uses}
 use Rattle.job_profile.proofs.uses.Uses.new.Goals as goal

@@ -1,5 +1,4 @@
 use Rattle.std.proofs.Common.{◌∙◌, sym}
-use Rattle.std.proofs.lemmas.Option.{slice_get-get_or}
 use Rattle.job_steps.proofs.Standing.{line_at}
 use Rattle.job_steps.proofs.frame.Frame.line.Goals as goal
 

@@ -1,7 +1,7 @@
-use Rattle.std.proofs.Common.{◌∙◌, ap, sym}
+use Rattle.std.proofs.Common.{◌∙◌, ap, arith, sym}
 use Rattle.std.specs.List.{slice_get}
 use Rattle.vcode_reader.proofs.Linking.{item_there, lies_too}
-use Rattle.vcode_reader.proofs.Pooling.{got, not_got, no_line_there, shown_too}
+use Rattle.vcode_reader.proofs.Pooling.{got, not_got, no_line_there, number_there, shown_too}
 use Rattle.vcode_reader.proofs.code_lines.CodeLines.get.Goals as goal
 
 pub returns-in_err-line : goal.returns-in_err-line
@@ -20,6 +20,14 @@ shown_item-item-requires g c =
     let there = got i.lines c.as_slice-lines.result.now c.args.place line c.as_slice-lines.ensures look.0 look.1 in
     lies_too line.item i.lists c.as_slice-lists.result.now i.names c.as_slice-names.result.now c.as_slice-lists.ensures
     c.as_slice-names.ensures (item_there i.first i.lines i.lists i.names c.args.place line c.self.invariant there)
+
+pub overflow_add-result : goal.overflow_add-result
+overflow_add-result g c =
+    let i = c.self.inside in
+    let look = c.in_ok-line.ensures.lookup in
+    let line = c.in_ok-line.line.now in
+    let there = got i.lines c.as_slice-lines.result.now c.args.place line c.as_slice-lines.ensures look.0 look.1 in
+    omega (arith, number_there i.first i.lines i.lists i.names c.args.place line c.self.invariant.room there)
 
 pub returns : goal.returns
 returns g c =

@@ -1,4 +1,4 @@
-use Rattle.std.proofs.Common.{◌≡◌, ◌+◌, ◌-◌, ◌∙◌, sym, subst, arith}
+use Rattle.std.proofs.Common.{◌≡◌, ◌+◌, ◌-◌, ◌∙◌, sym, subst, arith, rules}
 use Rattle.vcode_reader.proofs.Callees.{Finds, finds_more, position_from-zero}
 use Rattle.vcode_reader.proofs.link.Linker.new.Goals as goal
 
@@ -18,7 +18,7 @@ pub invariant_of-result : goal.invariant_of-result
 invariant_of-result g c =
     let none : c.loop-place.place ≡ 0 = omega arith in
     record {
-      past = c.in-Ok.ensures.1;
+      past = search rules;
       found = λ name.
           subst (λ z. Finds c.args.functions.now z c.loop-place.places) none c.loop-place.invariant.found name
           ∙ position_from-zero _ c.args.functions.now;

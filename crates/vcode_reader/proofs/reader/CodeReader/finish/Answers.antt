@@ -2,14 +2,26 @@ use Rattle.std.proofs.Common.{◌∙◌, Ok, ap, sym, subst}
 use Rattle.vcode_base.specs.TextAnswers.{Fails}
 use Rattle.vcode_reader.specs.Reading.{ReaderState, outcome}
 use Rattle.vcode_reader.specs.Trees.{Program}
-use Rattle.vcode_reader.proofs.Bodies.{proper_outcome}
+use Rattle.vcode_reader.proofs.Bodies.{few_outcome, proper_outcome}
 use Rattle.vcode_reader.proofs.Fed.{answer_ok, answer_err}
+use Rattle.vcode_reader.proofs.Sizes.{end_fits}
 use Rattle.vcode_reader.proofs.reader.CodeReader.finish.Goals as goal
 
-pub new-requires : goal.new-requires
-new-requires g c =
+pub outcome-requires : goal.outcome-requires
+outcome-requires g c =
     let inside = c.self.inside in
-    proper_outcome inside.scanner inside.first_line inside.failed c.in-Ok.functions.items
+    end_fits inside.scanner inside.first_line inside.size inside.failed c.self.invariant c.if-self.false
+
+pub new-requires-clause-proper_bodies : goal.new-requires-clause-proper_bodies
+new-requires-clause-proper_bodies g c =
+    let inside = c.self.inside in
+    proper_outcome inside.scanner inside.first_line inside.size inside.failed c.in-Ok.functions.items
+    c.self.invariant c.if-self.false c.in-Ok.ensures
+
+pub new-requires-clause-few : goal.new-requires-clause-few
+new-requires-clause-few g c =
+    let inside = c.self.inside in
+    few_outcome inside.scanner inside.first_line inside.size inside.failed c.in-Ok.functions.items
     c.self.invariant c.if-self.false c.in-Ok.ensures
 
 pub returns-in-Err-clause-answer : goal.returns-in-Err-clause-answer

@@ -1,5 +1,6 @@
 use Rattle.std.proofs.Common.{◌∙◌}
 use Rattle.vcode_reader.specs.Parsing.{take}
+use Rattle.vcode_reader.proofs.Earlier.{first_byte_fits}
 use Rattle.vcode_reader.proofs.Lines.{drop_next, later_same, next_room, same_room}
 use Rattle.vcode_reader.proofs.reader.Scanner.front.Goals as goal
 
@@ -7,8 +8,12 @@ pub pass_separator-requires : goal.pass_separator-requires
 pass_separator-requires g c =
     same_room take c.args.self.now c.plain_bytes.new.self _ _ _ c.in_ok-rest.ensures.same c.requires.room
 
-pub byte-requires : goal.byte-requires
-byte-requires g c =
+pub byte-requires-clause-fits : goal.byte-requires-clause-fits
+byte-requires-clause-fits g c =
+    first_byte_fits c.args.self.now _ _ _ (drop_next c.args.text.now 0 c.requires.some) c.requires.fits
+
+pub byte-requires-clause-room : goal.byte-requires-clause-room
+byte-requires-clause-room g c =
     next_room c.args.self.now _ _ _ _ (drop_next c.args.text.now 0 c.requires.some) c.requires.room
 
 pub returns-clause-same : goal.returns-clause-same

@@ -1,0 +1,288 @@
+//! The run of one job, in one go.
+
+ghost use Rattle.std.specs.Prelude.{◌≡◌, ◌+◌, ◌↔◌, IsTrue, IfOk, OnOk, OnErr, option_copied, slice_get};
+ghost use Rattle.job_steps.specs.LeastLimits.{cells_in, calls_in};
+ghost use Rattle.job_steps.specs.Runs.{executed_count_in, peak_in, progress_from};
+ghost use Rattle.job_steps.specs.Standings.{held_in};
+ghost use Rattle.job_steps.specs.States.{ruled};
+ghost use Rattle.job_slots.specs.Answers.{demand_in, told_demand_in};
+ghost use Rattle.job_profile.specs.Walks.{AreSame, HasCome, StandAt, ending_at, ending_of, first_run, goes_on};
+ghost use Rattle.job_profile.specs.Walks.{lists_in, next_line_in, progress_of, tags_in};
+
+use block_memory::BlockId;
+use job_memory::JobMemory;
+use job_slots::laws::{new_is_shown, shown_are_live, shown_are_reached, shown_is_alone};
+use job_slots::{Slot, Status};
+use job_steps::laws::{early_ends_end, ended_are_over, steps_can_begin};
+use job_steps::{Desk, Frame, Job};
+use std::alloc::{AllocError, Allocator};
+use std::marker::Model;
+use vcode_base::{Outcome, Rule, Values};
+use vcode_reader::CodeLine;
+
+/// The number of the job in its memory.
+const ONLY_JOB: usize = 1;
+
+/// The run of a job alone, as far as it has come.
+///
+/// In a contract it is the job and its standing, from which its progress follows as `job_steps` defines it. A run is a
+/// function of its job: a run that is made anew goes through the same states.
+#[derive(Drop)]
+pub struct Run<A: Allocator> {
+    rule: Rule,
+    job: Job<A>,
+    blocks: JobMemory<A>,
+    slot: Slot<A>,
+    desk: Desk<A>,
+}
+
+impl<A: Allocator> Model for Run<A> {
+    ghost use Rattle.job_steps.specs.States.{ruled};
+    ghost use Rattle.job_profile.specs.Walks.{RunState};
+    ghost use Rattle.job_profile.specs.SoundRun.{IsSound, run_by};
+
+    ghost Value = { RunState };
+
+    ghost use Rattle.std.specs.Coded.{codes};
+    ghost use Rattle.job_steps.specs.Jobs.{job_code};
+    ghost use Rattle.job_profile.specs.Walks.{run_code};
+
+    ghost coded = { run_code (Prim.hlevel codes)
+        (job_code (Prim.hlevel codes) (Prim.hlevel codes) (Prim.hlevel codes)) (Prim.hlevel codes) };
+
+    ghost view = { λ r. run_by (ruled r.rule r.job) r.slot };
+
+    ghost invariant = { λ r. IsSound (ruled r.rule r.job) r.blocks r.slot r.desk };
+}
+
+impl<A: Allocator + Clone> Run<A> {
+    /// The run of a job by a rule, which has executed nothing.
+    ///
+    /// Takes the memory for the job's words, for its cells and calls, and for a desk of its words; an error means that
+    /// the allocator refused it. Of the other calls only `collect` takes memory.
+    pub fn new(alloc: A, rule: Rule, job: Job<A>) -> Result<Run<A>, AllocError>
+        ensures { IfOk result (λ run. run ≡ first_run (ruled rule job)) }
+    {
+        new_is_shown();
+        let limits = job.limits();
+        let mut slot = Slot::new(alloc.clone()?, &job)?;
+        let numbers = limits.cells + 2;
+        let mut blocks = JobMemory::new(alloc.clone()?, limits.words, 1, numbers)?;
+        let desk = Desk::new(alloc, limits.words)?;
+        let Ok(()) = slot.admit(rule, &job, ONLY_JOB, &mut blocks) else {
+            unreachable!()
+        };
+        Ok(Run {
+            rule,
+            job,
+            blocks,
+            slot,
+            desk,
+        })
+    }
+
+    /// Stores how the job ended, with copies of its results, if its run is over. Else nothing changes.
+    ///
+    /// # Errors
+    ///
+    /// [`AllocError`] if memory for the results was refused. Nothing changes then.
+    pub fn collect(&mut self) -> Result<(), AllocError>
+        ensures run { HasCome self.old.task (progress_of self.old) self.new }
+        ensures collected { OnOk result (ending_of self.new ≡ ending_at (progress_of self.old)) }
+        ensures unchanged { OnErr result (self.new ≡ self.old) }
+    {
+        self.slot
+            .collect(self.rule, &self.job, ONLY_JOB, &mut self.blocks)?;
+        Ok(())
+    }
+}
+
+impl<A: Allocator> Run<A> {
+    /// Executes the next instruction; true if the job goes on. A job whose run is over stays as it is. Takes no memory.
+    pub fn step(&mut self) -> bool
+        ensures run { HasCome self.old.task (progress_from self.old.task (progress_of self.old)) self.new }
+        ensures goes_on { result ≡ goes_on (progress_of self.new) }
+    {
+        shown_is_alone();
+        ended_are_over();
+        let _used = self.blocks.used();
+        let _stepped = self.slot.step(
+            self.rule,
+            &self.job,
+            ONLY_JOB,
+            &mut self.blocks,
+            &mut self.desk,
+        );
+        self.goes_on()
+    }
+
+    /// Whether the job goes on.
+    pub fn goes_on(&self) -> bool
+        ensures { result ≡ goes_on (progress_of self.now) }
+    {
+        match self.slot.status() {
+            Status::Live => true,
+            Status::Waiting | Status::InFlight | Status::Ended | Status::Collected => false,
+        }
+    }
+
+    /// How many instructions it executed.
+    pub fn executed(&self) -> u64
+        ensures { result ≡ executed_count_in (progress_of self.now) }
+    {
+        self.slot.executed()
+    }
+
+    /// The most words that it held and needed at an instruction that it executed.
+    pub fn peak(&self) -> usize
+        ensures { result ≡ peak_in (progress_of self.now) }
+    {
+        self.slot.peak()
+    }
+
+    /// The words that it holds, and 0 once its run is over.
+    pub fn held(&self) -> usize
+        ensures { result ≡ held_in (progress_of self.now) }
+    {
+        shown_is_alone();
+        let _used = self.blocks.used();
+        if self.goes_on() {
+            self.blocks.held(ONLY_JOB)
+        } else {
+            0
+        }
+    }
+
+    /// The words that it holds and needs at its next instruction, and 0 once its run is over.
+    ///
+    /// If the instruction's operands don't fit one another, these are only the words that it holds. If they are more
+    /// than the greatest `u64`, they are answered as that.
+    pub fn demand(&self) -> usize
+        ensures executed { executed_count_in (progress_from self.now.task (progress_of self.now))
+            ≡ executed_count_in (progress_of self.now) + 1
+            → result ≡ demand_in self.now.task.rule (progress_of self.now) }
+        ensures told { result ≡ told_demand_in self.now.task.rule (progress_of self.now) }
+    {
+        early_ends_end();
+        if self.goes_on() {
+            self.slot
+                .demand(self.rule, &self.job, ONLY_JOB, &self.blocks)
+        } else {
+            0
+        }
+    }
+
+    /// How many entries its stack has, and 0 once its run is over.
+    pub fn depth(&self) -> usize
+        ensures { result ≡ cells_in (progress_of self.now) }
+    {
+        if self.goes_on() {
+            self.slot.track().cells().len()
+        } else {
+            0
+        }
+    }
+
+    /// How many calls are active, and 0 once its run is over.
+    pub fn calls(&self) -> usize
+        ensures { result ≡ calls_in (progress_of self.now) }
+    {
+        if self.goes_on() {
+            self.slot.track().calls()
+        } else {
+            0
+        }
+    }
+
+    /// The words of the entry of the stack at this depth, 0 at the top, if there is one and the job goes on.
+    pub fn words(&self, depth: usize) -> Option<&[i64]>
+        ensures { option_copied result ≡ slice_get (lists_in (progress_of self.now)) depth }
+    {
+        shown_are_live();
+        shown_are_reached();
+        if !self.goes_on() {
+            return None;
+        }
+        let id = cell(&self.slot, depth)?;
+        Some(self.blocks.words(id))
+    }
+
+    /// Whether the entries at these depths are there and are copies of one another: they share their words.
+    pub fn are_copies(&self, depth: usize, other: usize) -> bool
+        ensures { IsTrue result ↔ AreSame (slice_get (tags_in (progress_of self.now)) depth)
+            (slice_get (tags_in (progress_of self.now)) other) }
+    {
+        if !self.goes_on() {
+            return false;
+        }
+        let (Some(id), Some(other)) = (cell(&self.slot, depth), cell(&self.slot, other)) else {
+            return false;
+        };
+        is_same(id, other)
+    }
+
+    /// The places at which the active calls go on, that of the innermost last.
+    pub fn frames(&self) -> &[Frame]
+        ensures { StandAt self.now.task result.now (progress_of self.now) }
+    {
+        self.slot.track().frames()
+    }
+
+    /// The line of the next instruction, if the job goes on.
+    #[inline(always)]
+    pub fn next_line(&self) -> Option<CodeLine<'_>>
+        ensures { result ≡ next_line_in (progress_of self.now) }
+    {
+        steps_can_begin::<BlockId>();
+        if !self.goes_on() {
+            return None;
+        }
+        Some(self.slot.track().line(self.job.verified().program()))
+    }
+
+    /// How the job ended, if that is collected.
+    pub fn ending(&self) -> Option<&Outcome<Values<A>>>
+        ensures { option_copied result ≡ ending_of self.now }
+    {
+        self.slot.outcome()
+    }
+
+    /// The rule by which it runs.
+    pub fn rule(&self) -> Rule
+        ensures { result ≡ self.now.task.rule }
+    {
+        self.rule
+    }
+
+    /// The job.
+    pub fn job(&self) -> &Job<A>
+        ensures { ruled self.now.task.rule result.now ≡ self.now.task }
+    {
+        &self.job
+    }
+
+    /// The job, of which another run may be made.
+    pub fn into_job(self) -> Job<A>
+        ensures { ruled self.task.rule result ≡ self.task }
+    {
+        self.job
+    }
+}
+
+/// The cell at this depth, 0 at the top, if there is one.
+fn cell<A: Allocator>(slot: &Slot<A>, depth: usize) -> Option<BlockId>
+    ensures { result ≡ slice_get slot.now.trace.cells depth }
+{
+    let cells = slot.track().cells();
+    if depth >= cells.len() {
+        return None;
+    }
+    Some(cells[cells.len() - 1 - depth])
+}
+
+/// Whether these are one block.
+fn is_same(id: BlockId, other: BlockId) -> bool
+    ensures { IsTrue result ↔ (id ≡ other) }
+{
+    id.number() == other.number()
+}

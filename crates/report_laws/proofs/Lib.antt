@@ -1,0 +1,10 @@
+mod EntryLemmas
+mod FateLemmas
+mod KindLemmas
+mod LawLemmas
+mod LineTexts
+mod NumberLemmas
+mod PackedLemmas
+mod ReadingLemmas
+mod RefusalLemmas
+mod RunLemmas

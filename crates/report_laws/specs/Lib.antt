@@ -1,0 +1,4 @@
+pub mod EntryParts
+pub mod Laws
+pub mod LineStarts
+pub mod MovedCode

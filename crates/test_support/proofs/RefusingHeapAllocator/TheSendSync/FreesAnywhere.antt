@@ -1,0 +1,10 @@
+-- A block may be given back by any thread by which the inner allocator may be given it back.
+use mir.Syntax.{Dict}
+use denote.RattleType.{RattleType}
+use denote.Param.Send.{Frees}
+use Rattle.std.specs.declared.alloc.Allocator.{Ghosts}
+use Rattle.test_support.specs.contracts.RefusingHeapAllocator.TheImpl.{ghosts}
+
+pub frees : (A : RattleType) (g : Ghosts A.Denot) (d e : Dict) → Frees g g.dealloc_token
+    → Frees (ghosts A g d e) (ghosts A g d e).dealloc_token
+frees A g d e f = record { frees = λ h. f.frees h.inner }

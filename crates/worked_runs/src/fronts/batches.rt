@@ -1,0 +1,25 @@
+//! Batches.
+
+use std::alloc::{AllocError, Global};
+use test_support::TWELVE_JOBS;
+
+/// The instructions that the two jobs of `test_support` execute.
+pub const EXECUTED_BY_TWO: [u64; 2] = [2, 4];
+
+/// The twelve jobs after this line.
+///
+/// # Errors
+///
+/// [`AllocError`] if memory for the text was refused.
+pub(crate) fn twelve_jobs_by(alloc: Global, rule_line: &str) -> Result<String, AllocError> {
+    format!(in alloc; "{rule_line}{TWELVE_JOBS}")
+}
+
+/// The line by which jobs run by the second rule.
+pub const SECOND_RULE: &str = "BATCH 2\n";
+
+/// The instructions that the twelve execute.
+pub const EXECUTED_BY_TWELVE: [u64; 12] = [5, 2, 1, 0, 4, 2, 5, 2, 2, 5, 4, 3];
+
+/// The same by the second rule, which two of them return by.
+pub const EXECUTED_BY_THE_SECOND_RULE: [u64; 12] = [5, 5, 1, 0, 4, 4, 5, 2, 2, 5, 4, 3];

@@ -1,0 +1,139 @@
+//! Whole runs, from the bytes of a batch to those of its report, whose jobs workers run.
+
+ghost use Rattle.std.specs.Prelude.{◌≤◌};
+ghost use Rattle.vcode_base.specs.declared.limits.TheConstants.{MOST_WORKERS};
+
+use crate::fronts::batches::{SECOND_RULE, twelve_jobs_by};
+use crate::fronts::calls::Calls;
+use crate::fronts::machines::REGION;
+use crate::fronts::meeting::Meeting;
+use batch_front::{Device, FrontFault, Gate, NoGate, Options, Status, parse_schedule, run};
+use std::alloc::Global;
+use std::process::Abort;
+use std::sync::Wait;
+use std::test::Fail;
+use std::thread::Threads;
+use test_support::{REPORT_ON_TWELVE, TWELVE_JOBS, TWO_JOBS};
+use vcode_base::limits::MOST_WORKERS;
+
+const REPORT_ON_TWO: &[u8] = b"JOB 1 one RETURNED\nINT (7)\nUSED 2 instructions 1 words\n\
+    JOB 2 two RETURNED\nINT (3)\nUSED 4 instructions 3 words\nEND 2 jobs 0 refused\n";
+
+const REPORT_BY_THE_SECOND_RULE: &[u8] = b"JOB 1 t RETURNED\nINT (6)\nUSED 5 instructions 4 words\n\
+    JOB 2 t RETURNED\nINT (6)\nUSED 5 instructions 4 words\n\
+    JOB 3 t RETURNED\nUSED 1 instructions 0 words\nJOB 4 t BUDGET\nUSED 0 instructions 0 words\n\
+    JOB 5 t RETURNED\nINT (1 2 3)\nINT (1 2 3)\nINT (1 2 3)\nUSED 4 instructions 3 words\n\
+    JOB 6 t RETURNED\nINT (2 4 6)\nUSED 4 instructions 3 words\n\
+    JOB 7 t RETURNED\nINT (3)\nINT (1)\nINT (2)\nUSED 5 instructions 3 words\n\
+    JOB 8 t MEMORY line 74 M3 CALLS\nUSED 2 instructions 0 words\n\
+    JOB 9 t FAULT line 84 F4 ZERO_DIVISOR\nUSED 2 instructions 2 words\n\
+    JOB 10 t RETURNED\nINT (0 1 0 3 7)\nUSED 5 instructions 8 words\n\
+    JOB 11 t FAULT line 107 F7 INDEX_TWICE\nUSED 4 instructions 5 words\n\
+    JOB 12 t MEMORY line 118 M1 WORDS\nUSED 3 instructions 2 words\nEND 12 jobs 0 refused\n";
+
+/// The answer of a run, and what was written.
+fn ending<H, G>(
+    rt: &H,
+    alloc: Global,
+    batch: &[u8],
+    options: &Options,
+    gate: &G,
+) -> (Result<Status, FrontFault>, Vec<u8>)
+where
+    H: Threads + Wait + Sync,
+    G: Gate + Sync,
+{
+    let mut reader = Device::new(batch);
+    let mut writer = Device::new(Vec::new(alloc));
+    let outcome = run(rt, alloc, &mut reader, &mut writer, options, gate);
+    (outcome, writer.into_inner())
+}
+
+/// The options of a run by `workers` workers, without a schedule.
+fn options_of(workers: u32) -> Options
+    requires { (1 ≤ workers) × (workers ≤ MOST_WORKERS) }
+{
+    Options {
+        region: REGION as u32,
+        workers,
+        schedule: None,
+    }
+}
+
+#[test]
+fn two_workers_compute_at_once(rt: HostRuntime) {
+    let gate = Meeting::new(&rt);
+    let (outcome, report) = ending(&rt, rt.alloc(), TWO_JOBS, &options_of(2), &gate);
+    assert!(rt; gate.have_met());
+    assert_eq!(rt; gate.calls(), 6);
+    assert_eq!(rt; outcome, Ok(Status::AllReturned));
+    assert_eq!(rt; report.as_slice(), REPORT_ON_TWO);
+}
+
+/// Jobs of which some don't return, run so, have this report.
+fn reports<H, G>(rt: &H, alloc: Global, batch: &str, options: &Options, gate: &G, wanted: &[u8])
+where
+    H: Abort + Threads + Wait + Sync,
+    G: Gate + Sync,
+{
+    let (outcome, report) = ending(rt, alloc, batch.as_bytes(), options, gate);
+    assert_eq!(rt; outcome, Ok(Status::SomeNot), "{options:?}");
+    assert_eq!(rt; report.as_slice(), wanted, "{options:?}");
+}
+
+#[test]
+fn each_number_of_workers_gives_the_same_report(rt: HostRuntime) {
+    for workers in 1..MOST_WORKERS as u32 + 1 {
+        let options = options_of(workers);
+        reports(
+            &rt,
+            rt.alloc(),
+            TWELVE_JOBS,
+            &options,
+            &NoGate,
+            REPORT_ON_TWELVE,
+        );
+    }
+}
+
+#[test]
+fn the_second_rule_has_its_report(rt: HostRuntime) -> Result<(), Fail> {
+    let batch = twelve_jobs_by(rt.alloc(), SECOND_RULE)?;
+    let wanted = REPORT_BY_THE_SECOND_RULE;
+    for workers in [1, 2, 16] {
+        let options = options_of(workers);
+        reports(&rt, rt.alloc(), &batch, &options, &NoGate, wanted);
+    }
+    Ok(())
+}
+
+/// How a batch is run that has this schedule.
+fn options_by(alloc: Global, list: &str) -> Result<Options, Fail> {
+    let Ok(schedule) = parse_schedule(alloc, list) else {
+        return Err(Fail::from("this is no schedule"));
+    };
+    Ok(Options {
+        region: REGION as u32,
+        workers: MOST_WORKERS as u32,
+        schedule: Some(schedule),
+    })
+}
+
+#[test]
+fn each_schedule_gives_the_same_report(rt: HostRuntime) -> Result<(), Fail> {
+    let gate = Calls::new();
+    for list in ["1,2,3", "b5,1,f5", "12,11,10"] {
+        let options = options_by(rt.alloc(), list)?;
+        reports(
+            &rt,
+            rt.alloc(),
+            TWELVE_JOBS,
+            &options,
+            &gate,
+            REPORT_ON_TWELVE,
+        );
+    }
+    // No worker has taken a step.
+    assert_eq!(rt; gate.count(), 0);
+    Ok(())
+}
