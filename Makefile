@@ -14,20 +14,22 @@
 # make test    runs all tests, tables and examples without proving anything; with WITHIN=180 as far as they come in 180 s
 # make gate    the gate: every proof from nothing, the wrong bodies to be refused, all tests, tables and examples
 # make install PREFIX=..   installs what was built, the man pages, the pages and the examples; /usr/local without PREFIX
+# make uninstall PREFIX=..   removes what make install has installed there
 # make dist LOG=FILE   packs the same into bin/vjobs-COMMIT.tar.gz; FILE is the output of make gate on this commit
+# make dist-same LOG=FILE TARBALL=FILE   compares a tarball with what make dist would pack, file by file
 # make names   checks that every name exists which a page, a comment or a wrong body uses, and what pages say of all contracts
 # make check CRATE=name   proves one crate and runs its tests
 # make fast CRATE=name   builds a program unproved and optimised, at bin/unproved/name, to measure a form before its proof
 # make bench   times reading, the steps of jobs, workers, the instructions beside plain C, the memory, and the verifier; no test
 # make soak    runs batches on 1 to 16 workers for an hour, and stops at the first report that differs; not in the gate
 # make models  compares the programs with a second writing of the rules, in Python, on random cases, and those of make packing
-#              and make kinds on files of strangers and on the codes of all examples; not in the gate
+#              and make kinds on files and names of strangers and on the codes of all examples; not in the gate
 # make hostile MINUTES=60   runs batches that were changed at random for so many minutes, and compares each report with the
 #              second writing, its memory with the sum in docs/OPERATING.md, and its time with its limits; not in the gate
 # make clean   removes bin, and what the crates keep of their proofs and builds
 
-.PHONY: all try run packing kinds why page-test embed fast cluster cluster-hard test gate install dist names check bench soak
-.PHONY: hostile models clean
+.PHONY: all try run packing kinds why page-test embed fast cluster cluster-hard test gate install uninstall dist
+.PHONY: dist-same names check bench soak hostile models clean
 
 PREFIX = /usr/local
 MINUTES = 60
@@ -36,6 +38,7 @@ all:
 	.ci/prove vjobs
 	mkdir -p bin
 	cp crates/vjobs/out/vjobs bin/vjobs
+	.ci/stamp proved bin/vjobs
 
 try:
 	@echo "Built without proofs: nothing that this program does is proved."
@@ -44,23 +47,24 @@ try:
 run: all
 	bin/vjobs examples/sum_of_two.vcode
 
-# Without an argument vjobs-split ends with 2.
 packing:
-	.ci/prove vjobs_pack
-	cd crates/vjobs_split && { rt run > out.log 2>&1 || test -x out/vjobs_split || { cat out.log; exit 1; }; }; rm -f out.log
+	.ci/prove vjobs_pack vjobs_split
 	mkdir -p bin
 	cp crates/vjobs_pack/out/vjobs_pack bin/vjobs-pack
 	cp crates/vjobs_split/out/vjobs_split bin/vjobs-split
+	.ci/stamp proved bin/vjobs-pack bin/vjobs-split
 
 kinds:
 	.ci/prove vjobs_kinds
 	mkdir -p bin
 	cp crates/vjobs_kinds/out/vjobs_kinds bin/vjobs-kinds
+	.ci/stamp proved bin/vjobs-kinds
 
 why:
 	.ci/prove vjobs_why
 	mkdir -p bin
 	cp crates/vjobs_why/out/vjobs_why bin/vjobs-why
+	.ci/stamp proved bin/vjobs-why
 
 page-test:
 	.ci/page
@@ -68,6 +72,7 @@ page-test:
 embed:
 	.ci/prove vjobs_embed
 	.ci/embed
+	if [ -f bin/libvjobs.so ]; then .ci/stamp proved bin/libvjobs.so; fi
 
 cluster:
 	.ci/cluster
@@ -84,8 +89,14 @@ gate:
 install: bin/vjobs
 	.ci/install "$(DESTDIR)$(PREFIX)"
 
+uninstall:
+	.ci/uninstall "$(DESTDIR)$(PREFIX)"
+
 dist: bin/vjobs
 	.ci/dist "$(LOG)"
+
+dist-same: bin/vjobs
+	.ci/dist "$(LOG)" "$(TARBALL)"
 
 bin/vjobs:
 	$(MAKE) all
@@ -100,6 +111,7 @@ check:
 fast:
 	mkdir -p bin/unproved
 	.ci/fast $(CRATE) bin/unproved/$(CRATE)
+	.ci/stamp unproved bin/unproved/$(CRATE)
 
 bench: all
 	python3 bench/reading.py
@@ -122,6 +134,7 @@ models: all packing kinds
 	python3 models/examples.py
 	python3 models/packing.py bin/vjobs bin/vjobs-pack bin/vjobs-split
 	python3 models/signatures.py bin/vjobs-kinds
+	python3 models/names.py bin/vjobs bin/vjobs-kinds
 	python3 models/compare.py
 
 clean:

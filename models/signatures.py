@@ -2,10 +2,21 @@
 """Compares the signatures that vjobs-kinds finds with the written ones: python3 models/signatures.py VJOBS_KINDS
 
 It takes the code of each verified job of the examples and of the tables of `worked_batches`. The code of each other job
-has to be refused, or what is found has to verify it."""
+has to be refused, or what is found has to verify it.
+
+Then it takes codes of many functions that call each other, and wide stacks. What is found has to verify them. Between
+two sizes, the instructions of the processor may grow at most as the bytes of the code and the signatures do to the
+power 1.3; `valgrind` counts them, and if it is missing that is left out. Wide stacks have to fit in 200 MB of address
+space, and a stack that is too wide is refused at its line."""
+import math
+import re
+import resource
+import shutil
 import subprocess
 import sys
+from functools import partial
 
+import call_codes
 import kinds
 from batches import BatchRefused, jobs_of
 from faults import Fault
@@ -13,6 +24,13 @@ from hostile import TOP, batches_of
 from reader import read
 
 DATA = TOP / "crates" / "worked_batches" / "data"
+MOST_POWER = 1.3
+# The numbers of functions of the two codes whose costs are compared.
+FEW, MANY = 60, 480
+# Address space in which a code with a wide stack has to be done.
+MOST_BYTES = 200_000_000
+# The copies with which a stack of 4,096 entries has as many as it may have at most, and the line of the last copy.
+MOST_COPIES, LAST_LINE = 16_383, 16_397
 
 
 def jobs():
@@ -51,9 +69,72 @@ def difference(program, signatures, code):
     return None
 
 
+def find(program, code, before=(), options=(), **how):
+    return subprocess.run([*before, program, *options, "-"], input=code, capture_output=True, **how)
+
+
+def cost(program, code):
+    """How many instructions a run takes, and how many bytes it reads and prints."""
+    ran = find(program, code, ["valgrind", "--tool=callgrind", "--callgrind-out-file=/dev/null"])
+    return int(re.search(rb"Collected : (\d+)", ran.stderr)[1]), len(code) + len(ran.stdout)
+
+
+def power(program, shape):
+    """The power of the bytes with which the cost of codes of this shape grows."""
+    (few, few_bytes), (many, many_bytes) = (cost(program, shape(size)) for size in (FEW, MANY))
+    return math.log(many / few) / math.log(many_bytes / few_bytes)
+
+
+def verifies(found, code):
+    return found.returncode == 0 and written(found.stdout, code) is not None
+
+
+def wrong_calls(program):
+    """What is wrong with the answers for functions that call each other, and with their cost."""
+    counted = shutil.which("valgrind")
+    if not counted:
+        print("signatures: skipped: no valgrind, which counts instructions")
+    for name, shape in call_codes.SHAPES.items():
+        code = shape(MANY)
+        found = find(program, code)
+        if name in call_codes.WITHOUT:
+            if found.returncode != 1 or call_codes.WITHOUT[name] not in found.stderr:
+                yield f"{name}: {found.stderr.decode()}"
+        elif not verifies(found, code):
+            yield f"{name}: not verified"
+        grows = power(program, shape) if counted else 0
+        if grows > MOST_POWER:
+            yield f"{name}: the cost grows as the power {grows:.2f}"
+
+
+def wrong_stacks(program):
+    """What is wrong with the answers for wide stacks."""
+    bounded = partial(resource.setrlimit, resource.RLIMIT_AS, (MOST_BYTES, MOST_BYTES))
+    for name, code in call_codes.stacks():
+        found = find(program, code, preexec_fn=bounded)
+        if found.returncode or found.stdout != b"MAIN () -> ()\n":
+            yield f"{name}: exit {found.returncode}: {found.stderr.decode()}"
+    widest, wider = (find(program, call_codes.wide(copies)) for copies in (MOST_COPIES, MOST_COPIES + 1))
+    if widest.returncode:
+        yield f"the widest stack: {widest.stderr.decode()}"
+    if wider.stderr != b"-:%d: MAIN has too many entries on its stack\n" % (LAST_LINE + 1):
+        yield f"a wider stack: exit {wider.returncode}: {wider.stderr.decode()}"
+
+
+def wrong_bounds(program):
+    """What is wrong with the bounds of command lines for a code of 35 bytes with at most 2 entries on its stack."""
+    code, found = b"FUNC MAIN\nCONST INT 1\nCOPY 1 0\nRET\n", b"MAIN () -> (INT INT)\n"
+    few_bytes, few_entries = b"-: more than 34 bytes\n", b"-:3: MAIN has too many entries on its stack\n"
+    for option, number, refused in (("bytes", 35, b""), ("bytes", 34, few_bytes),
+                                    ("entries", 2, b""), ("entries", 1, few_entries)):
+        ran = find(program, code, options=[f"--most-{option}", str(number)])
+        if (ran.returncode, ran.stdout, ran.stderr) != (bool(refused), b"" if refused else found, refused):
+            yield f"{number} {option}: exit {ran.returncode}: {ran.stderr.decode()}"
+
+
 def main(program):
     count = verified = 0
-    differing = []
+    differing = [*wrong_calls(program), *wrong_stacks(program), *wrong_bounds(program)]
     for name, signatures, code in jobs():
         count += 1
         verified += written(signatures, code) is not None

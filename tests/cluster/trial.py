@@ -347,7 +347,7 @@ def slow_on(trial: Trial, run: Path, node: str) -> str:
     for attempt in trying_on(run, node):
         group, _, number = batch_of(attempt).rpartition("-")
         manifest = run / "rounds" / "1" / "packed" / group / f"batch-{number}.manifest"
-        files = [int(entry.split(b" ", 3)[3]) for entry in manifest.read_bytes().split(b"\0") if entry]
+        files = [int(entry.split(b" ", 3)[3]) for entry in manifest.read_bytes().split(b"\0")[1:] if entry]
         if any(trial.found[file - 1].name.startswith(b"slow/") for file in files):
             return attempt
     return ""

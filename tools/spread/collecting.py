@@ -14,6 +14,8 @@ from .folder import Folder, Settings, Stopped
 ANSWERED, LEFT_OUT, TIME, MEMORY, OUTPUT, LOST = "ANSWERED", "LEFT_OUT", "TIME", "MEMORY", "OUTPUT", "LOST"
 NOT_RUN = "NOT_RUN"
 ENDS = (ANSWERED, LEFT_OUT, TIME, MEMORY, OUTPUT, LOST, NOT_RUN)
+# What vjobs-split says of a report that breaks off or is none of its batch.
+OF_REPORT = b"vjobs-split: the report "
 # How much of a report's end, and of the texts of errors, is read.
 TAIL = 4096
 
@@ -122,15 +124,14 @@ class Collector:
         """Cuts a report. Each file's part is there whole or not at all, and stays if it is there already."""
         room = self.folder.path / "cut"
         shutil.rmtree(room, ignore_errors=True)
-        room.mkdir()
         with open(it.report, "rb") as report:
-            words = [str(self.split), os.path.relpath(manifest, room)]
-            ran = subprocess.run(words, cwd=room, stdin=report, capture_output=True, check=False)
-        if ran.returncode == 1:
+            words = [str(self.split), "--out", room.name, os.path.relpath(manifest, self.folder.path)]
+            ran = subprocess.run(words, cwd=self.folder.path, stdin=report, capture_output=True, check=False)
+        if ran.returncode == 1 and all(line.startswith(OF_REPORT) for line in ran.stderr.splitlines()):
             return False
         if ran.returncode:
             raise Stopped(f"vjobs-split ended with {ran.returncode}: {ran.stderr.decode(errors='replace').strip()}")
-        for number in files:
+        for place, number in enumerate(files, 1):
             if not is_whole(self.folder.report(number), 1):
-                (room / f"{number:06}.report").rename(self.folder.report(number))
+                (room / f"{place}.report").rename(self.folder.report(number))
         return True

@@ -139,10 +139,15 @@ def batches_of(group: Path) -> dict[str, list[int]]:
     """The batches of a group by their numbers there, each with the numbers of its files in the order of their places."""
     found = {}
     for manifest in group.glob("batch-*.manifest"):
-        entries = [entry for entry in manifest.read_bytes().split(b"\0") if entry]
         number = manifest.name[len("batch-") : -len(".manifest")]
-        found[number] = [int(entry.split(b" ", 3)[3]) for entry in entries]
+        found[number] = files_of(manifest)
     return found
+
+
+def files_of(manifest: Path) -> list[int]:
+    """The numbers of the files of a manifest, in the order of their places. The first entry is that of the batch."""
+    entries = [entry for entry in manifest.read_bytes().split(b"\0") if entry]
+    return [int(entry.split(b" ", 3)[3]) for entry in entries[1:]]
 
 
 def batches_in(round_folder: Path) -> dict[str, list[int]]:

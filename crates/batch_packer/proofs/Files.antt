@@ -12,7 +12,7 @@ use Rattle.batch_reader.specs.Batches.{JobText}
 use Rattle.batch_reader.specs.Fates.{AreEntries, IsBatch, IsFate, JobEntry, signed_program_of}
 use Rattle.batch_packer.specs.declared.fault.PackFault.{PackFault}
 use Rattle.batch_packer.specs.declared.fault.PackFault.TheVariants.{Memory, Batch, NoJob, ManyJobs, Job}
-use Rattle.batch_packer.specs.Packs.{HoldsJob, IsRunnable, RefusesFile, RefusesJobs}
+use Rattle.batch_packer.specs.Packs.{HoldsJob, HoldsNamed, IsNamedRunnable, IsRunnable, RefusesFile, RefusesJobs}
 
 -- no entry, no job
 pub no_entries : (region : ℕ) (jobs : List JobText) (entries : List JobEntry) → length entries ≡ 0
@@ -36,6 +36,7 @@ many_entries region (job ∷ second ∷ jobs) entries many are = (job, second, j
 pub record OnlyEntry (region : ℕ) (jobs : List JobText) (entry : JobEntry) : Type 0 where
   pub job : JobText
   pub only : jobs ≡ job ∷ []
+  pub name : entry.name ≡ job.head.name
   pub fate : IsFate region job entry.fate
 
 pub only_entry : (region : ℕ) (jobs : List JobText) (entries : List JobEntry) (any : JobEntry) → length entries ≡ 1
@@ -43,22 +44,27 @@ pub only_entry : (region : ℕ) (jobs : List JobText) (entries : List JobEntry) 
 only_entry region [] [] any one are = absurd (omega (arith, one))
 only_entry region [] (entry ∷ entries) any one are = absurd are
 only_entry region (job ∷ jobs) [] any one are = absurd are
-only_entry region (job ∷ []) (entry ∷ entries) any one are = record { job = job; only = refl; fate = are.0.fate }
+only_entry region (job ∷ []) (entry ∷ entries) any one are = record { job = job; only = refl; name = are.0.name; fate = are.0.fate }
 only_entry region (job ∷ second ∷ jobs) (entry ∷ []) any one are = absurd are.1
 only_entry region (job ∷ second ∷ jobs) (entry ∷ other ∷ entries) any one are = absurd (omega (arith, one))
 
-pub ready_entry : (region : ℕ) (jobs : List JobText) (entries all : List JobEntry) (any : JobEntry) (ready : JobValue)
-    → all ≡ entries → length entries ≡ 1 → AreEntries region jobs entries → (get_or all 0 any).fate ≡ Ready ready
-    → IsRunnable region jobs
-ready_entry region jobs entries all any ready same one are is =
+pub ready_entry : (region : ℕ) (jobs : List JobText) (entries all : List JobEntry) (any entry : JobEntry)
+    (ready : JobValue) (name : List ℕ)
+    → all ≡ entries → length entries ≡ 1 → AreEntries region jobs entries → entry ≡ get_or all 0 any
+    → entry.fate ≡ Ready ready → name ≡ entry.name → IsNamedRunnable region jobs name
+ready_entry region jobs entries all any entry ready name same one are here is called =
     let o = only_entry region jobs entries any one are in
+    let found : entry ≡ get_or entries 0 any = here ∙ ap (λ (es : List JobEntry). get_or es 0 any) same in
     let fate : IsFate region o.job (Ready ready) = subst (λ (f : Fate JobValue). IsFate region o.job f)
-    (ap (λ (es : List JobEntry). (get_or es 0 any).fate) (sym same) ∙ is) o.fate in
+    (ap (λ (e : JobEntry). e.fate) (sym found) ∙ is) o.fate in
     record {
-      job = o.job;
-      only = o.only;
-      program = (fate.signatures, ready.verified.program);
-      runs = fate.program;
+      runnable = record {
+        job = o.job;
+        only = o.only;
+        program = (fate.signatures, ready.verified.program);
+        runs = fate.program;
+      };
+      name_is = called ∙ ap (λ (e : JobEntry). e.name) found ∙ o.name;
     }
 
 pub refused_entry : (region : ℕ) (jobs : List JobText) (entries all : List JobEntry) (any : JobEntry) (line : ℕ)
@@ -73,14 +79,17 @@ refused_entry region jobs entries all any line fault same one are is =
 
 -- ---- the answer to a file
 
-holds_entries : (region other : ℕ) (bytes : List ℕ) (rule : Rule) (entries : List JobEntry) → other ≡ region
+holds_entries : (region other : ℕ) (bytes : List ℕ) (rule : Rule) (entries : List JobEntry) (name : List ℕ)
+    → other ≡ region
     → IsBatch other bytes (Jobs rule entries)
-    → ((r : ℕ) (jobs : List JobText) → AreEntries r jobs entries → IsRunnable r jobs) → HoldsJob region bytes rule
-holds_entries region other bytes rule entries same batch runs = record {
-  jobs = batch.0;
-  is_batch = batch.1;
-  runnable = subst (λ (r : ℕ). IsRunnable r batch.0) same (runs other batch.0 batch.2);
-}
+    → ((r : ℕ) (jobs : List JobText) → AreEntries r jobs entries → IsNamedRunnable r jobs name)
+    → HoldsNamed region bytes rule name
+holds_entries region other bytes rule entries name same batch runs =
+    let named = subst (λ (r : ℕ). IsNamedRunnable r batch.0 name) same (runs other batch.0 batch.2) in
+    record {
+      holds = record { jobs = batch.0; is_batch = batch.1; runnable = named.runnable };
+      name_is = named.name_is;
+    }
 
 refuses_entries : (region other : ℕ) (bytes : List ℕ) (rule : Rule) (entries : List JobEntry) (fault : PackFault)
     → other ≡ region → IsBatch other bytes (Jobs rule entries)
@@ -97,11 +106,12 @@ refuses_entries region other bytes rule entries (Batch line fault) same batch re
 refuses_entries region other bytes rule entries Memory same batch refuses = tt
 
 pub holds_job : (region other : ℕ) (bytes : List ℕ) (batch : Batched (List JobEntry)) (rule : Rule)
-    (entries : List JobEntry)
+    (entries : List JobEntry) (name : List ℕ)
     → other ≡ region → batch ≡ Jobs rule entries → IsBatch other bytes batch
-    → ((r : ℕ) (jobs : List JobText) → AreEntries r jobs entries → IsRunnable r jobs) → HoldsJob region bytes rule
-holds_job region other bytes batch rule entries same is answer runs =
-    holds_entries region other bytes rule entries same
+    → ((r : ℕ) (jobs : List JobText) → AreEntries r jobs entries → IsNamedRunnable r jobs name)
+    → HoldsNamed region bytes rule name
+holds_job region other bytes batch rule entries name same is answer runs =
+    holds_entries region other bytes rule entries name same
     (subst (λ (b : Batched (List JobEntry)). IsBatch other bytes b) is answer) runs
 
 pub refuses_jobs : (region other : ℕ) (bytes : List ℕ) (batch : Batched (List JobEntry)) (rule : Rule)

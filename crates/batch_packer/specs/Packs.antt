@@ -16,6 +16,7 @@ use Rattle.batch_packer.specs.Joins.{IsOneJob, OneJob, joined}
 -- a file as it goes into a batch
 pub record FileState : Type 0 where
   pub rule : Rule
+  pub name : List ℕ
   pub text : List ℕ
 
 -- these are one job, which may run in a region of this size
@@ -24,6 +25,11 @@ pub record IsRunnable (region : ℕ) (jobs : List JobText) : Type 0 where
   pub only : jobs ≡ job ∷ []
   pub program : SignedProgram
   pub runs : signed_program_of region job ≡ Ok program
+
+-- the same, and this is its name
+pub record IsNamedRunnable (region : ℕ) (jobs : List JobText) (name : List ℕ) : Type 0 where
+  pub runnable : IsRunnable region jobs
+  pub name_is : name ≡ runnable.job.head.name
 
 -- these jobs are refused as a file
 abbrev pub RefusesJobs : ℕ → List JobText → PackFault → Type 0
@@ -39,6 +45,11 @@ pub record HoldsJob (region : ℕ) (bytes : List ℕ) (rule : Rule) : Type 0 whe
   pub jobs : List JobText
   pub is_batch : jobs_of bytes ≡ Ok (rule, jobs)
   pub runnable : IsRunnable region jobs
+
+-- the same, and this is the name of that job
+pub record HoldsNamed (region : ℕ) (bytes : List ℕ) (rule : Rule) (name : List ℕ) : Type 0 where
+  pub holds : HoldsJob region bytes rule
+  pub name_is : name ≡ holds.runnable.job.head.name
 
 -- the file is refused: as a batch at this line, or for its jobs; or memory was refused
 abbrev pub RefusesFile : ℕ → List ℕ → PackFault → Type 0

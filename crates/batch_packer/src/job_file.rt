@@ -4,7 +4,7 @@ ghost use Rattle.std.specs.Prelude.{◌≡◌, ℕ, List, MatchResult};
 ghost use Rattle.batch_reader.specs.Batches.{JobText};
 ghost use Rattle.batch_reader.specs.Fates.{AreEntries};
 ghost use Rattle.batch_packer.specs.Joins.{text_of};
-ghost use Rattle.batch_packer.specs.Packs.{HoldsJob, IsRunnable, RefusesFile, RefusesJobs};
+ghost use Rattle.batch_packer.specs.Packs.{HoldsNamed, IsNamedRunnable, RefusesFile, RefusesJobs};
 
 use crate::fault::PackFault;
 use crate::text::text_of;
@@ -17,6 +17,7 @@ use vcode_base::Rule;
 #[derive(Drop)]
 pub struct JobFile<A: Allocator> {
     rule: Rule,
+    name: Vec<u8, A>,
     text: Vec<u8, A>,
 }
 
@@ -25,7 +26,7 @@ impl<A: Allocator> Model for JobFile<A> {
 
     ghost Value = { FileState };
 
-    ghost view = { λ f. record { rule = f.rule; text = f.text.items } };
+    ghost view = { λ f. record { rule = f.rule; name = f.name.items; text = f.text.items } };
 }
 
 impl<A: Allocator> JobFile<A> {
@@ -34,6 +35,13 @@ impl<A: Allocator> JobFile<A> {
         ensures { result ≡ self.now.rule }
     {
         self.rule
+    }
+
+    /// The name of its job.
+    pub fn name(&self) -> &[u8]
+        ensures { result.now ≡ self.now.name }
+    {
+        &self.name
     }
 
     /// Its lines as they go into a batch.
@@ -55,35 +63,53 @@ pub fn one_job<A: Allocator + Copy>(
     region: usize,
 ) -> Result<JobFile<A>, PackFault>
     ensures { MatchResult result
-        (λ file. HoldsJob region bytes.now file.rule × (file.text ≡ text_of file.rule bytes.now))
+        (λ file. HoldsNamed region bytes.now file.rule file.name × (file.text ≡ text_of file.rule bytes.now))
         (λ fault. RefusesFile region bytes.now fault) }
 {
-    let rule = rule_of(alloc, bytes, region)?;
-    let text = text_of(alloc, rule, bytes)?;
-    Ok(JobFile { rule, text })
+    let head = head_of(alloc, bytes, region)?;
+    let text = text_of(alloc, head.rule, bytes)?;
+    Ok(JobFile {
+        rule: head.rule,
+        name: head.name,
+        text,
+    })
 }
 
-/// The rule of a file of exactly one job, which may run.
-fn rule_of<A: Allocator + Copy>(alloc: A, bytes: &[u8], region: usize) -> Result<Rule, PackFault>
+/// The rule of a file, and the name of its job.
+#[derive(Drop)]
+struct FileHead<A: Allocator> {
+    rule: Rule,
+    name: Vec<u8, A>,
+}
+
+/// The rule of a file of exactly one job, which may run, and the name of that job.
+fn head_of<A: Allocator + Copy>(
+    alloc: A,
+    bytes: &[u8],
+    region: usize,
+) -> Result<FileHead<A>, PackFault>
     ensures { MatchResult result
-        (λ rule. HoldsJob region bytes.now rule)
+        (λ head. HoldsNamed region bytes.now head.rule head.name.items)
         (λ fault. RefusesFile region bytes.now fault) }
 {
     let mut feed = Feed::new(alloc, region)?;
     feed.feed(bytes)?;
     match feed.end()? {
         Batch::Refused(line, fault) => Err(PackFault::Batch(line, fault)),
-        Batch::Jobs(rule, entries) => match check_entries(&entries) {
-            Ok(()) => Ok(rule),
+        Batch::Jobs(rule, entries) => match only_name(&entries) {
+            Ok(name) => Ok(FileHead {
+                rule,
+                name: Vec::from_slice(alloc, name)?,
+            }),
             Err(fault) => Err(fault),
         },
     }
 }
 
-/// Whether these are one job, which may run.
-fn check_entries<A: Allocator>(entries: &JobEntries<A>) -> Result<(), PackFault>
+/// The name of the job, if these are one job, which may run.
+fn only_name<A: Allocator>(entries: &JobEntries<A>) -> Result<&[u8], PackFault>
     ensures { (region : ℕ) (jobs : List JobText) → AreEntries region jobs entries.now
-        → MatchResult result (λ _. IsRunnable region jobs) (λ fault. RefusesJobs region jobs fault) }
+        → MatchResult result (λ name. IsNamedRunnable region jobs name.now) (λ fault. RefusesJobs region jobs fault) }
 {
     if entries.len() == 0 {
         return Err(PackFault::NoJob);
@@ -91,8 +117,9 @@ fn check_entries<A: Allocator>(entries: &JobEntries<A>) -> Result<(), PackFault>
     if entries.len() > 1 {
         return Err(PackFault::ManyJobs);
     }
-    match &entries.as_slice()[0].fate {
-        Fate::Ready(_) => Ok(()),
+    let entry = &entries.as_slice()[0];
+    match &entry.fate {
+        Fate::Ready(_) => Ok(entry.name.as_slice()),
         Fate::Refused(line, fault) => Err(PackFault::Job(*line, *fault)),
     }
 }

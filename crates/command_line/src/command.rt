@@ -4,6 +4,9 @@ use clap::{Arg, Command, value_parser};
 use std::alloc::Global;
 use vcode_base::limits::{MOST_WORDS, MOST_WORKERS};
 
+/// The name of the program in its texts, by whatever name it was called.
+const NAME: &str = "vjobs";
+
 /// The words of a region if no number is given: the most.
 pub(crate) const MOST_REGION: u32 = MOST_WORDS as u32;
 
@@ -69,7 +72,8 @@ fn file_argument<'a>(alloc: Global) -> Arg<'a> {
 /// The command.
 pub(crate) fn command<'a>(alloc: Global) -> Result<Command<'a>, clap::Error> {
     Ok(
-        Command::new(alloc, "vjobs")
+        Command::new(alloc, NAME)
+            .bin_name(NAME)?
             .about("Runs a batch of VCODE jobs and prints a report")
             .version("0.1.0")
             .after_help(AFTER_HELP)

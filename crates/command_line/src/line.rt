@@ -1,8 +1,6 @@
 //! What a command line asks for.
 
-ghost use Rattle.std.specs.Prelude.{◌≡◌, ◌≢◌, IfOk};
-ghost use Rattle.std.specs.declared.io.ErrorKind.TheVariants.{InvalidData};
-ghost use Rattle.command_line.specs.declared.fault.LineFault.TheVariants.{Memory};
+ghost use Rattle.std.specs.Prelude.{◌≡◌, IfOk};
 ghost use Rattle.command_line.specs.Lines.{LineFits};
 
 use crate::command::{DEFAULT_WORKERS, MOST_REGION, MOST_THREADS, command};
@@ -10,8 +8,11 @@ use crate::fault::LineFault;
 use batch_front::{Options, parse_schedule};
 use clap::ArgMatches;
 use clap::error::ErrorKind;
-use std::alloc::Global;
-use std::io::ErrorKind as IoErrorKind;
+use shown_text::{ArgumentFault, shown};
+use std::alloc::{AllocError, Global};
+
+/// What is printed if clap refuses words and doesn't refuse them as they are shown. No line is known that gives this.
+const REFUSED: &str = "error: the command line is refused\n\nFor more information, try '--help'.\n";
 
 /// What a command line asks for.
 #[derive(Drop)]
@@ -42,18 +43,60 @@ fn run_of(alloc: Global, matches: &ArgMatches<'_>) -> Result<Line, LineFault>
     Ok(Line::Run(options, file))
 }
 
-/// What clap answered in place of matches.
-fn line_of(alloc: Global, error: &clap::Error) -> Result<Line, LineFault>
+/// The words as they may be printed.
+fn shown_words(alloc: Global, words: &[&str]) -> Result<Vec<String>, AllocError> {
+    let mut texts = Vec::new(alloc);
+    for word in words {
+        texts.push(shown(alloc, word.as_bytes())?)?;
+    }
+    Ok(texts)
+}
+
+/// What clap says of words that are shown: why it refuses them.
+fn refusal_of(alloc: Global, texts: &[String]) -> Result<String, clap::Error> {
+    let command = command(alloc)?;
+    match command.try_get_matches_from(texts) {
+        Ok(_matches) => Ok(String::from_str(alloc, REFUSED)?),
+        Err(error) => text_of(alloc, error),
+    }
+}
+
+/// The text of an error by which clap refuses a line.
+fn text_of(alloc: Global, error: clap::Error) -> Result<String, clap::Error> {
+    if error.kind() == ErrorKind::OutOfMemory {
+        return Err(error);
+    }
+    if error.use_stderr() {
+        Ok(error.to_string(alloc)?)
+    } else {
+        Ok(String::from_str(alloc, REFUSED)?)
+    }
+}
+
+/// Why a line is refused. clap quotes words as they are, so it reads them once more, each as it may be printed.
+fn refusal(alloc: Global, words: &[&str]) -> LineFault {
+    let Ok(texts) = shown_words(alloc, words) else {
+        return LineFault::Memory;
+    };
+    match refusal_of(alloc, &texts) {
+        Ok(text) => LineFault::Usage(text),
+        Err(_) => LineFault::Memory,
+    }
+}
+
+/// What clap answered in place of matches of these words.
+fn line_of(alloc: Global, error: &clap::Error, words: &[&str]) -> Result<Line, LineFault>
     ensures { IfOk result LineFits }
 {
     if error.kind() == ErrorKind::OutOfMemory {
         return Err(LineFault::Memory);
     }
-    let text = error.to_string(alloc).map_err(|_| LineFault::Memory)?;
     if error.use_stderr() {
-        Err(LineFault::Usage(text))
-    } else {
-        Ok(Line::Help(text))
+        return Err(refusal(alloc, words));
+    }
+    match error.to_string(alloc) {
+        Ok(text) => Ok(Line::Help(text)),
+        Err(_) => Err(LineFault::Memory),
     }
 }
 
@@ -66,43 +109,45 @@ fn line_of(alloc: Global, error: &clap::Error) -> Result<Line, LineFault>
 ///
 /// # Errors
 ///
-/// [`LineFault::Usage`] if the line is refused, [`LineFault::BadSchedule`] if its list is no schedule, and
+/// [`LineFault::Usage`] if the line is refused, with a text in which each of its words is shown by
+/// [`shown_text::shown`]; [`LineFault::BadSchedule`] if its list is no schedule, and
 /// [`LineFault::Memory`] if a growth was refused.
 pub fn read_line(alloc: Global, words: &[&str]) -> Result<Line, LineFault>
     ensures { IfOk result LineFits }
 {
     let command = match command(alloc) {
         Ok(command) => command,
-        Err(error) => return line_of(alloc, &error),
+        Err(error) => return line_of(alloc, &error, words),
     };
     match command.try_get_matches_from(words) {
         Ok(matches) => run_of(alloc, &matches),
-        Err(error) => line_of(alloc, &error),
+        Err(error) => line_of(alloc, &error, words),
     }
 }
 
-/// Why a program's arguments give no words, if reading them gave an error of this kind: `InvalidData` says that one
-/// is not UTF-8, which is [`LineFault::Usage`]. For any other kind it is [`LineFault::Memory`].
-pub fn arguments_fault(alloc: Global, kind: IoErrorKind) -> LineFault
-    ensures memory { kind ≢ InvalidData → result ≡ Memory }
+/// Why a program has no words to read, if its arguments can't be had for this fault: [`LineFault::Usage`] with the
+/// argument that is no UTF-8, as it may be printed, or [`LineFault::Memory`].
+pub fn arguments_fault(alloc: Global, fault: &ArgumentFault) -> LineFault
+    ensures memory { fault.now ≡ ArgumentFault.Memory → result ≡ LineFault.Memory }
 {
-    match kind {
-        IoErrorKind::InvalidData => not_text(alloc),
-        _ => LineFault::Memory,
+    match fault {
+        ArgumentFault::Memory => LineFault::Memory,
+        ArgumentFault::NotText(..) => not_text(alloc, fault),
     }
 }
 
-/// That an argument is not UTF-8, as clap would say it.
-fn not_text(alloc: Global) -> LineFault {
-    let Ok(mut command) = command(alloc) else {
-        return LineFault::Memory;
-    };
-    let message = "invalid UTF-8 was detected in one or more arguments";
-    let Ok(error) = command.error(ErrorKind::ValueValidation, message) else {
-        return LineFault::Memory;
-    };
-    match error.to_string(alloc) {
+/// That an argument is no text, as clap would say it.
+fn not_text(alloc: Global, fault: &ArgumentFault) -> LineFault {
+    match not_text_refusal(alloc, fault) {
         Ok(text) => LineFault::Usage(text),
         Err(_) => LineFault::Memory,
     }
+}
+
+/// The same as a text.
+fn not_text_refusal(alloc: Global, fault: &ArgumentFault) -> Result<String, clap::Error> {
+    let message = format!(in alloc; "{fault}")?;
+    let mut command = command(alloc)?;
+    let error = command.error(ErrorKind::ValueValidation, message.as_str())?;
+    Ok(error.to_string(alloc)?)
 }

@@ -1,7 +1,8 @@
 //! Command lines, and the texts of what is wrong with one.
 use crate::{Line, LineFault, arguments_fault, read_line};
 use batch_front::{Options, ScheduleFault};
-use std::io::ErrorKind;
+use shown_text::ArgumentFault;
+use std::alloc::{AllocError, Global};
 use std::test::Fail;
 use vcode_base::limits::MOST_WORDS;
 
@@ -70,24 +71,111 @@ fn helps(rt: HostRuntime) {
 }
 
 #[test]
+fn names_itself_as_it_is_known(rt: HostRuntime) {
+    let line = read_line(rt.alloc(), &["a\u{1b}b", "--help"]);
+    assert!(rt;
+        matches!(&line, Ok(Line::Help(text)) if text.contains("Usage: vjobs ") && !text.contains('\u{1b}'))
+    );
+}
+
+#[test]
 fn tells_its_version(rt: HostRuntime) {
     let line = read_line(rt.alloc(), &["vjobs", "--version"]);
     assert!(rt; matches!(&line, Ok(Line::Help(text)) if text.as_str() == "vjobs 0.1.0\n"));
 }
 
+/// The text of a line that is refused, or nothing.
+fn refused(alloc: Global, words: &[&str]) -> Result<String, AllocError> {
+    match read_line(alloc, words) {
+        Err(LineFault::Usage(text)) => Ok(text),
+        _ => Ok(String::new(alloc)),
+    }
+}
+
 #[test]
-fn refuses_an_argument_that_is_no_text(rt: HostRuntime) {
-    let fault = arguments_fault(rt.alloc(), ErrorKind::InvalidData);
+fn shows_the_words_that_it_refuses(rt: HostRuntime) -> Result<(), Fail> {
+    let help = "\n\nFor more information, try '--help'.\n";
+    let usage = "\n\nUsage: vjobs [OPTIONS] <FILE>\n\nFor more information, try '--help'.\n";
+    let odd = "\u{1b}[2J\u{7}\nerror: x\u{202e}\\";
+    let shown = "\\u{1b}[2J\\u{7}\\nerror: x\\u{202e}\\\\";
+
+    let bad_value = format!(in rt.alloc(); "--region={odd}")?;
+    let text = refused(rt.alloc(), &["vjobs", bad_value.as_str(), "FILE"])?;
+    let wanted = format!(in rt.alloc();
+        "error: invalid value '{shown}' for '--region <N>': invalid digit found in string{help}"
+    )?;
+    assert_eq!(rt; text.as_str(), wanted.as_str());
+
+    let unknown = format!(in rt.alloc(); "--{odd}")?;
+    let text = refused(rt.alloc(), &["vjobs", unknown.as_str(), "FILE"])?;
+    let wanted = format!(in rt.alloc(); "error: unexpected argument '--{shown}' found")?;
+    assert!(rt; text.starts_with(wanted.as_str()), "{text}");
+    assert!(rt; text.ends_with(usage), "{text}");
+    assert!(rt; is_printed_as_it_is(&text), "{text}");
+
+    let text = refused(rt.alloc(), &["vjobs", "FILE", odd])?;
+    let wanted = format!(in rt.alloc(); "error: unexpected argument '{shown}' found{usage}")?;
+    assert_eq!(rt; text.as_str(), wanted.as_str());
+    Ok(())
+}
+
+/// Whether a text has no character of the odd words of these tests, but for the ends of its lines.
+fn is_printed_as_it_is(text: &String) -> bool {
+    !text.contains('\u{1b}') && !text.contains('\u{7}') && !text.contains('\u{202e}')
+}
+
+/// Whether a line is refused, by a text that has nothing odd.
+fn is_refused_as_shown(alloc: Global, words: &[&str]) -> Result<bool, AllocError> {
+    let text = refused(alloc, words)?;
+    let is_plain = !text.contains('\r') && !text.contains('\u{9b}') && is_printed_as_it_is(&text);
+    Ok(is_plain && text.starts_with("error: "))
+}
+
+/// Whether that is so for lines with these odd characters at each place that a text quotes.
+fn is_shown_wherever_it_stands(alloc: Global, odd: &str) -> Result<bool, AllocError> {
+    let option = format!(in alloc; "--{odd}")?;
+    let value = format!(in alloc; "--workers={odd}")?;
+    let flag = format!(in alloc; "-{odd}")?;
+    Ok(
+        is_refused_as_shown(alloc, &["vjobs", option.as_str(), "FILE"])?
+            && is_refused_as_shown(alloc, &["vjobs", value.as_str(), "FILE"])?
+            && is_refused_as_shown(alloc, &["vjobs", flag.as_str(), "FILE"])?
+            && is_refused_as_shown(alloc, &["vjobs", "--region", odd])?
+            && is_refused_as_shown(alloc, &["vjobs", "FILE", odd])?
+            && is_refused_as_shown(alloc, &[odd, "FILE", odd])?
+            && is_refused_as_shown(alloc, &[odd, "--workers", odd])?,
+    )
+}
+
+#[test]
+fn shows_what_it_refuses_wherever_it_stands(rt: HostRuntime) -> Result<(), Fail> {
+    for odd in ["\u{1b}[2J", "\u{7}", "a\u{202e}b", "\u{9b}2J", "x\r\u{1b}"] {
+        assert!(rt; is_shown_wherever_it_stands(rt.alloc(), odd)?);
+    }
+    Ok(())
+}
+
+#[test]
+fn reads_a_name_as_it_is(rt: HostRuntime) {
+    let line = read_line(rt.alloc(), &["vjobs", "--", "-a\u{1b}\n\\"]);
+    assert!(rt; matches!(&line, Ok(Line::Run(_, file)) if file.as_str() == "-a\u{1b}\n\\"));
+}
+
+#[test]
+fn refuses_an_argument_that_is_no_text(rt: HostRuntime) -> Result<(), Fail> {
+    let shown = String::from_str(rt.alloc(), "a\\xff")?;
+    let fault = arguments_fault(rt.alloc(), &ArgumentFault::NotText(3, shown));
     assert!(rt;
         matches!(&fault, LineFault::Usage(text)
-        if text.starts_with("error: invalid UTF-8") && text.contains("Usage: vjobs"))
+        if text.starts_with("error: argument 3 is no UTF-8: a\\xff\n\nUsage: vjobs "))
     );
     assert_eq!(rt; fault.exit_status(), 2);
+    Ok(())
 }
 
 #[test]
 fn wants_memory_for_arguments(rt: HostRuntime) {
-    let fault = arguments_fault(rt.alloc(), ErrorKind::OutOfMemory);
+    let fault = arguments_fault(rt.alloc(), &ArgumentFault::Memory);
     assert!(rt; matches!(&fault, LineFault::Memory));
     assert_eq!(rt; fault.exit_status(), 3);
 }

@@ -1,9 +1,9 @@
 //! Why no signatures are found.
 
-use crate::operands::Entry;
+use crate::classes::KindId;
 use std::alloc::{AllocError, AllocFailed, Allocator};
 use std::{fmt, str};
-use vcode_reader::CodeFault;
+use vcode_reader::{CodeFault, Program};
 use verifier::KindFault;
 
 /// What stands in the way of a function's signature.
@@ -17,6 +17,8 @@ pub enum Obstacle {
     ManyOperands,
     /// It gives more results than a signature may have.
     ManyResults,
+    /// Its stack has more entries than were allowed, or they were moved so often that there is no room to remember how.
+    ManyEntries,
 }
 
 impl Obstacle {
@@ -27,6 +29,7 @@ impl Obstacle {
             Obstacle::NeverReturns => "returns on no path",
             Obstacle::ManyOperands => "asks for more and more operands",
             Obstacle::ManyResults => "gives too many results",
+            Obstacle::ManyEntries => "has too many entries on its stack",
         }
     }
 }
@@ -73,20 +76,64 @@ pub(crate) enum PlacedFault {
     Program(KindFault, u64),
 }
 
+impl PlacedFault {
+    /// What stands in the way of the function at a place, at its FUNC.
+    pub(crate) fn of_function<A: Allocator>(
+        obstacle: Obstacle,
+        program: &Program<A>,
+        place: usize,
+    ) -> PlacedFault {
+        let line = match program.functions().get(place) {
+            Some(function) => function.line(),
+            None => program.first_line(),
+        };
+        PlacedFault::Function(obstacle, place, line)
+    }
+
+    /// Whether there was too little room for the search.
+    pub(crate) fn is_of_room(&self) -> bool {
+        match self {
+            PlacedFault::Memory => true,
+            PlacedFault::Function(obstacle, _, _) => *obstacle == Obstacle::ManyEntries,
+            PlacedFault::Program(..) => false,
+        }
+    }
+}
+
 impl From<AllocError> for PlacedFault {
     fn from(_: AllocError) -> PlacedFault {
         PlacedFault::Memory
     }
 }
 
-/// Why a path can't go on.
+impl<T: Drop> From<AllocFailed<T>> for PlacedFault {
+    fn from(_: AllocFailed<T>) -> PlacedFault {
+        PlacedFault::Memory
+    }
+}
+
+/// Why a walk that counts entries can't go on.
+#[derive(Drop)]
+pub(crate) enum HeightFault {
+    Memory,
+    /// A path takes more entries than a function may have operands.
+    ManyOperands,
+}
+
+impl From<AllocError> for HeightFault {
+    fn from(_: AllocError) -> HeightFault {
+        HeightFault::Memory
+    }
+}
+
+/// Why a walk by kinds can't go on.
 #[derive(Drop)]
 pub(crate) enum PathFault {
     Memory,
     /// This entry is of another kind than is asked for.
-    OtherKind(Entry),
-    /// The function takes more operands than a signature may have.
-    ManyOperands,
+    OtherKind(KindId),
+    /// There may be no more entries.
+    ManyEntries,
     Refused(KindFault),
 }
 

@@ -1,207 +1,87 @@
-//! The walks through all functions.
+//! What a program's functions take and give.
 
-use crate::fault::{Obstacle, PathFault, PlacedFault};
-use crate::operands::{Entry, Operands};
-use crate::walk::{Finding, Walk, operands_of};
+use crate::call_graph::CallGraph;
+use crate::fault::{Obstacle, PlacedFault};
+use crate::heights::Heights;
+use crate::kinds::Kinds;
+use crate::shapes::shapes_of;
 use signatures::FunctionType;
-use std::alloc::{AllocError, Allocator};
-use vcode_base::Kind;
-use vcode_base::limits::MOST_KINDS;
-use vcode_reader::{Function, Program};
-use verifier::KindFault;
+use std::alloc::Allocator;
+use vcode_reader::Program;
 
-/// What is known of the functions of a program.
+/// What the functions of a program take and give.
 #[derive(Drop)]
 pub(crate) struct Finder<'a, A: Allocator> {
-    alloc: A,
     program: &'a Program<A>,
-    operands: Operands<A>,
-    findings: Vec<Finding<A>, A>,
+    kinds: Kinds<'a, A>,
     /// The first function that was assumed to return.
     assumed: Option<usize>,
 }
 
-/// The fault that ends a walk through a function at a line, which may call one.
-fn fault_at(fault: PathFault, function: usize, callee: Option<usize>, line: u64) -> PlacedFault {
-    match fault {
-        PathFault::Memory => PlacedFault::Memory,
-        PathFault::Refused(fault) => PlacedFault::Program(fault, line),
-        PathFault::ManyOperands => PlacedFault::Function(Obstacle::ManyOperands, function, line),
-        PathFault::OtherKind(entry) => match (callee, entry) {
-            (Some(used), _) | (None, Entry::Operand(used, _)) => {
-                PlacedFault::Function(Obstacle::TwoKinds, used, line)
-            }
-            (None, Entry::Of(_)) => PlacedFault::Program(KindFault::WrongKind, line),
-        },
-    }
-}
-
-/// Whether callers go on with a new finding in another way than with the old one.
-fn is_news<A: Allocator>(old: &Finding<A>, new: &Finding<A>) -> bool {
-    match (old, new) {
-        (Finding::Returns { operands: old, .. }, Finding::Returns { operands: new, .. }) => {
-            old != new
-        }
-        (Finding::WaitsFor(_), Finding::Returns { .. }) => true,
-        (_, Finding::WaitsFor(_)) => false,
-    }
-}
-
 impl<'a, A: Allocator + Copy> Finder<'a, A> {
-    /// Nothing is known.
-    pub(crate) fn new(alloc: A, program: &'a Program<A>) -> Result<Finder<'a, A>, AllocError> {
-        let count = program.functions().len();
-        let mut findings = Vec::with_capacity(alloc, count)?;
-        for function in 0..count {
-            findings.push(Finding::WaitsFor(function))?;
+    /// Finds what all functions take and give. One that returns on no path is assumed to give what it takes. A stack
+    /// may have at most `most_entries` entries.
+    pub(crate) fn find(
+        alloc: A,
+        program: &'a Program<A>,
+        most_entries: usize,
+    ) -> Result<Finder<'a, A>, PlacedFault> {
+        let graph = CallGraph::new(alloc, program)?;
+        let mut heights = Heights::of_known(alloc, program, &graph)?;
+        if heights.waiting().is_some() {
+            // What the others take and give has to be right without an assumption.
+            kinds_by(alloc, program, &graph, &heights, most_entries)?;
+            heights.assume_all()?;
         }
-        Ok(Finder {
-            alloc,
-            program,
-            operands: Operands::new(alloc, count)?,
-            findings,
-            assumed: None,
-        })
-    }
-
-    /// Finds what is to be known of all functions. One that returns on no path is assumed to give what it takes.
-    pub(crate) fn find(&mut self) -> Result<(), PlacedFault> {
-        self.settle()?;
-        for _ in 0..self.findings.len() {
-            let Some(place) = self.waiting() else {
-                break;
-            };
-            self.assume(place)?;
-            match self.settle() {
-                Ok(()) => {}
-                Err(PlacedFault::Memory) => return Err(PlacedFault::Memory),
-                Err(_) => return Err(self.never_returns(place)),
-            }
-        }
-        Ok(())
-    }
-
-    /// Walks through the bodies until nothing changes. No more walks are needed than functions and operands can become
-    /// known.
-    fn settle(&mut self) -> Result<(), PlacedFault> {
-        let count = self.program.functions().len();
-        for _ in 0..=count.saturating_mul(MOST_KINDS + 1) {
-            if !self.walk_all()? {
-                break;
-            }
-        }
-        Ok(())
-    }
-
-    /// A function that returns on no path, if there is one: the first that waits for another waits for it in the end.
-    fn waiting(&self) -> Option<usize> {
-        let mut last = self
-            .findings
-            .iter()
-            .position(|finding| matches!(finding, Finding::WaitsFor(_)))?;
-        for _ in 0..self.findings.len() {
-            if let Some(Finding::WaitsFor(next)) = self.findings.get(last) {
-                last = *next;
-            }
-        }
-        Some(last)
-    }
-
-    /// Assumes that the function at this place gives what it takes.
-    fn assume(&mut self, place: usize) -> Result<(), AllocError> {
-        let operands = self.operands.count(place);
-        let results = operands_of(self.alloc, place, operands)?;
-        if let Some(finding) = self.findings.get_mut(place) {
-            *finding = Finding::Returns { operands, results };
-        }
-        if self.assumed.is_none() {
-            self.assumed = Some(place);
-        }
-        Ok(())
-    }
-
-    /// That a function returns on no path, if one was assumed to return.
-    pub(crate) fn blame(&self) -> Option<PlacedFault> {
-        Some(self.never_returns(self.assumed?))
-    }
-
-    /// Walks through each body. Answers whether anything changed.
-    fn walk_all(&mut self) -> Result<bool, PlacedFault> {
-        let mut changed = false;
-        for (place, function) in self.program.functions().iter().enumerate() {
-            let found = self.walk(place, function)?;
-            if let Some(known) = self.findings.get_mut(place) {
-                changed |= is_news(known, &found);
-                // What was assumed stays until the function returns.
-                if matches!(found, Finding::Returns { .. })
-                    || matches!(known, Finding::WaitsFor(_))
-                {
-                    *known = found;
-                }
-            }
-        }
-        Ok(changed)
-    }
-
-    /// Walks through the body of the function at this place.
-    fn walk(&mut self, place: usize, function: &Function<A>) -> Result<Finding<A>, PlacedFault> {
-        let mut walk = Walk::new(self.alloc, place);
-        let mut last = function.line();
-        for at in 0..function.line_count() {
-            let Some(line) = function.item(at) else {
-                break;
-            };
-            let callee = self.program.callee(place, at);
-            last = line.number;
-            if let Err(fault) = walk.step(&mut self.operands, &self.findings, callee, &line) {
-                return Err(fault_at(fault, place, callee, last));
-            }
-        }
-        match walk.finish(&mut self.operands) {
-            Ok(found) => Ok(found),
-            Err(fault) => Err(fault_at(fault, place, None, last)),
+        let assumed = heights.first_assumed();
+        match kinds_by(alloc, program, &graph, &heights, most_entries) {
+            Ok(kinds) => Ok(Finder {
+                program,
+                kinds,
+                assumed,
+            }),
+            Err(fault) => Err(blamed_on(fault, program, assumed)),
         }
     }
 
     /// What the function at this place takes and gives, with INT for kinds that are open.
-    pub(crate) fn function_type(&self, place: usize) -> Result<FunctionType<A>, PlacedFault> {
-        match self.findings.get(place) {
-            Some(Finding::Returns { operands, results }) => {
-                Ok(self.function_type_of(place, *operands, results)?)
-            }
-            _ => Err(self.never_returns(place)),
-        }
+    pub(crate) fn function_type(&mut self, place: usize) -> Result<FunctionType<A>, PlacedFault> {
+        self.kinds.function_type(place)
     }
+}
 
-    fn function_type_of(
-        &self,
-        place: usize,
-        operands: usize,
-        results: &[Entry],
-    ) -> Result<FunctionType<A>, AllocError> {
-        let operands = operands_of(self.alloc, place, operands)?;
-        let operands = self.kinds_of(&operands)?;
-        Ok(FunctionType::new(operands, self.kinds_of(results)?))
+impl<'a, A: Allocator> Finder<'a, A> {
+    /// That a function returns on no path, if one was assumed to return.
+    pub(crate) fn blame(&self) -> Option<PlacedFault> {
+        Some(never_returns(self.program, self.assumed?))
     }
+}
 
-    /// The kinds of entries.
-    fn kinds_of(&self, entries: &[Entry]) -> Result<Vec<Kind, A>, AllocError> {
-        let mut kinds = Vec::with_capacity(self.alloc, entries.len())?;
-        for entry in entries {
-            kinds.push(match self.operands.resolve(*entry) {
-                Entry::Of(kind) => kind,
-                Entry::Operand(..) => Kind::Int,
-            })?;
-        }
-        Ok(kinds)
-    }
+/// The kinds of all functions by these heights.
+fn kinds_by<'a, A: Allocator + Copy>(
+    alloc: A,
+    program: &'a Program<A>,
+    graph: &CallGraph<A>,
+    heights: &Heights<'_, A>,
+    most_entries: usize,
+) -> Result<Kinds<'a, A>, PlacedFault> {
+    let shapes = shapes_of(alloc, program, graph, heights)?;
+    Kinds::find(alloc, program, graph, shapes.as_slice(), most_entries)
+}
 
-    /// That the function at this place returns on no path.
-    fn never_returns(&self, place: usize) -> PlacedFault {
-        let line = match self.program.functions().get(place) {
-            Some(function) => function.line(),
-            None => self.program.first_line(),
-        };
-        PlacedFault::Function(Obstacle::NeverReturns, place, line)
+/// That a function returns on no path.
+fn never_returns<A: Allocator>(program: &Program<A>, function: usize) -> PlacedFault {
+    PlacedFault::of_function(Obstacle::NeverReturns, program, function)
+}
+
+/// A fault, or that a function returns on no path, if it was assumed to return and the fault may come from that.
+fn blamed_on<A: Allocator>(
+    fault: PlacedFault,
+    program: &Program<A>,
+    assumed: Option<usize>,
+) -> PlacedFault {
+    match assumed {
+        Some(function) if !fault.is_of_room() => never_returns(program, function),
+        _ => fault,
     }
 }

@@ -26,7 +26,11 @@ struct Guess<A: Allocator> {
     blame: Option<FindFault<Vec<u8, A>>>,
 }
 
-/// A text of signatures by which the program of a code is well kinded: a line for each of its functions, in their order.
+/// The most entries of a function's stack, unless fewer or more are asked for.
+pub const MOST_ENTRIES: usize = 67_108_864;
+
+/// A text of signatures by which the program of a code is well kinded: a line for each of its functions, in their
+/// order. A function whose stack has more than `most_entries` entries is a fault, before memory is taken for them.
 ///
 /// # Errors
 ///
@@ -34,6 +38,7 @@ struct Guess<A: Allocator> {
 pub fn find_signatures<A: Allocator + Copy>(
     alloc: A,
     code: &[u8],
+    most_entries: usize,
 ) -> Result<Vec<u8, A>, FindFault<Vec<u8, A>>>
     requires { length code.now ≤ MOST_CODE_BYTES }
     ensures { MatchResult result
@@ -41,7 +46,7 @@ pub fn find_signatures<A: Allocator + Copy>(
         (λ fault. IsFaultOf code.now fault) }
 {
     match program_of(alloc, code) {
-        Ok(program) => signatures_of(alloc, program),
+        Ok(program) => signatures_of(alloc, program, most_entries),
         Err(TextFault::Memory) => Err(FindFault::Memory),
         Err(TextFault::At(fault, line)) => Err(FindFault::Code(fault, line)),
     }
@@ -60,10 +65,11 @@ fn program_of<A: Allocator + Copy>(alloc: A, code: &[u8]) -> Result<Program<A>, 
 fn signatures_of<A: Allocator + Copy>(
     alloc: A,
     program: Program<A>,
+    most_entries: usize,
 ) -> Result<Vec<u8, A>, FindFault<Vec<u8, A>>>
     ensures { MatchResult result (λ text. SaysSignatures program text.items) (λ fault. IsOfProgram fault) }
 {
-    let Guess { text, blame } = match make_guess(alloc, &program) {
+    let Guess { text, blame } = match make_guess(alloc, &program, most_entries) {
         Ok(guess) => guess,
         Err(fault) => return Err(named(alloc, &program, fault)),
     };
@@ -88,11 +94,14 @@ fn blame_of<A: Allocator + Copy>(
 }
 
 /// The text of the signatures that a search finds, which may not fit the program.
-fn make_guess<A: Allocator + Copy>(alloc: A, program: &Program<A>) -> Result<Guess<A>, PlacedFault>
+fn make_guess<A: Allocator + Copy>(
+    alloc: A,
+    program: &Program<A>,
+    most_entries: usize,
+) -> Result<Guess<A>, PlacedFault>
     ensures { IfOk result (λ guess. IfSome guess.blame (λ fault. IsOfProgram fault)) }
 {
-    let mut finder = Finder::new(alloc, program)?;
-    finder.find()?;
+    let mut finder = Finder::find(alloc, program, most_entries)?;
     let mut text = Vec::new(alloc);
     for (place, function) in program.functions().iter().enumerate() {
         let kinds = finder.function_type(place)?;

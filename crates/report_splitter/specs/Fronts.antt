@@ -22,3 +22,8 @@ pub record HasLine (head text : List ℕ) : Type 0 where
 -- a text begins with this front
 abbrev pub Begins : List ℕ → List ℕ → Type 0
 Begins front text = (rest : List ℕ) × (text ≡ front ++ rest)
+
+-- a text is these two, around the first of this byte
+pub record IsSplitAt (byte : ℕ) (text front rest : List ℕ) : Type 0 where
+  pub before : All (λ other. other ≢ byte) front
+  pub parts : text ≡ front ++ (byte ∷ rest)

@@ -1,3 +1,6 @@
 pub mod Answers
 pub mod Fronts
+pub mod Heads
+pub mod Manifests
 pub mod ReportTexts
+pub mod Seals

@@ -91,7 +91,7 @@ fn split_stop(ending: &[u8]) -> Option<(Stop, &[u8])>
 
 /// The number that these digits are.
 #[tactic(auto, using(crate::proofs::EntryLemmas::number_is_utf8, crate::proofs::EntryLemmas::read_number))]
-fn parse_digits(digits: &[u8]) -> Option<u64>
+pub(crate) fn parse_digits(digits: &[u8]) -> Option<u64>
     ensures { (number : ℕ) → number < 2 ^ 64 → digits.now ≡ decimal number → result ≡ Some number }
 {
     match str::from_utf8(digits) {

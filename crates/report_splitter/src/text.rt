@@ -8,7 +8,7 @@ use itoa::Buffer;
 use std::alloc::{AllocError, Allocator};
 
 /// Puts a number after a text.
-fn put_number<A: Allocator>(text: &mut Vec<u8, A>, number: u64) -> Result<(), AllocError>
+pub(crate) fn put_number<A: Allocator>(text: &mut Vec<u8, A>, number: u64) -> Result<(), AllocError>
     ensures { OnOk result (text.new.items ≡ text.old.items ++ decimal number) }
 {
     let mut buffer = Buffer::new();
@@ -41,7 +41,10 @@ pub(crate) fn put_end<A: Allocator>(
 
 /// Puts what begins the last line of a report on `jobs` jobs.
 #[tactic(auto, unfolding(crate::specs::ReportTexts::last_head))]
-fn put_last_head<A: Allocator>(text: &mut Vec<u8, A>, jobs: u64) -> Result<(), AllocError>
+pub(crate) fn put_last_head<A: Allocator>(
+    text: &mut Vec<u8, A>,
+    jobs: u64,
+) -> Result<(), AllocError>
     ensures { OnOk result (text.new.items ≡ text.old.items ++ last_head jobs) }
 {
     text.extend_from_slice(b"END ")?;

@@ -3,8 +3,8 @@
 
 use batch_front::{Device, FrontFault, NoGate, Options, Status, exit_status, run};
 use command_line::{Line, LineFault, arguments_fault, read_line};
+use shown_text::arguments;
 use std::alloc::Global;
-use std::env;
 use std::fs::File;
 use std::io::{Read, Write};
 use std::process::ExitCode;
@@ -14,11 +14,10 @@ use std::thread::Threads;
 
 /// Reads the command line.
 fn line_of(rt: &HostRuntime) -> Result<Line, LineFault> {
-    let words = match env::args(rt) {
+    let words = match arguments(rt) {
         Ok(words) => words,
-        Err(error) => return Err(arguments_fault(rt.alloc(), error.kind())),
+        Err(fault) => return Err(arguments_fault(rt.alloc(), &fault)),
     };
-    let words: Vec<String> = words.collect(rt.alloc()).map_err(|_| LineFault::Memory)?;
     let mut texts = Vec::new(rt.alloc());
     for word in &words {
         texts.push(word.as_str()).map_err(|_| LineFault::Memory)?;

@@ -2,8 +2,9 @@
 
 use clap::error::ErrorKind;
 use clap::{Arg, ArgAction, ArgMatches, Command, value_parser};
+use shown_text::shown;
 use std::alloc::{AllocError, Global};
-use vcode_base::limits::MOST_WORDS;
+use vcode_base::limits::{MOST_BATCH_BYTES, MOST_WORDS};
 
 /// What is to be packed.
 #[derive(Drop)]
@@ -12,6 +13,8 @@ pub struct Asked {
     pub out: String,
     /// The words of the region that the batches are to run in.
     pub region: u32,
+    /// The most bytes of a file.
+    pub most_bytes: u32,
     /// The file with a list of names, if there is one; `-` is standard input.
     pub list: Option<String>,
     /// The names of the files.
@@ -32,8 +35,8 @@ pub enum Line {
 pub enum LineFault {
     /// It is refused, with the reason as it is to be printed.
     Usage(String),
-    /// A word of it is no text.
-    NotText,
+    /// The word of this number is no text. It is given as it may be printed.
+    NotText(usize, String),
     /// Memory was refused.
     Memory,
 }
@@ -49,8 +52,14 @@ impl From<AllocError> for LineFault {
     }
 }
 
+/// The refusal of words that can't be quoted.
+const UNSHOWN: &str = "error: an argument can't be read\n";
+
 /// The most words of a region.
 const MOST_REGION: u32 = MOST_WORDS as u32;
+
+/// The most bytes of a file.
+const MOST_FILE_BYTES: u32 = MOST_BATCH_BYTES as u32;
 
 /// The option for the folder of the batches.
 fn out_option<'a>(alloc: Global) -> Arg<'a> {
@@ -69,6 +78,16 @@ fn region_option<'a>(alloc: Global) -> Arg<'a> {
         .value_parser(value_parser!(u32).range(1..=i64::from(MOST_REGION)))
         .default_value("1048576")
         .help("Words of the region that the batches are to run in")
+}
+
+/// The option for the most bytes of a file.
+fn most_bytes_option<'a>(alloc: Global) -> Arg<'a> {
+    Arg::new(alloc, "most-bytes")
+        .long("most-bytes")
+        .value_name("N")
+        .value_parser(value_parser!(u32).range(1..=i64::from(MOST_FILE_BYTES)))
+        .default_value("16777216")
+        .help("Bytes of the longest file that is packed")
 }
 
 /// The option for a list of files.
@@ -96,6 +115,7 @@ fn command<'a>(alloc: Global) -> Result<Command<'a>, clap::Error> {
             .version("0.1.0")
             .arg(out_option(alloc))?
             .arg(region_option(alloc))?
+            .arg(most_bytes_option(alloc))?
             .arg(list_option(alloc))?
             .arg(file_argument(alloc))?,
     )
@@ -104,6 +124,9 @@ fn command<'a>(alloc: Global) -> Result<Command<'a>, clap::Error> {
 /// What was matched.
 fn asked_of(alloc: Global, matches: &ArgMatches<'_>) -> Result<Line, AllocError> {
     let region = matches.get_one::<u32>("region").unwrap_or(MOST_REGION);
+    let most_bytes = matches
+        .get_one::<u32>("most-bytes")
+        .unwrap_or(MOST_FILE_BYTES);
     let out = String::from_str(alloc, matches.get_str("out").unwrap_or("."))?;
     let list = match matches.get_str("list") {
         Some(list) => Some(String::from_str(alloc, list)?),
@@ -118,6 +141,7 @@ fn asked_of(alloc: Global, matches: &ArgMatches<'_>) -> Result<Line, AllocError>
     Ok(Line::Pack(Asked {
         out,
         region,
+        most_bytes,
         list,
         files,
     }))
@@ -136,8 +160,8 @@ fn line_of(alloc: Global, error: &clap::Error) -> Result<Line, LineFault> {
     }
 }
 
-/// Reads a command line, the program's name first.
-pub fn read_line(alloc: Global, words: &[&str]) -> Result<Line, LineFault> {
+/// What clap answers to these words.
+fn answer_to(alloc: Global, words: &[&str]) -> Result<Line, LineFault> {
     let command = match command(alloc) {
         Ok(command) => command,
         Err(error) => return line_of(alloc, &error),
@@ -145,5 +169,37 @@ pub fn read_line(alloc: Global, words: &[&str]) -> Result<Line, LineFault> {
     match command.try_get_matches_from(words) {
         Ok(matches) => Ok(asked_of(alloc, &matches)?),
         Err(error) => line_of(alloc, &error),
+    }
+}
+
+/// The text that refuses these words, as it may be printed: it quotes them as they are shown.
+fn refusal_of(alloc: Global, words: &[&str]) -> LineFault {
+    match shown_refusal(alloc, words) {
+        Ok(fault) => fault,
+        Err(AllocError) => LineFault::Memory,
+    }
+}
+
+/// The answer to the words as they are shown, if it refuses them too.
+fn shown_refusal(alloc: Global, words: &[&str]) -> Result<LineFault, AllocError> {
+    let mut shown_words = Vec::new(alloc);
+    for word in words {
+        shown_words.push(shown(alloc, word.as_bytes())?)?;
+    }
+    let mut texts = Vec::new(alloc);
+    for word in &shown_words {
+        texts.push(word.as_str())?;
+    }
+    match answer_to(alloc, texts.as_slice()) {
+        Ok(_) => Ok(LineFault::Usage(String::from_str(alloc, UNSHOWN)?)),
+        Err(fault) => Ok(fault),
+    }
+}
+
+/// Reads a command line, the program's name first.
+pub fn read_line(alloc: Global, words: &[&str]) -> Result<Line, LineFault> {
+    match answer_to(alloc, words) {
+        Err(LineFault::Usage(_)) => Err(refusal_of(alloc, words)),
+        answer => answer,
     }
 }

@@ -2,20 +2,30 @@
 #![tactic(auto)]
 
 mod command;
+mod fault;
+mod folder;
 mod packing;
-mod reading;
 mod second;
 
 use command::{Asked, Line, LineFault, read_line};
+use fault::{Stop, stop_at, stop_by};
+use folder::batch_in;
 use packing::Packing;
-use reading::{MOST_LIST_BYTES, read_at_most};
+use shown_text::{ArgumentFault, arguments};
 use std::process::ExitCode;
-use std::{env, io, str};
+use std::str;
+use whole_files::{read_regular, read_up_to};
+
+/// The most bytes of a list of names.
+const MOST_LIST_BYTES: usize = 16_777_216;
 
 /// Reads the command line.
 fn line_of(rt: &HostRuntime) -> Result<Line, LineFault> {
-    let words = env::args(rt).map_err(|_| LineFault::NotText)?;
-    let words: Vec<String> = words.collect(rt.alloc()).map_err(|_| LineFault::Memory)?;
+    let words = match arguments(rt) {
+        Ok(words) => words,
+        Err(ArgumentFault::Memory) => return Err(LineFault::Memory),
+        Err(ArgumentFault::NotText(number, text)) => return Err(LineFault::NotText(number, text)),
+    };
     let mut texts = Vec::new(rt.alloc());
     for word in &words {
         texts.push(word.as_str()).map_err(|_| LineFault::Memory)?;
@@ -23,28 +33,64 @@ fn line_of(rt: &HostRuntime) -> Result<Line, LineFault> {
     read_line(rt.alloc(), texts.as_slice())
 }
 
-/// Packs the file of a name in a list.
-fn pack_named(rt: &HostRuntime, packing: &mut Packing, name: &[u8]) -> io::Result<()> {
+/// The bytes of a list of names; `-` is standard input.
+fn read_list(rt: &HostRuntime, list: &str) -> Result<Vec<u8>, Stop> {
+    let read = if list == "-" {
+        read_up_to(rt, &mut rt.stdin(), MOST_LIST_BYTES).map(Some)
+    } else {
+        read_regular(rt, list, MOST_LIST_BYTES)
+    };
+    match read {
+        Ok(Some(bytes)) if bytes.len() <= MOST_LIST_BYTES => Ok(bytes),
+        Ok(Some(_)) => Err(stop_by(rt.alloc(), list, "a list of more than 16777216 bytes")),
+        Ok(None) => Err(stop_by(rt.alloc(), list, "not a regular file")),
+        Err(error) => Err(stop_at(rt.alloc(), list, &error)),
+    }
+}
+
+/// Packs the file of the name with this number in a list.
+fn pack_named(
+    rt: &HostRuntime,
+    packing: &mut Packing,
+    number: usize,
+    name: &[u8],
+) -> Result<(), Stop> {
     match str::from_utf8(name) {
         Ok(name) => packing.pack(rt, name),
-        Err(_) => packing.refuse(rt, "a name in the list", 1, "no text"),
+        Err(_) => {
+            let text = format!(in rt.alloc(); "name {number} of the list is not UTF-8")?;
+            packing.refuse(rt, name, 1, text.as_str())
+        }
     }
 }
 
 /// Packs the files of a list, whose names have a NUL after each or between them.
-fn pack_list(rt: &HostRuntime, packing: &mut Packing, list: &str) -> io::Result<()> {
-    let bytes = read_at_most(rt, list, MOST_LIST_BYTES)?;
-    for name in bytes.split(|byte| *byte == 0) {
-        if !name.is_empty() {
-            pack_named(rt, packing, name)?;
-        }
+fn pack_list(rt: &HostRuntime, packing: &mut Packing, list: &str) -> Result<(), Stop> {
+    let bytes = read_list(rt, list)?;
+    let names = bytes.split(|byte| *byte == 0);
+    for (before, name) in names.filter(|name| !name.is_empty()).enumerate() {
+        pack_named(rt, packing, before.saturating_add(1), name)?;
     }
     Ok(())
 }
 
+/// Refuses a folder that has a batch already.
+fn check_folder(rt: &HostRuntime, out: &str) -> Result<(), Stop> {
+    match batch_in(rt, out) {
+        Ok(None) => Ok(()),
+        Ok(Some(name)) => {
+            let path = format!(in rt.alloc(); "{out}/{name}")?;
+            Err(stop_by(rt.alloc(), path.as_str(), "the folder has a batch already"))
+        }
+        Err(error) => Err(stop_at(rt.alloc(), out, &error)),
+    }
+}
+
 /// Packs all files that were asked for. Answers whether every one was packed.
-fn pack_all(rt: &HostRuntime, asked: &Asked) -> io::Result<bool> {
-    let mut packing = Packing::new(asked.out.as_str(), asked.region);
+fn pack_all(rt: &HostRuntime, asked: &Asked) -> Result<bool, Stop> {
+    check_folder(rt, asked.out.as_str())?;
+    let most_bytes = asked.most_bytes as usize;
+    let mut packing = Packing::new(asked.out.as_str(), asked.region, most_bytes);
     for name in &asked.files {
         packing.pack(rt, name.as_str())?;
     }
@@ -54,32 +100,47 @@ fn pack_all(rt: &HostRuntime, asked: &Asked) -> io::Result<bool> {
     packing.finish(rt)
 }
 
+/// Says why the packing stopped. Answers the exit status.
+fn stopped(rt: &HostRuntime, stop: &Stop) -> u8 {
+    match stop {
+        Stop::Memory => {
+            let _ = eprintln!(rt; "vjobs-pack: out of memory");
+        }
+        Stop::Named(text) => {
+            let _ = eprintln!(rt; "vjobs-pack: {text}");
+        }
+        Stop::NoErrors => {}
+    }
+    3
+}
+
+/// Says why the command line asks for nothing. Answers the exit status.
+fn refused(rt: &HostRuntime, fault: &LineFault) -> u8 {
+    match fault {
+        LineFault::Usage(text) => {
+            let _ = eprint!(rt; "{text}");
+            2
+        }
+        LineFault::NotText(number, text) => {
+            let _ = eprintln!(rt; "vjobs-pack: argument {number} is no UTF-8: {text}");
+            2
+        }
+        LineFault::Memory => stopped(rt, &Stop::Memory),
+    }
+}
+
 fn main(rt: HostRuntime) -> ExitCode {
     let status = match line_of(&rt) {
         Ok(Line::Pack(asked)) => match pack_all(&rt, &asked) {
             Ok(true) => 0,
             Ok(false) => 1,
-            Err(error) => {
-                let _ = eprintln!(rt; "vjobs-pack: {error}");
-                3
-            }
+            Err(stop) => stopped(&rt, &stop),
         },
         Ok(Line::Help(text)) => match print!(rt; "{text}") {
             Ok(()) => 0,
             Err(_) => 3,
         },
-        Err(LineFault::Usage(text)) => {
-            let _ = eprint!(rt; "{text}");
-            2
-        }
-        Err(LineFault::NotText) => {
-            let _ = eprintln!(rt; "vjobs-pack: an argument is no text");
-            2
-        }
-        Err(LineFault::Memory) => {
-            let _ = eprintln!(rt; "vjobs-pack: out of memory");
-            3
-        }
+        Err(fault) => refused(&rt, &fault),
     };
     ExitCode::from(status)
 }

@@ -1,20 +1,23 @@
 //! Files that go into batches.
 
-use crate::reading::read_at_most;
+use crate::fault::{Stop, stop_at};
 use crate::second::second_job_line;
 use batch_packer::{JobFile, Pack, PackFault, one_job};
+use report_splitter::{PackedJob, SealedBatch, digest_text, put_batch, put_job};
+use shown_text::shown;
 use std::alloc::{AllocError, Global};
-use std::fmt::Write;
-use std::{fs, io};
+use std::io;
+use std::io::ErrorKind;
 use vcode_base::Rule;
 use vcode_base::limits::MOST_BATCH_BYTES;
+use whole_files::{read_regular, sync_folder, write_whole};
 
-/// A batch that is open for files, with its manifest.
+/// A batch that is open for files, with the entries of its manifest.
 #[derive(Drop)]
 struct Open {
     number: u64,
     pack: Pack<Global>,
-    manifest: String,
+    entries: Vec<u8>,
 }
 
 impl Open {
@@ -24,19 +27,49 @@ impl Open {
             return Ok(false);
         }
         let line = self.pack.join(file)?;
-        let place = self.pack.jobs();
-        let number = self.number;
-        write!(self.manifest, "{number} {place} {line} {name}\0")?;
+        let place = self.pack.jobs() as u64;
+        let job = PackedJob::new(line, file.name(), name.as_bytes());
+        put_job(&mut self.entries, place, &job)?;
         Ok(true)
     }
 
-    /// Writes the batch and its manifest into a folder.
-    fn write(&self, rt: &HostRuntime, out: &str) -> io::Result<()> {
+    /// The manifest of the batch in the file of this name.
+    fn manifest(&self, alloc: Global, batch: &str) -> Result<Vec<u8>, AllocError> {
+        let bytes = self.pack.bytes();
+        let digest = digest_text(alloc, bytes)?;
+        let jobs = self.pack.jobs() as u64;
+        let mut manifest = Vec::new(alloc);
+        let seal = SealedBatch::new(
+            bytes.len() as u64,
+            digest.as_bytes(),
+            jobs,
+            batch.as_bytes(),
+        );
+        put_batch(&mut manifest, &seal)?;
+        manifest.extend_from_slice(&self.entries)?;
+        Ok(manifest)
+    }
+
+    /// Writes the batch into a folder, and then its manifest, so that a manifest names no batch that isn't there.
+    fn write(&self, rt: &HostRuntime, out: &str) -> Result<(), Stop> {
         let number = self.number;
-        let batch = format!(in rt.alloc(); "{out}/batch-{number}.vcode")?;
-        fs::write(rt, batch.as_str(), self.pack.bytes())?;
-        let manifest = format!(in rt.alloc(); "{out}/batch-{number}.manifest")?;
-        fs::write(rt, manifest.as_str(), self.manifest.as_str())
+        let batch = format!(in rt.alloc(); "batch-{number}.vcode")?;
+        write_into(rt, out, batch.as_str(), self.pack.bytes())?;
+        let name = format!(in rt.alloc(); "batch-{number}.manifest")?;
+        let manifest = self.manifest(rt.alloc(), batch.as_str())?;
+        write_into(rt, out, name.as_str(), &manifest)
+    }
+}
+
+/// Writes a file of this name into a folder.
+fn write_into(rt: &HostRuntime, out: &str, name: &str, bytes: &[u8]) -> Result<(), Stop> {
+    let path = format!(in rt.alloc(); "{out}/{name}")?;
+    match write_whole(rt, out, path.as_str(), bytes) {
+        Ok(()) => {
+            sync_folder(rt, out);
+            Ok(())
+        }
+        Err(error) => Err(stop_at(rt.alloc(), path.as_str(), &error)),
     }
 }
 
@@ -45,6 +78,7 @@ impl Open {
 pub struct Packing<'a> {
     out: &'a str,
     region: u32,
+    most_bytes: usize,
     begun: u64,
     first: Option<Open>,
     second: Option<Open>,
@@ -52,11 +86,12 @@ pub struct Packing<'a> {
 }
 
 impl<'a> Packing<'a> {
-    /// No batch, for a folder and a region of `region` words.
-    pub fn new(out: &'a str, region: u32) -> Packing<'a> {
+    /// No batch, for a folder, a region of `region` words, and files of at most so many bytes.
+    pub fn new(out: &'a str, region: u32, most_bytes: usize) -> Packing<'a> {
         Packing {
             out,
             region,
+            most_bytes,
             begun: 0,
             first: None,
             second: None,
@@ -68,12 +103,13 @@ impl<'a> Packing<'a> {
     pub fn refuse(
         &mut self,
         rt: &HostRuntime,
-        name: &str,
+        name: &[u8],
         line: u64,
         text: &str,
-    ) -> io::Result<()> {
+    ) -> Result<(), Stop> {
         self.all = false;
-        eprintln!(rt; "{name}:{line}: {text}")
+        let name = shown(rt.alloc(), name)?;
+        eprintln!(rt; "{name}:{line}: {text}").map_err(|_| Stop::NoErrors)
     }
 
     /// Says by which fault a file isn't packed.
@@ -83,9 +119,10 @@ impl<'a> Packing<'a> {
         name: &str,
         bytes: &[u8],
         fault: PackFault,
-    ) -> io::Result<()> {
+    ) -> Result<(), Stop> {
+        let name = name.as_bytes();
         match fault {
-            PackFault::Memory => Err(io::Error::from(AllocError)),
+            PackFault::Memory => Err(Stop::Memory),
             PackFault::Batch(line, fault) => self.refuse(rt, name, line, fault.text()),
             PackFault::NoJob => self.refuse(rt, name, 1, "no job"),
             PackFault::ManyJobs => self.refuse(rt, name, second_job_line(bytes), "a second job"),
@@ -93,23 +130,39 @@ impl<'a> Packing<'a> {
         }
     }
 
+    /// Says by which error a file can't be read. Refused memory is not its fault.
+    fn refuse_at(&mut self, rt: &HostRuntime, name: &str, error: &io::Error) -> Result<(), Stop> {
+        if error.kind() == ErrorKind::OutOfMemory {
+            return Err(Stop::Memory);
+        }
+        let text = format!(in rt.alloc(); "{error}")?;
+        self.refuse(rt, name.as_bytes(), 1, text.as_str())
+    }
+
     /// Packs the file of this name, or says why not.
-    pub fn pack(&mut self, rt: &HostRuntime, name: &str) -> io::Result<()> {
-        let bytes = match read_at_most(rt, name, MOST_BATCH_BYTES) {
-            Ok(bytes) => bytes,
-            Err(error) => {
-                let text = format!(in rt.alloc(); "{error}")?;
-                return self.refuse(rt, name, 1, text.as_str());
-            }
-        };
-        match one_job(rt.alloc(), &bytes, self.region as usize) {
+    pub fn pack(&mut self, rt: &HostRuntime, name: &str) -> Result<(), Stop> {
+        match read_regular(rt, name, self.most_bytes) {
+            Ok(Some(bytes)) => self.pack_bytes(rt, name, &bytes),
+            Ok(None) => self.refuse(rt, name.as_bytes(), 1, "not a regular file"),
+            Err(error) => self.refuse_at(rt, name, &error),
+        }
+    }
+
+    /// Packs the file of this name and of these bytes, or says why not.
+    fn pack_bytes(&mut self, rt: &HostRuntime, name: &str, bytes: &[u8]) -> Result<(), Stop> {
+        let most = self.most_bytes;
+        if bytes.len() > most && most < MOST_BATCH_BYTES {
+            let text = format!(in rt.alloc(); "more than {most} bytes")?;
+            return self.refuse(rt, name.as_bytes(), 1, text.as_str());
+        }
+        match one_job(rt.alloc(), bytes, self.region as usize) {
             Ok(file) => self.join(rt, name, &file),
-            Err(fault) => self.refuse_by(rt, name, &bytes, fault),
+            Err(fault) => self.refuse_by(rt, name, bytes, fault),
         }
     }
 
     /// Joins a file to the open batch of its rule, or to a new one if it has no room.
-    fn join(&mut self, rt: &HostRuntime, name: &str, file: &JobFile<Global>) -> io::Result<()> {
+    fn join(&mut self, rt: &HostRuntime, name: &str, file: &JobFile<Global>) -> Result<(), Stop> {
         if let Some(mut open) = self.take(file.rule()) {
             if open.join(name, file)? {
                 self.put(file.rule(), open);
@@ -122,7 +175,7 @@ impl<'a> Packing<'a> {
             self.put(file.rule(), open);
             return Ok(());
         }
-        self.refuse(rt, name, 1, "B4 TOO_LARGE")
+        self.refuse(rt, name.as_bytes(), 1, "B4 TOO_LARGE")
     }
 
     /// The open batch of a rule.
@@ -147,12 +200,12 @@ impl<'a> Packing<'a> {
         Ok(Open {
             number: self.begun,
             pack: Pack::new(rt.alloc(), rule)?,
-            manifest: String::new(rt.alloc()),
+            entries: Vec::new(rt.alloc()),
         })
     }
 
     /// Writes the batches that are open. Answers whether every file was packed.
-    pub fn finish(self, rt: &HostRuntime) -> io::Result<bool> {
+    pub fn finish(self, rt: &HostRuntime) -> Result<bool, Stop> {
         if let Some(open) = &self.first {
             open.write(rt, self.out)?;
         }

@@ -1,120 +1,139 @@
 //! Gives each owner of a batch the report of the owner's job, as `vjobs` prints it for the owner's file alone.
 #![tactic(auto)]
 
-mod manifest;
+mod batch;
+mod command;
+mod delivery;
+mod fault;
+mod packed;
+mod report;
 
-use manifest::{Owner, owners_in};
-use report_splitter::{CutFault, cut_job};
-use std::io::Read;
+use batch::{batch_name, check_batch};
+use command::{Asked, Line, LineFault, Target, read_line};
+use delivery::{check_folder, deliver};
+use fault::{Stop, named, stop_at};
+use report::check_report;
+use report_splitter::{Manifest, ManifestFault, read_manifest};
+use shown_text::{ArgumentFault, arguments};
+use std::alloc::Global;
 use std::process::ExitCode;
-use std::{env, fs, io};
+use whole_files::{read_regular, read_up_to};
 
-/// The bytes that are read at a time.
-const PIECE: usize = 65_536;
+/// The most bytes of a manifest.
+const MOST_MANIFEST_BYTES: usize = 16_777_216;
 
-/// How a run ends.
-#[derive(Clone, Copy, PartialEq, Eq, Debug)]
-enum Ending {
-    /// Every owner has a report.
-    AllWritten,
-    /// The report breaks off after this number of jobs.
-    BrokenOff(u64),
-    /// The report is none of this batch.
-    OtherBatch,
-    /// Memory was refused.
-    Memory,
-}
-
-/// Everything that standard input has.
-fn read_input(rt: &HostRuntime) -> io::Result<Vec<u8>> {
-    let mut reader = rt.stdin();
-    let mut bytes = Vec::new(rt.alloc());
-    let mut piece = vec![in rt.alloc(); 0u8; PIECE]?;
-    for _ in 0..u64::MAX {
-        let count = reader.read(&mut piece)?;
-        if count == 0 {
-            break;
-        }
-        bytes.extend_from_slice(&piece[..count])?;
-    }
-    Ok(bytes)
-}
-
-/// Writes the report of an owner's job.
-fn write_report(rt: &HostRuntime, owner: &Owner<'_>, report: &[u8]) -> io::Result<()> {
-    let path = format!(in rt.alloc(); "{}.report", owner.file)?;
-    fs::write(rt, path.as_str(), report)
-}
-
-/// Cuts a report at its jobs and writes each to its owner's file, as far as the report goes.
-fn split(rt: &HostRuntime, owners: &[Owner<'_>], report: &[u8]) -> io::Result<Ending> {
-    let jobs = owners.len() as u64;
-    let mut rest = report;
-    for (before, owner) in (0u64..).zip(owners) {
-        match cut_job(rt.alloc(), rest, before + 1, jobs, owner.first_line) {
-            Ok(cut) => {
-                write_report(rt, owner, &cut.report)?;
-                rest = cut.rest;
-            }
-            Err(CutFault::BrokenOff) => return Ok(Ending::BrokenOff(before)),
-            Err(CutFault::OtherBatch) => return Ok(Ending::OtherBatch),
-            Err(CutFault::Memory) => return Ok(Ending::Memory),
-        }
-    }
-    Ok(Ending::AllWritten)
-}
-
-/// Splits the report on standard input by the manifest of this name. Answers the exit status.
-fn run(rt: &HostRuntime, manifest: &str) -> io::Result<u8> {
-    let manifest = fs::read_to_string(rt, manifest)?;
-    let Some(owners) = owners_in(rt.alloc(), manifest.as_str())? else {
-        eprintln!(rt; "vjobs-split: the manifest is none")?;
-        return Ok(2);
+/// Reads the command line.
+fn line_of(rt: &HostRuntime) -> Result<Line, LineFault> {
+    let words = match arguments(rt) {
+        Ok(words) => words,
+        Err(ArgumentFault::Memory) => return Err(LineFault::Memory),
+        Err(ArgumentFault::NotText(number, text)) => return Err(LineFault::NotText(number, text)),
     };
-    let report = read_input(rt)?;
-    match split(rt, &owners, &report)? {
-        Ending::AllWritten => Ok(0),
-        Ending::BrokenOff(count) => {
-            eprintln!(rt; "vjobs-split: the report breaks off after {count} jobs")?;
-            Ok(1)
-        }
-        Ending::OtherBatch => {
-            eprintln!(rt; "vjobs-split: the report is none of this batch")?;
-            Ok(1)
-        }
-        Ending::Memory => {
-            eprintln!(rt; "vjobs-split: out of memory")?;
-            Ok(3)
-        }
+    let mut texts = Vec::new(rt.alloc());
+    for word in &words {
+        texts.push(word.as_str()).map_err(|_| LineFault::Memory)?;
+    }
+    read_line(rt.alloc(), texts.as_slice())
+}
+
+/// The bytes of the manifest at a path.
+fn manifest_bytes(rt: &HostRuntime, path: &str) -> Result<Vec<u8>, Stop> {
+    match read_regular(rt, path, MOST_MANIFEST_BYTES) {
+        Ok(Some(bytes)) => Ok(bytes),
+        Ok(None) => Err(Stop::Named(named(rt.alloc(), path, "not a regular file")?)),
+        Err(error) => Err(stop_at(rt.alloc(), path, &error)),
     }
 }
 
-/// The only argument.
-fn argument(rt: &HostRuntime) -> io::Result<Option<String>> {
-    let words: Vec<String> = env::args(rt)?.collect(rt.alloc())?;
-    if words.len() != 2 {
-        return Ok(None);
+/// The stop for a file that is no manifest.
+fn no_manifest(rt: &HostRuntime, path: &str) -> Stop {
+    match named(rt.alloc(), path, "not a manifest") {
+        Ok(text) => Stop::NoManifest(text),
+        Err(_) => Stop::Memory,
     }
-    Ok(Some(String::from_str(rt.alloc(), words[1].as_str())?))
+}
+
+/// The bytes of standard input.
+fn read_input(rt: &HostRuntime) -> Result<Vec<u8>, Stop> {
+    match read_up_to(rt, &mut rt.stdin(), usize::MAX) {
+        Ok(bytes) => Ok(bytes),
+        Err(error) => Err(stop_at(rt.alloc(), "standard input", &error)),
+    }
+}
+
+/// Splits the report on standard input by a manifest. Answers whether every owner has a report.
+fn split(rt: &HostRuntime, asked: &Asked, manifest: &Manifest<'_, Global>) -> Result<bool, Stop> {
+    let report = read_input(rt)?;
+    let whole = check_report(rt.alloc(), manifest, &report)?;
+    let all = deliver(rt, &asked.target, manifest, &report, whole)?;
+    if whole < manifest.jobs.len() {
+        let said = eprintln!(rt; "vjobs-split: the report breaks off after {whole} jobs");
+        return said.map(|()| false).map_err(|_| Stop::NoErrors);
+    }
+    Ok(all)
+}
+
+/// Does what was asked for. Answers whether every owner has a report.
+fn run(rt: &HostRuntime, asked: &Asked) -> Result<bool, Stop> {
+    let path = asked.manifest.as_str();
+    let bytes = manifest_bytes(rt, path)?;
+    let manifest = match read_manifest(rt.alloc(), &bytes) {
+        Ok(manifest) => manifest,
+        Err(ManifestFault::NoManifest) => return Err(no_manifest(rt, path)),
+        Err(ManifestFault::Memory) => return Err(Stop::Memory),
+    };
+    let Some(name) = batch_name(&manifest.batch) else {
+        return Err(no_manifest(rt, path));
+    };
+    if let Target::Folder(folder) = &asked.target {
+        check_folder(rt, folder.as_str())?;
+    }
+    if asked.with_batch {
+        check_batch(rt, path, &manifest.batch, name)?;
+    }
+    split(rt, asked, &manifest)
+}
+
+/// Says why the splitting stopped. Answers the exit status.
+fn stopped(rt: &HostRuntime, stop: &Stop) -> u8 {
+    let (text, status) = match stop {
+        Stop::Memory => ("out of memory", 3),
+        Stop::NoManifest(text) => (text.as_str(), 2),
+        Stop::Other(text) => (text.as_str(), 1),
+        Stop::Named(text) => (text.as_str(), 3),
+        Stop::NoErrors => return 3,
+    };
+    let _ = eprintln!(rt; "vjobs-split: {text}");
+    status
+}
+
+/// Says why the command line asks for nothing. Answers the exit status.
+fn refused(rt: &HostRuntime, fault: &LineFault) -> u8 {
+    match fault {
+        LineFault::Usage(text) => {
+            let _ = eprint!(rt; "{text}");
+            2
+        }
+        LineFault::NotText(number, text) => {
+            let _ = eprintln!(rt; "vjobs-split: argument {number} is no UTF-8: {text}");
+            2
+        }
+        LineFault::Memory => stopped(rt, &Stop::Memory),
+    }
 }
 
 fn main(rt: HostRuntime) -> ExitCode {
-    let status = match argument(&rt) {
-        Ok(Some(manifest)) => match run(&rt, manifest.as_str()) {
-            Ok(status) => status,
-            Err(error) => {
-                let _ = eprintln!(rt; "vjobs-split: {error}");
-                3
-            }
+    let status = match line_of(&rt) {
+        Ok(Line::Split(asked)) => match run(&rt, &asked) {
+            Ok(true) => 0,
+            Ok(false) => 1,
+            Err(stop) => stopped(&rt, &stop),
         },
-        Ok(None) => {
-            let _ = eprintln!(rt; "Usage: vjobs-split MANIFEST < REPORT");
-            2
-        }
-        Err(error) => {
-            let _ = eprintln!(rt; "vjobs-split: {error}");
-            3
-        }
+        Ok(Line::Help(text)) => match print!(rt; "{text}") {
+            Ok(()) => 0,
+            Err(_) => 3,
+        },
+        Err(fault) => refused(&rt, &fault),
     };
     ExitCode::from(status)
 }

@@ -6,7 +6,7 @@ use crate::pieces::{program_however_cut, signatures_however_cut};
 use crate::show::{
     kinds_text, lines_text, program_text, shortened, signatures_text, verified_text,
 };
-use kind_finder::find_signatures;
+use kind_finder::{MOST_ENTRIES, find_signatures};
 use signatures::Signatures;
 use std::alloc::Global;
 use vcode_reader::Program;
@@ -25,7 +25,8 @@ pub fn answer(alloc: Global, line: &str) -> Result<String, CaseFault> {
         "get" => get(alloc, text),
         "kinds" => kinds(alloc, text),
         "same" => same(alloc, text),
-        "find" => find(alloc, text),
+        "find" => find(alloc, text, MOST_ENTRIES),
+        "within" => within(alloc, text),
         _ => Err(CaseFault::NoCase),
     }
 }
@@ -90,12 +91,20 @@ fn same(alloc: Global, text: &str) -> Result<String, CaseFault> {
     Ok(format!(in alloc; "{is_equal}")?)
 }
 
-/// The signatures that are found for a code, or why there are none.
-fn find(alloc: Global, text: &str) -> Result<String, CaseFault> {
+/// The signatures that are found for a code with stacks of so many entries at most, or why there are none.
+fn find(alloc: Global, text: &str, most_entries: usize) -> Result<String, CaseFault> {
     let code = bytes_of(alloc, text)?;
-    match find_signatures(alloc, code.as_slice()) {
+    match find_signatures(alloc, code.as_slice(), most_entries) {
         Ok(found) => Ok(lines_text(alloc, found.as_slice())?),
         Err(fault) => Ok(format!(in alloc; "{fault}")?),
+    }
+}
+
+fn within(alloc: Global, text: &str) -> Result<String, CaseFault> {
+    let (most_entries, code) = halves(text)?;
+    match most_entries.parse() {
+        Ok(most_entries) => find(alloc, code, most_entries),
+        Err(_) => Err(CaseFault::NoCase),
     }
 }
 

@@ -14,12 +14,13 @@
 //! | `kinds` | signatures, `\|`, code | whether the code is well kinded, and the kinds of what its `MAIN` leaves |
 //! | `same` | signatures, `\|`, signatures, `\|`, code | whether the code is verified alike by both |
 //! | `find` | code | the signatures that are found for it, or why there are none |
+//! | `within` | a number, `\|`, code | the same, with stacks of so many entries at most |
 //!
 //! Each code and each text of signatures is read at once, and in pieces of 1 and of 7 bytes: if these
-//! give something else, the answer is `otherwise in pieces`. The code of `find` is read once.
+//! give something else, the answer is `otherwise in pieces`. The code of `find` and `within` is read once.
 //!
-//! The first line of a code is line 5, that of the code of `find` line 1, and that of signatures line 3. Of a
-//! long text only the number of its functions or signatures is printed.
+//! The first line of a code is line 5, but that of the code of `find` and `within` is line 1, and that of signatures
+//! is line 3. Of a long text only the number of its functions or signatures is printed.
 #![tactic(auto)]
 
 mod case;

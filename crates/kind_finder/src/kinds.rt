@@ -1,0 +1,383 @@
+//! The kinds of what each function takes and gives.
+
+use crate::call_graph::CallGraph;
+use crate::classes::{Classes, KindId};
+use crate::fault::{Obstacle, PathFault, PlacedFault};
+use crate::paths::Paths;
+use crate::shapes::Shape;
+use crate::stacks::{Piece, Stack, Stacks};
+use signatures::FunctionType;
+use std::alloc::{AllocError, Allocator};
+use vcode_base::{Instr, Instruction, Kind};
+use vcode_reader::{CodeItem, CodeLine, Function, Program};
+use verifier::KindFault;
+
+/// What a function takes and gives.
+#[derive(Clone, Copy)]
+struct FunctionKinds {
+    /// Its operands, from the bottom up.
+    operands: Piece,
+    /// Its results, if it is known to return.
+    results: Option<Results>,
+    /// Whether it returns on no path, and was assumed to give what it takes.
+    assumed: bool,
+}
+
+/// The results of a function, from the bottom up.
+#[derive(Clone, Copy)]
+struct Results {
+    /// Kinds that are open until the function was walked through.
+    open: Piece,
+    /// What a CALL gives: these, and after the walk the entries at RET.
+    given: Piece,
+}
+
+/// The kinds of all functions. Each body is walked through once.
+#[derive(Drop)]
+pub(crate) struct Kinds<'a, A: Allocator> {
+    alloc: A,
+    program: &'a Program<A>,
+    functions: Vec<FunctionKinds, A>,
+    classes: Classes<A>,
+    stacks: Stacks<A>,
+}
+
+/// A walk through a body.
+#[derive(Drop)]
+struct KindWalk<A: Allocator> {
+    paths: Paths<Stack, A>,
+    /// For each open IF the fewest entries that its path had in the part of an IF around it.
+    lowest: Vec<usize, A>,
+}
+
+/// The next `count` numbers of kinds.
+fn open_kinds(next: &mut u32, count: usize) -> Piece {
+    let from = *next;
+    let until = from.saturating_add(u32::try_from(count).unwrap_or(0));
+    *next = until;
+    Piece {
+        from,
+        count: until - from,
+    }
+}
+
+/// The kinds of functions of these shapes, which are all open, and how many numbers of kinds there are.
+fn open_functions<A: Allocator>(
+    alloc: A,
+    shapes: &[Shape],
+) -> Result<(Vec<FunctionKinds, A>, u32), AllocError> {
+    let mut next = KindId::KNOWN;
+    let mut functions = Vec::with_capacity(alloc, shapes.len())?;
+    for shape in shapes {
+        let operands = open_kinds(&mut next, shape.operands);
+        let results = match shape.results {
+            Some(count) => {
+                let open = open_kinds(&mut next, count);
+                Some(Results { open, given: open })
+            }
+            None => None,
+        };
+        functions.push(FunctionKinds {
+            operands,
+            results,
+            assumed: shape.assumed,
+        })?;
+    }
+    Ok((functions, next))
+}
+
+impl<'a, A: Allocator + Copy> Kinds<'a, A> {
+    /// The kinds of functions of these shapes. A stack may have at most `most_entries` entries.
+    ///
+    /// # Errors
+    ///
+    /// Two kinds that have to be equal aren't, or a stack has more entries.
+    pub(crate) fn find(
+        alloc: A,
+        program: &'a Program<A>,
+        graph: &CallGraph<A>,
+        shapes: &[Shape],
+        most_entries: usize,
+    ) -> Result<Kinds<'a, A>, PlacedFault> {
+        let (functions, count) = open_functions(alloc, shapes)?;
+        let mut kinds = Kinds {
+            alloc,
+            program,
+            functions,
+            classes: Classes::new(alloc, count)?,
+            stacks: Stacks::new(alloc, count, most_entries)?,
+        };
+        for rank in 0..graph.len() {
+            if let Some(place) = graph.at(rank) {
+                if let Some(function) = program.functions().get(place) {
+                    kinds.walk(place, function)?;
+                }
+            }
+        }
+        kinds.decide_assumed();
+        Ok(kinds)
+    }
+
+    /// Walks through the body of the function at this place.
+    fn walk(&mut self, place: usize, function: &Function<A>) -> Result<(), PlacedFault> {
+        let mut last = function.line();
+        let mut walk = match self.begin(place) {
+            Ok(walk) => walk,
+            Err(fault) => return Err(self.fault_at(fault, place, None, last)),
+        };
+        for at in 0..function.line_count() {
+            let Some(line) = function.item(at) else {
+                break;
+            };
+            let callee = self.program.callee(place, at);
+            last = line.number;
+            if let Err(fault) = self.step(&mut walk, callee, &line) {
+                return Err(self.fault_at(fault, place, callee, last));
+            }
+        }
+        match self.finish(place, walk) {
+            Ok(()) => Ok(()),
+            Err(fault) => Err(self.fault_at(fault, place, None, last)),
+        }
+    }
+
+    /// The walk through a body begins with its operands.
+    fn begin(&mut self, place: usize) -> Result<KindWalk<A>, PathFault> {
+        let operands = match self.functions.get(place) {
+            Some(function) => function.operands,
+            None => Piece { from: 0, count: 0 },
+        };
+        let stack = self.stacks.begin(operands)?;
+        Ok(KindWalk {
+            paths: Paths::new(self.alloc, stack),
+            lowest: Vec::new(self.alloc),
+        })
+    }
+
+    /// What the function at this place takes and gives, with INT for kinds that are open.
+    pub(crate) fn function_type(&mut self, place: usize) -> Result<FunctionType<A>, PlacedFault> {
+        match self.functions.get(place).copied() {
+            Some(
+                FunctionKinds {
+                    operands,
+                    results: Some(results),
+                    assumed: _,
+                },
+            ) => {
+                let operands = self.kinds_of(operands)?;
+                let results = self.kinds_of(results.open)?;
+                Ok(FunctionType::new(operands, results))
+            }
+            _ => Err(PlacedFault::of_function(Obstacle::NeverReturns, self.program, place)),
+        }
+    }
+
+    /// The kinds of the entries of a piece.
+    fn kinds_of(&mut self, piece: Piece) -> Result<Vec<Kind, A>, AllocError> {
+        let mut kinds = Vec::with_capacity(self.alloc, piece.count as usize)?;
+        for place in 0..piece.count {
+            let id = KindId(piece.from.saturating_add(place));
+            kinds.push(self.classes.kind(id))?;
+        }
+        Ok(kinds)
+    }
+}
+
+impl<'a, A: Allocator> Kinds<'a, A> {
+    /// A line of a body, with the place of the function that it calls, if it calls one.
+    fn step(
+        &mut self,
+        walk: &mut KindWalk<A>,
+        callee: Option<usize>,
+        line: &CodeLine<'_>,
+    ) -> Result<(), PathFault> {
+        match &line.item {
+            CodeItem::Do(Instr::Call(_)) => match callee {
+                Some(callee) => self.call(walk, callee),
+                None => Err(PathFault::Refused(KindFault::UnknownFunction)),
+            },
+            CodeItem::Do(instruction) => self.run(walk, instruction),
+            CodeItem::If => self.begin_if(walk),
+            CodeItem::Else => {
+                walk.paths.begin_else();
+                Ok(())
+            }
+            CodeItem::Endif => self.end_if(walk),
+        }
+    }
+
+    /// An instruction that calls nothing.
+    fn run(
+        &mut self,
+        walk: &mut KindWalk<A>,
+        instruction: &Instruction<'_>,
+    ) -> Result<(), PathFault> {
+        let Some(mut stack) = walk.paths.path() else {
+            return Ok(());
+        };
+        if let Instr::Move(motion, lower, upper) = instruction {
+            self.stacks.shift(&mut stack, *motion, *lower, *upper)?;
+        } else {
+            let op = instruction.op();
+            self.stacks
+                .take_kinds(&mut self.classes, &mut stack, op.operand_kinds())?;
+            self.stacks.put_kinds(&mut stack, op.result_kinds())?;
+        }
+        walk.paths.set(Some(stack));
+        Ok(())
+    }
+
+    /// A CALL. The path ends if the function isn't known to return.
+    fn call(&mut self, walk: &mut KindWalk<A>, callee: usize) -> Result<(), PathFault> {
+        let Some(mut stack) = walk.paths.path() else {
+            return Ok(());
+        };
+        let Some(
+            FunctionKinds {
+                operands,
+                results: Some(results),
+                assumed: _,
+            },
+        ) = self.functions.get(callee).copied()
+        else {
+            walk.paths.set(None);
+            return Ok(());
+        };
+        self.stacks
+            .take_like(&mut self.classes, &mut stack, operands)?;
+        self.stacks.put(&mut stack, results.given)?;
+        walk.paths.set(Some(stack));
+        Ok(())
+    }
+
+    /// An IF.
+    fn begin_if(&mut self, walk: &mut KindWalk<A>) -> Result<(), PathFault> {
+        let mut lowest = 0;
+        if let Some(mut stack) = walk.paths.path() {
+            self.stacks
+                .take_kinds(&mut self.classes, &mut stack, &[Kind::Bool])?;
+            lowest = stack.lowest;
+            stack.lowest = stack.height;
+            walk.paths.set(Some(stack));
+        }
+        walk.lowest.push(lowest)?;
+        walk.paths.begin_if()?;
+        Ok(())
+    }
+
+    /// An ENDIF.
+    fn end_if(&mut self, walk: &mut KindWalk<A>) -> Result<(), PathFault> {
+        let lowest = walk.lowest.pop().unwrap_or(0);
+        let (first, second) = walk.paths.end_if();
+        if let Some(mut stack) = self.joined(first, second)? {
+            stack.lowest = stack.lowest.min(lowest);
+            walk.paths.set(Some(stack));
+        }
+        Ok(())
+    }
+
+    /// The path after an IF whose parts end so.
+    fn joined(
+        &mut self,
+        first: Option<Stack>,
+        second: Option<Stack>,
+    ) -> Result<Option<Stack>, PathFault> {
+        let (Some(one), Some(other)) = (first, second) else {
+            return Ok(first.or(second));
+        };
+        match self.stacks.join(&mut self.classes, one, other) {
+            Some(stack) => Ok(Some(stack)),
+            None => Err(PathFault::Refused(KindFault::ArmsDiffer)),
+        }
+    }
+
+    /// The walk through the body of the function at this place has come to its end: the entries at RET are its results.
+    fn finish(&mut self, place: usize, walk: KindWalk<A>) -> Result<(), PathFault> {
+        let Some(stack) = walk.paths.path() else {
+            return Ok(());
+        };
+        let given = self.stacks.keep(stack)?;
+        let Some(function) = self.functions.get_mut(place) else {
+            return Ok(());
+        };
+        let Some(Results { open, given: _ }) = function.results else {
+            return Ok(());
+        };
+        function.results = Some(Results { open, given });
+        if function.assumed {
+            let operands = function.operands;
+            self.give_back(operands, open, given);
+        }
+        match self.stacks.unify(&mut self.classes, given, open) {
+            Ok(()) => Ok(()),
+            Err(entry) => Err(PathFault::OtherKind(entry)),
+        }
+    }
+
+    /// The results of a function that come from its own CALL are its operands, if they may be of equal kinds.
+    fn give_back(&mut self, operands: Piece, open: Piece, given: Piece) {
+        for place in 0..operands.count.min(open.count) {
+            let result_kind = KindId(open.from.saturating_add(place));
+            let entry = self.stacks.entry(given.from.saturating_add(place));
+            if self.classes.are_equal(entry, result_kind) {
+                let operand = KindId(operands.from.saturating_add(place));
+                let _ = self.classes.unify(operand, result_kind);
+            }
+        }
+    }
+
+    /// Gives the results of functions that were assumed to return, as far as they are open, the kinds of the operands.
+    fn decide_assumed(&mut self) {
+        for place in 0..self.functions.len() {
+            if let Some(
+                FunctionKinds {
+                    operands,
+                    results: Some(results),
+                    assumed: true,
+                },
+            ) = self.functions.get(place).copied()
+            {
+                self.decide(operands, results.open);
+            }
+        }
+    }
+
+    /// Gives results, as far as they are open, the kinds of the operands.
+    fn decide(&mut self, operands: Piece, open: Piece) {
+        for place in 0..operands.count.min(open.count) {
+            let result_kind = KindId(open.from.saturating_add(place));
+            if self.classes.is_open(result_kind) {
+                let operand = KindId(operands.from.saturating_add(place));
+                let _ = self.classes.unify(operand, result_kind);
+            }
+        }
+    }
+
+    /// The fault that ends a walk through a function at a line, which may call one.
+    fn fault_at(
+        &self,
+        fault: PathFault,
+        function: usize,
+        callee: Option<usize>,
+        line: u64,
+    ) -> PlacedFault {
+        match fault {
+            PathFault::Memory => PlacedFault::Memory,
+            PathFault::Refused(fault) => PlacedFault::Program(fault, line),
+            PathFault::ManyEntries => {
+                PlacedFault::Function(Obstacle::ManyEntries, function, line)
+            }
+            PathFault::OtherKind(entry) => match callee.or(self.owner(entry)) {
+                Some(used) => PlacedFault::Function(Obstacle::TwoKinds, used, line),
+                None => PlacedFault::Program(KindFault::WrongKind, line),
+            },
+        }
+    }
+
+    /// The function that has an operand of this number.
+    fn owner(&self, entry: KindId) -> Option<usize> {
+        self.functions
+            .iter()
+            .position(|function| function.operands.has(entry.0))
+    }
+}

@@ -1,0 +1,432 @@
+//! The stacks of the paths through a body.
+//!
+//! A stack is a list of pieces, and the stacks of all paths share what lies below. So an IF copies nothing, and an
+//! instruction that copies many entries adds a few pieces.
+
+use crate::classes::{Classes, KindId};
+use crate::fault::PathFault;
+use std::alloc::{AllocError, Allocator};
+use vcode_base::{Kind, StackMove};
+use verifier::KindFault;
+
+/// Entries that are moved are written out as one piece if they lie in more pieces than this.
+const MOST_PIECES: usize = 16;
+
+/// The most entries that are written out for the paths through a body.
+const MOST_WRITTEN: usize = 67_108_864;
+
+/// The most pieces of the stacks of the paths through a body.
+const MOST_NODES: usize = 33_554_432;
+
+/// Entries that lie next to each other among those that are written out, from the bottom up.
+#[derive(Clone, Copy)]
+pub(crate) struct Piece {
+    pub from: u32,
+    pub count: u32,
+}
+
+impl Piece {
+    /// Whether a place is one of this piece.
+    pub(crate) fn has(self, place: u32) -> bool {
+        self.from <= place && place - self.from < self.count
+    }
+}
+
+/// A piece, and the node of the one below it.
+#[derive(Clone, Copy)]
+struct Node {
+    piece: Piece,
+    below: u32,
+}
+
+/// A place in a stack: right above the first `count` entries of a node's piece. It is 0 of the node 0 at the bottom,
+/// and nowhere else 0.
+#[derive(Clone, Copy, PartialEq, Eq)]
+struct Level {
+    node: u32,
+    count: u32,
+}
+
+/// The stack of a path.
+#[derive(Clone, Copy)]
+pub(crate) struct Stack {
+    top: Level,
+    /// How many entries it has.
+    pub height: usize,
+    /// The fewest that it has had in the innermost part of an IF.
+    pub lowest: usize,
+}
+
+/// The entries and pieces of the stacks of all paths.
+#[derive(Drop)]
+pub(crate) struct Stacks<A: Allocator> {
+    /// The entries that are written out. Those before `kept` stay for all functions.
+    entries: Vec<KindId, A>,
+    kept: usize,
+    nodes: Vec<Node, A>,
+    /// The pieces that are moved, from the top down.
+    moved: Vec<Piece, A>,
+    /// The most entries of a stack.
+    most_entries: usize,
+}
+
+impl<A: Allocator + Copy> Stacks<A> {
+    /// The entries are at first the numbers below `count`, each at its own place. No stack may have more than
+    /// `most_entries` entries.
+    pub(crate) fn new(alloc: A, count: u32, most_entries: usize) -> Result<Stacks<A>, AllocError> {
+        let entries: Vec<KindId, A> = (0..count).map(|id| KindId(id)).collect(alloc)?;
+        Ok(Stacks {
+            kept: entries.len(),
+            entries,
+            nodes: Vec::new(alloc),
+            moved: Vec::new(alloc),
+            most_entries,
+        })
+    }
+}
+
+impl<A: Allocator> Stacks<A> {
+    /// The stack with which the walk through a body begins: this piece. The stacks of all other paths are void.
+    pub(crate) fn begin(&mut self, piece: Piece) -> Result<Stack, PathFault> {
+        self.entries.truncate(self.kept);
+        self.nodes.clear();
+        let bottom = Piece { from: 0, count: 0 };
+        self.nodes.push(Node {
+            piece: bottom,
+            below: 0,
+        })?;
+        let mut stack = Stack {
+            top: Level { node: 0, count: 0 },
+            height: 0,
+            lowest: 0,
+        };
+        self.put(&mut stack, piece)?;
+        stack.lowest = stack.height;
+        Ok(stack)
+    }
+
+    /// The entry that is written out at a place.
+    #[inline]
+    pub(crate) fn entry(&self, place: u32) -> KindId {
+        match self.entries.get(place as usize) {
+            Some(id) => *id,
+            None => KindId(place),
+        }
+    }
+
+    /// The level above all of a node.
+    fn whole(&self, node: u32) -> Level {
+        match self.nodes.get(node as usize) {
+            Some(Node { piece, below: _ }) => Level {
+                node,
+                count: piece.count,
+            },
+            None => Level { node: 0, count: 0 },
+        }
+    }
+
+    /// The entries right below a level that lie in one piece, at most so many, and the level below them. None at the
+    /// bottom.
+    fn next_piece(&self, level: Level, most: u32) -> Option<(Piece, Level)> {
+        let Node { piece, below } = *self.nodes.get(level.node as usize)?;
+        let count = level.count.min(most);
+        let left = level.count - count;
+        if count == 0 {
+            return None;
+        }
+        let taken = Piece {
+            from: piece.from.checked_add(left)?,
+            count,
+        };
+        let after = if left == 0 {
+            self.whole(below)
+        } else {
+            Level {
+                node: level.node,
+                count: left,
+            }
+        };
+        Some((taken, after))
+    }
+
+    /// The node of all that lies below a level.
+    fn node_at(&mut self, level: Level) -> Result<u32, PathFault> {
+        let whole = self.whole(level.node);
+        if whole == level {
+            return Ok(level.node);
+        }
+        let Some(node) = self.nodes.get(level.node as usize).copied() else {
+            return Ok(0);
+        };
+        let piece = Piece {
+            from: node.piece.from,
+            count: level.count,
+        };
+        self.add_node(Node {
+            piece,
+            below: node.below,
+        })
+    }
+
+    /// Adds a node.
+    fn add_node(&mut self, node: Node) -> Result<u32, PathFault> {
+        let place = self.nodes.len();
+        if place >= MOST_NODES {
+            return Err(PathFault::ManyEntries);
+        }
+        self.nodes.push(node)?;
+        Ok(place as u32)
+    }
+
+    /// Puts a piece on a stack.
+    pub(crate) fn put(&mut self, stack: &mut Stack, piece: Piece) -> Result<(), PathFault> {
+        if piece.count == 0 {
+            return Ok(());
+        }
+        let count = piece.count as usize;
+        if count > self.most_entries.saturating_sub(stack.height) {
+            return Err(PathFault::ManyEntries);
+        }
+        let below = self.node_at(stack.top)?;
+        let node = self.add_node(Node { piece, below })?;
+        stack.top = Level {
+            node,
+            count: piece.count,
+        };
+        stack.height = stack.height.saturating_add(count);
+        Ok(())
+    }
+
+    /// Puts kinds on a stack.
+    pub(crate) fn put_kinds(&mut self, stack: &mut Stack, kinds: &[Kind]) -> Result<(), PathFault> {
+        for kind in kinds {
+            let KindId(from) = KindId::of(*kind);
+            self.put(stack, Piece { from, count: 1 })?;
+        }
+        Ok(())
+    }
+
+    /// Takes entries of these kinds off a stack.
+    pub(crate) fn take_kinds(
+        &mut self,
+        classes: &mut Classes<A>,
+        stack: &mut Stack,
+        kinds: &[Kind],
+    ) -> Result<(), PathFault> {
+        for kind in kinds.iter().rev() {
+            let Some((piece, below)) = self.next_piece(stack.top, 1) else {
+                return Err(missing());
+            };
+            stack.lower(below, 1);
+            let entry = self.entry(piece.from);
+            if !classes.unify(entry, KindId::of(*kind)) {
+                return Err(PathFault::OtherKind(entry));
+            }
+        }
+        Ok(())
+    }
+
+    /// Takes entries off a stack, whose kinds have to be those of a piece of the same length.
+    pub(crate) fn take_like(
+        &mut self,
+        classes: &mut Classes<A>,
+        stack: &mut Stack,
+        like: Piece,
+    ) -> Result<(), PathFault> {
+        self.moved.clear();
+        self.take(stack, like.count)?;
+        let mut from = like.from;
+        for piece in self.moved.iter().rev() {
+            let part = Piece {
+                from,
+                count: piece.count,
+            };
+            if let Err(entry) = self.unify(classes, *piece, part) {
+                return Err(PathFault::OtherKind(entry));
+            }
+            from = from.saturating_add(piece.count);
+        }
+        Ok(())
+    }
+
+    /// Takes so many entries off a stack, and adds their pieces to those that are moved.
+    fn take(&mut self, stack: &mut Stack, count: u32) -> Result<(), PathFault> {
+        let mut left = count;
+        for _ in 0..count {
+            if left == 0 {
+                break;
+            }
+            let Some((piece, below)) = self.next_piece(stack.top, left) else {
+                return Err(missing());
+            };
+            stack.lower(below, piece.count);
+            self.moved.push(piece)?;
+            left = left.saturating_sub(piece.count);
+        }
+        Ok(())
+    }
+
+    /// Puts those of the pieces that are moved on a stack which have these places, the last first.
+    fn put_moved(&mut self, stack: &mut Stack, from: usize, until: usize) -> Result<(), PathFault> {
+        if until.saturating_sub(from) > MOST_PIECES {
+            let piece = self.written_out(from, until)?;
+            return self.put(stack, piece);
+        }
+        for place in (from..until).rev() {
+            if let Some(piece) = self.moved.get(place).copied() {
+                self.put(stack, piece)?;
+            }
+        }
+        Ok(())
+    }
+
+    /// One piece with the entries of those of the pieces that are moved which have these places, the last first.
+    fn written_out(&mut self, from: usize, until: usize) -> Result<Piece, PathFault> {
+        let begin = self.entries.len();
+        for place in (from..until).rev() {
+            if let Some(piece) = self.moved.get(place).copied() {
+                self.write_out(piece)?;
+            }
+        }
+        let count = self.entries.len().saturating_sub(begin);
+        match (u32::try_from(begin), u32::try_from(count)) {
+            (Ok(from), Ok(count)) => Ok(Piece { from, count }),
+            _ => Err(PathFault::ManyEntries),
+        }
+    }
+
+    /// Writes out the entries of a piece once more.
+    fn write_out(&mut self, piece: Piece) -> Result<(), PathFault> {
+        let from = piece.from as usize;
+        let until = from + piece.count as usize;
+        if self.entries.len() >= MOST_WRITTEN {
+            return Err(PathFault::ManyEntries);
+        }
+        if until <= self.entries.len() {
+            self.entries.extend_from_within(from..until)?;
+        }
+        Ok(())
+    }
+
+    /// Moves entries at the top of a stack.
+    pub(crate) fn shift(
+        &mut self,
+        stack: &mut Stack,
+        motion: StackMove,
+        lower: u16,
+        upper: u16,
+    ) -> Result<(), PathFault> {
+        let mut below = *stack;
+        self.moved.clear();
+        self.take(&mut below, u32::from(upper))?;
+        let uppers = self.moved.len();
+        self.take(&mut below, u32::from(lower))?;
+        let all = self.moved.len();
+        match motion {
+            StackMove::Copy => self.put_moved(stack, uppers, all),
+            StackMove::Pop => {
+                *stack = below;
+                self.put_moved(stack, 0, uppers)
+            }
+            StackMove::MoveToTop => {
+                *stack = below;
+                self.put_moved(stack, 0, uppers)?;
+                self.put_moved(stack, uppers, all)
+            }
+        }
+    }
+
+    /// Has the entries of two pieces be of one kind at each place.
+    ///
+    /// # Errors
+    ///
+    /// The first entry of the one piece that can't be.
+    pub(crate) fn unify(
+        &self,
+        classes: &mut Classes<A>,
+        one: Piece,
+        other: Piece,
+    ) -> Result<(), KindId> {
+        if one.from == other.from {
+            return Ok(());
+        }
+        for place in 0..one.count.min(other.count) {
+            let entry = self.entry(one.from.saturating_add(place));
+            if !classes.unify(entry, self.entry(other.from.saturating_add(place))) {
+                return Err(entry);
+            }
+        }
+        Ok(())
+    }
+
+    /// The stack after an IF whose parts end with these two, which have to be of equal kinds: the one that has more of
+    /// the entries that it began with. None if they aren't. Where both have the same entries, these aren't looked at.
+    pub(crate) fn join(&self, classes: &mut Classes<A>, one: Stack, other: Stack) -> Option<Stack> {
+        let mut ones = one.top;
+        let mut others = other.top;
+        for _ in 0..one.height {
+            if ones == others {
+                break;
+            }
+            let most = ones.count.min(others.count);
+            let (piece, below) = self.next_piece(ones, most)?;
+            let (like, below_like) = self.next_piece(others, most)?;
+            self.unify(classes, piece, like).ok()?;
+            ones = below;
+            others = below_like;
+        }
+        if ones != others {
+            return None;
+        }
+        Some(if other.lowest > one.lowest {
+            other
+        } else {
+            one
+        })
+    }
+
+    /// Keeps the entries of a stack for the walks through other bodies, as one piece.
+    pub(crate) fn keep(&mut self, stack: Stack) -> Result<Piece, PathFault> {
+        let mut stack = stack;
+        self.moved.clear();
+        let (Ok(from), Ok(count)) = (u32::try_from(self.kept), u32::try_from(stack.height)) else {
+            return Err(PathFault::ManyEntries);
+        };
+        self.take(&mut stack, count)?;
+        let all = self.moved.len();
+        let written = self.written_out(0, all)?;
+        for place in 0..written.count {
+            let entry = self.entry(written.from.saturating_add(place));
+            self.keep_entry(entry);
+        }
+        let kept = self.kept;
+        self.entries.truncate(kept);
+        Ok(Piece {
+            from,
+            count: written.count,
+        })
+    }
+
+    /// Keeps one entry more, in the place of one that isn't kept.
+    fn keep_entry(&mut self, entry: KindId) {
+        let place = self.kept;
+        if let Some(kept) = self.entries.get_mut(place) {
+            *kept = entry;
+            self.kept = place.saturating_add(1);
+        }
+    }
+}
+
+impl Stack {
+    /// So many entries were taken off, down to this level.
+    fn lower(&mut self, top: Level, count: u32) {
+        self.top = top;
+        self.height = self.height.saturating_sub(count as usize);
+        self.lowest = self.lowest.min(self.height);
+    }
+}
+
+/// That a stack has too few entries, which it hasn't, since a function takes as many as its paths need.
+fn missing() -> PathFault {
+    PathFault::Refused(KindFault::MissingOperand)
+}

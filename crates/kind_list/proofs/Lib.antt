@@ -1,0 +1,4 @@
+pub mod Chunks
+pub mod Digits
+pub mod ListLemmas
+pub mod Numbers

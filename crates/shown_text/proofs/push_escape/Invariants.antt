@@ -1,0 +1,10 @@
+-- What was appended, with what is left of the escape, is the escape.
+use Rattle.std.proofs.Common.{◌≡◌, ◌≤◌, ◌++◌, string_bytes, encode_utf8_all}
+use Rattle.std.specs.Char.Iter.{escape_rest, escape_end}
+use Rattle.shown_text.proofs.push_escape.Given as goal
+
+abbrev pub invariant-loop-part : goal.invariant-loop-part
+invariant-loop-part g l =
+    (escape_end l.part-iterator ≤ 10)
+    × (string_bytes l.text ++ encode_utf8_all (escape_rest l.part-iterator)
+    ≡ string_bytes l.fn.text ++ encode_utf8_all (escape_rest l.fn.escape))

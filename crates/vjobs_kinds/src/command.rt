@@ -1,0 +1,174 @@
+//! The command line.
+
+use crate::fault::Fault;
+use clap::error::ErrorKind;
+use clap::{Arg, ArgMatches, Command, value_parser};
+use kind_finder::MOST_ENTRIES;
+use shown_text::shown;
+use std::alloc::{AllocError, Global};
+use vcode_base::limits::MOST_BATCH_BYTES;
+
+/// The name of the program in its texts, by whatever name it was called.
+const NAME: &str = "vjobs-kinds";
+
+/// What is printed if clap refuses words and doesn't refuse them as they are shown. No line is known that gives this.
+const REFUSED: &str = "error: the command line is refused\n\nFor more information, try '--help'.\n";
+
+/// What help ends with.
+const AFTER_HELP: &str = "\
+Exits:
+  0  the signatures were printed; also after help
+  1  there are no signatures
+  2  the command line was refused
+  3  reading, writing or memory failed";
+
+/// The most bytes of a code.
+const MOST_BYTES: u32 = MOST_BATCH_BYTES as u32;
+
+/// The same as the text of an argument.
+const MOST_BYTES_TEXT: &str = "16777216";
+
+/// The most entries of a stack if no number is given.
+const DEFAULT_ENTRIES: u32 = MOST_ENTRIES as u32;
+
+/// The same as the text of an argument.
+const DEFAULT_ENTRIES_TEXT: &str = "67108864";
+
+/// What a code may have at most.
+#[derive(Clone, Copy, PartialEq, Eq, Debug)]
+pub struct Bounds {
+    /// The bytes of its text.
+    pub bytes: u32,
+    /// The entries of a function's stack.
+    pub entries: u32,
+}
+
+/// What a command line asks for.
+#[derive(Drop)]
+pub enum Line {
+    /// The signatures of the code in the file of this name, within bounds; `-` is standard input.
+    Find(String, Bounds),
+    /// The text of help or of the version, to be printed.
+    Help(String),
+}
+
+/// The argument for the code.
+fn file_argument<'a>(alloc: Global) -> Arg<'a> {
+    Arg::new(alloc, "file")
+        .value_name("FILE")
+        .required(true)
+        .help("The code, or - for standard input")
+}
+
+/// The option for the bytes of the code.
+fn bytes_option<'a>(alloc: Global) -> Arg<'a> {
+    Arg::new(alloc, "most-bytes")
+        .long("most-bytes")
+        .value_name("N")
+        .value_parser(value_parser!(u32).range(0..=i64::from(MOST_BYTES)))
+        .default_value(MOST_BYTES_TEXT)
+        .help("Most bytes of the code")
+}
+
+/// The option for the entries of a stack.
+fn entries_option<'a>(alloc: Global) -> Arg<'a> {
+    Arg::new(alloc, "most-entries")
+        .long("most-entries")
+        .value_name("N")
+        .value_parser(value_parser!(u32).range(0..=i64::from(u32::MAX)))
+        .default_value(DEFAULT_ENTRIES_TEXT)
+        .help("Most entries of a function's stack")
+}
+
+/// The command.
+fn command<'a>(alloc: Global) -> Result<Command<'a>, clap::Error> {
+    Ok(
+        Command::new(alloc, NAME)
+            .bin_name(NAME)?
+            .about("Prints the signatures of VCODE code that has none")
+            .version("0.1.0")
+            .after_help(AFTER_HELP)
+            .arg(bytes_option(alloc))?
+            .arg(entries_option(alloc))?
+            .arg(file_argument(alloc))?,
+    )
+}
+
+/// What was matched.
+fn find_of(alloc: Global, matches: &ArgMatches<'_>) -> Result<Line, AllocError> {
+    let bytes = matches.get_one::<u32>("most-bytes").unwrap_or(MOST_BYTES);
+    let entries = matches
+        .get_one::<u32>("most-entries")
+        .unwrap_or(DEFAULT_ENTRIES);
+    let file = matches.get_str("file").unwrap_or("-");
+    Ok(Line::Find(String::from_str(alloc, file)?, Bounds { bytes, entries }))
+}
+
+/// The words as they may be printed.
+fn shown_words(alloc: Global, words: &[String]) -> Result<Vec<String>, AllocError> {
+    let mut texts = Vec::new(alloc);
+    for word in words {
+        texts.push(shown(alloc, word.as_bytes())?)?;
+    }
+    Ok(texts)
+}
+
+/// What clap says of words that are shown: why it refuses them.
+fn refusal_of(alloc: Global, texts: &[String]) -> Result<String, clap::Error> {
+    let command = command(alloc)?;
+    match command.try_get_matches_from(texts) {
+        Ok(_matches) => Ok(String::from_str(alloc, REFUSED)?),
+        Err(error) => text_of(alloc, error),
+    }
+}
+
+/// The text of an error by which clap refuses a line.
+fn text_of(alloc: Global, error: clap::Error) -> Result<String, clap::Error> {
+    if error.kind() == ErrorKind::OutOfMemory {
+        return Err(error);
+    }
+    if error.use_stderr() {
+        Ok(error.to_string(alloc)?)
+    } else {
+        Ok(String::from_str(alloc, REFUSED)?)
+    }
+}
+
+/// Why a line is refused. clap quotes words as they are, so it reads them once more, each as it may be printed.
+fn refusal(alloc: Global, words: &[String]) -> Fault {
+    let Ok(texts) = shown_words(alloc, words) else {
+        return Fault::Memory;
+    };
+    match refusal_of(alloc, &texts) {
+        Ok(text) => Fault::Usage(text),
+        Err(_) => Fault::Memory,
+    }
+}
+
+/// What clap answered in place of matches of these words.
+fn line_of(alloc: Global, error: &clap::Error, words: &[String]) -> Result<Line, Fault> {
+    if error.kind() == ErrorKind::OutOfMemory {
+        return Err(Fault::Memory);
+    }
+    if error.use_stderr() {
+        return Err(refusal(alloc, words));
+    }
+    Ok(Line::Help(error.to_string(alloc)?))
+}
+
+/// Reads a command line, the program's name first.
+///
+/// # Errors
+///
+/// [`Fault::Usage`] if the line is refused, with a text in which its words are shown, and [`Fault::Memory`] if a growth
+/// was refused.
+pub fn read_line(alloc: Global, words: &[String]) -> Result<Line, Fault> {
+    let command = match command(alloc) {
+        Ok(command) => command,
+        Err(error) => return line_of(alloc, &error, words),
+    };
+    match command.try_get_matches_from(words) {
+        Ok(matches) => Ok(find_of(alloc, &matches)?),
+        Err(error) => line_of(alloc, &error, words),
+    }
+}
