@@ -11,6 +11,9 @@ from runs import Limits
 # The most columns of the words over time.
 MOST_COLUMNS = 2048
 GREATEST_CELLS, GREATEST_CALLS, GREATEST_BUDGET = 4096, 1024, 1_000_000_000
+# What a run within wide limits may execute beside four times what the job did, or what the job did if its budget ended it.
+# It may also be given up after many elements, which no run has that is as short as the next limit.
+MORE_INSTRUCTIONS = 1_000_000
 # A run within wide limits that executes more instructions is given up, and then least limits are not compared.
 LONGEST_RUN = 3_000
 UNKNOWN = "unknown"
@@ -115,8 +118,11 @@ def limits_shown(words, cells, calls, budget):
 
 def least(job, end, functions):
     """The least limits within which a job returns, if it returned, or a limit ended it and it returns within wide ones."""
+    if end == "BUDGET" and job.executed > MORE_INSTRUCTIONS:
+        return None
     if end.startswith(("MEMORY", "BUDGET")):
-        budget = min(16 * job.executed + 1_000_000, GREATEST_BUDGET)
+        times = 1 if end == "BUDGET" else 4
+        budget = min(times * job.executed + MORE_INSTRUCTIONS, GREATEST_BUDGET)
         job = Counted(functions, Limits(GREATEST_WORDS, GREATEST_CELLS, GREATEST_CALLS, budget), job.is_second)
         end, _ = end_of(job, LONGEST_RUN)
     if end == "RETURNED":

@@ -23,9 +23,12 @@ sys.dont_write_bytecode = True
 from batches import batches  # noqa: E402
 from browser import Browser, Page  # noqa: E402
 from checks import CHECKS, CHECKS_OF_LOOKS, Wanted, wrong  # noqa: E402
+from policy import policy_faults, with_hash  # noqa: E402
 
 INSTALL_SECONDS = 60
 WIDTHS, SCHEMES = [400, 1600], ["light", "dark"]
+# A change of the script of a page whose hash stays as it is, so that the script doesn't run.
+OTHER_SCRIPT = ("start();\n</script>", "start();\n\n</script>")
 # For each check a change of a page that it has to refuse: a text of the page, and what comes in its place.
 BROKEN = {
     "numbers": [('"instructions":599', '"instructions":600'), ("number(part));\n  if", "number(part + 1));\n  if"),
@@ -36,7 +39,7 @@ BROKEN = {
     "contrast": [("--dim: #59616b", "--dim: #99a1ab"), ("['#4477aa', '#fff']", "['#4477aa', '#000']")],
     "keyboard": [("tabindex: 0, role", "role"), ("input.addEventListener('input'", "input.addEventListener('other'")],
     "printing": [("  .scroll { max-height: none;", "  .scroll { max-height: 40px;")],
-    "console": [("start();\n</script>", "start();\nmissing();\n</script>")],
+    "console": [("start();\n</script>", "start();\nmissing();\n</script>"), OTHER_SCRIPT],
     "requests": [("default-src 'none'", "default-src *"), ('<main id="jobs">', '<img src="http://127.0.0.1:9/x.png"><main id="jobs">')],
 }
 
@@ -89,7 +92,7 @@ def page_of(program: str, folder: Path, name: str, batch: bytes) -> tuple[Path, 
     faults = [] if f"[\n{objects}\n]</script>".encode() in text else ["its data isn't that of --json"]
     if strange := {byte for byte in text if not 32 <= byte <= 126 and byte != 10}:
         faults.append(f"it has the bytes {strange}")
-    return page, wanted, faults
+    return page, wanted, faults + policy_faults(text.decode("latin1"))
 
 
 def made_up(folder: Path, name: str, page: Path, wanted: Wanted, end: dict) -> tuple[Path, Wanted]:
@@ -126,7 +129,7 @@ def broken_pages(browser: Browser, folder: Path, pages: dict[str, tuple[Path, Wa
                     found.append(f"{check}: the page has no {old!r}")
                 text = text.replace(old, new)
             broken = folder / f"broken-{check}-{number}.html"
-            broken.write_text(text)
+            broken.write_text(text if change == [OTHER_SCRIPT] else with_hash(text))
             opened = Page(browser, broken.as_uri(), 400, "light")
             refused = wrong(opened, wanted, [each for each in CHECKS if each.__name__ == check])[check]
             opened.close()

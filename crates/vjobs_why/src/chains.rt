@@ -6,23 +6,30 @@ use std::alloc::{AllocError, Global};
 /// The most chains. A function that would begin one more counts in the chain that called it.
 const MOST_CHAINS: usize = 4_096;
 
-/// A chain of functions that run inside one another: its innermost function, the chain without it, how often that function
-/// was called there, and how many instructions it executed itself. The chain of `MAIN` alone is its own outer chain.
+/// A chain of functions that run inside one another: its innermost function, the chain without it, how often that
+/// function was called there, and how many instructions it executed itself. The chain of `MAIN` alone is its own outer
+/// chain.
 #[derive(Clone, Copy, Drop)]
 pub struct Chain {
     pub outer: usize,
     pub function: usize,
     pub calls: u64,
     pub count: u64,
-    first_inner: Option<usize>,
-    next_beside: Option<usize>,
 }
 
 /// The chains of a run, that of `MAIN` alone first, and the chain of each active call, the innermost last.
+///
+/// Each chain has a row, which has for each function the chain in which it goes on if it is called there: for one that
+/// runs in the chain already the chain up to it, and for one that was called from the chain the chain with it. So a call
+/// takes one look, however deep it is. Each chain comes after its outer chain. So in a row the chains of functions that run
+/// already are those up to the row's own chain, and those of others come after it.
 #[derive(Drop)]
 pub struct Chains {
+    alloc: Global,
     chains: Vec<Chain>,
     calls: Vec<usize>,
+    functions: usize,
+    rows: Vec<Option<u16>>,
 }
 
 /// The function of the innermost call.
@@ -36,18 +43,17 @@ pub fn innermost(run: &Run<Global>) -> usize {
 impl Chains {
     /// The chains of a run that has executed nothing.
     pub fn new(alloc: Global, run: &Run<Global>) -> Result<Chains, AllocError> {
-        let mut chains = Vec::new(alloc);
-        chains.push(Chain {
-            outer: 0,
-            function: innermost(run),
-            calls: 1,
-            count: 0,
-            first_inner: None,
-            next_beside: None,
-        })?;
-        let mut calls = Vec::new(alloc);
-        calls.push(0)?;
-        Ok(Chains { chains, calls })
+        let functions = run.job().verified().program().functions().len();
+        let mut chains = Chains {
+            alloc,
+            chains: Vec::new(alloc),
+            calls: Vec::new(alloc),
+            functions,
+            rows: vec![in alloc; None; functions]?,
+        };
+        let main = chains.push_chain(0, innermost(run))?;
+        chains.enter(main)?;
+        Ok(chains)
     }
 
     /// The chains. Each comes after its outer chain.
@@ -63,55 +69,58 @@ impl Chains {
         }
     }
 
-    /// The place of the chain up to a function that already runs in the chain at a place.
-    fn running(&self, place: usize, function: usize) -> Option<usize> {
-        let mut place = place;
-        for _ in 0..self.chains.len() {
-            let chain = *self.chains.get(place)?;
-            if chain.function == function {
-                return Some(place);
-            }
-            place = chain.outer;
-        }
-        None
+    /// The index of a function in the row of the chain at a place.
+    fn index(&self, place: usize, function: usize) -> usize {
+        place
+            .saturating_mul(self.functions)
+            .saturating_add(function)
     }
 
-    /// The place of the chain of a function inside the chain at a place, if there is one.
-    fn known(&self, outer: usize, function: usize) -> Option<usize> {
-        let mut inner = self.chains.get(outer)?.first_inner;
-        for _ in 0..self.chains.len() {
-            let place = inner?;
-            let chain = *self.chains.get(place)?;
-            if chain.function == function {
-                return Some(place);
-            }
-            inner = chain.next_beside;
+    /// The place of the chain in which a function goes on that is called in the chain at a place, if it is known.
+    fn known(&self, place: usize, function: usize) -> Option<usize> {
+        match self.rows.get(self.index(place, function)) {
+            Some(Some(known)) => Some(usize::from(*known)),
+            Some(None) | None => None,
         }
-        None
     }
 
-    /// Adds the chain of a function inside the chain at a place. Answers its place.
-    fn add(&mut self, outer: usize, function: usize) -> Result<usize, AllocError> {
+    /// Notes that a function that is called in the chain at a place goes on in the chain at another.
+    fn note(&mut self, place: usize, function: usize, known: usize) {
+        let index = self.index(place, function);
+        if let (Some(entry), Ok(known)) = (self.rows.get_mut(index), u16::try_from(known)) {
+            *entry = Some(known);
+        }
+    }
+
+    /// Adds a row of a chain inside the chain at a place: the functions that run in it.
+    fn push_row(&mut self, outer: usize) -> Result<(), AllocError> {
+        let (begin, end) = (self.index(outer, 0), self.index(outer, self.functions));
+        let row = self.rows.get(begin..end).unwrap_or(&[]);
+        let mut row = row.to_vec(self.alloc)?;
+        for entry in row.iter_mut() {
+            if matches!(*entry, Some(known) if usize::from(known) > outer) {
+                *entry = None;
+            }
+        }
+        self.rows.extend_from_slice(&row)
+    }
+
+    /// Adds the chain of a function inside the chain at a place, for which there is a row. Answers its place.
+    fn push_chain(&mut self, outer: usize, function: usize) -> Result<usize, AllocError> {
         let place = self.chains.len();
-        let next_beside = match self.chains.get(outer) {
-            Some(chain) => chain.first_inner,
-            None => None,
-        };
         self.chains.push(Chain {
             outer,
             function,
             calls: 0,
             count: 0,
-            first_inner: None,
-            next_beside,
         })?;
-        if let Some(chain) = self.chains.get_mut(outer) {
-            chain.first_inner = Some(place);
-        }
+        self.note(place, function, place);
+        self.note(outer, function, place);
         Ok(place)
     }
 
-    /// The place of the chain of a function inside the chain at a place, which is added if it is missing.
+    /// The place of the chain of a function that is called in the chain at a place. One that runs already goes on in its
+    /// chain, so that a recursion is one chain. A chain that is missing is added, unless there are too many.
     fn inner(&mut self, outer: usize, function: usize) -> Result<usize, AllocError> {
         if let Some(place) = self.known(outer, function) {
             return Ok(place);
@@ -119,21 +128,23 @@ impl Chains {
         if self.chains.len() >= MOST_CHAINS {
             return Ok(outer);
         }
-        self.add(outer, function)
+        self.push_row(outer)?;
+        self.push_chain(outer, function)
     }
 
-    /// Adds the call of a function. One that runs already goes on in its chain, so that a recursion is one chain.
-    fn call(&mut self, function: usize) -> Result<(), AllocError> {
-        let outer = self.place();
-        let place = match self.running(outer, function) {
-            Some(place) => place,
-            None => self.inner(outer, function)?,
-        };
+    /// Counts a call in the chain at a place, which is the innermost then.
+    fn enter(&mut self, place: usize) -> Result<(), AllocError> {
         if let Some(chain) = self.chains.get_mut(place) {
             chain.calls = chain.calls.saturating_add(1);
         }
         self.calls.push(place)?;
         Ok(())
+    }
+
+    /// Adds the call of a function.
+    fn call(&mut self, function: usize) -> Result<(), AllocError> {
+        let place = self.inner(self.place(), function)?;
+        self.enter(place)
     }
 
     /// Counts an instruction of the innermost call.
@@ -163,20 +174,20 @@ impl Chains {
         Ok(())
     }
 
-    /// The functions of the chain at a place, the innermost first.
-    pub fn functions(&self, alloc: Global, place: usize) -> Result<Vec<usize>, AllocError> {
-        let mut functions = Vec::new(alloc);
+    /// The places of the chain at a place and of the chains around it, that of `MAIN` last.
+    pub fn path(&self, alloc: Global, place: usize) -> Result<Vec<usize>, AllocError> {
+        let mut path = Vec::new(alloc);
         let mut place = place;
         for _ in 0..self.chains.len() {
             let Some(chain) = self.chains.get(place) else {
                 break;
             };
-            functions.push(chain.function)?;
+            path.push(place)?;
             if place == 0 {
                 break;
             }
             place = chain.outer;
         }
-        Ok(functions)
+        Ok(path)
     }
 }

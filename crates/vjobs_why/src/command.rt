@@ -3,6 +3,7 @@
 use crate::selection::{Selection, line_range};
 use clap::error::ErrorKind;
 use clap::{Arg, ArgAction, ArgMatches, Command, value_parser};
+use shown_text::{ArgumentFault, shown};
 use std::alloc::{AllocError, Global};
 use vcode_base::limits::MOST_BUDGET;
 
@@ -43,6 +44,8 @@ pub struct Asked {
     pub job: Option<u64>,
     /// How.
     pub form: Form,
+    /// Whether a job that a limit ended is run again within the widest limits.
+    pub tries_least: bool,
 }
 
 /// What a command line asks for.
@@ -60,7 +63,7 @@ pub enum LineFault {
     /// It is refused, with the reason as it is to be printed.
     Usage(String),
     /// A word of it is no text.
-    NotText,
+    NotText(ArgumentFault),
     /// Memory was refused.
     Memory,
 }
@@ -73,6 +76,15 @@ impl From<AllocError> for LineFault {
 
     fn from(_: AllocError) -> LineFault {
         LineFault::Memory
+    }
+}
+
+impl From<ArgumentFault> for LineFault {
+    fn from(fault: ArgumentFault) -> LineFault {
+        match fault {
+            ArgumentFault::NotText(..) => LineFault::NotText(fault),
+            ArgumentFault::Memory => LineFault::Memory,
+        }
     }
 }
 
@@ -131,6 +143,15 @@ fn file_argument<'a>(alloc: Global) -> Arg<'a> {
         .value_name("FILE")
         .required(true)
         .help("The batch; - is standard input")
+}
+
+/// The option that leaves out a run.
+fn no_least_option<'a>(alloc: Global) -> Arg<'a> {
+    flag_option(
+        alloc,
+        "no-least",
+        "Doesn't run a job that a limit ended again, to find limits within which it returns",
+    )
 }
 
 /// A command with the options for a state.
@@ -206,7 +227,7 @@ fn command<'a>(alloc: Global) -> Result<Command<'a>, clap::Error> {
     let command = with_states(alloc, command)?;
     let command = with_steps(alloc, command)?;
     let command = with_filters(alloc, command)?;
-    let command = with_profiles(alloc, command)?;
+    let command = with_profiles(alloc, command)?.arg(no_least_option(alloc))?;
     Ok(command.arg(file_argument(alloc))?)
 }
 
@@ -299,6 +320,7 @@ fn asked_of(alloc: Global, matches: &ArgMatches<'_>) -> Result<Line, LineFault> 
         file,
         job: number(matches, "job"),
         form: form_of(alloc, matches, look)?,
+        tries_least: !matches.get_flag("no-least"),
     }))
 }
 
@@ -315,14 +337,41 @@ fn line_of(alloc: Global, error: &clap::Error) -> Result<Line, LineFault> {
     }
 }
 
+/// Matches the words of a command line.
+fn matches_of<'a>(alloc: Global, words: &'a [&'a str]) -> Result<ArgMatches<'a>, clap::Error> {
+    command(alloc)?.try_get_matches_from(words)
+}
+
+/// Words as they may be shown on a terminal.
+fn shown_words(alloc: Global, words: &[&str]) -> Result<Vec<String>, AllocError> {
+    let mut all = Vec::new(alloc);
+    for word in words {
+        all.push(shown(alloc, word.as_bytes())?)?;
+    }
+    Ok(all)
+}
+
+/// What clap answers in place of matches to these words as they are shown, since it quotes them.
+fn answer_of(alloc: Global, words: &[&str]) -> Result<Line, LineFault> {
+    let shown = shown_words(alloc, words)?;
+    let mut texts = Vec::new(alloc);
+    for word in &shown {
+        texts.push(word.as_str()).map_err(|_| LineFault::Memory)?;
+    }
+    match matches_of(alloc, texts.as_slice()) {
+        Err(error) => line_of(alloc, &error),
+        Ok(_) => {
+            let text = String::from_str(alloc, "vjobs-why: the command line is refused\n")?;
+            Err(LineFault::Usage(text))
+        }
+    }
+}
+
 /// Reads a command line, the program's name first.
 pub fn read_line(alloc: Global, words: &[&str]) -> Result<Line, LineFault> {
-    let command = match command(alloc) {
-        Ok(command) => command,
-        Err(error) => return line_of(alloc, &error),
-    };
-    match command.try_get_matches_from(words) {
+    match matches_of(alloc, words) {
         Ok(matches) => asked_of(alloc, &matches),
-        Err(error) => line_of(alloc, &error),
+        Err(error) if error.kind() == ErrorKind::OutOfMemory => Err(LineFault::Memory),
+        Err(_) => answer_of(alloc, words),
     }
 }

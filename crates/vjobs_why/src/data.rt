@@ -6,6 +6,7 @@ use crate::lines::Lines;
 use crate::meanings::job_meaning;
 use crate::profile::{function_places, functions_of, last_line_of, lines_of};
 use crate::survey::Survey;
+use crate::wide::Work;
 use batch_reader::JobFault;
 use job_profile::{Column, Columns, Profile};
 use std::alloc::{AllocError, Global};
@@ -15,12 +16,13 @@ use vcode_base::Limits;
 /// How many lines are given before and after that of a refusal.
 const LINES_BESIDE: u64 = 8;
 
-/// What is said of the end of a job: the note at its last line, the least limits within which it returns, and the words that
-/// its last instruction wanted in all, if these are known.
+/// What is said of the end of a job: the note at its last line, the least limits within which it returns, or the work
+/// after which they were given up, and the words that its last instruction wanted in all, if these are known.
 #[derive(Drop)]
 pub struct Told {
     pub note: String,
     pub least: Option<Limits>,
+    pub tried: Option<Work>,
     pub wanted: Option<usize>,
 }
 
@@ -246,6 +248,13 @@ pub fn push_told(text: &mut String, told: &Told) -> Result<(), AllocError> {
     }
     if let Some(least) = told.least {
         push_limits(text, "least", least)?;
+    }
+    if let Some(work) = told.tried {
+        let (instructions, elements) = (work.instructions, work.elements);
+        write!(
+            text,
+            ",\"tried\":{{\"instructions\":{instructions},\"elements\":{elements}}}"
+        )?;
     }
     text.push('}')
 }

@@ -6,30 +6,123 @@ use job_profile::Run;
 use job_steps::Job;
 use std::alloc::{AllocError, Global};
 use std::io;
+use std::io::Write;
 use vcode_base::Rule;
 use vcode_base::limits::MOST_BUDGET;
 
-/// Appends a name as it may be shown, with a question mark for a semicolon, since that parts the names.
-fn push_name(alloc: Global, names: &mut String, name: &[u8]) -> Result<(), AllocError> {
+/// A name as it may be shown, with a question mark for a semicolon, since that parts the names.
+fn name_of(alloc: Global, name: &[u8]) -> Result<String, AllocError> {
+    let mut text = String::new(alloc);
     for letter in printable(alloc, name)?.chars() {
-        names.push(if letter == ';' { '?' } else { letter })?;
+        text.push(if letter == ';' { '?' } else { letter })?;
     }
-    Ok(())
+    Ok(text)
 }
 
-/// The names of these functions of a job, from the last one to the first, with semicolons between them.
-fn names_of(alloc: Global, job: &Job<Global>, functions: &[usize]) -> Result<String, AllocError> {
-    let all = job.verified().program().functions();
-    let mut names = String::new(alloc);
-    for place in functions.iter().rev() {
-        if !names.is_empty() {
-            names.push(';')?;
-        }
-        if let Some(function) = all.get(*place) {
-            push_name(alloc, &mut names, function.name())?;
-        }
+/// The names of the functions of a job.
+fn names_of(alloc: Global, job: &Job<Global>) -> Result<Vec<String>, AllocError> {
+    let mut names = Vec::new(alloc);
+    for function in job.verified().program().functions() {
+        names.push(name_of(alloc, function.name())?)?;
     }
     Ok(names)
+}
+
+/// A chain among the chains around one: its place, and where its names end.
+#[derive(Clone, Copy, Drop)]
+struct Level {
+    place: usize,
+    end: usize,
+}
+
+/// The names of the functions of a chain with semicolons between them, and the chain and those around it, that of `MAIN`
+/// first.
+#[derive(Drop)]
+struct Stack {
+    alloc: Global,
+    text: Vec<u8>,
+    levels: Vec<Level>,
+}
+
+impl Stack {
+    /// No chain.
+    fn new(alloc: Global) -> Stack {
+        Stack {
+            alloc,
+            text: Vec::new(alloc),
+            levels: Vec::new(alloc),
+        }
+    }
+
+    /// Cuts the names after those of the chain at a place; false if that is none of these chains.
+    fn cut(&mut self, place: usize) -> bool {
+        for _ in 0..self.levels.len() {
+            let Some(level) = self.levels.last() else {
+                return false;
+            };
+            let Level { place: last, end } = *level;
+            if last <= place {
+                self.text.truncate(end);
+                return last == place;
+            }
+            self.levels.pop();
+        }
+        false
+    }
+
+    /// Adds the name of the last function of the chain at a place.
+    fn push(&mut self, place: usize, name: &str) -> Result<(), AllocError> {
+        if !self.text.is_empty() {
+            self.text.push(b';')?;
+        }
+        self.text.extend_from_slice(name.as_bytes())?;
+        let end = self.text.len();
+        self.levels.push(Level { place, end })?;
+        Ok(())
+    }
+
+    /// Takes the names of the chain at a place.
+    fn take_all(
+        &mut self,
+        chains: &Chains,
+        names: &[String],
+        place: usize,
+    ) -> Result<(), AllocError> {
+        self.text.clear();
+        self.levels.clear();
+        for place in chains.path(self.alloc, place)?.iter().rev() {
+            if let Some(chain) = chains.chains().get(*place) {
+                self.push(*place, name_at(names, chain.function))?;
+            }
+        }
+        Ok(())
+    }
+
+    /// Takes the names of the chain at a place. Those that it shares with the chain before stay as they are.
+    fn take(&mut self, chains: &Chains, names: &[String], place: usize) -> Result<(), AllocError> {
+        match chains.chains().get(place) {
+            Some(chain) if place > 0 && self.cut(chain.outer) => {
+                self.push(place, name_at(names, chain.function))
+            }
+            Some(_) | None => self.take_all(chains, names, place),
+        }
+    }
+
+    /// The line for this number of instructions.
+    fn line(&self, count: u64) -> Result<Vec<u8>, AllocError> {
+        let mut line = self.text.to_vec(self.alloc)?;
+        let end = format!(in self.alloc; " {count}\n")?;
+        line.extend_from_slice(end.as_bytes())?;
+        Ok(line)
+    }
+}
+
+/// The name at a place.
+fn name_at(names: &[String], place: usize) -> &str {
+    match names.get(place) {
+        Some(name) => name.as_str(),
+        None => "",
+    }
 }
 
 /// Executes and counts the next instruction; true if the job goes on.
@@ -51,17 +144,23 @@ fn run_out(chains: &mut Chains, run: &mut Run<Global>) -> Result<(), AllocError>
 }
 
 /// Prints a line for each chain of functions that executed an instruction itself: their names, and how many.
+fn print_chains(rt: &HostRuntime, chains: &Chains, names: &[String]) -> io::Result<()> {
+    let mut stack = Stack::new(rt.alloc());
+    for (place, chain) in chains.chains().iter().enumerate() {
+        stack.take(chains, names, place)?;
+        if chain.count > 0 {
+            rt.stdout().write_all(&stack.line(chain.count)?)?;
+        }
+    }
+    Ok(())
+}
+
+/// Runs a job, and prints a line for each chain of functions that executed an instruction itself: their names, and how
+/// many.
 pub fn print_folded(rt: &HostRuntime, rule: Rule, job: Job<Global>) -> io::Result<()> {
     let mut run = Run::new(rt.alloc(), rule, job)?;
     let mut chains = Chains::new(rt.alloc(), &run)?;
     run_out(&mut chains, &mut run)?;
-    for (place, chain) in chains.chains().iter().enumerate() {
-        let count = chain.count;
-        if count > 0 {
-            let functions = chains.functions(rt.alloc(), place)?;
-            let names = names_of(rt.alloc(), run.job(), functions.as_slice())?;
-            println!(rt; "{names} {count}")?;
-        }
-    }
-    Ok(())
+    let names = names_of(rt.alloc(), run.job())?;
+    print_chains(rt, &chains, names.as_slice())
 }

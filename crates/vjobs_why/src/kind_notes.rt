@@ -4,13 +4,13 @@ use crate::kind_walk::{Clash, Misfit, StackEntry, Wanted, misfit_of};
 use crate::lines::{Lines, printable};
 use crate::parts::Parts;
 use crate::stack::{MOST_ENTRIES, kind_text};
-use crate::text_notes::absolute;
+use crate::text_notes::{absolute, program_of};
 use signatures::Signatures;
 use std::alloc::{AllocError, Global};
 use std::io;
-use vcode_base::Kind;
 use vcode_base::laws::line_feeds_are_few;
-use vcode_reader::{MOST_CODE_BYTES, Program};
+use vcode_base::{Kind, TextFault};
+use vcode_reader::Program;
 use verifier::KindFault;
 
 /// The most names that are shown.
@@ -23,26 +23,35 @@ struct Source<'a> {
     parts: Parts,
 }
 
+/// The signatures of a text, if it has no fault.
+fn signatures_of(alloc: Global, text: &[u8]) -> Result<Option<Signatures<Global>>, AllocError> {
+    line_feeds_are_few();
+    match signatures::read(alloc, text, 1) {
+        Ok(signatures) => Ok(Some(signatures)),
+        Err(TextFault::At(..)) => Ok(None),
+        Err(TextFault::Memory) => Err(AllocError),
+    }
+}
+
 /// The program and the signatures of a job, which have no faults as texts.
-fn read_parts(alloc: Global, source: Source<'_>) -> Option<(Program<Global>, Signatures<Global>)> {
+fn read_parts(
+    alloc: Global,
+    source: Source<'_>,
+) -> Result<Option<(Program<Global>, Signatures<Global>)>, AllocError> {
     let Parts {
         job: _,
         signatures,
         code,
     } = source.parts;
-    line_feeds_are_few();
     let code = source.lines.between(code.first, code.end);
-    if code.len() > MOST_CODE_BYTES {
-        return None;
-    }
-    let Ok(program) = vcode_reader::read(alloc, code, 1) else {
-        return None;
-    };
     let signatures = source.lines.between(signatures.first, signatures.end);
-    let Ok(signatures) = signatures::read(alloc, signatures, 1) else {
-        return None;
+    let Some(program) = program_of(alloc, code)? else {
+        return Ok(None);
     };
-    Some((program, signatures))
+    match signatures_of(alloc, signatures)? {
+        Some(signatures) => Ok(Some((program, signatures))),
+        None => Ok(None),
+    }
 }
 
 /// What is wanted at this depth of what is wanted from the bottom up.
@@ -244,7 +253,7 @@ pub fn print_kind_note(
     fault: KindFault,
 ) -> io::Result<()> {
     let source = Source { lines, parts };
-    let Some((program, signatures)) = read_parts(rt.alloc(), source) else {
+    let Some((program, signatures)) = read_parts(rt.alloc(), source)? else {
         return Ok(());
     };
     match fault {

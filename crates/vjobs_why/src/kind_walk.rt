@@ -19,6 +19,9 @@ pub struct StackEntry {
 /// The most entries of a stack that is walked further.
 const MOST_ENTRIES: usize = 65_536;
 
+/// The most entries that a walk takes, makes and moves before it is given up.
+const MOST_TOUCHED: usize = 16_777_216;
+
 /// What is wanted at a place of the stack: entries of this kind, or of any.
 #[derive(Clone, Copy, Drop)]
 pub enum Wanted {
@@ -46,13 +49,15 @@ pub struct Misfit {
     pub clash: Clash,
 }
 
-/// A walk through a function.
+/// A walk through the functions, one after the other.
 #[derive(Drop)]
 struct Walk {
     alloc: Global,
     stack: Vec<StackEntry>,
     /// For each open IF the stack with which its other part begins, or with which it ended.
     kept: Vec<Vec<StackEntry>>,
+    /// How many entries were taken, made and moved.
+    touched: usize,
 }
 
 /// Entries of these kinds.
@@ -110,19 +115,36 @@ fn merge(stack: &mut Vec<StackEntry>, other: &[StackEntry], line: u64) {
 }
 
 impl Walk {
-    /// A walk that begins at the FUNC of this line with these operands.
-    fn new(alloc: Global, takes: &[Kind], line: u64) -> Result<Walk, AllocError> {
-        let mut walk = Walk {
+    /// A walk before the first function.
+    fn new(alloc: Global) -> Walk {
+        Walk {
             alloc,
             stack: Vec::new(alloc),
             kept: Vec::new(alloc),
-        };
-        walk.push_all(takes, line)?;
-        Ok(walk)
+            touched: 0,
+        }
+    }
+
+    /// Goes on at the FUNC of this line with these operands.
+    fn begin(&mut self, takes: &[Kind], line: u64) -> Result<(), AllocError> {
+        self.stack.clear();
+        self.kept.clear();
+        self.push_all(takes, line)
+    }
+
+    /// Whether the walk is given up, since the stack is too high or the way too long.
+    fn is_given_up(&self) -> bool {
+        self.stack.len() > MOST_ENTRIES || self.touched > MOST_TOUCHED
+    }
+
+    /// Counts entries that are taken, made or moved.
+    fn touch(&mut self, count: usize) {
+        self.touched = self.touched.saturating_add(count);
     }
 
     /// Pushes entries of these kinds that this line makes.
     fn push_all(&mut self, kinds: &[Kind], line: u64) -> Result<(), AllocError> {
+        self.touch(kinds.len());
         for kind in kinds {
             self.stack.push(StackEntry { kind: *kind, line })?;
         }
@@ -151,6 +173,7 @@ impl Walk {
             let wanted = wanted_of(self.alloc, takes)?;
             return Ok(Some(Clash::Operands(wanted, names)));
         }
+        self.touch(takes.len());
         let kept = self.stack.len().saturating_sub(takes.len());
         self.stack.truncate(kept);
         self.push_all(gives, line)?;
@@ -170,6 +193,7 @@ impl Walk {
             let wanted = any_entries(self.alloc, count)?;
             return Ok(Some(Clash::Operands(wanted, &[])));
         }
+        self.touch(count);
         move_entries(&mut self.stack, motion, lower, upper)?;
         Ok(None)
     }
@@ -187,6 +211,8 @@ impl Walk {
     fn begin_parts(&mut self, line: u64) -> Result<Option<Clash>, AllocError> {
         let clash = self.replace(&[Kind::Bool], &[], &["flag"], line)?;
         if clash.is_none() {
+            let count = self.stack.len();
+            self.touch(count);
             let copy = self.stack.to_vec(self.alloc)?;
             self.kept.push(copy)?;
         }
@@ -206,6 +232,8 @@ impl Walk {
     /// An ENDIF.
     fn end_parts(&mut self, line: u64) -> Option<Clash> {
         let first = self.kept.pop()?;
+        let count = self.stack.len();
+        self.touch(count);
         if are_alike(&first, &self.stack) {
             merge(&mut self.stack, &first, line);
             return None;
@@ -273,10 +301,10 @@ fn count_before(function: &Function<Global>, place: usize, number: u64) -> usize
     count
 }
 
-/// The first place where the kinds of a function don't fit, unless its stack is too high before that. It is the function
+/// The first place where the kinds of a function don't fit, unless the walk is given up before that. It is the function
 /// of this place in the program.
 fn misfit_in(
-    alloc: Global,
+    walk: &mut Walk,
     program: &Program<Global>,
     signatures: &Signatures<Global>,
     place: usize,
@@ -285,12 +313,12 @@ fn misfit_in(
     let Some((takes, gives)) = signatures.get(function.name()) else {
         return Ok(None);
     };
-    let mut walk = Walk::new(alloc, takes, function.line())?;
+    walk.begin(takes, function.line())?;
     for at in 0..function.line_count() {
         let Some(line) = function.item(at) else {
             return Ok(None);
         };
-        if walk.stack.len() > MOST_ENTRIES {
+        if walk.is_given_up() {
             return Ok(None);
         }
         let callee = callee_kinds(program, signatures, place, at);
@@ -300,7 +328,7 @@ fn misfit_in(
                 function: place,
                 line,
                 before: count_before(function, at, line),
-                stack: walk.stack,
+                stack: mem::replace(&mut walk.stack, Vec::new(walk.alloc)),
                 clash,
             }));
         }
@@ -308,14 +336,15 @@ fn misfit_in(
     Ok(None)
 }
 
-/// The first place where the kinds of a program don't fit, but for functions whose stacks are too high.
+/// The first place where the kinds of a program don't fit, but for functions in which the walk is given up.
 pub fn misfit_of(
     alloc: Global,
     program: &Program<Global>,
     signatures: &Signatures<Global>,
 ) -> Result<Option<Misfit>, AllocError> {
+    let mut walk = Walk::new(alloc);
     for (place, function) in program.functions().iter().enumerate() {
-        let misfit = misfit_in(alloc, program, signatures, place, function)?;
+        let misfit = misfit_in(&mut walk, program, signatures, place, function)?;
         if misfit.is_some() {
             return Ok(misfit);
         }

@@ -2,7 +2,7 @@
 
 use crate::command::Look;
 use crate::data::{Told, job_object, push_told};
-use crate::end::{End, Ending, Wide, ending_of, run_through, run_wide};
+use crate::end::{End, Ending, ending_of, run_through};
 use crate::folded::print_folded;
 use crate::holders::Holdings;
 use crate::lines::{Lines, printable};
@@ -15,6 +15,7 @@ use crate::steps::show_steps;
 use crate::survey::Survey;
 use crate::tally::Tally;
 use crate::watch::Watch;
+use crate::wide::{Course, MOST_BEFORE, Wide, Work, run_wide};
 use job_profile::Columns;
 use job_steps::Job;
 use std::alloc::{AllocError, Global};
@@ -24,11 +25,13 @@ use vcode_base::{Limits, MemoryFault, Op, Rule};
 /// The last instructions that are shown of a job.
 const LAST: u64 = 6;
 
-/// The rule and the lines of a batch.
+/// The rule and the lines of a batch, and whether a job that a limit ended is run again within the widest limits, to find
+/// the least within which it returns.
 #[derive(Clone, Copy)]
 pub struct Batch<'a> {
     pub rule: Rule,
     pub lines: &'a Lines,
+    pub tries_least: bool,
 }
 
 /// An instruction that was executed, and what there was after it.
@@ -83,9 +86,9 @@ fn print_used(rt: &HostRuntime, end: End, limits: Limits) -> io::Result<()> {
     println!(rt; "  calls        {used:>13} of {limit:>13}")
 }
 
-/// Prints the least limits within which a job returns, if it returned so.
-fn print_least(rt: &HostRuntime, name: &str, end: End) -> io::Result<()> {
-    let Some(least) = end.least else {
+/// Prints the least limits within which a job of this name returns, if they are known.
+fn print_least(rt: &HostRuntime, name: &str, least: Option<Limits>) -> io::Result<()> {
+    let Some(least) = least else {
         return Ok(());
     };
     let (words, cells, calls, budget) = (least.words, least.cells, least.calls, least.budget);
@@ -94,13 +97,24 @@ fn print_least(rt: &HostRuntime, name: &str, end: End) -> io::Result<()> {
     )
 }
 
-/// Prints how a job that a limit ended ends within the widest limits.
-fn print_wide(rt: &HostRuntime, name: &str, end: End) -> io::Result<()> {
-    if end.ending == Ending::Returned {
-        return print_least(rt, name, end);
+/// Prints how a job of this name goes on within the widest limits.
+fn print_course(rt: &HostRuntime, name: &str, course: Course) -> io::Result<()> {
+    match course {
+        Course::Ends(Ending::Returned, _, least) => print_least(rt, name, least),
+        Course::Ends(ending, executed, _) => {
+            print!(rt; "\nWithin the widest limits it ends so: ")?;
+            print_ending(rt, ending, executed)
+        }
+        Course::GoesOn(work) => {
+            let (instructions, elements) = (work.instructions, work.elements);
+            println!(rt;
+                "\nNo limits within which it returns were found within {instructions} instructions and {elements} elements"
+            )
+        }
+        Course::NotRun => println!(rt;
+            "\nIt is not run within wider limits, since it executed more than {MOST_BEFORE} instructions"
+        ),
     }
-    print!(rt; "\nWithin the widest limits it ends so: ")?;
-    print_ending(rt, end.ending, end.executed)
 }
 
 /// Executes the next instruction. `None` if it isn't executed, since it ends the job, or if there is none.
@@ -201,18 +215,20 @@ fn print_last(
     Ok(())
 }
 
-/// How a job goes on within the widest limits if a limit ended it, and the job.
+/// How a job goes on within the widest limits if a limit ended it and this is to be tried, and the job.
 fn wide_of(
     alloc: Global,
-    rule: Rule,
+    batch: Batch<'_>,
     job: Job<Global>,
     end: End,
 ) -> Result<(Option<Wide>, Job<Global>), AllocError> {
     match end.ending {
-        Ending::Returned | Ending::Fault(..) => Ok((None, job)),
-        Ending::Memory(..) | Ending::Budget => {
-            let (wide, job) = run_wide(alloc, rule, job, end)?;
+        Ending::Memory(..) | Ending::Budget if batch.tries_least => {
+            let (wide, job) = run_wide(alloc, batch.rule, job, end)?;
             Ok((Some(wide), job))
+        }
+        Ending::Returned | Ending::Fault(..) | Ending::Memory(..) | Ending::Budget => {
+            Ok((None, job))
         }
     }
 }
@@ -220,7 +236,7 @@ fn wide_of(
 /// Prints how a job ended, what there was before, and what it used.
 fn print_end(rt: &HostRuntime, batch: Batch<'_>, job: Job<Global>, name: &str) -> io::Result<()> {
     let (end, job) = run_through(rt.alloc(), batch.rule, job)?;
-    let (wide, job) = wide_of(rt.alloc(), batch.rule, job, end)?;
+    let (wide, job) = wide_of(rt.alloc(), batch, job, end)?;
     let mut watch = Watch::new(rt.alloc(), batch.rule, job)?;
     print_all(rt, batch, &mut watch, end, wide, name)
 }
@@ -238,8 +254,8 @@ fn print_all(
     print_last(rt, batch, watch, end, wide)?;
     print_used(rt, end, watch.run().job().limits())?;
     match wide {
-        Some(wide) => print_wide(rt, name, wide.end),
-        None => print_least(rt, name, end),
+        Some(wide) => print_course(rt, name, wide.course),
+        None => print_least(rt, name, end.least),
     }
 }
 
@@ -317,8 +333,19 @@ fn last_note(
 /// The least limits within which a job returns, if it returned, or returns within wider ones.
 fn least_of(end: End, wide: Option<Wide>) -> Option<Limits> {
     match wide {
-        Some(wide) => wide.end.least,
+        Some(wide) => match wide.course {
+            Course::Ends(_, _, least) => least,
+            Course::GoesOn(_) | Course::NotRun => None,
+        },
         None => end.least,
+    }
+}
+
+/// The work after which a job was not over within the widest limits, if it was given up there.
+fn tried_of(wide: Option<Wide>) -> Option<Work> {
+    match wide?.course {
+        Course::GoesOn(work) => Some(work),
+        Course::Ends(..) | Course::NotRun => None,
     }
 }
 
@@ -333,12 +360,18 @@ fn wanted_of(end: End, wide: Option<Wide>, limit: usize) -> Option<usize> {
 }
 
 /// What is said of a job that ended so.
-fn told_of(alloc: Global, rule: Rule, job: Job<Global>, end: End) -> Result<Told, AllocError> {
+fn told_of(
+    alloc: Global,
+    batch: Batch<'_>,
+    job: Job<Global>,
+    end: End,
+) -> Result<Told, AllocError> {
     let limit = job.limits().words;
-    let (wide, job) = wide_of(alloc, rule, job, end)?;
+    let (wide, job) = wide_of(alloc, batch, job, end)?;
     Ok(Told {
-        note: last_note(alloc, rule, job, end, wide)?,
+        note: last_note(alloc, batch.rule, job, end, wide)?,
         least: least_of(end, wide),
+        tried: tried_of(wide),
         wanted: wanted_of(end, wide, limit),
     })
 }
@@ -354,7 +387,7 @@ pub fn object_of(
     let survey = Survey::of(alloc, batch.rule, job)?;
     let mut text = job_object(alloc, batch.lines, place, name.as_str(), &survey)?;
     let (end, job) = (survey.end(), survey.into_job());
-    push_told(&mut text, &told_of(alloc, batch.rule, job, end)?)?;
+    push_told(&mut text, &told_of(alloc, batch, job, end)?)?;
     Ok(text)
 }
 

@@ -8,6 +8,8 @@ mod data;
 mod drawing;
 mod end;
 mod expected;
+mod failure;
+mod files;
 mod folded;
 mod holders;
 mod kind_notes;
@@ -22,7 +24,6 @@ mod page_script;
 mod page_style;
 mod parts;
 mod profile;
-mod reading;
 mod reasons;
 mod refusals;
 mod selection;
@@ -33,27 +34,29 @@ mod survey;
 mod tally;
 mod text_notes;
 mod watch;
+mod wide;
 mod words;
 
 use batch_notes::print_batch_note;
-use batch_reader::{Batch, Entry, Fate, Feed, JobEntries, JobEntry};
+use batch_reader::{Batch, BatchFault, Entry, Fate, Feed, JobEntries, JobEntry};
 use command::{Asked, Form, Line, LineFault, Look, read_line};
 use data::refusal_object;
+use failure::Failure;
+use files::{read_batch, write_text};
 use lines::{Lines, printable};
 use look::{object_of, show};
 use meanings::{batch_meaning, job_meaning};
 use page::page_of;
-use reading::read_batch;
 use refusals::print_refused;
+use shown_text::arguments;
 use std::alloc::{AllocError, Global};
+use std::io;
 use std::process::ExitCode;
-use std::{env, fs, io};
 use vcode_base::limits::MOST_WORDS;
 
 /// Reads the command line.
 fn line_of(rt: &HostRuntime) -> Result<Line, LineFault> {
-    let words = env::args(rt).map_err(|_| LineFault::NotText)?;
-    let words: Vec<String> = words.collect(rt.alloc()).map_err(|_| LineFault::Memory)?;
+    let words = arguments(rt)?;
     let mut texts = Vec::new(rt.alloc());
     for word in &words {
         texts.push(word.as_str()).map_err(|_| LineFault::Memory)?;
@@ -125,12 +128,17 @@ fn print_objects(rt: &HostRuntime, objects: &[String]) -> io::Result<()> {
     Ok(())
 }
 
-/// Writes a page to the file of this name; `-` is standard output.
-fn write_page(rt: &HostRuntime, file: &str, page: &str) -> io::Result<()> {
-    if file == "-" {
-        return print!(rt; "{page}");
+/// Shows jobs as data: as a page in a file, or an object on each line.
+fn show_objects(rt: &HostRuntime, objects: &[String], form: &Form) -> Result<(), Failure> {
+    match form {
+        Form::Page(file) => {
+            let page = page_of(rt.alloc(), objects)?;
+            write_text(rt, file.as_str(), page.as_str())
+        }
+        Form::Texts(_) | Form::Data => {
+            print_objects(rt, objects).map_err(|error| Failure::of_output(rt.alloc(), error))
+        }
     }
-    fs::write(rt, file, page)
 }
 
 /// Shows the jobs of the batch in the form that was asked for. Answers whether there was one if one alone was asked for.
@@ -139,21 +147,17 @@ fn show_jobs(
     batch: look::Batch<'_>,
     entries: JobEntries<Global>,
     asked: &Asked,
-) -> io::Result<bool> {
+) -> Result<bool, Failure> {
     if let Form::Texts(look) = &asked.form {
-        return show_entries(rt, batch, entries, asked.job, *look);
+        return show_entries(rt, batch, entries, asked.job, *look).map_err(
+            |error| Failure::of_output(rt.alloc(), error),
+        );
     }
     let objects = objects_of(rt.alloc(), batch, entries, asked.job)?;
     if objects.is_empty() && asked.job.is_some() {
         return Ok(false);
     }
-    match &asked.form {
-        Form::Page(file) => {
-            let page = page_of(rt.alloc(), &objects)?;
-            write_page(rt, file.as_str(), page.as_str())?;
-        }
-        Form::Texts(_) | Form::Data => print_objects(rt, &objects)?,
-    }
+    show_objects(rt, &objects, &asked.form)?;
     Ok(true)
 }
 
@@ -177,59 +181,87 @@ fn show_entries(
     Ok(found)
 }
 
+/// Prints why a batch is refused as a whole.
+fn print_batch_fault(
+    rt: &HostRuntime,
+    lines: &Lines,
+    line: u64,
+    fault: BatchFault,
+) -> io::Result<()> {
+    let text = fault.text();
+    println!(rt; "BATCH line {line} {text}")?;
+    lines.print_around(rt, line, batch_meaning(fault))?;
+    print_batch_note(rt, lines, line, fault)
+}
+
 /// Shows what was asked for. Answers the exit status.
-fn show_asked(rt: &HostRuntime, asked: &Asked) -> io::Result<u8> {
+fn show_asked(rt: &HostRuntime, asked: &Asked) -> Result<u8, Failure> {
     let text = read_batch(rt, asked.file.as_str())?;
     let lines = Lines::of(rt.alloc(), text)?;
     let mut feed = Feed::new(rt.alloc(), MOST_WORDS)?;
     feed.feed(lines.text())?;
     match feed.end()? {
         Batch::Refused(line, fault) => {
-            let text = fault.text();
-            println!(rt; "BATCH line {line} {text}")?;
-            lines.print_around(rt, line, batch_meaning(fault))?;
-            print_batch_note(rt, &lines, line, fault)?;
+            print_batch_fault(rt, &lines, line, fault).map_err(|error| Failure::of_output(
+                rt.alloc(),
+                error,
+            ))?;
             Ok(1)
         }
         Batch::Jobs(rule, entries) => {
             let batch = look::Batch {
                 rule,
                 lines: &lines,
+                tries_least: asked.tries_least,
             };
             if show_jobs(rt, batch, entries, asked)? {
                 return Ok(0);
             }
-            eprintln!(rt; "vjobs-why: the batch has no such job")?;
+            let _ = eprintln!(rt; "vjobs-why: the batch has no such job");
             Ok(1)
+        }
+    }
+}
+
+/// Prints why nothing is shown, or not all of it. Answers the exit status.
+fn print_failure(rt: &HostRuntime, failure: &Failure) -> u8 {
+    let _ = eprintln!(rt; "vjobs-why: {failure}");
+    3
+}
+
+/// Prints why the command line is refused. Answers the exit status.
+fn print_fault(rt: &HostRuntime, fault: &LineFault) -> u8 {
+    match fault {
+        LineFault::Usage(text) => {
+            let _ = eprint!(rt; "{text}");
+            2
+        }
+        LineFault::NotText(fault) => {
+            let _ = eprintln!(rt; "vjobs-why: {fault}");
+            2
+        }
+        LineFault::Memory => print_failure(rt, &Failure::Memory),
+    }
+}
+
+/// Does what the command line asks for. Answers the exit status.
+fn run(rt: &HostRuntime, line: Line) -> Result<u8, Failure> {
+    match line {
+        Line::Show(asked) => show_asked(rt, &asked),
+        Line::Help(text) => {
+            write_text(rt, "-", text.as_str())?;
+            Ok(0)
         }
     }
 }
 
 fn main(rt: HostRuntime) -> ExitCode {
     let status = match line_of(&rt) {
-        Ok(Line::Show(asked)) => match show_asked(&rt, &asked) {
+        Ok(line) => match run(&rt, line) {
             Ok(status) => status,
-            Err(error) => {
-                let _ = eprintln!(rt; "vjobs-why: {error}");
-                3
-            }
+            Err(failure) => print_failure(&rt, &failure),
         },
-        Ok(Line::Help(text)) => match print!(rt; "{text}") {
-            Ok(()) => 0,
-            Err(_) => 3,
-        },
-        Err(LineFault::Usage(text)) => {
-            let _ = eprint!(rt; "{text}");
-            2
-        }
-        Err(LineFault::NotText) => {
-            let _ = eprintln!(rt; "vjobs-why: an argument is no text");
-            2
-        }
-        Err(LineFault::Memory) => {
-            let _ = eprintln!(rt; "vjobs-why: out of memory");
-            3
-        }
+        Err(fault) => print_fault(&rt, &fault),
     };
     ExitCode::from(status)
 }

@@ -1,7 +1,7 @@
 //! Which limit an instruction would pass: what there is before it, what it needs, and the limit.
 
-use crate::end::Wide;
 use crate::watch::Watch;
+use crate::wide::Wide;
 use std::alloc::{AllocError, Global};
 use vcode_base::{MemoryFault, Op, Rule, StackMove};
 

@@ -4,13 +4,15 @@ use crate::page_script::SCRIPT;
 use crate::page_style::STYLE;
 use std::alloc::{AllocError, Global};
 
-/// The page up to its style. It may fetch nothing, and run no script but its own.
+/// The page up to its style. It may fetch nothing and send nothing, and run no script but its own: the hash is the SHA-256
+/// of what is between the tags of the script, an LF and [`SCRIPT`].
 const HEAD: &str = r#"<!DOCTYPE html>
 <html lang="en">
 <head>
 <meta charset="utf-8">
 <meta http-equiv="Content-Security-Policy"
- content="default-src 'none'; style-src 'unsafe-inline'; script-src 'unsafe-inline'">
+ content="default-src 'none'; base-uri 'none'; form-action 'none'; style-src 'unsafe-inline';
+ script-src 'sha256-rEa7wsNFNqEbJYVVUHWCkok3/uHKm0QOVeC840XM8V0='">
 <meta name="viewport" content="width=device-width, initial-scale=1">
 <title>vjobs-why</title>
 <style>

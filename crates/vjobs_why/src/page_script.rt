@@ -74,6 +74,13 @@ const is_good = (job) => job.end === 'RETURNED';
 const last_of = (job) => job.last ?? job.line;
 const line_of = (job, line) => job.code.lines[line - job.code.first] ?? '';
 
+function limits_found(job) {
+  const {least, tried} = job;
+  if (least) return [make('p', {}, 'Within these limits, and no less, it returns: ',
+    make('code', {}, `JOB ${job.name} ${least.words} ${least.cells} ${least.calls} ${least.budget}`))];
+  return tried ? [make('p', {}, 'No limits within which it returns were found within '
+    + `${number(tried.instructions)} instructions and ${number(tried.elements)} elements`)] : [];
+}
 function ending(job) {
   const last = last_of(job), text = line_of(job, last), code = text.replace(/(\S)\s*\{.*$/, '$1').trim();
   const gap = ' '.repeat(text.length - text.trimStart().length);
@@ -82,10 +89,7 @@ function ending(job) {
   const after = [1, 2].map((on) => last + on).filter((line) => line_of(job, line));
   const note = make('span', {class: is_good(job) ? 'note good' : 'note'}, `${gap}${'^'.repeat(code.length)} ${job.note}`);
   const lines = make('pre', {}, before.map(shown), shown(last), '        | ', note, '\n', after.map(shown));
-  const {least} = job;
-  const help = least ? [make('p', {}, 'Within these limits, and no less, it returns: ',
-    make('code', {}, `JOB ${job.name} ${least.words} ${least.cells} ${least.calls} ${least.budget}`))] : [];
-  return section('ending wide', 'How it ended', '', lines, help);
+  return section('ending wide', 'How it ended', '', lines, limits_found(job));
 }
 
 // Draws again when the width of the drawing changes.

@@ -65,7 +65,7 @@ impl LineTally {
 }
 
 /// The elements of the entries at the top of the stack of a run, this many of them.
-fn elements_of(run: &Run<Global>, count: usize) -> u64 {
+pub fn elements_of(run: &Run<Global>, count: usize) -> u64 {
     let mut elements: u64 = 0;
     for depth in 0..count {
         if let Some(words) = run.words(depth) {

@@ -31,6 +31,18 @@ fn read(alloc: Global, code: &[u8]) -> Result<Program<Global>, ReadFault>
     vcode_reader::read(alloc, code, 1)
 }
 
+/// The program of a code, if it has no fault as a text.
+pub fn program_of(alloc: Global, code: &[u8]) -> Result<Option<Program<Global>>, AllocError> {
+    if code.len() > MOST_CODE_BYTES {
+        return Ok(None);
+    }
+    match read(alloc, code) {
+        Ok(program) => Ok(Some(program)),
+        Err(TextFault::At(..)) => Ok(None),
+        Err(TextFault::Memory) => Err(AllocError),
+    }
+}
+
 /// The first word of a code that can't come there, if there is one.
 fn find_misplaced(alloc: Global, code: &[u8]) -> Result<Option<Misplaced<'_>>, AllocError> {
     let words = words_of(alloc, Text::Code, code)?;
@@ -88,10 +100,7 @@ pub fn absolute(code: LineSpan, line: u64) -> u64 {
 
 /// Prints where the function of this name is among those of a code.
 fn print_first(rt: &HostRuntime, found: Misplaced<'_>, code: LineSpan) -> io::Result<()> {
-    if found.earlier.len() > MOST_CODE_BYTES {
-        return Ok(());
-    }
-    let Ok(program) = read(rt.alloc(), found.earlier) else {
+    let Some(program) = program_of(rt.alloc(), found.earlier)? else {
         return Ok(());
     };
     let Some(place) = program.position(found.bytes) else {
