@@ -121,7 +121,8 @@ impl<R: Read> Device<R> {
 
     /// One read.
     pub(crate) fn read(&mut self, buf: &mut [u8]) -> Result<usize, Trouble>
-        ensures bytes { ReadConsumes (R.remaining (inner_of self.old)) (R.remaining (inner_of self.new)) result buf.new }
+        ensures bytes { ReadConsumes (R.remaining (inner_of self.old)) (R.remaining (inner_of self.new))
+            result buf.new }
         ensures within { IfOk result (λ n. n ≤ length buf.new) }
         ensures state { MatchResult result (λ _. IsSteady self.old self.new) (λ t. IsTroubled self.old self.new t) }
     {

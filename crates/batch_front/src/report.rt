@@ -89,7 +89,8 @@ fn put_other_words<A: Allocator, W: Write>(
     room: &mut [i64; ROOM],
 )
     requires { 0 < length words.now }
-    ensures { Puts W.contents page.old writer.old page.new writer.new (flat_map (next_word_text kind) (drop 1 words.now)) }
+    ensures { Puts W.contents page.old writer.old page.new writer.new (flat_map (next_word_text kind)
+        (drop 1 words.now)) }
 {
     let mut done = 1;
     'words: while done < words.len() {
@@ -108,7 +109,8 @@ fn put_words<A: Allocator, W: Write>(
     words: &SharedWords<A>,
     room: &mut [i64; ROOM],
 )
-    ensures { Puts W.contents page.old writer.old page.new writer.new (join_with_byte 32 (map (word_text kind) words.now)) }
+    ensures { Puts W.contents page.old writer.old page.new writer.new
+        (join_with_byte 32 (map (word_text kind) words.now)) }
 {
     if words.len() == 0 {
         return;

@@ -32,7 +32,8 @@ fn feed_all<A: Allocator + Copy, R: Read>(
     ensures bytes { OnOk result ((bytes : List ℕ) × HasCome feed.new bytes
         × AreFirstBytes (R.remaining (inner_of reader.old)) bytes) }
     ensures region { feed.new.lines.region ≡ feed.old.lines.region }
-    ensures read_to_the_end { OnOk result (ReadsFirstBytes (R.remaining (inner_of reader.old)) (R.remaining (inner_of reader.new))) }
+    ensures read_to_the_end { OnOk result (ReadsFirstBytes (R.remaining (inner_of reader.old))
+        (R.remaining (inner_of reader.new))) }
     ensures read_no_further { ReadsNoFurther (R.remaining (inner_of reader.old)) (R.remaining (inner_of reader.new)) }
     ensures reader_worked { OnOk result (HasWorked reader.new (interrupts_of reader.new)) }
     ensures read_fault { IsErrOf result FrontFault.Read → IsAtFault reader.new (interrupts_of reader.new) }
@@ -69,7 +70,8 @@ pub(crate) fn read_batch<A: Allocator + Copy, R: Read>(
     ensures batch { IfOk result (IsBatchIn region (R.remaining (inner_of reader.old))) }
     ensures few { IfOk result HasFewJobs }
     ensures fits { IfOk result (BatchFits region) }
-    ensures read_to_the_end { OnOk result (ReadsFirstBytes (R.remaining (inner_of reader.old)) (R.remaining (inner_of reader.new))) }
+    ensures read_to_the_end { OnOk result (ReadsFirstBytes (R.remaining (inner_of reader.old))
+        (R.remaining (inner_of reader.new))) }
     ensures read_no_further { ReadsNoFurther (R.remaining (inner_of reader.old)) (R.remaining (inner_of reader.new)) }
     ensures reader_worked { OnOk result (HasWorked reader.new (interrupts_of reader.new)) }
     ensures read_fault { IsErrOf result FrontFault.Read → IsAtFault reader.new (interrupts_of reader.new) }
@@ -90,8 +92,10 @@ pub(crate) fn write_bytes<W: Write>(
 ) -> Result<(), FrontFault>
     requires not_failed { has_failed writer.old ≡ false }
     requires spent { interrupts_of writer.old + spent ≤ MOST_INTERRUPTIONS }
-    ensures all_written { OnOk result (Appends (W.contents (inner_of writer.old)) (W.contents (inner_of writer.new)) bytes.now) }
-    ensures front_written { (n : ℕ) × Appends (W.contents (inner_of writer.old)) (W.contents (inner_of writer.new)) (take n bytes.now) }
+    ensures all_written { OnOk result (Appends (W.contents (inner_of writer.old))
+        (W.contents (inner_of writer.new)) bytes.now) }
+    ensures front_written { (n : ℕ) × Appends (W.contents (inner_of writer.old)) (W.contents (inner_of writer.new))
+        (take n bytes.now) }
     ensures writer_worked { OnOk result (HasWorked writer.new (interrupts_of writer.new + spent)) }
     ensures write_fault { OnErr result (IsAtFault writer.new (interrupts_of writer.new + spent)) }
     ensures at_write { OnErr result (is_flushing writer.new ≡ false) }

@@ -267,10 +267,12 @@ unfolding behind_first first_blanked
 word_first number left t ts l rest line fits isnt e rule =
     let here = ap lines_behind_blanks (numbered_one number left t ts fits)
     ∙ other_line (line_of number t) (numbered_lines (number + 1) (left - length t) ts) isnt in
-    let same = (one_front (line_of number t) l (numbered_lines (number + 1) (left - length t) ts) rest (sym here ∙ e)).1 in
+    let same = (one_front (line_of number t) l (numbered_lines (number + 1) (left - length t) ts) rest
+    (sym here ∙ e)).1 in
     let long = length_without t in
     let still : nat_lt left (length (without_first_words t)) ≡ false = ap (nat_lt left) long ∙ fits in
-    let blank : is_blank_text (without_first_words t) ≡ true = ap (λ ws. is_blank (heading_of ws)) (without_words t line) in
+    let blank : is_blank_text (without_first_words t)
+    ≡ true = ap (λ ws. is_blank (heading_of ws)) (without_words t line) in
     rw isnt (ap lines_behind_blanks (numbered_one number left (without_first_words t) ts still)
     ∙ blank_line (line_of number (without_first_words t))
     (numbered_lines (number + 1) (left - length (without_first_words t)) ts) blank

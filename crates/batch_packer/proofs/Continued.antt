@@ -50,7 +50,8 @@ pub blank_line : (l : BatchLine) (ls : List BatchLine) → is_blank l.heading �
 unfolding lines_behind_blanks
 blank_line l ls is = rw is refl
 
-pub other_line : (l : BatchLine) (ls : List BatchLine) → is_blank l.heading ≡ false → lines_behind_blanks (l ∷ ls) ≡ l ∷ ls
+pub other_line : (l : BatchLine) (ls : List BatchLine) → is_blank l.heading ≡ false
+    → lines_behind_blanks (l ∷ ls) ≡ l ∷ ls
 unfolding lines_behind_blanks
 other_line l ls isnt = rw isnt refl
 
@@ -63,7 +64,8 @@ past_behind : (d : ℕ) (more : List BatchLine) (l : BatchLine) (ls new : List B
 past_behind d more l ls [] past = past
 past_behind d more l ls (k ∷ ks) past = inl past
 
-continued_at : (d : ℕ) (more : List BatchLine) (l : BatchLine) (ls : List BatchLine) (k : BatchLine) (ks : List BatchLine)
+continued_at : (d : ℕ) (more : List BatchLine) (l : BatchLine) (ls : List BatchLine) (k : BatchLine)
+    (ks : List BatchLine)
     (b : Bool) → is_blank l.heading ≡ b
     → IsMoved d l k × (0 < length ls → k.text ≡ l.text) × IsContinued d more ls ks
     → IsContinuedBehind d more (lines_behind_blanks ls) (lines_behind_blanks ks)
@@ -76,7 +78,8 @@ continued_at d more l ls k ks false isnt h later =
 pub continued_behind : (d : ℕ) (more old new : List BatchLine) → IsContinued d more old new
     → IsContinuedBehind d more (lines_behind_blanks old) (lines_behind_blanks new)
 continued_behind d more [] new h = rw no_line (ap lines_behind_blanks h)
-continued_behind d more (l ∷ ls) [] h = rw (other_line l ls h.other) (past_behind d more l ls (lines_behind_blanks []) h)
+continued_behind d more (l ∷ ls) [] h = rw (other_line l ls h.other)
+    (past_behind d more l ls (lines_behind_blanks []) h)
 continued_behind d more (l ∷ ls) (k ∷ ks) (inl past) =
     rw (other_line l ls past.other) (past_behind d more l ls (lines_behind_blanks (k ∷ ks)) past)
 continued_behind d more (l ∷ ls) (k ∷ ks) (inr h) =
@@ -290,7 +293,8 @@ part_ends p job b part h = part_by p job b part b.end refl h
 
 ended_part : (p : Bool) (job : ℕ) (b : Block) (e : BatchLine) → b.end ≡ Some e → e.is_past ≡ false
     → closes_by p e ≡ true → part_with p job b ≡ Ok (b.text, (e.number + 1, b.rest))
-ended_part p job b e is within closed = ap (part_end_by p job b.text b.rest) is ∙ end_good p job b.text b.rest e within closed
+ended_part p job b e is within closed = ap (part_end_by p job b.text b.rest) is
+    ∙ end_good p job b.text b.rest e within closed
 
 -- a part of a file is the same further on
 record PartFollows (d : ℕ) (more : List BatchLine) (part : PartText) (new : ℕ → Result PartText Refusal) : Type 0 where
@@ -400,7 +404,8 @@ whole_none : (head : JobLine) (job : ℕ) → whole_job head job [] ≡ Err (Unf
 unfolding whole_job
 whole_none head job = refl
 
-begins_by : (head : JobLine) (job : ℕ) (l : BatchLine) (ls : List BatchLine) (found : JobAndRest) (past signatures : Bool)
+begins_by : (head : JobLine) (job : ℕ) (l : BatchLine) (ls : List BatchLine) (found : JobAndRest)
+    (past signatures : Bool)
     → l.is_past ≡ past → is_signatures l.heading ≡ signatures → whole_job head job (l ∷ ls) ≡ Ok found
     → BeginsSignatures l
 begins_by head job l ls found true signatures p s h = absurd (no_ok _ found (sym (whole_past head job l ls p) ∙ h))
@@ -420,11 +425,16 @@ whole_moved d more head job l k ls ks found h continued is =
     let s = signatures_follow d more (job_without_parts head job (l.number + 1)) ls ks found continued
     (sym (whole_is head job l ls b) ∙ is) in
     let number : k.number + 1 ≡ (l.number + 1) + d = ap (λ n. n + 1) h.number ∙ move_one l.number d in
-    let same = whole_is head (job + d) k ks (record { within = h.within; signatures = ap is_signatures h.heading ∙ b.signatures })
+    let same = whole_is head (job + d) k ks (record {
+      within = h.within;
+      signatures = ap is_signatures h.heading
+          ∙ b.signatures;
+    })
     ∙ ap (λ n. job_from_signatures (job_without_parts head (job + d) n) ks) number in
     record { rest = s.rest; job = same ∙ s.job; continued = s.continued }
 
-whole_follows : (d : ℕ) (more : List BatchLine) (head : JobLine) (job : ℕ) (old new : List BatchLine) (found : JobAndRest)
+whole_follows : (d : ℕ) (more : List BatchLine) (head : JobLine) (job : ℕ) (old new : List BatchLine)
+    (found : JobAndRest)
     → IsContinued d more old new → whole_job head job old ≡ Ok found
     → Follows d more found (whole_job head (job + d) new)
 whole_follows d more head job [] new found h is = absurd (no_ok _ found (sym (whole_none head job) ∙ is))
@@ -442,7 +452,8 @@ unfolding jobs_in
 jobs_none zero ls e = rw e refl
 jobs_none (suc room) ls e = rw e refl
 
-jobs_first : (room : ℕ) (ls : List BatchLine) (l : BatchLine) (rest : List BatchLine) → lines_behind_blanks ls ≡ l ∷ rest
+jobs_first : (room : ℕ) (ls : List BatchLine) (l : BatchLine) (rest : List BatchLine)
+    → lines_behind_blanks ls ≡ l ∷ rest
     → jobs_in (suc room) ls
     ≡ result_and_then (head_of l) (λ head. job_and_later (jobs_in room) (whole_job head l.number rest))
 unfolding jobs_in
@@ -466,7 +477,8 @@ head_within_by l head false is h = is
 pub head_within : (l : BatchLine) (head : JobLine) → head_of l ≡ Ok head → l.is_past ≡ false
 head_within l head h = head_within_by l head l.is_past refl h
 
-head_here : (l : BatchLine) → l.is_past ≡ false → head_of l ≡ head_or_refusal l.number (job_line_of (batch_words l.text))
+head_here : (l : BatchLine) → l.is_past ≡ false → head_of l
+    ≡ head_or_refusal l.number (job_line_of (batch_words l.text))
 head_here l within = rw within refl
 
 head_anywhere : (n m : ℕ) (o : Option JobLine) (head : JobLine) → head_or_refusal n o ≡ Ok head
@@ -477,7 +489,8 @@ head_anywhere n m (Some found) head h = h
 head_moved : (d : ℕ) (l k : BatchLine) (head : JobLine) → IsMoved d l k → head_of l ≡ Ok head → head_of k ≡ Ok head
 head_moved d l k head h is =
     head_here k h.within ∙ ap (λ ws. head_or_refusal k.number (job_line_of ws)) h.words
-    ∙ head_anywhere l.number k.number (job_line_of (batch_words l.text)) head (sym (head_here l (head_within l head is)) ∙ is)
+    ∙ head_anywhere l.number k.number (job_line_of (batch_words l.text)) head
+    (sym (head_here l (head_within l head is)) ∙ is)
 
 -- what is found of the first job
 pub record FindsFirst (room : ℕ) (l : BatchLine) (ls : List BatchLine) (jobs : List JobText) : Type 0 where
@@ -519,7 +532,8 @@ one_list : (job : JobText) → (let r : Result (List JobText) Refusal = Ok [] in
 one_list job e = cc
 
 -- the first job of a file and the jobs after it
-first_follows : (d : ℕ) (more : List BatchLine) (later room : ℕ) (job : JobText) (all : List BatchLine) (l k : BatchLine)
+first_follows : (d : ℕ) (more : List BatchLine) (later room : ℕ) (job : JobText) (all : List BatchLine)
+    (l k : BatchLine)
     (ls ks : List BatchLine) → lines_behind_blanks all ≡ k ∷ ks
     → IsMoved d l k → IsContinued d more ls ks → FindsFirst later l ls (job ∷ [])
     → jobs_in (suc room) all ≡ jobs_after (moved d job) (jobs_in room more)

@@ -44,7 +44,12 @@ pub only_entry : (region : ℕ) (jobs : List JobText) (entries : List JobEntry) 
 only_entry region [] [] any one are = absurd (omega (arith, one))
 only_entry region [] (entry ∷ entries) any one are = absurd are
 only_entry region (job ∷ jobs) [] any one are = absurd are
-only_entry region (job ∷ []) (entry ∷ entries) any one are = record { job = job; only = refl; name = are.0.name; fate = are.0.fate }
+only_entry region (job ∷ []) (entry ∷ entries) any one are = record {
+  job = job;
+  only = refl;
+  name = are.0.name;
+  fate = are.0.fate;
+}
 only_entry region (job ∷ second ∷ jobs) (entry ∷ []) any one are = absurd are.1
 only_entry region (job ∷ second ∷ jobs) (entry ∷ other ∷ entries) any one are = absurd (omega (arith, one))
 
@@ -99,8 +104,13 @@ refuses_entries region other bytes rule entries NoJob same batch refuses =
     (rule, batch.0, batch.1, subst (λ (r : ℕ). RefusesJobs r batch.0 NoJob) same (refuses other batch.0 batch.2))
 refuses_entries region other bytes rule entries ManyJobs same batch refuses =
     (rule, batch.0, batch.1, subst (λ (r : ℕ). RefusesJobs r batch.0 ManyJobs) same (refuses other batch.0 batch.2))
-refuses_entries region other bytes rule entries (Job line fault) same batch refuses =
-    (rule, batch.0, batch.1, subst (λ (r : ℕ). RefusesJobs r batch.0 (Job line fault)) same (refuses other batch.0 batch.2))
+refuses_entries region other bytes rule entries (Job line fault) same batch refuses = (
+  rule,
+  batch.0,
+  batch.1,
+  subst (λ (r : ℕ). RefusesJobs r batch.0 (Job line fault)) same
+      (refuses other batch.0 batch.2),
+)
 refuses_entries region other bytes rule entries (Batch line fault) same batch refuses =
     absurd (refuses other batch.0 batch.2)
 refuses_entries region other bytes rule entries Memory same batch refuses = tt

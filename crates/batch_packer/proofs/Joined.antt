@@ -46,7 +46,8 @@ batch_first : (room : ℕ) (ls : List BatchLine) (l : BatchLine) (rest : List Ba
     → batch_in room ls ≡ under First (jobs_in room ls)
 unfolding batch_in
 batch_first room ls l rest e isnt =
-    rw (e, isnt) (ap (under First) (jobs_by_behind room (l ∷ rest) ls (ap lines_behind_blanks (sym e) ∙ behind_twice ls)))
+    rw (e, isnt) (ap (under First) (jobs_by_behind room (l ∷ rest) ls (ap lines_behind_blanks (sym e)
+    ∙ behind_twice ls)))
 
 batch_second : (room : ℕ) (ls : List BatchLine) (l : BatchLine) (rest : List BatchLine)
     → lines_behind_blanks ls ≡ l ∷ rest → is_second_rule l.heading ≡ true
@@ -101,7 +102,8 @@ file_at : (rule : Rule) (room : ℕ) (ls : List BatchLine) (l : BatchLine) (rest
     (second : Bool) → lines_behind_blanks ls ≡ l ∷ rest → is_second_rule l.heading ≡ second
     → batch_in room ls ≡ Ok (rule, job ∷ []) → IsFile rule room ls job
 file_at First room ls l rest job true e s h =
-    absurd (no_rule (sym (under_ok Second First (jobs_in room rest) (job ∷ []) (sym (batch_second room ls l rest e s) ∙ h)).0))
+    absurd (no_rule (sym (under_ok Second First (jobs_in room rest) (job ∷ [])
+    (sym (batch_second room ls l rest e s) ∙ h)).0))
 file_at First room ls l rest job false e s h =
     let u = under_ok First First (jobs_in room ls) (job ∷ []) (sym (batch_first room ls l rest e s) ∙ h) in
     record { line = l; rest = rest; lines_are = e; no_rule = s; jobs = u.1 }
@@ -121,7 +123,8 @@ lines_in bytes = numbered_lines 1 MOST_BATCH_BYTES (lines bytes)
 
 file_of : (rule : Rule) (file : OneJob) → IsOneJob rule file → IsFile rule MOST_JOBS (lines_in file.bytes) file.job
 unfolding jobs_of lines_in
-file_of rule file h = file_by rule MOST_JOBS (lines_in file.bytes) (lines_behind_blanks (lines_in file.bytes)) file.job refl h
+file_of rule file h = file_by rule MOST_JOBS (lines_in file.bytes) (lines_behind_blanks (lines_in file.bytes))
+    file.job refl h
 
 -- ---- the text of a file
 
@@ -131,7 +134,8 @@ ruled_jobs : (rule : Rule) (file : OneJob) → IsFile rule MOST_JOBS (lines_in f
 unfolding lines_in
 ruled_jobs First file h = h.jobs
 ruled_jobs Second file h =
-    let behind = first_behind 1 MOST_BATCH_BYTES (lines file.bytes) h.line h.rest (are_lines file.bytes) h.lines_are h.rule in
+    let behind = first_behind 1 MOST_BATCH_BYTES (lines file.bytes) h.line h.rest
+    (are_lines file.bytes) h.lines_are h.rule in
     ap (λ ts. jobs_in MOST_JOBS (numbered_lines 1 MOST_BATCH_BYTES ts)) (blanked_lines file.bytes)
     ∙ jobs_by_behind MOST_JOBS _ h.rest behind ∙ h.jobs
 
@@ -150,17 +154,20 @@ text_lines d text more =
     ∙ ap (λ n. plain_lines (1 + d) (ended (lines text)) ++ plain_lines n (lines more)) number
 
 text_continued : (d : ℕ) (text more : List ℕ)
-    → IsContinued d (lines_behind d text more) (lines_in text) (plain_lines (1 + d) (lines (with_last_feed text ++ more)))
+    → IsContinued d (lines_behind d text more) (lines_in text)
+    (plain_lines (1 + d) (lines (with_last_feed text ++ more)))
 unfolding lines_in
 text_continued d text more =
-    subst (λ (ls : List BatchLine). IsContinued d (lines_behind d text more) (numbered_lines 1 MOST_BATCH_BYTES (lines text)) ls)
+    subst (λ (ls : List BatchLine). IsContinued d (lines_behind d text more) (numbered_lines 1 MOST_BATCH_BYTES
+    (lines text)) ls)
     (sym (text_lines d text more)) (continued_lines d 1 MOST_BATCH_BYTES (lines_behind d text more) (lines text))
 
 text_follows : (d room : ℕ) (text more : List ℕ) (job : JobText) → jobs_in MOST_JOBS (lines_in text) ≡ Ok (job ∷ [])
     → jobs_in (suc room) (plain_lines (1 + d) (lines (with_last_feed text ++ more)))
     ≡ jobs_after (moved d job) (jobs_in room (lines_behind d text more))
 text_follows d room text more job h =
-    job_follows d (lines_behind d text more) 63 room job (lines_in text) (plain_lines (1 + d) (lines (with_last_feed text ++
+    job_follows d (lines_behind d text more) 63 room job (lines_in text)
+    (plain_lines (1 + d) (lines (with_last_feed text ++
     more))) (text_continued d text more) h
 
 no_lines : (room number : ℕ) → jobs_in room (plain_lines number (lines [])) ≡ Ok []
@@ -185,7 +192,11 @@ fitting_lines : (bytes : List ℕ) → length bytes ≤ MOST_BATCH_BYTES
     → jobs_of bytes ≡ batch_in MOST_JOBS (plain_lines 1 (lines bytes))
 unfolding jobs_of
 fitting_lines bytes fits =
-    ap (batch_in MOST_JOBS) (numbered_plain 1 MOST_BATCH_BYTES (lines bytes) (omega (arith, fits, bytes_of_lines bytes)))
+    ap (batch_in MOST_JOBS) (numbered_plain 1 MOST_BATCH_BYTES (lines bytes) (omega (
+      arith,
+      fits,
+      bytes_of_lines bytes,
+    )))
 
 -- the first line that isn't blank is no rule line
 record BeginsFirst (ls : List BatchLine) : Type 0 where

@@ -104,7 +104,8 @@ pack_joined p q f files one room rule jobs bytes is job text =
       bytes = bytes ∙ ap (λ t. t ++ f.text) old ∙ ap (λ t. joined q.rule files ++ t) new
           ∙ sym (joined_append q.rule files one);
       jobs = jobs ∙ ap (λ n. n + 1) is.jobs ∙ sym (length-append files (one ∷ []));
-      one_each = All-push (IsOneJob q.rule) files one (subst (λ (r : Rule). All (IsOneJob r) files) (sym rule) is.one_each)
+      one_each = All-push (IsOneJob q.rule) files one (subst (λ (r : Rule). All (IsOneJob r) files)
+          (sym rule) is.one_each)
           (subst (λ (r : Rule). IsOneJob r one) same job);
     }
 

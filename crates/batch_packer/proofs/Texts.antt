@@ -94,14 +94,16 @@ pub blank_next : (new text xs : List ℕ) (i : ℕ) (whole : List ℕ) → i < l
 blank_next new text xs i whole less isnt e h =
     ap (λ t. t ++ blank_to_feed (drop (i + 1) xs)) e
     ∙ one_over text (blank_to_feed (drop (i + 1) xs)) 32
-    ∙ ap (λ t. text ++ t) (sym (ap blank_to_feed (drop_here xs i less) ∙ blank_other (get_or xs i 0) (drop (i + 1) xs) isnt))
+    ∙ ap (λ t. text ++ t) (sym (ap blank_to_feed (drop_here xs i less)
+    ∙ blank_other (get_or xs i 0) (drop (i + 1) xs) isnt))
     ∙ h
 
 pub blank_ends : (new text xs : List ℕ) (i : ℕ) (whole : List ℕ) → i < length xs → get_or xs i 0 == 10 ≡ true
     → new ≡ text ++ take (length xs - i) (drop i xs) → text ++ blank_to_feed (drop i xs) ≡ whole → new ≡ whole
 blank_ends new text xs i whole less is e h =
     let d = drop_here xs i less in
-    e ∙ ap (λ t. text ++ t) (take_rest xs i ∙ d ∙ sym (ap blank_to_feed d ∙ blank_feed (get_or xs i 0) (drop (i + 1) xs) is)) ∙ h
+    e ∙ ap (λ t. text ++ t) (take_rest xs i ∙ d ∙ sym (ap blank_to_feed d
+    ∙ blank_feed (get_or xs i 0) (drop (i + 1) xs) is)) ∙ h
 
 pub blank_all : (text xs : List ℕ) (i : ℕ) → length xs ≤ i → text ≡ text ++ blank_to_feed (drop i xs)
 blank_all text xs i over =
@@ -118,7 +120,8 @@ words_next new text xs i b whole less here is e h =
     ∙ h
 
 pub words_end : (new text xs : List ℕ) (i : ℕ) (whole : List ℕ) → i < length xs → is_separator (get_or xs i 0) ≡ false
-    → new ≡ text ++ blank_to_feed (take (length xs - i) (drop i xs)) → text ++ without_first_words (drop i xs) ≡ whole → new ≡ whole
+    → new ≡ text ++ blank_to_feed (take (length xs - i) (drop i xs)) → text ++ without_first_words (drop i xs) ≡ whole
+    → new ≡ whole
 words_end new text xs i whole less isnt e h =
     let d = drop_here xs i less in
     e ∙ ap (λ t. text ++ t) (ap blank_to_feed (take_rest xs i ∙ d) ∙ sym (ap without_first_words d

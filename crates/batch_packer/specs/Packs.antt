@@ -34,7 +34,8 @@ pub record IsNamedRunnable (region : ℕ) (jobs : List JobText) (name : List ℕ
 -- these jobs are refused as a file
 abbrev pub RefusesJobs : ℕ → List JobText → PackFault → Type 0
 RefusesJobs region jobs NoJob = jobs ≡ []
-RefusesJobs region jobs ManyJobs = (first : JobText) × (second : JobText) × (more : List JobText) × (jobs ≡ first ∷ second ∷ more)
+RefusesJobs region jobs ManyJobs = (first : JobText) × (second : JobText) × (more : List JobText)
+    × (jobs ≡ first ∷ second ∷ more)
 RefusesJobs region jobs (Job line fault) =
     (job : JobText) × (jobs ≡ job ∷ []) × (signed_program_of region job ≡ Err (fault, line))
 RefusesJobs region jobs (Batch line fault) = ⊥

@@ -46,7 +46,8 @@ lines_with_byte : (held bs : List ℕ) (b : ℕ) (feeds : Bool) → (b == 10) �
     → ((b == 10) ≡ true → IsCodeText (held ++ b ∷ [])) → IsCodeText bs
     → ((b == 10) ≡ false → IsCodeText ((held ++ b ∷ []) ++ bs)) → IsCodeText (held ++ b ∷ bs)
 lines_with_byte held bs b true e line alone joined =
-    subst (λ (t : List ℕ). IsCodeText t) (append_assoc held (b ∷ []) bs) (code_append _ (held ++ b ∷ []) bs (line e) alone)
+    subst (λ (t : List ℕ). IsCodeText t) (append_assoc held (b ∷ []) bs) (code_append _ (held
+    ++ b ∷ []) bs (line e) alone)
 lines_with_byte held bs b false e line alone joined =
     subst (λ (t : List ℕ). IsCodeText t) (append_assoc held (b ∷ []) bs) (joined e)
 
@@ -73,7 +74,8 @@ record WholeLines (t : List ℕ) : Type 0 where
   whole : AreWholeLines lines
   none : HoldsNoLineFeed left
 
-lines_with : (x : ℕ) (xs lines left : List ℕ) (feeds : Bool) → (x == 10) ≡ feeds → xs ≡ lines ++ left → AreWholeLines lines
+lines_with : (x : ℕ) (xs lines left : List ℕ) (feeds : Bool) → (x == 10) ≡ feeds → xs ≡ lines ++ left
+    → AreWholeLines lines
     → HoldsNoLineFeed left → WholeLines (x ∷ xs)
 lines_with x xs [] left true e parts whole none =
     record { lines = x ∷ []; left = left; parts = ap (λ t. x ∷ t) parts; whole = e; none = none }
@@ -168,7 +170,8 @@ no_d_before (x ∷ xs) rest place within none = (
 )
 
 -- lines before a place before which there is no D
-pub code_before : (text front rest : List ℕ) (place : ℕ) → text ≡ front ++ rest → length front ≤ place → AreWholeLines front
+pub code_before : (text front rest : List ℕ) (place : ℕ) → text ≡ front ++ rest → length front ≤ place
+    → AreWholeLines front
     → ((k : ℕ) → 0 ≤ k → k < place → get_or text k 0 == 68 ≡ true → ⊥) → IsCodeText front
 code_before text front rest place is within whole none =
     code_without_d front whole (no_d_before front rest place within
@@ -220,7 +223,8 @@ pub after_d : (text before from line rest : List ℕ) (place : ℕ) → before �
     → IsAfterCode text rest
 after_d text before from line rest place front back len none found whole parts other =
     let joined : text ≡ before ++ from =
-    sym (take-append-drop place text) ∙ (ap (λ t. t ++ drop place text) (sym front) ∙ ap (λ t. before ++ t) (sym back)) in
+    sym (take-append-drop place text) ∙ (ap (λ t. t ++ drop place text) (sym front)
+    ∙ ap (λ t. before ++ t) (sym back)) in
     let same : place + 0 ≡ place = omega arith in
     let d : get_or (line ++ rest) 0 0 ≡ 68 =
     ap (λ (t : List ℕ). get_or t 0 0) (sym parts ∙ back)
@@ -247,7 +251,8 @@ whole_by (x ∷ []) (suc i) less is = absurd (omega arith)
 whole_by (x ∷ y ∷ ys) (suc i) less is = whole_after x (take (suc i) (y ∷ ys)) (omega arith) (whole_by (y ∷ ys) i (omega
     arith) is)
 
-pub whole_lines_at : (xs : List ℕ) (i : ℕ) → i < length xs → get_or xs i 0 == 10 ≡ true → AreWholeLines (take (i + 1) xs)
+pub whole_lines_at : (xs : List ℕ) (i : ℕ) → i < length xs → get_or xs i 0 == 10 ≡ true
+    → AreWholeLines (take (i + 1) xs)
 whole_lines_at xs i less is = rw add-one (whole_by xs i less is)
 
 -- ---- how many LFs

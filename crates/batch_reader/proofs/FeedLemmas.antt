@@ -142,7 +142,8 @@ long_rest_has_come f rest before held s none more_none cleared refuses long h =
 
 -- ---- after what refuses the batch
 
-settled : (region line : ℕ) (fault : BatchFault) (jobs : List JobText) (rule : Rule) (room : ℕ) (standing : BatchStanding)
+settled : (region line : ℕ) (fault : BatchFault) (jobs : List JobText) (rule : Rule) (room : ℕ)
+    (standing : BatchStanding)
     → StageShows region (stage.Refused line fault) standing → (ls ms : List BatchLine)
     → jobs_behind jobs (jobs_from rule room standing ls) ≡ jobs_behind jobs (jobs_from rule room standing ms)
 settled region line fault jobs rule room (Refused refusal) shown ls ms = refl

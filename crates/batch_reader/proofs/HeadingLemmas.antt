@@ -69,7 +69,8 @@ no_end_pair true = refl
 no_end_pair false = refl
 
 -- a first word that begins with another byte than END does
-no_end_first : (x : ℕ) (t : List ℕ) (ws : List (List ℕ)) → (x == 69) ≡ false → is_end (heading_of ((x ∷ t) ∷ ws)) ≡ false
+no_end_first : (x : ℕ) (t : List ℕ) (ws : List (List ℕ)) → (x == 69) ≡ false
+    → is_end (heading_of ((x ∷ t) ∷ ws)) ≡ false
 no_end_first x t [] e =
     no_end_marker (bytes_eq (x ∷ t) (codes "SIGNATURES")) (bytes_eq (x ∷ t) (codes "CODE"))
     (bytes_eq (x ∷ t) (codes "END")) (rw e refl)

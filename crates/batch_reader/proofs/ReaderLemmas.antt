@@ -118,7 +118,8 @@ kept_by s come l (Begins rule next) number left kept entries h t keeps =
 -- what follows a line
 pub stands_behind : (s : LinesState) (come : ByLines) (l : BatchLine) (step : JobStep) (number left : ℕ)
     (kept : JobStage) (entries : List JobEntry)
-    → ((room : ℕ) (standing : BatchStanding) → StageShows s.region s.stage standing → HasRoom (length s.entries) room standing
+    → ((room : ℕ) (standing : BatchStanding) → StageShows s.region s.stage standing
+    → HasRoom (length s.entries) room standing
     → Turns s.region (length s.entries) room standing l step)
     → Keeps step s.entries entries kept → Stands s come
     → Stands (state_with s number left (rule_by step s.rule) kept entries) (λ ls. come (l ∷ ls))
@@ -251,8 +252,10 @@ long_line_refuses s come isnt h = record {
   stands = refused_stands s come (stage.Refused s.number TooLarge) (TooLarge, s.number) h refl;
   comes = λ text. h.comes (line_past_limit s.number text ∷ [])
       ∙ ap (jobs_behind h.jobs) (past_limit s.rule h.room h.standing (line_past_limit s.number text) refl refl
-      (λ job e. shows_no_end s.region s.stage job (subst (λ (x : BatchStanding). StageShows s.region s.stage x) e h.shown))
-      (λ refusal e. shows_no_refusal s.region s.stage refusal isnt (subst (λ (x : BatchStanding). StageShows s.region s.stage
+      (λ job e. shows_no_end s.region s.stage job
+      (subst (λ (x : BatchStanding). StageShows s.region s.stage x) e h.shown))
+      (λ refusal e. shows_no_refusal s.region s.stage refusal isnt
+      (subst (λ (x : BatchStanding). StageShows s.region s.stage
       x) e h.shown)));
 }
 
@@ -261,7 +264,8 @@ settled_by : (s : LinesState) (come : ByLines) (kept : JobStage) (standing : Bat
     → RefusesLongLine s s come
 settled_by s come (stage.Refused line fault) (Refused refusal) h e f is shown = record {
   refusal = refusal;
-  stands = refused_stands s come s.stage refusal h (subst (λ (x : BatchStanding). StageShows s.region s.stage x) f h.shown);
+  stands = refused_stands s come s.stage refusal h
+      (subst (λ (x : BatchStanding). StageShows s.region s.stage x) f h.shown);
   comes = λ text. h.comes (line_past_limit s.number text ∷ [])
       ∙ ap (λ x. jobs_behind h.jobs (jobs_from s.rule h.room x (line_past_limit s.number text ∷ []))) f;
 }
@@ -340,7 +344,8 @@ ends_so rule region room _ _ shown = absurd shown
 pub at_end : (s : LinesState) (come : ByLines) (kept : JobStage) → s.stage ≡ kept → (h : Stands s come)
     → EndsSo s.rule kept (jobs_from s.rule h.room h.standing [])
 at_end s come kept e h =
-    ends_so s.rule s.region h.room kept h.standing (subst (λ (k : JobStage). StageShows s.region k h.standing) e h.shown)
+    ends_so s.rule s.region h.room kept h.standing
+    (subst (λ (k : JobStage). StageShows s.region k h.standing) e h.shown)
 
 pub jobs_at_end : (s : LinesState) (come : ByLines) (rule : Rule) (h : Stands s come)
     → jobs_from s.rule h.room h.standing [] ≡ Ok (rule, []) → AnswersLines s.region (Jobs rule s.entries) (come [])

@@ -166,7 +166,7 @@ code_has_come f text before held old s none same same_lines takes h =
 
 -- ---- how far a stage has come
 
--- so many bytes of a batch have come when so many are left
+-- how many bytes of a batch have come, when `left` are left
 pub bytes_come : (left len left2 : ℕ) (stage : JobStage) → left ≤ MOST_BATCH_BYTES → left2 + len ≡ left →
     StageFits (MOST_BATCH_BYTES - left + len) stage → StageFits (MOST_BATCH_BYTES - left2) stage
 bytes_come left len left2 stage most sum fits = subst (λ (n : ℕ). StageFits n stage) (omega (arith, most, sum)) fits

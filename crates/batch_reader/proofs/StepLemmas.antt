@@ -454,7 +454,8 @@ turns_behind_refusal region ended room refusal l s has shown = record {
 -- ---- past the limit
 
 -- a line past the limit refuses what isn't refused
-pub past_limit : (rule : Rule) (room : ℕ) (standing : BatchStanding) (l : BatchLine) → l.is_past ≡ true → l.heading ≡ Other
+pub past_limit : (rule : Rule) (room : ℕ) (standing : BatchStanding) (l : BatchLine) → l.is_past ≡ true
+    → l.heading ≡ Other
     → ((job : JobText) → standing ≡ Ended job → ⊥) → ((refusal : Refusal) → standing ≡ Refused refusal → ⊥)
     → jobs_from rule room standing (l ∷ []) ≡ Err (TooLarge, l.number)
 past_limit rule room Fresh l past other e r = batch_past room l [] past (ap is_blank other) (ap is_second_rule other)
@@ -472,9 +473,11 @@ past_limit rule room (Refused refusal) l past other e r = absurd (r refusal refl
 
 -- what is known of a step among code, for any standing that it is shown at
 pub turns_of_code : (region ended : ℕ) (kept : JobHeader (List ℕ)) (part : CodePart) (l : BatchLine) (s : JobStep)
-    → ((room : ℕ) (job : JobText) → StageShows region (stage.Code kept part) (InCode job) → HasRoom ended room (InCode job)
+    → ((room : ℕ) (job : JobText) → StageShows region (stage.Code kept part) (InCode job)
+    → HasRoom ended room (InCode job)
     → Turns region ended room (InCode job) l s)
-    → (room : ℕ) (standing : BatchStanding) → StageShows region (stage.Code kept part) standing → HasRoom ended room standing
+    → (room : ℕ) (standing : BatchStanding) → StageShows region (stage.Code kept part) standing
+    → HasRoom ended room standing
     → Turns region ended room standing l s
 turns_of_code region ended kept part l s turns room Fresh shown has = absurd shown
 turns_of_code region ended kept part l s turns room Between shown has = absurd shown
@@ -500,7 +503,8 @@ turns_of_fresh region ended l s turns room (Refused refusal) shown has = absurd 
 -- ---- in place
 
 -- the same of a line that stays among signatures
-turns_of_signatures : (region ended : ℕ) (kept : JobHeader (List ℕ)) (part : SignaturesPart) (l : BatchLine) (s : JobStep)
+turns_of_signatures : (region ended : ℕ) (kept : JobHeader (List ℕ)) (part : SignaturesPart) (l : BatchLine)
+    (s : JobStep)
     → ((room : ℕ) (job : JobText) → StageShows region (stage.Signatures kept part) (InSignatures job)
     → HasRoom ended room (InSignatures job) → Turns region ended room (InSignatures job) l s)
     → (room : ℕ) (standing : BatchStanding) → StageShows region (stage.Signatures kept part) standing
@@ -513,7 +517,8 @@ turns_of_signatures region ended kept part l s turns room (InCode job) shown has
 turns_of_signatures region ended kept part l s turns room (Ended job) shown has = absurd shown
 turns_of_signatures region ended kept part l s turns room (Refused refusal) shown has = absurd shown
 
-pub stays_in_code : (kept : JobHeader (List ℕ)) (old new : CodePart) (was : JobStage) (l : BatchLine) → l.is_past ≡ false
+pub stays_in_code : (kept : JobHeader (List ℕ)) (old new : CodePart) (was : JobStage) (l : BatchLine)
+    → l.is_past ≡ false
     → was ≡ stage.Code kept old → Stays was l.heading
     → ((region : ℕ) (job : JobText) → ShowsCode region old job → ShowsCode region new (with_code job l.text))
     → (region ended room : ℕ) (standing : BatchStanding) → StageShows region was standing → HasRoom ended room standing

@@ -160,7 +160,8 @@ abbrev pub CodeFits : ℕ → CodePart → Type 0
 CodeFits place (Reading (signatures, r)) = r.failed ≡ false → (r.scan.line ≤ place + 1) × (r.size ≤ place)
 CodeFits place (PartRefused line fault) = Unit {0}
 
--- a job's name is one, and its readers have come no further than so many bytes of the batch
+-- a job's name is one, and its readers have come no further than the first `place` bytes of the
+-- batch
 abbrev pub StageFits : ℕ → JobStage → Type 0
 StageFits place (stage.Headed kept) = IsName kept.name
 StageFits place (stage.Signatures kept part) = IsName kept.name × SignaturesFit place part

@@ -36,7 +36,8 @@ impl<A: Allocator> Model for Feed<A> {
     ghost coded = { feed_code (lines_code (Prim.hlevel codes) (Prim.hlevel (
       codes,
       fed_code (scan_code
-          (parse_code (Prim.hlevel codes) (Prim.hlevel codes) (Prim.hlevel codes) (Prim.hlevel codes) (Prim.hlevel codes)
+          (parse_code (Prim.hlevel codes) (Prim.hlevel codes) (Prim.hlevel codes) (Prim.hlevel codes)
+          (Prim.hlevel codes)
           (Prim.hlevel codes)) (Prim.hlevel codes)),
     ))
         (Prim.hlevel (codes, job_code (Prim.hlevel codes) (Prim.hlevel codes) (Prim.hlevel codes)))) };

@@ -58,7 +58,8 @@ pub(crate) fn job_line(line: &[u8]) -> Option<JobLine<'_>>
 /// The words of a line, if there are six.
 fn six_words(line: &[u8]) -> Option<SixWords<'_>>
     ensures { MatchOption result (job_line_of (batch_words line.now) ≡ None)
-        (λ s. batch_words line.now ≡ s.keyword.now ∷ s.name.now ∷ s.words.now ∷ s.cells.now ∷ s.calls.now ∷ s.budget.now ∷ []) }
+        (λ s. batch_words line.now ≡ s.keyword.now ∷ s.name.now ∷ s.words.now ∷ s.cells.now ∷ s.calls.now
+        ∷ s.budget.now ∷ []) }
 {
     let mut line_words = LineWords::new(line, Parentheses::StandInWords);
     let keyword = line_words.next()?;

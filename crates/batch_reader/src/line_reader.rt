@@ -52,7 +52,8 @@ impl<A: Allocator> Model for LineReader<A> {
     ghost coded = { lines_code (Prim.hlevel codes) (Prim.hlevel (
       codes,
       fed_code (scan_code
-          (parse_code (Prim.hlevel codes) (Prim.hlevel codes) (Prim.hlevel codes) (Prim.hlevel codes) (Prim.hlevel codes)
+          (parse_code (Prim.hlevel codes) (Prim.hlevel codes) (Prim.hlevel codes) (Prim.hlevel codes)
+          (Prim.hlevel codes)
           (Prim.hlevel codes)) (Prim.hlevel codes)),
     ))
         (Prim.hlevel (codes, job_code (Prim.hlevel codes) (Prim.hlevel codes) (Prim.hlevel codes))) };

@@ -259,7 +259,8 @@ pub(crate) fn step_inside<A: Allocator + Copy>(
     requires fits { StageFits line.place stage.old }
     requires stays { Stays stage.old line.heading }
     ensures fits { OnOk result (StageFits (line.entry.place + length line.entry.text.now) stage.new) }
-    ensures turns { OnOk result ((region ended room : ℕ) (standing : BatchStanding) → StageShows region stage.old standing
+    ensures turns { OnOk result ((region ended room : ℕ) (standing : BatchStanding)
+        → StageShows region stage.old standing
         → HasRoom ended room standing → Turns region ended room standing (shown_line line.entry) (To stage.new)) }
 {
     match stage {

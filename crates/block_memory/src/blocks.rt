@@ -15,8 +15,8 @@ use crate::writer::{MOST_LENT, Writer, write_block};
 use std::alloc::{AllocError, Allocator};
 use std::marker::Model;
 
-/// Numbered blocks in one region of words. All memory is taken when it is made, and written when it is used: the list of
-/// words is as long as the words that were in use so far, and the list of starts ends at the highest word at which a
+/// Numbered blocks in one region of words. All memory is taken when it is made, and written when it is used: the list
+/// of words is as long as the words that were in use so far, and the list of starts ends at the highest word at which a
 /// block began so far.
 #[derive(Drop)]
 pub struct Blocks<A: Allocator> {

@@ -259,8 +259,8 @@ fn write_between(nodes: &mut [Summary], first: usize, last: usize, value: bool)
     }
 }
 
-/// Writes all nodes below a block of which all words are free, or none is: its eight leaves, the four nodes above these,
-/// and the two above those.
+/// Writes all nodes below a block of which all words are free, or none is: its eight leaves, the four nodes above
+/// these, and the two above those.
 #[cold]
 #[inline(never)]
 fn open_block(nodes: &mut [Summary], block: usize)

@@ -109,7 +109,8 @@ impl<A: Allocator> JobMemory<A> {
         requires has_grant { HasGrant self.old job }
         requires numbers { block_count self.old.memory < length self.old.memory.slots }
         ensures spent { IsErr result ↔ (words_of (grant_of self.old job) < held_words job self.old + length words.now) }
-        ensures fresh { IfOk result (λ id. (id < length self.old.memory.slots) × (slot_at self.old.memory id ≡ empty_slot)) }
+        ensures fresh { IfOk result (λ id. (id < length self.old.memory.slots) × (slot_at self.old.memory id
+            ≡ empty_slot)) }
         ensures placed { IfOk result (λ id. self.new ≡ with_block self.old job id words.now) }
         ensures unchanged { OnErr result (self.new ≡ self.old) }
     {

@@ -34,7 +34,8 @@ pub record Holds (slots : List Slot) (stack : List StackEntry) : Type 0 where
   pub words : words_in slots ≡ held_words stack
   pub few : blocks_in slots ≤ length stack
 
-pub holds_stack : (slots : List Slot) (ids : List ℕ) (stack : List StackEntry) → AreTidy slots → HoldStack slots ids stack →
+pub holds_stack : (slots : List Slot) (ids : List ℕ) (stack : List StackEntry) → AreTidy slots
+    → HoldStack slots ids stack →
     Holds slots stack
 holds_stack slots ids stack tidy h = record {
   words = held_is_stack slots h.cells h.held tidy ∙ ap held_words (sym h.entries_are);

@@ -71,7 +71,8 @@ pub same_instruction : (task : Task) (t : TrackState ℕ) (s : State) (line own 
     CanBegin task t.executed s t →
     IsLineOf task t line → IsLineOf task t own → instruction_in own.item ≡ instruction_in line.item
 same_instruction task t s line own can is_line is_own =
-    ap (λ (x : Numbered Item). x.item) (sym (is_own can.call can.outer can.stands) ∙ is_line can.call can.outer can.stands)
+    ap (λ (x : Numbered Item). x.item) (sym (is_own can.call can.outer can.stands)
+    ∙ is_line can.call can.outer can.stands)
 
 -- the instruction that is the next is that of the line of the next one
 pub op_of_line : (task : Task) (t : TrackState ℕ) (s : State) (line : CodeLine) (op : Op) →

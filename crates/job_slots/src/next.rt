@@ -280,7 +280,8 @@ fn top_operands<'a, A: Allocator>(
 ) -> Operands<'a>
     requires deep { operand_count op ≤ length track.now.cells }
     requires live { AreLive blocks.now.memory track.now.cells }
-    ensures { (stack : List StackEntry) → map (λ id. (slot_at blocks.now.memory id).words) track.now.cells ≡ words_of stack
+    ensures { (stack : List StackEntry) → map (λ id. (slot_at blocks.now.memory id).words) track.now.cells
+        ≡ words_of stack
         → contents (take result.count result.lists) ≡ words_of (top_entries (operand_count op) stack) }
 {
     let cells = track.cells();

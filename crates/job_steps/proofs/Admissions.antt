@@ -97,7 +97,8 @@ next_found : (region : ℕ) (tasks : List Task) (queue : Queue) (job : ℕ) → 
     ≡ Some job
 next_found region tasks queue zero ss ps n task t w room = absurd (none-some task t)
 next_found region tasks queue (suc place) ss ps n task t w room =
-    found_at 1 place (has_room region (granted_words tasks queue.standings)) tasks queue.standings queue.passes task ss ps
+    found_at 1 place (has_room region (granted_words tasks queue.standings)) tasks queue.standings
+    queue.passes task ss ps
     t w (le-leb (granted_words tasks queue.standings + task.limits.words) region room)
     (λ i other less o o_waits. let h = n.before (suc i) other (omega (arith, less)) o o_waits in
     (lt-leb (granted_words tasks queue.standings + other.limits.words) region h.no_room, h.few))

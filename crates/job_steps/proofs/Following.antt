@@ -343,7 +343,8 @@ function_in : Option Callee → Option Function
 function_in None = None
 function_in (Some c) = Some c.function
 
-function_is : (a : Option Function) (b : Option FunctionType) (c : Callee) → callee_of a b ≡ Some c → a ≡ Some c.function
+function_is : (a : Option Function) (b : Option FunctionType) (c : Callee) → callee_of a b ≡ Some c → a
+    ≡ Some c.function
 unfolding function_in
 function_is None b c e = absurd (let h : ◌≡◌ {A = Option Callee} None (Some c) = e in cc)
 function_is (Some f) None c e = absurd (let h : ◌≡◌ {A = Option Callee} None (Some c) = e in cc)

@@ -211,7 +211,8 @@ passable_more : (fits : Task → Bool) (t : Task) (tasks : List Task) (s : Stand
 passable_more fits t tasks s standings count passes place b c before zero task less t_is w =
     let s_is : s ≡ Waiting = same_Some s Waiting w in
     let unfit : fits t ≡ false = subst (λ (k : Standing). (is_waiting k && fits t) ≡ false) s_is b in
-    let kept : is_passed_enough Waiting count ≡ false = subst (λ (k : Standing). is_passed_enough k count ≡ false) s_is c in (
+    let kept : is_passed_enough Waiting count ≡ false =
+    subst (λ (k : Standing). is_passed_enough k count ≡ false) s_is c in (
       ap fits (sym (same_Some t task t_is)) ∙ unfit,
       λ other o. let same : count ≡ other = same_Some count other o in
           let below = leb-false MOST_PASSES count kept in omega (arith, same, below),
@@ -260,7 +261,8 @@ is_next first fits (t ∷ tasks) (s ∷ standings) (count ∷ passes) job e =
     (admission_from (suc first) fits tasks standings passes)
     (λ h. is_next (suc first) fits tasks standings passes job h) e
 
-pub admitted_next : (region : ℕ) (tasks : List Task) (queue : Queue) (job : ℕ) → admission region tasks queue ≡ Some job →
+pub admitted_next : (region : ℕ) (tasks : List Task) (queue : Queue) (job : ℕ)
+    → admission region tasks queue ≡ Some job →
     Found 1 (has_room region (granted_words tasks queue.standings)) tasks queue.standings queue.passes job
 unfolding admission
 admitted_next region tasks queue job e =

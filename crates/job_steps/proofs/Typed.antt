@@ -210,7 +210,8 @@ behind scope results rest ret outer kinds below under gives given e later proper
     (below, under ++ given, gives, e ∙ append_assoc below under given, later, proper, out)
 
 typed_item : (signatures : List Signature) (verified : TypedProgram) → IsVerifiedProgram signatures verified →
-    (results : List Kind) (item : Item) (rest : Body) (ret : ℕ) (outer : List Active) (next : ℕ) (stack : List StackEntry)
+    (results : List Kind) (item : Item) (rest : Body) (ret : ℕ) (outer : List Active) (next : ℕ)
+    (stack : List StackEntry)
     (below under takes gives given : List Kind) → IsBodyInstruction item → IsProperBody rest →
     Turns (scope_of signatures verified.program) item takes given →
     stack_kinds stack ≡ (below ++ under) ++ takes →

@@ -36,7 +36,8 @@ have_kinds [] all = tt
 have_kinds (e ∷ es) all = (All-head IsKept e es all, have_kinds es (All-tail IsKept e es all))
 
 -- the entries at the top, of these kinds
-read_kinds : (stack : List StackEntry) (below takes own : List Kind) → takes ≡ own → stack_kinds stack ≡ below ++ takes →
+read_kinds : (stack : List StackEntry) (below takes own : List Kind) → takes ≡ own → stack_kinds stack
+    ≡ below ++ takes →
     All IsKept stack →
     HaveKinds own (words_of (top_entries (length own) stack))
 read_kinds stack below takes own t e all =

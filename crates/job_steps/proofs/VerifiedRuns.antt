@@ -108,7 +108,8 @@ kinds-values : (stack : List StackEntry) → map (λ (v : Vector). v.kind) (valu
 kinds-values [] = refl
 kinds-values (e ∷ es) = ap (λ ks. kind_of e ∷ ks) (kinds-values es)
 
-kinds-returned : (stack : List StackEntry) → map (λ (v : Vector). v.kind) (reverse (values_of stack)) ≡ stack_kinds stack
+kinds-returned : (stack : List StackEntry) → map (λ (v : Vector). v.kind) (reverse (values_of stack))
+    ≡ stack_kinds stack
 kinds-returned stack = map-reverse (λ (v : Vector). v.kind) (values_of stack) ∙ ap reverse (kinds-values stack)
 
 returned_past : (rule : Rule) (item : Item) (s : State) (calls : List Active) (values : List Vector) (x p : ℕ) →

@@ -96,7 +96,8 @@ AdmittedHaveRoom =
 
 -- ---- who is admitted
 
--- a waiting job that another may pass by: it doesn't fit beside what is granted, and was passed by fewer times than the most
+-- a waiting job that another may pass by: it doesn't fit beside what is granted, and was passed by fewer times than the
+-- most
 pub record MayBePassed (region : ℕ) (tasks : List Task) (queue : Queue) (job : ℕ) (task : Task) : Type 0 where
   pub no_room : region < granted_words tasks queue.standings + task.limits.words
   pub few : (count : ℕ) → of_job job queue.passes ≡ Some count → count < MOST_PASSES

@@ -166,7 +166,7 @@ impl<A: Allocator> HeightWalk<A> {
         self.change(op.operand_kinds().len(), op.result_kinds().len())
     }
 
-    /// The path takes so many entries off and then puts so many on.
+    /// The path takes `takes` entries off and then puts `gives` on.
     fn change(&mut self, takes: usize, gives: usize) -> Result<(), HeightFault> {
         let Some(height) = self.paths.path() else {
             return Ok(());

@@ -125,8 +125,8 @@ impl<A: Allocator> Stacks<A> {
         }
     }
 
-    /// The entries right below a level that lie in one piece, at most so many, and the level below them. None at the
-    /// bottom.
+    /// The entries right below a level that lie in one piece, at most `most` of them, and the level below them. None
+    /// at the bottom.
     fn next_piece(&self, level: Level, most: u32) -> Option<(Piece, Level)> {
         let Node { piece, below } = *self.nodes.get(level.node as usize)?;
         let count = level.count.min(most);
@@ -249,7 +249,7 @@ impl<A: Allocator> Stacks<A> {
         Ok(())
     }
 
-    /// Takes so many entries off a stack, and adds their pieces to those that are moved.
+    /// Takes `count` entries off a stack, and adds their pieces to those that are moved.
     fn take(&mut self, stack: &mut Stack, count: u32) -> Result<(), PathFault> {
         let mut left = count;
         for _ in 0..count {

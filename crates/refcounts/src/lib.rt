@@ -54,7 +54,10 @@ impl<M: VectorMemory, A: Allocator> SharedMemory<M, A> {
         M: Drop,
         requires { block_count_of (M.content memory) ≡ 0 }
         ensures { IfOk result
-            (λ shared. shared ≡ record { room = M.room memory; slots = replicate (length (M.content memory)) empty_slot }) }
+            (λ shared. shared ≡ record {
+              room = M.room memory;
+              slots = replicate (length (M.content memory)) empty_slot;
+            }) }
     {
         let counts = vec![in alloc; 0; memory.ids()]?;
         Ok(Self { memory, counts })

@@ -35,33 +35,48 @@ occurs_front text front rest at o = record {
 
 job_line : (place : ℕ) → place < 2 ^ 64 → All IsApart (codes "JOB " ++ (decimal place ++ codes " "))
 job_line place small = All-append IsApart (codes "JOB ") (decimal place ++ codes " ")
-    (All-from_recursion IsApart (codes "JOB ") ((λ e. omega arith), ((λ e. omega arith), ((λ e. omega arith), ((λ e. omega arith), tt)))))
+    (All-from_recursion IsApart (codes "JOB ") (
+      (λ e. omega arith),
+      ((λ e. omega arith), ((λ e. omega arith), ((λ e. omega arith), tt))),
+    ))
     (All-append IsApart (decimal place) (codes " ") (digits_apart place 10 small (omega arith))
     (All-from_recursion IsApart (codes " ") ((λ e. omega arith), tt)))
 
 end_line : (jobs : ℕ) → jobs < 2 ^ 64 → All IsApart (codes "END " ++ (decimal jobs ++ codes " jobs "))
 end_line jobs small = All-append IsApart (codes "END ") (decimal jobs ++ codes " jobs ")
-    (All-from_recursion IsApart (codes "END ") ((λ e. omega arith), ((λ e. omega arith), ((λ e. omega arith), ((λ e. omega arith), tt)))))
+    (All-from_recursion IsApart (codes "END ") (
+      (λ e. omega arith),
+      ((λ e. omega arith), ((λ e. omega arith), ((λ e. omega arith), tt))),
+    ))
     (All-append IsApart (decimal jobs) (codes " jobs ") (digits_apart jobs 10 small (omega arith))
-    (All-from_recursion IsApart (codes " jobs ")
-    ((λ e. omega arith), ((λ e. omega arith), ((λ e. omega arith), ((λ e. omega arith), ((λ e. omega arith), ((λ e. omega arith), tt))))))))
+    (All-from_recursion IsApart (codes " jobs ") (
+      (λ e. omega arith),
+      (
+        (λ e. omega arith),
+        ((λ e. omega arith), ((λ e. omega arith), ((λ e. omega arith), ((λ e. omega arith), tt)))),
+      ),
+    )))
 
-tail_before_job : (entry : EntryText) (place : ℕ) → IsEntryText entry → place < 2 ^ 64 → IsTail (tail_text entry) (head_text place)
+tail_before_job : (entry : EntryText) (place : ℕ) → IsEntryText entry → place < 2 ^ 64
+    → IsTail (tail_text entry) (head_text place)
 unfolding head_text
 tail_before_job entry place t small = record {
   one_line = job_line place small;
   lines = t.lines;
   last_feed = t.last_feed;
-  no_next = λ at o. t.no_job_line at (occurs_front (tail_text entry) (codes "\nJOB ") (decimal place ++ codes " ") at o);
+  no_next = λ at o. t.no_job_line at (occurs_front (tail_text entry) (codes "\nJOB ") (decimal place
+      ++ codes " ") at o);
 }
 
-tail_before_end : (entry : EntryText) (jobs : ℕ) → IsEntryText entry → jobs < 2 ^ 64 → IsTail (tail_text entry) (last_head jobs)
+tail_before_end : (entry : EntryText) (jobs : ℕ) → IsEntryText entry → jobs < 2 ^ 64
+    → IsTail (tail_text entry) (last_head jobs)
 unfolding last_head
 tail_before_end entry jobs t small = record {
   one_line = end_line jobs small;
   lines = t.lines;
   last_feed = t.last_feed;
-  no_next = λ at o. t.no_last_line at (occurs_front (tail_text entry) (codes "\nEND ") (decimal jobs ++ codes " jobs ") at o);
+  no_next = λ at o. t.no_last_line at (occurs_front (tail_text entry) (codes "\nEND ") (decimal jobs
+      ++ codes " jobs ") at o);
 }
 
 abbrev chosen : ℕ → ℕ → Bool → List ℕ
@@ -75,12 +90,15 @@ inner_next : (place jobs : ℕ) → place < jobs → next_head place jobs ≡ he
 inner_next place jobs l = ap (chosen place jobs) ((Decides-ltb place jobs).1 l)
 
 last_next : (place jobs : ℕ) → jobs ≤ place → next_head place jobs ≡ last_head jobs
-last_next place jobs l = ap (chosen place jobs) (not_true (ltb place jobs) (λ e. let lt = (Decides-ltb place jobs).0 e in omega arith))
+last_next place jobs l = ap (chosen place jobs) (not_true (ltb place jobs)
+    (λ e. let lt = (Decides-ltb place jobs).0 e in omega arith))
 
 -- an entry before the line that is next
-pub tail_before : (entry : EntryText) (place jobs : ℕ) → IsEntryText entry → jobs < 2 ^ 64 → IsTail (tail_text entry) (next_head place jobs)
+pub tail_before : (entry : EntryText) (place jobs : ℕ) → IsEntryText entry → jobs < 2 ^ 64
+    → IsTail (tail_text entry) (next_head place jobs)
 tail_before entry place jobs t small = ⊎_elim
-    (λ l. subst (IsTail (tail_text entry)) (sym (inner_next place jobs l)) (tail_before_job entry (place + 1) t (omega arith)))
+    (λ l. subst (IsTail (tail_text entry)) (sym (inner_next place jobs l)) (tail_before_job entry (place + 1) t
+    (omega arith)))
     (λ l. subst (IsTail (tail_text entry)) (sym (last_next place jobs l)) (tail_before_end entry jobs t small))
     (cases_lt place jobs)
 
@@ -90,11 +108,13 @@ pub record IsNextLine (place jobs : ℕ) (text : List ℕ) : Type 0 where
   pub parts : text ≡ next_head place jobs ++ more
   pub feed : HasFeed (next_head place jobs ++ more)
 
-pub next_line : (place jobs refused : ℕ) (entries : List EntryText) → All IsEntryText entries → place + length entries ≡ jobs
+pub next_line : (place jobs refused : ℕ) (entries : List EntryText) → All IsEntryText entries
+    → place + length entries ≡ jobs
     → IsNextLine place jobs (report_from (place + 1) jobs refused entries)
 next_line place jobs refused [] all sum = record {
   more = decimal refused ++ codes " refused\n";
-  parts = ap (λ (x : List ℕ). x ++ (decimal refused ++ codes " refused\n")) (sym (last_next place jobs (omega (arith, sum))));
+  parts = ap (λ (x : List ℕ). x ++ (decimal refused ++ codes " refused\n"))
+      (sym (last_next place jobs (omega (arith, sum))));
   feed = feed_after (next_head place jobs) (decimal refused ++ codes " refused\n")
       (feed_after (decimal refused) (codes " refused\n") (8, omega arith, refl));
 }
@@ -113,7 +133,8 @@ next_line place jobs refused (entry ∷ entries) all sum =
 -- a report from an entry on, in its parts
 pub report_parts : (place jobs refused : ℕ) (entry : EntryText) (entries : List EntryText) (head : List ℕ)
     (next : IsNextLine place jobs (report_from (place + 1) jobs refused entries)) → head ≡ head_text place
-    → report_from place jobs refused (entry ∷ entries) ≡ head ++ (tail_text entry ++ (next_head place jobs ++ next.more))
+    → report_from place jobs refused (entry ∷ entries) ≡ head
+    ++ (tail_text entry ++ (next_head place jobs ++ next.more))
 report_parts place jobs refused entry entries head next is =
     append_assoc (head_text place) (tail_text entry) (report_from (place + 1) jobs refused entries)
     ∙ ap (λ (x : List ℕ). x ++ (tail_text entry ++ report_from (place + 1) jobs refused entries)) (sym is)

@@ -20,9 +20,11 @@ use denote.Ref.{Bor}
 
 abbrev Strips : List ℕ → List ℕ → Option (Bor (List ℕ)) → Type 0
 Strips s p r = MatchOption r (pointwise (λ x y. x == y) (take (length p) s) p ≡ false)
-    (λ x. (pointwise (λ x y. x == y) (take (length p) s) p ≡ true) × (x.now ≡ drop (length p) s) × (length x.now + length p ≡ length s))
+    (λ x. (pointwise (λ x y. x == y) (take (length p) s) p ≡ true) × (x.now ≡ drop (length p) s)
+    × (length x.now + length p ≡ length s))
 
-pub stripped : (s p rest : List ℕ) (r : Option (Bor (List ℕ))) → Strips s p r → s ≡ p ++ rest → MatchOption r ⊥ (λ x. x.now ≡ rest)
+pub stripped : (s p rest : List ℕ) (r : Option (Bor (List ℕ))) → Strips s p r → s ≡ p ++ rest
+    → MatchOption r ⊥ (λ x. x.now ≡ rest)
 stripped s p rest None h e = (strip_prefix_is Decides-eqb s p None h) rest e
 stripped s p rest (Some x) h e = h.1 ∙ front_rest s p rest e
 
@@ -54,7 +56,8 @@ first_at b front rest text r other is f = by r f
     by None none = absurd (none (length front) (omega arith) (omega (arith, long)) passes)
     by (Some k) found =
         ⊎_elim (λ l. absurd (not_before k l found.1))
-        (λ l. ⊎_elim (λ m. absurd (found.0.before (length front) (omega arith) m passes)) (λ m. ap Some (omega arith)) (cases_lt (length front) k))
+        (λ l. ⊎_elim (λ m. absurd (found.0.before (length front) (omega arith) m passes)) (λ m. ap Some (omega arith))
+        (cases_lt (length front) k))
         (cases_lt k (length front))
 
 -- ---- numbers
@@ -67,7 +70,8 @@ digits_apart number b small low =
     (λ i l e. let range = digit_at (decimal number) i digits l in omega (arith, range.0, e))
 
 pub number_is_utf8 : (number : ℕ) (bytes : List ℕ) → number < 2 ^ 64 → bytes ≡ decimal number → IsUtf8 bytes
-number_is_utf8 number bytes small is = subst IsUtf8 (sym is) (IsUtf8-from_ascii (decimal number) (IsAscii-decimal number small))
+number_is_utf8 number bytes small is = subst IsUtf8 (sym is) (IsUtf8-from_ascii (decimal number)
+    (IsAscii-decimal number small))
 
 -- ---- the parts around a byte
 

@@ -37,7 +37,8 @@ module _ (tail head more : List ℕ) (t : IsTail tail head) where
     in_tail : (i : ℕ) → i < length text → i < length tail → get_or text i 0 ≡ get_or tail i 0
     in_tail i l m = below i l ∙ get_or_append_left tail (head ++ more) 0 i m
 
-    in_head : (j : ℕ) → j < length head → length tail + j < length text → get_or text (length tail + j) 0 ≡ get_or head j 0
+    in_head : (j : ℕ) → j < length head → length tail + j < length text → get_or text (length tail + j) 0
+        ≡ get_or head j 0
     in_head j l m =
         below (length tail + j) m ∙ get_or-append-add tail (head ++ more) j 0 ∙ get_or_append_left head more 0 j l
 
@@ -48,14 +49,18 @@ module _ (tail head more : List ℕ) (t : IsTail tail head) where
         reads : (j : ℕ) → j < length (needle head) → get_or text (length tail - 1 + j) 0 ≡ get_or (needle head) j 0
         reads zero l =
             let here : length tail - 1 + zero ≡ length tail - 1 = omega arith in
-            ap (λ (i : ℕ). get_or text i 0) here ∙ in_tail (length tail - 1) (omega (arith, tail_long)) (omega (arith, tail_long)) ∙ last_byte
+            ap (λ (i : ℕ). get_or text i 0) here ∙ in_tail (length tail - 1) (omega (arith, tail_long)) (omega (
+              arith,
+              tail_long,
+            )) ∙ last_byte
         reads (suc j) l =
             let here : length tail - 1 + suc j ≡ length tail + j = omega (arith, tail_long) in
             ap (λ (i : ℕ). get_or text i 0) here ∙ in_head j (omega arith) (omega arith)
 
     -- it follows no LF before
     not_before : (k : ℕ) → OccursAt text (needle head) k → k + 1 < length tail → ⊥
-    not_before k o early = ⊎_elim (λ l. over (length tail - 2 - k) (omega arith) l) within (cases_lt (length tail - 2 - k) (length head))
+    not_before k o early = ⊎_elim (λ l. over (length tail - 2 - k) (omega arith) l) within
+        (cases_lt (length tail - 2 - k) (length head))
       where
         over : (j : ℕ) → k + suc j ≡ length tail - 1 → j < length head → ⊥
         over j at l =
@@ -72,32 +77,39 @@ module _ (tail head more : List ℕ) (t : IsTail tail head) where
         }
 
     -- nor after the first such LF
-    not_after : (k : ℕ) → OccursAt text (needle head) k → Nowhere (OccursAt text (needle head)) 0 k → length tail ≤ k → ⊥
+    not_after : (k : ℕ) → OccursAt text (needle head) k → Nowhere (OccursAt text (needle head)) 0 k
+        → length tail ≤ k → ⊥
     not_after k o before late =
         before (length tail - 1) (omega arith) (omega (arith, tail_long)) (at_end (omega (arith, o.fits)))
 
-    pub found_at : (k : ℕ) → NoneBefore (OccursAt text (needle head)) 0 (length text + 1) k × OccursAt text (needle head) k → (k + 1 ≡ length tail) × (length tail ≤ length text)
+    pub found_at : (k : ℕ) → NoneBefore (OccursAt text (needle head)) 0 (length text + 1) k
+        × OccursAt text (needle head) k → (k + 1 ≡ length tail) × (length tail ≤ length text)
     found_at k f =
         let early : ¬ (k + 1 < length tail) = not_before k f.1 in
         let late : ¬ (length tail ≤ k) = not_after k f.1 f.0.before in
-        let same : k + 1 ≡ length tail = ⊎_elim (λ l. absurd (early l)) (λ l. ⊎_elim (λ m. omega arith) (λ m. absurd (late m)) (cases_lt k (length tail))) (cases_lt (k + 1) (length tail)) in
+        let same : k + 1 ≡ length tail = ⊎_elim (λ l. absurd (early l)) (λ l. ⊎_elim (λ m. omega arith)
+        (λ m. absurd (late m)) (cases_lt k (length tail))) (cases_lt (k + 1) (length tail)) in
         (same, omega (arith, f.1.fits))
 
-    pub found_nowhere : Nowhere (OccursAt text (needle head)) 0 (length text + 1) → length text < length tail + length head
-    found_nowhere none = ⊎_elim (λ l. l) (λ l. absurd (none (length tail - 1) (omega arith) (omega (arith, tail_long)) (at_end l))) (cases_lt (length text) (length tail + length head))
+    pub found_nowhere : Nowhere (OccursAt text (needle head)) 0 (length text + 1)
+        → length text < length tail + length head
+    found_nowhere none = ⊎_elim (λ l. l) (λ l. absurd (none (length tail - 1) (omega arith) (omega (arith, tail_long))
+        (at_end l))) (cases_lt (length text) (length tail + length head))
 
     -- what is cut there
     pub cut_tail : length tail ≤ length text → take (length tail) text ≡ tail
     cut_tail le =
         let long = length-take n Whole in
         let far : length tail ≤ n = omega (arith, ap length is) in
-        ap (take (length tail)) is ∙ take-take (length tail) n Whole far ∙ take_at tail (head ++ more) (length tail) refl
+        ap (take (length tail)) is ∙ take-take (length tail) n Whole far
+        ∙ take_at tail (head ++ more) (length tail) refl
 
     pub cut_rest : length tail ≤ length text → drop (length tail) text ≡ take (n - length tail) (head ++ more)
     cut_rest le =
         let long = length-take n Whole in
         let far : n ≡ length tail + (n - length tail) = omega (arith, ap length is) in
-        ap (drop (length tail)) (is ∙ ap (λ (m : ℕ). take m Whole) far) ∙ drop-take (length tail) (n - length tail) Whole
+        ap (drop (length tail)) (is ∙ ap (λ (m : ℕ). take m Whole) far)
+        ∙ drop-take (length tail) (n - length tail) Whole
         ∙ ap (take (n - length tail)) (drop_at tail (head ++ more) (length tail) refl)
 
 module _ (rest next : List ℕ) where
@@ -106,7 +118,8 @@ module _ (rest next : List ℕ) where
 
   -- what is answered of a front of such a text
   pub end_in_front : (n : ℕ) (tail head more : List ℕ) (r : Option ℕ) → Found r → IsTail tail head → next ≡ 10 ∷ head
-      → rest ≡ take n (tail ++ (head ++ more)) → IfSome (option_map (λ k. k + 1) r) (λ at. (at ≡ length tail) × (at ≤ length rest))
+      → rest ≡ take n (tail ++ (head ++ more)) → IfSome (option_map (λ k. k + 1) r) (λ at. (at ≡ length tail)
+      × (at ≤ length rest))
   end_in_front n tail head more None f t e is = tt
   end_in_front n tail head more (Some k) f t e is =
       let found = found_at tail head more t n rest is k (subst (λ (x : List ℕ). FindsNeedle rest x 0 (Some k)) e f) in
@@ -130,11 +143,13 @@ module _ (rest next : List ℕ) where
 
 module _ (text : List ℕ) (at : ℕ) (tail head more : List ℕ) where
   abbrev CutAt : Result (Bor (List ℕ) × Bor (List ℕ)) CutFault → Type 0
-  CutAt r = MatchResult r (λ x. (x.0.now ≡ take at text) × (x.1.now ≡ drop at text) × HasFeed (drop at text)) (λ fault. (fault ≡ BrokenOff) × (HasFeed (drop at text) → ⊥))
+  CutAt r = MatchResult r (λ x. (x.0.now ≡ take at text) × (x.1.now ≡ drop at text) × HasFeed (drop at text))
+      (λ fault. (fault ≡ BrokenOff) × (HasFeed (drop at text) → ⊥))
 
   pub cut_of_front : (n : ℕ) (r : Result (Bor (List ℕ) × Bor (List ℕ)) CutFault) → CutAt r → IsTail tail head
       → text ≡ take n (tail ++ (head ++ more)) → (at ≡ length tail) × (at ≤ length text)
-      → MatchResult r (λ x. (x.0.now ≡ tail) × (x.1.now ≡ take (n - length tail) (head ++ more))) (λ fault. fault ≡ BrokenOff)
+      → MatchResult r (λ x. (x.0.now ≡ tail) × (x.1.now ≡ take (n - length tail) (head ++ more)))
+      (λ fault. fault ≡ BrokenOff)
   cut_of_front n (Ok x) h t is p =
       let le : length tail ≤ length text = omega (arith, p.0, p.1) in (
         h.0 ∙ ap (λ (k : ℕ). take k text) p.0 ∙ cut_tail tail head more t n text is le,
@@ -155,7 +170,8 @@ module _ (text : List ℕ) (at : ℕ) (tail head more : List ℕ) where
     h.1 ∙ ap (λ (k : ℕ). drop k text) p ∙ ap (drop (length tail)) is ∙ drop_at tail (head ++ more) (length tail) refl,
   )
   cut_of_whole (Err fault) h feed is p =
-      let rest : drop at text ≡ head ++ more = ap (λ (k : ℕ). drop k text) p ∙ ap (drop (length tail)) is ∙ drop_at tail (head ++ more) (length tail) refl in
+      let rest : drop at text ≡ head ++ more = ap (λ (k : ℕ). drop k text) p ∙ ap (drop (length tail)) is
+      ∙ drop_at tail (head ++ more) (length tail) refl in
       h.1 (subst HasFeed (sym rest) feed)
 
 -- ---- after the head of an entry
@@ -164,21 +180,31 @@ pub take_past : (n : ℕ) (p q : List ℕ) → length p ≤ n → take n (p ++ q
 take_past n p q le =
     let far : n ≡ length p + (n - length p) = omega arith in
     sym (take-append-drop (length p) (take n (p ++ q)))
-    ∙ ap (λ (x : List ℕ). x ++ drop (length p) (take n (p ++ q))) (take-take (length p) n (p ++ q) le ∙ take_at p q (length p) refl)
-    ∙ ap (λ (x : List ℕ). p ++ x) (ap (λ (m : ℕ). drop (length p) (take m (p ++ q))) far ∙ drop-take (length p) (n - length p) (p ++ q) ∙ ap (take (n - length p)) (drop_at p q (length p) refl))
+    ∙ ap (λ (x : List ℕ). x ++ drop (length p) (take n (p ++ q))) (take-take (length p) n (p ++ q) le
+    ∙ take_at p q (length p) refl)
+    ∙ ap (λ (x : List ℕ). p ++ x) (ap (λ (m : ℕ). drop (length p) (take m (p ++ q))) far
+    ∙ drop-take (length p) (n - length p) (p ++ q) ∙ ap (take (n - length p)) (drop_at p q (length p) refl))
 
 -- what follows the head is a front of what follows it in the whole
 pub rest_of_front : (n : ℕ) (text head rest more : List ℕ) → text ≡ head ++ rest → text ≡ take n (head ++ more)
     → rest ≡ take (n - length head) more
 rest_of_front n text head rest more is front =
-    let le : length head ≤ n = omega (arith, ap length is, ap length front, length-append head rest, length-take n (head ++ more)) in
+    let le : length head ≤ n = omega (
+      arith,
+      ap length is,
+      ap length front,
+      length-append head rest,
+      length-take n (head ++ more),
+    ) in
     append_cancel_left head rest (take (n - length head) more) (sym is ∙ front ∙ take_past n head more le)
 
 -- a front without the head is a front of the head
-pub front_of_head : (n : ℕ) (text head more : List ℕ) → ((rest : List ℕ) → text ≡ head ++ rest → ⊥) → text ≡ take n (head ++ more)
+pub front_of_head : (n : ℕ) (text head more : List ℕ) → ((rest : List ℕ) → text ≡ head ++ rest → ⊥) → text
+    ≡ take n (head ++ more)
     → text ≡ take n head
 front_of_head n text head more none is =
-    ⊎_elim (λ l. is ∙ take-append-le n head more (omega arith)) (λ l. absurd (none (take (n - length head) more) (is ∙ take_past n head more l)))
+    ⊎_elim (λ l. is ∙ take-append-le n head more (omega arith)) (λ l. absurd (none (take (n - length head) more) (is
+    ∙ take_past n head more l)))
     (cases_lt n (length head))
 
 -- some front is left

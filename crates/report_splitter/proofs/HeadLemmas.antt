@@ -1,5 +1,23 @@
 -- The heads of a report, one after another.
-use Rattle.std.proofs.Common.{◌≡◌, ◌≢◌, ◌<◌, ◌+◌, ◌==◌, ℕ, Bool, true, false, List, [], ◌∷◌, ◌++◌, length, refl, sym, ap}
+use Rattle.std.proofs.Common.{
+  ◌≡◌,
+  ◌≢◌,
+  ◌<◌,
+  ◌+◌,
+  ◌==◌,
+  ℕ,
+  Bool,
+  true,
+  false,
+  List,
+  [],
+  ◌∷◌,
+  ◌++◌,
+  length,
+  refl,
+  sym,
+  ap,
+}
 use Rattle.std.proofs.Common.{subst, ◌∙◌, arith, inl, inr, Option, Some, None, Result, Err, cond}
 use Rattle.std.specs.Prelude.{All, MatchOption, MatchResult, filter, if◌then◌else◌}
 use Rattle.std.proofs.lemmas.Bool.Decides.{Decides-eqb}
@@ -68,11 +86,14 @@ head_fit jobs index line lines e f h = subst (AllFit jobs index) (sym (filter_ye
 abbrev Other : List PackedText → ℕ → ℕ → List (List ℕ) → Type 0
 Other jobs index other lines = IsFirstOther jobs index lines other
 
-pub skip_other : (jobs : List PackedText) (index other : ℕ) (line : List ℕ) (lines : List (List ℕ)) → is_head line ≡ false
-    → IsFirstOther jobs index (filter is_head lines) other → IsFirstOther jobs index (filter is_head (line ∷ lines)) other
+pub skip_other : (jobs : List PackedText) (index other : ℕ) (line : List ℕ) (lines : List (List ℕ))
+    → is_head line ≡ false
+    → IsFirstOther jobs index (filter is_head lines) other
+    → IsFirstOther jobs index (filter is_head (line ∷ lines)) other
 skip_other jobs index other line lines e h = subst (Other jobs index other) (sym (filter_no line lines e)) h
 
-pub head_other : (jobs : List PackedText) (index other : ℕ) (line : List ℕ) (lines : List (List ℕ)) → is_head line ≡ true
+pub head_other : (jobs : List PackedText) (index other : ℕ) (line : List ℕ) (lines : List (List ℕ))
+    → is_head line ≡ true
     → Fits jobs index line → IsFirstOther jobs (index + 1) (filter is_head lines) other
     → IsFirstOther jobs index (filter is_head (line ∷ lines)) other
 head_other jobs index other line lines e f h =
@@ -86,7 +107,8 @@ this_other jobs index line lines e unfit =
 -- ---- the answer
 
 -- a fault at the line at the front of the rest is one of the report
-pub fault_at : (jobs : List PackedText) (index : ℕ) (report rest line : List ℕ) (lines : List (List ℕ)) (fault : HeadFault)
+pub fault_at : (jobs : List PackedText) (index : ℕ) (report rest line : List ℕ) (lines : List (List ℕ))
+    (fault : HeadFault)
     → whole_lines rest ≡ line ∷ lines → IsHeadFault jobs index (filter is_head (line ∷ lines)) fault
     → ((at : ℕ) → IsFirstOther jobs index (heads rest) at → IsFirstOther jobs 0 (heads report) at)
     → IsHeadFault jobs 0 (heads report) fault

@@ -72,8 +72,8 @@ abbrev pub IsEnd : Option LineEnd → List ℕ → Type 0
 IsEnd None text = IsPlain text
 IsEnd (Some end) text = IsLineEnd end text
 
--- an entry: its name is a word, its last line has an LF, and none of its lines but the first begins as the first line of
--- an entry does, or as the last line of a report
+-- an entry: its name is a word, its last line has an LF, and none of its lines but the first begins as the first line
+-- of an entry does, or as the last line of a report
 pub record IsEntryText (entry : EntryText) : Type 0 where
   pub word : All (λ byte. byte ≢ 32) entry.name
   pub end : IsEnd entry.end entry.text

@@ -118,9 +118,9 @@ fn cut_of<'a, A: Allocator>(
 ///
 /// # Errors
 ///
-/// [`CutFault::BrokenOff`] if the report ends before the line after the entry has its LF, [`CutFault::OtherBatch`] if it
-/// doesn't begin with an entry of this place, or that entry's end names a line before the file; [`CutFault::Memory`] if
-/// memory is refused.
+/// [`CutFault::BrokenOff`] if the report ends before the line after the entry has its LF, [`CutFault::OtherBatch`] if
+/// it doesn't begin with an entry of this place, or that entry's end names a line before the file; [`CutFault::Memory`]
+/// if memory is refused.
 pub fn cut_job<'a, A: Allocator + Copy>(
     alloc: A,
     report: &'a [u8],

@@ -14,7 +14,8 @@ use memchr::{memchr, memmem};
 /// Where the tail of an entry ends: after the first LF that is followed by what begins the next line. `next` is both.
 fn end_of_tail(rest: &[u8], next: &[u8]) -> Option<usize>
     ensures front { (n : ℕ) (tail head more : List ℕ) → IsTail tail head → next.now ≡ 10 ∷ head
-        → rest.now ≡ take n (tail ++ (head ++ more)) → IfSome result (λ at. (at ≡ length tail) × (at ≤ length rest.now)) }
+        → rest.now ≡ take n (tail ++ (head ++ more)) → IfSome result (λ at. (at ≡ length tail)
+        × (at ≤ length rest.now)) }
     ensures whole { (tail head more : List ℕ) → IsTail tail head → next.now ≡ 10 ∷ head
         → rest.now ≡ tail ++ (head ++ more) → result ≡ Some (length tail) }
     ensures first { MatchOption result ((k : ℕ) → OccursAt rest.now next.now k → ⊥) (λ at. (k : ℕ) × (at ≡ k + 1)

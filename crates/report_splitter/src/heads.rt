@@ -128,12 +128,13 @@ fn next_index<A: Allocator>(
 }
 
 /// Checks that the heads of a report are those of a report on the jobs of a manifest, as far as its lines are whole:
-/// each has its place and the name of the job there, and the last line counts the jobs. A report may break off: then the
-/// heads that it has are checked.
+/// each has its place and the name of the job there, and the last line counts the jobs. A report may break off: then
+/// the heads that it has are checked.
 ///
 /// # Errors
 ///
-/// [`HeadFault::OtherJob`] with the index of the first head that is another; [`HeadFault::Memory`] if memory is refused.
+/// [`HeadFault::OtherJob`] with the index of the first head that is another; [`HeadFault::Memory`] if memory is
+/// refused.
 pub fn check_heads<A: Allocator + Copy>(
     alloc: A,
     report: &[u8],

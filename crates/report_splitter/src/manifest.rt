@@ -1,6 +1,21 @@
 //! The manifest of a batch: which batch it is, and whose job is at which place.
 
-ghost use Rattle.std.specs.Prelude.{◌≡◌, ◌<◌, ◌^◌, ◌+◌, ◌++◌, ◌∷◌, [], ℕ, List, All, length, IfOk, MatchOption, MatchResult};
+ghost use Rattle.std.specs.Prelude.{
+  ◌≡◌,
+  ◌<◌,
+  ◌^◌,
+  ◌+◌,
+  ◌++◌,
+  ◌∷◌,
+  [],
+  ℕ,
+  List,
+  All,
+  length,
+  IfOk,
+  MatchOption,
+  MatchResult,
+};
 ghost use Rattle.report_splitter.specs.declared.manifest.ManifestFault.TheVariants.{Memory};
 ghost use Rattle.report_splitter.specs.Manifests.{BatchSeal, IsBatchSeal, IsPackedText, PackedText, batch_words};
 ghost use Rattle.report_splitter.specs.Manifests.{job_entries, job_words, manifest_text, seal_words};
@@ -81,8 +96,8 @@ impl<'a> Model for SealedBatch<'a> {
 }
 
 impl<'a> SealedBatch<'a> {
-    /// A batch of so many bytes, whose SHA-256 is this in hexadecimal digits, and of so many jobs, in the file of this
-    /// name.
+    /// A batch of `bytes` bytes and `jobs` jobs in the file of this name. Its SHA-256 is `digest`, in hexadecimal
+    /// digits.
     pub fn new(bytes: u64, digest: &'a [u8], jobs: u64, file: &'a [u8]) -> SealedBatch<'a>
         ensures { result ≡ record {
           bytes = bytes;

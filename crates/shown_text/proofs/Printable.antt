@@ -1,5 +1,37 @@
 -- Which characters are printable, and that those of what is shown are.
-use Rattle.std.proofs.Common.{◌≡◌, ℕ, zero, suc, ◌+◌, ◌/◌, ◌%◌, ◌<◌, ◌≤◌, Bool, true, false, not, ◌||◌, eqb, ltb, List, [], ◌∷◌, ◌++◌, length, flat_map, refl, sym, subst, ◌∙◌, arith, lit<, lit≤, true≢false, ⊎_elim}
+use Rattle.std.proofs.Common.{
+  ◌≡◌,
+  ℕ,
+  zero,
+  suc,
+  ◌+◌,
+  ◌/◌,
+  ◌%◌,
+  ◌<◌,
+  ◌≤◌,
+  Bool,
+  true,
+  false,
+  not,
+  ◌||◌,
+  eqb,
+  ltb,
+  List,
+  [],
+  ◌∷◌,
+  ◌++◌,
+  length,
+  flat_map,
+  refl,
+  sym,
+  subst,
+  ◌∙◌,
+  arith,
+  lit<,
+  lit≤,
+  true≢false,
+  ⊎_elim,
+}
 use Rattle.std.proofs.lemmas.Bool.{ltb-true, ltb-false, le-leb, ne_eqb, and_parts, cond_both, cases_eq}
 use Rattle.std.proofs.lemmas.List.Elements.{All-nil, All-cons}
 use Rattle.std.specs.List.{All}
@@ -16,7 +48,16 @@ use Rattle.ucd_category.specs.GeneralCategoryGroup.{in_group}
 use Rattle.ucd_category.proofs.GeneralCategoryLemmas.{general_category_stepped}
 use Rattle.ucd_derived.specs.Binary.{is_default_ignorable_code_point}
 use Rattle.ucd_derived.proofs.BinaryLemmas.{is_default_ignorable_code_point_stepped}
-use Rattle.shown_text.specs.Shown.{is_printable, is_plain, shown_char, shown_byte, shown_front, shown_fault, shown_within, shown_text}
+use Rattle.shown_text.specs.Shown.{
+  is_printable,
+  is_plain,
+  shown_char,
+  shown_byte,
+  shown_front,
+  shown_fault,
+  shown_within,
+  shown_text,
+}
 use Rattle.shown_text.specs.Laws.{controls, ControlsAreNotPrintable, ShownIsPrintable}
 
 -- the category is one of a character without a shape
@@ -27,7 +68,8 @@ is_blank g = in_group Other g || in_group Separator g
 
 controls_are_blank : (c : ℕ) → (not (in_ranges controls c) || is_blank (general_category c)) ≡ true
 unfolding tables general_category_stepped
-controls_are_blank = Stepped-everywhere _ (zip_stepped (λ r g. not r || is_blank g) (in_ranges controls) general_category (of_ranges controls refl) general_category_stepped) refl
+controls_are_blank = Stepped-everywhere _ (zip_stepped (λ r g. not r || is_blank g)
+    (in_ranges controls) general_category (of_ranges controls refl) general_category_stepped) refl
 
 the_blank_is_none : in_ranges controls 0x20 ≡ false
 unfolding in_ranges
@@ -46,7 +88,8 @@ pub controls_are_not_printable : ControlsAreNotPrintable
 unfolding is_printable
 controls_are_not_printable c among =
     let blank = implied _ _ among (controls_are_blank c) in
-    let other = ne_eqb c 0x20 (λ e. true≢false (sym among ∙ subst (λ k. in_ranges controls k ≡ false) (sym e) the_blank_is_none)) in
+    let other = ne_eqb c 0x20 (λ e. true≢false (sym among ∙ subst (λ k. in_ranges controls k
+    ≡ false) (sym e) the_blank_is_none)) in
     not_shown _ _ (is_default_ignorable_code_point c) other blank
 
 -- ---- ASCII
@@ -57,11 +100,14 @@ graphic = (0x21, 0x7E) ∷ []
 
 graphic_has_shape : (c : ℕ) → (not (in_ranges graphic c) || not (is_blank (general_category c))) ≡ true
 unfolding tables general_category_stepped
-graphic_has_shape = Stepped-everywhere _ (zip_stepped (λ r g. not r || not (is_blank g)) (in_ranges graphic) general_category (of_ranges graphic refl) general_category_stepped) refl
+graphic_has_shape = Stepped-everywhere _ (zip_stepped (λ r g. not r || not (is_blank g))
+    (in_ranges graphic) general_category (of_ranges graphic refl) general_category_stepped) refl
 
 graphic_is_kept : (c : ℕ) → (not (in_ranges graphic c) || not (is_default_ignorable_code_point c)) ≡ true
 unfolding tables is_default_ignorable_code_point_stepped
-graphic_is_kept = Stepped-everywhere _ (zip_stepped (λ r d. not r || not d) (in_ranges graphic) is_default_ignorable_code_point (of_ranges graphic refl) is_default_ignorable_code_point_stepped) refl
+graphic_is_kept = Stepped-everywhere _ (zip_stepped (λ r d. not r || not d)
+    (in_ranges graphic) is_default_ignorable_code_point
+    (of_ranges graphic refl) is_default_ignorable_code_point_stepped) refl
 
 is_graphic : (c : ℕ) → 0x21 ≤ c → c ≤ 0x7E → in_ranges graphic c ≡ true
 unfolding in_ranges
@@ -110,7 +156,8 @@ hex : (place c : ℕ) → IsPrintable (hex_digit_at place c)
 hex place c =
     let d = c / place % 16 in
     let small : d < 16 = omega arith in
-    cond_both (ltb d 10) (48 + d) (87 + d) IsPrintable (λ _. ascii_is_printable (48 + d) (omega arith) (omega arith)) (λ _. ascii_is_printable (87 + d) (omega arith) (omega arith))
+    cond_both (ltb d 10) (48 + d) (87 + d) IsPrintable (λ _. ascii_is_printable (48 + d) (omega arith) (omega arith))
+    (λ _. ascii_is_printable (87 + d) (omega arith) (omega arith))
 
 unicode_is_printable : (c : ℕ) → AllPrintable (escape_unicode c)
 unicode_is_printable c =
@@ -119,10 +166,30 @@ unicode_is_printable c =
     let end = ascii_is_printable 125 (lit≤ tt) (lit< tt) in
     cond_both (ltb c 0x10) _ _ AllPrintable (λ _. (slash, (u, (begin, (hex 1 c, (end, tt)))))) (λ _.
     cond_both (ltb c 0x100) _ _ AllPrintable (λ _. (slash, (u, (begin, (hex 0x10 c, (hex 1 c, (end, tt))))))) (λ _.
-    cond_both (ltb c 0x1000) _ _ AllPrintable (λ _. (slash, (u, (begin, (hex 0x100 c, (hex 0x10 c, (hex 1 c, (end, tt)))))))) (λ _.
-    cond_both (ltb c 0x1_0000) _ _ AllPrintable (λ _. (slash, (u, (begin, (hex 0x1000 c, (hex 0x100 c, (hex 0x10 c, (hex 1 c, (end, tt))))))))) (λ _.
-    cond_both (ltb c 0x10_0000) _ _ AllPrintable (λ _. (slash, (u, (begin, (hex 0x1_0000 c, (hex 0x1000 c, (hex 0x100 c, (hex 0x10 c, (hex 1 c, (end, tt)))))))))) (λ _.
-    (slash, (u, (begin, (hex 0x10_0000 c, (hex 0x1_0000 c, (hex 0x1000 c, (hex 0x100 c, (hex 0x10 c, (hex 1 c, (end, tt)))))))))))))))
+    cond_both (ltb c 0x1000) _ _ AllPrintable (λ _. (
+      slash,
+      (u, (begin, (hex 0x100 c, (hex 0x10 c, (hex 1 c, (end, tt)))))),
+    )) (λ _.
+    cond_both (ltb c 0x1_0000) _ _ AllPrintable (λ _. (
+      slash,
+      (u, (begin, (hex 0x1000 c, (hex 0x100 c, (hex 0x10 c, (hex 1 c, (end, tt))))))),
+    )) (λ _.
+    cond_both (ltb c 0x10_0000) _ _ AllPrintable (λ _. (
+      slash,
+      (u, (begin, (hex 0x1_0000 c, (hex 0x1000 c, (hex 0x100 c, (hex 0x10 c, (hex 1 c, (end, tt)))))))),
+    )) (λ _. (
+      slash,
+      (
+        u,
+        (
+          begin,
+          (
+            hex 0x10_0000 c,
+            (hex 0x1_0000 c, (hex 0x1000 c, (hex 0x100 c, (hex 0x10 c, (hex 1 c, (end, tt)))))),
+          ),
+        ),
+      ),
+    ))))))
 
 -- the letter of a short escape
 short_is_printable : (c : ℕ) → 0 < short_escape c → IsPrintable (short_escape c)
@@ -157,7 +224,10 @@ byte_is_printable : (b : ℕ) → AllPrintable (shown_byte b)
 unfolding shown_byte
 byte_is_printable b =
     let x = ascii_is_printable 120 (lit≤ tt) (lit< tt) in
-    escape_or_is_printable b (backslash ∷ 120 ∷ hex_digit_at 0x10 b ∷ hex_digit_at 1 b ∷ []) (slash, (x, (hex 0x10 b, (hex 1 b, tt))))
+    escape_or_is_printable b (backslash ∷ 120 ∷ hex_digit_at 0x10 b ∷ hex_digit_at 1 b ∷ []) (
+      slash,
+      (x, (hex 0x10 b, (hex 1 b, tt))),
+    )
 
 append_is_printable : (xs ys : List ℕ) → AllPrintable xs → AllPrintable ys → AllPrintable (xs ++ ys)
 append_is_printable [] ys p q = q
@@ -172,8 +242,10 @@ unfolding shown_within
 within_is_printable zero bs = tt
 within_is_printable (suc k) bs =
     let rest = within_is_printable k (after_first_chunk bs) in
-    append_is_printable (shown_front bs) (shown_fault bs ++ shown_within k (after_first_chunk bs)) (each_is_printable shown_char char_is_printable _)
-    (append_is_printable (shown_fault bs) (shown_within k (after_first_chunk bs)) (each_is_printable shown_byte byte_is_printable _) rest)
+    append_is_printable (shown_front bs) (shown_fault bs ++ shown_within k (after_first_chunk bs))
+    (each_is_printable shown_char char_is_printable _)
+    (append_is_printable (shown_fault bs) (shown_within k (after_first_chunk bs))
+    (each_is_printable shown_byte byte_is_printable _) rest)
 
 pub shown_is_printable : ShownIsPrintable
 unfolding shown_text

@@ -7,5 +7,6 @@ use Rattle.shown_text.specs.Shown.{shown_text}
 
 -- a fault that names an argument shows bytes that are no text
 abbrev pub ShowsNoText : ArgumentFault → Type 0
-ShowsNoText (NotText number text) = (bs : List ℕ) × (¬ (IsUtf8 bs)) × (string_bytes text ≡ encode_utf8_all (shown_text bs))
+ShowsNoText (NotText number text) = (bs : List ℕ) × (¬ (IsUtf8 bs))
+    × (string_bytes text ≡ encode_utf8_all (shown_text bs))
 ShowsNoText Memory = Unit {0}

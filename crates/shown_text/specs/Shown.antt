@@ -1,5 +1,23 @@
 -- Bytes as a text that a terminal shows as it is.
-use Rattle.std.specs.Prelude.{ℕ, zero, suc, Bool, not, ◌&&◌, ◌||◌, ◌==◌, List, [], ◌∷◌, ◌++◌, length, take, drop, flat_map, if◌then◌else◌}
+use Rattle.std.specs.Prelude.{
+  ℕ,
+  zero,
+  suc,
+  Bool,
+  not,
+  ◌&&◌,
+  ◌||◌,
+  ◌==◌,
+  List,
+  [],
+  ◌∷◌,
+  ◌++◌,
+  length,
+  take,
+  drop,
+  flat_map,
+  if◌then◌else◌,
+}
 use Rattle.std.specs.Str.{chars}
 use Rattle.std.specs.Str.Lossy.{utf8_valid_len, utf8_invalid_len, after_first_chunk}
 use Rattle.std.specs.Char.Escape.{backslash, escape_default, escape_ascii}
@@ -12,7 +30,8 @@ use Rattle.ucd_derived.specs.Binary.{is_default_ignorable_code_point}
 unfoldable pub is_printable : ℕ → Bool
 is_printable c =
     c == 0x20
-    || not ((in_group Other (general_category c) || in_group Separator (general_category c)) || is_default_ignorable_code_point c)
+    || not ((in_group Other (general_category c) || in_group Separator (general_category c)) ||
+    is_default_ignorable_code_point c)
 
 -- it stands for itself
 abbrev pub is_plain : ℕ → Bool

@@ -98,9 +98,9 @@ fn push_bytes<A: Allocator>(text: &mut String<A>, invalid: &[u8]) -> Result<(), 
 
 /// The bytes as they may be printed: printable characters stay as they are, all others are written as escapes.
 ///
-/// A backslash becomes `\\`. LF, CR and TAB become `\n`, `\r` and `\t`. Any other character that isn't printable becomes
-/// `\u{..}` with its hexadecimal number, and each byte that is part of no character `\x..`. So the text is one line,
-/// and different bytes give different texts.
+/// A backslash becomes `\\`. LF, CR and TAB become `\n`, `\r` and `\t`. Any other character that isn't printable
+/// becomes `\u{..}` with its hexadecimal number, and each byte that is part of no character `\x..`. So the text is one
+/// line, and different bytes give different texts.
 ///
 /// # Errors
 ///

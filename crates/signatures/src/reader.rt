@@ -188,7 +188,8 @@ impl<A: Allocator + Copy> SigReader<A> {
     ///
     /// The first fault of the text with its line; `Memory` if memory is refused, or was in a piece.
     pub fn finish(self) -> Result<Signatures<A>, SigFault>
-        ensures answer { (first : ℕ) (bytes : List ℕ) → HasCome self first bytes → Answers result (reading first bytes) }
+        ensures answer { (first : ℕ) (bytes : List ℕ) → HasCome self first bytes
+            → Answers result (reading first bytes) }
         ensures failed { IsTrue self.failed → IsErrOf result Memory }
     {
         if self.failed {

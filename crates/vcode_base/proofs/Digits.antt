@@ -25,7 +25,8 @@ pub count_more : (t : List ℕ) (i : ℕ) → i < length t → is_digit (get_or 
 count_more t i lt h = rw (drop_more t i 0 lt, h) refl
 
 -- or it is none
-pub value_ends : (t : List ℕ) (i n : ℕ) → i < length t → is_digit (get_or t i 0) ≡ false → value_at_front n (drop i t) ≡ n
+pub value_ends : (t : List ℕ) (i n : ℕ) → i < length t → is_digit (get_or t i 0) ≡ false
+    → value_at_front n (drop i t) ≡ n
 value_ends t i n lt h = rw (drop_more t i 0 lt, h) refl
 
 pub count_ends : (t : List ℕ) (i : ℕ) → i < length t → is_digit (get_or t i 0) ≡ false → digit_count (drop i t) ≡ 0
@@ -44,7 +45,8 @@ value_grows n (c ∷ cs) =
 
 value_by : (b : Bool) (c n : ℕ) (cs : List ℕ) → is_digit c ≡ b
     → digits_from (10 * n + (c - 48)) (take (digit_count cs) cs) ≡ Some (value_at_front (10 * n + (c - 48)) cs)
-    → digits_from n (take (cond b (suc (digit_count cs)) 0) (c ∷ cs)) ≡ Some (cond b (value_at_front (10 * n + (c - 48)) cs) n)
+    → digits_from n (take (cond b (suc (digit_count cs)) 0) (c ∷ cs))
+    ≡ Some (cond b (value_at_front (10 * n + (c - 48)) cs) n)
 value_by true c n cs is h = rw is h
 value_by false c n cs is h = refl
 

@@ -36,7 +36,8 @@ fn with_digit(value: u64, digit: u8) -> Option<u64>
 /// value doesn't fit.
 #[inline(always)]
 pub fn number_at_front(text: &[u8]) -> Option<(u64, usize)>
-    ensures { MatchOption result (HasNoNumberAtFront (2 ^ 64) text.now) (λ found. IsNumberAtFront (2 ^ 64) text.now found.0 found.1) }
+    ensures { MatchOption result (HasNoNumberAtFront (2 ^ 64) text.now) (λ found. IsNumberAtFront
+        (2 ^ 64) text.now found.0 found.1) }
 {
     let mut value: u64 = 0;
     for (place, byte) in text.iter().enumerate() {

@@ -132,7 +132,8 @@ place_among : (fs : List Function) (k : ℕ) (b : Bool) → nat_lt k (length fs)
 place_among fs k true h = ap (λ b. then_some b k) h
 place_among fs k false h = none_among fs
 
-callee_among : (fs : List Function) (i : CodeItem Item) → among fs (unwrap_or (callee_of fs i) (length fs)) ≡ callee_of fs i
+callee_among : (fs : List Function) (i : CodeItem Item) → among fs (unwrap_or (callee_of fs i) (length fs))
+    ≡ callee_of fs i
 callee_among fs (code_item.Do (Call name)) = place_among fs (position_or_len (λ f. bytes_eq f.name name) fs) _ refl
 callee_among fs _ = none_among fs
 
@@ -146,7 +147,8 @@ callees_are : (fs : List Function) → map (map (among fs)) (held_callees fs) �
 unfolding callees_of held_callees
 callees_are fs =
     map_twice (map (among fs)) (held_entry fs) (entry_of fs)
-    (λ f. map_twice (among fs) (held_callee fs) (λ x. callee_of fs x.item) (λ x. callee_among fs x.item) (lines_of f)) fs
+    (λ f. map_twice (among fs) (held_callee fs) (λ x. callee_of fs x.item) (λ x. callee_among fs x.item)
+    (lines_of f)) fs
 
 module _ (fs : List Function) (held : List (List ℕ)) (function place : ℕ) (e : held ≡ held_callees fs) where
   in_function : (o : Option (List ℕ)) → slice_get held function ≡ o →

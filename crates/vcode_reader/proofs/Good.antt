@@ -94,7 +94,8 @@ ifs_end (i ∷ is) b fs name line code =
 inside_ends : (b : Bool) (o : Open) → Ends (within b o)
 inside_ends b o = ifs_end o.ifs b o.functions o.name o.line o.code
 
-going_ends : (slots : List WordSlot) (k : Keyword) (begun : ℕ) (q : ItemParts) (o : Open) → Ends (going k begun slots q o)
+going_ends : (slots : List WordSlot) (k : Keyword) (begun : ℕ) (q : ItemParts) (o : Open)
+    → Ends (going k begun slots q o)
 unfolding going
 going_ends [] k begun q o = inside_ends (takes_int k) (with_item o (instruction_of k q) begun)
 going_ends (s ∷ slots) k begun q o =

@@ -206,11 +206,13 @@ target_there first ps ls ns place found all held at same =
 -- ---- the targets are set from the last line to the first
 
 -- the lines from a place on have their targets, the others are as they were, and these places wait
-pub record AreSetFrom (place : ℕ) (old lines : List PooledLine) (places : List ℕ) (first : ℕ) (ls : List ℤ) (ns : List ℕ) :
+pub record AreSetFrom (place : ℕ) (old lines : List PooledLine) (places : List ℕ) (first : ℕ) (ls : List ℤ)
+    (ns : List ℕ) :
     Type 0 where
   pub front : take place lines ≡ take place old
   pub back :
-      drop place lines ≡ with_targets (jumps_from place (shown_lines first ls ns (drop place old))).list (drop place old)
+      drop place lines ≡ with_targets (jumps_from place (shown_lines first ls ns (drop place old))).list
+      (drop place old)
   pub waits : places ≡ (jumps_from place (shown_lines first ls ns (drop place old))).waits
 
 pub none_set : (place : ℕ) (old lines : List PooledLine) (places : List ℕ) (first : ℕ) (ls : List ℤ) (ns : List ℕ) →
@@ -258,7 +260,8 @@ jumps_wait ls ns (pooled.Else old) place j = refl
 jumps_wait ls ns pooled.Endif place j = refl
 
 -- the line before has its target too
-module _ (place : ℕ) (old lines : List PooledLine) (places : List ℕ) (first : ℕ) (ls : List ℤ) (ns : List ℕ) (d y : PooledLine)
+module _ (place : ℕ) (old lines : List PooledLine) (places : List ℕ) (first : ℕ) (ls : List ℤ) (ns : List ℕ)
+    (d y : PooledLine)
     (done : AreSetFrom (place + 1) old lines places first ls ns) (within : place < length lines)
     (same_length : length lines ≡ length old)
     (written : y ≡ line_with_target (first_of places) (get_or lines place d)) where
@@ -273,7 +276,8 @@ module _ (place : ℕ) (old lines : List PooledLine) (places : List ℕ) (first 
 
   from_here : drop place old ≡ x ∷ drop (place + 1) old
   from_here =
-      rw (add-one place) (drop-cons old place d (omega (arith, within, same_length)) ∙ ap (λ z. z ∷ drop (suc place) old) there)
+      rw (add-one place) (drop-cons old place d (omega (arith, within, same_length))
+      ∙ ap (λ z. z ∷ drop (suc place) old) there)
 
   abbrev rest : List PooledLine
   rest = drop (place + 1) old
@@ -288,7 +292,8 @@ module _ (place : ℕ) (old lines : List PooledLine) (places : List ℕ) (first 
   unfolding with_targets
   line_set =
       ap (λ z. z ∷ drop (place + 1) lines) (written ∙ (ap (λ z. line_with_target (first_of z) x) done.waits
-      ∙ ap (λ z. let l : PooledLine = record { item = z; distance = x.distance } in l) (sym (jumps_first ls ns x.item place jumps))))
+      ∙ ap (λ z. let l : PooledLine = record { item = z; distance = x.distance } in l)
+      (sym (jumps_first ls ns x.item place jumps))))
       ∙ ap (λ z. line_with_target (target_in (first_of jumps_here.list)) x ∷ z)
       (done.back ∙ ap (λ z. with_targets z rest) (sym (other_targets (shown_item ls ns x.item) place jumps)))
 

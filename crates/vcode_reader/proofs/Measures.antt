@@ -146,7 +146,7 @@ together first last (x ∷ xs) short f = near_all first last x xs xs short f.0.l
 
 -- ---- drafts
 
--- a draft of at most so many lines and open IFs
+-- a draft whose lines and open IFs are at most `count`
 record Drafted (first last count : ℕ) (lines : List CodeLine) (ifs : List OpenIf) : Type 0 where
   pub few : length lines + length ifs ≤ count
   pub nested : length ifs ≤ length lines
@@ -351,7 +351,7 @@ name_within keyword.Call q = omega arith
 
 -- ---- words
 
--- what words of so many bytes have given, of which so many lines and open IFs
+-- what words of `size` bytes have given: at most `count` of it are lines and open IFs
 record Sized (first last count size : ℕ) (p : Parse) : Type 0 where
   pub functions_fit : FunctionsFit p.functions
   pub is_draft : IsDraft p.draft.ifs p.draft.lines
@@ -421,7 +421,7 @@ slot_sized k begun (w ∷ slots) first last count size p s follows = record {
   begun_follows = follows;
 }
 
--- a word of so many bytes gives no more
+-- a word of `m` bytes gives no more than these
 abbrev GivesFew : Result ItemParts CodeFault → ItemParts → ℕ → Type 0
 GivesFew (Ok q) parts m = (length q.numbers ≤ length parts.numbers + m) × (length q.callee ≤ length parts.callee + m)
 GivesFew (Err r) parts m = Unit {0}
@@ -702,7 +702,7 @@ word_sized t first last count size p some small s =
 
 -- ---- bytes
 
--- so many bytes have come, the open word among them
+-- `size` bytes have come, the open word among them
 record ScanSized (first size : ℕ) (s : Scan Parse) : Type 0 where
   pub read : ℕ
   pub within : read + length s.word ≤ size

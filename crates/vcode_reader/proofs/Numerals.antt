@@ -38,7 +38,8 @@ by_digit true b bs is lt low h = rw (digit_plain b is) (ap suc (h (omega arith) 
 by_digit false b bs is lt low h = rw (separates b low) refl
 
 -- the digits at the front are the plain bytes there, if a blank or a control byte follows them
-digits_plain : (t : List ℕ) → digit_count t < length t → get_or t (digit_count t) 0 ≤ 32 → plain_length t ≡ digit_count t
+digits_plain : (t : List ℕ) → digit_count t < length t → get_or t (digit_count t) 0 ≤ 32 → plain_length t
+    ≡ digit_count t
 digits_plain [] lt low = refl
 digits_plain (b ∷ bs) lt low = by_digit (is_digit b) b bs refl lt low (digits_plain bs)
 

@@ -297,7 +297,8 @@ unfolding scan_all
 passed_by emit LineFeed b l bs s begun e h = refl
 passed_by emit CloseBrace b l bs s begun e h = refl
 passed_by emit Blank b l bs s begun e h = ap (λ r. scan_all emit r bs) (passed_byte emit Blank b l s begun e) ∙ h
-passed_by emit OpenBrace b l bs s begun e h = ap (λ r. scan_all emit r bs) (passed_byte emit OpenBrace b l s begun e) ∙ h
+passed_by emit OpenBrace b l bs s begun e h = ap (λ r. scan_all emit r bs)
+    (passed_byte emit OpenBrace b l s begun e) ∙ h
 passed_by emit Parenthesis b l bs s begun e h =
     ap (λ r. scan_all emit r bs) (passed_byte emit Parenthesis b l s begun e) ∙ h
 passed_by emit Plain b l bs s begun e h = ap (λ r. scan_all emit r bs) (passed_byte emit Plain b l s begun e) ∙ h

@@ -53,8 +53,16 @@ pub lines_back : (first : ℕ) (xs : List CodeLine) (p ls : List ℤ) (q ns : Li
 unfolding shown_lines pooled_lines all_lists all_names
 lines_back first [] p ls q ns l n from e f h k = refl
 lines_back first (x ∷ xs) p ls q ns l n from e f h k =
-    let far : l + length (list_of x.item) ≡ length (p ++ list_of x.item) = omega (arith, length-append p (list_of x.item), h) in
-    let on : n + length (name_of x.item) ≡ length (q ++ name_of x.item) = omega (arith, length-append q (name_of x.item), k) in
+    let far : l + length (list_of x.item) ≡ length (p ++ list_of x.item) = omega (
+      arith,
+      length-append p (list_of x.item),
+      h,
+    ) in
+    let on : n + length (name_of x.item) ≡ length (q ++ name_of x.item) = omega (
+      arith,
+      length-append q (name_of x.item),
+      k,
+    ) in
     let rest : List CodeLine = shown_lines first ls ns
     (pooled_lines first (l + length (list_of x.item)) (n + length (name_of x.item)) xs) in
     ap (λ z. line_of z (first + (x.number - first)) ∷ rest)
@@ -100,13 +108,15 @@ pub lists_more : (xs : List CodeLine) (x : CodeLine) → all_lists (xs ++ x ∷ 
 unfolding all_lists
 lists_more [] x = append-nil (list_of x.item)
 lists_more (y ∷ ys) x =
-    ap (λ z. list_of y.item ++ z) (lists_more ys x) ∙ sym (append_assoc (list_of y.item) (all_lists ys) (list_of x.item))
+    ap (λ z. list_of y.item ++ z) (lists_more ys x)
+    ∙ sym (append_assoc (list_of y.item) (all_lists ys) (list_of x.item))
 
 pub names_more : (xs : List CodeLine) (x : CodeLine) → all_names (xs ++ x ∷ []) ≡ all_names xs ++ name_of x.item
 unfolding all_names
 names_more [] x = append-nil (name_of x.item)
 names_more (y ∷ ys) x =
-    ap (λ z. name_of y.item ++ z) (names_more ys x) ∙ sym (append_assoc (name_of y.item) (all_names ys) (name_of x.item))
+    ap (λ z. name_of y.item ++ z) (names_more ys x)
+    ∙ sym (append_assoc (name_of y.item) (all_names ys) (name_of x.item))
 
 lines_more : (first : ℕ) (xs : List CodeLine) (x : CodeLine) (l n k m : ℕ) → k ≡ l + length (all_lists xs) →
     m ≡ n + length (all_names xs) →

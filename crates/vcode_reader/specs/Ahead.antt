@@ -53,8 +53,8 @@ pub record HasNumber (t : List ℕ) (number : ℤ) (digits : ℕ) : Type 0 where
   pub plain : plain_length t ≡ digits
   pub number_is : number_of (take digits t) ≡ Some number
 
--- a blank, the word INT, a blank and this number are at the front of a text, in that many bytes, and a byte follows that
--- is no part of the number's word
+-- a blank, the word INT, a blank and this number are at the front of a text, in that many bytes, and a byte follows
+-- that is no part of the number's word
 pub record HasInt (t : List ℕ) (number : ℤ) (bytes : ℕ) : Type 0 where
   pub kind : HasWord t (codes "INT")
   pub blank : get_or (drop 4 t) 0 0 ≡ 32

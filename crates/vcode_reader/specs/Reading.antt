@@ -52,7 +52,7 @@ Gives (Err fault) wanted = Fails fault wanted
 abbrev pub HasScanned : Scan Parse → ℕ → List ℕ → Type 0
 HasScanned s first bytes = s ≡ scan_all take (beginning start first) bytes
 
--- unless the reading has failed, so many bytes have come, and no more than a code may have
+-- unless the reading has failed, `size` bytes have come, and these are no more than a code may have
 abbrev pub IsOfBytes : Scan Parse → ℕ → ℕ → Bool → Type 0
 IsOfBytes s first size failed =
     failed ≡ false → (bytes : List ℕ) × HasScanned s first bytes × (size ≡ length bytes) × (size ≤ MOST_CODE_BYTES)

@@ -141,8 +141,8 @@ impl<A: Allocator> GrowingLines<A> {
     }
 }
 
-/// The lines of a function, with the target of each IF and ELSE, and the number of the first. The lists of its constants
-/// lie one after another, and so do the names of its CALLs.
+/// The lines of a function, with the target of each IF and ELSE, and the number of the first. The lists of its
+/// constants lie one after another, and so do the names of its CALLs.
 #[derive(Drop)]
 #[derive_where(PartialEq, Eq)]
 pub struct CodeLines<A: Allocator> {
@@ -174,8 +174,10 @@ impl<A: Allocator> Model for CodeLines<A> {
     } };
 
     ghost inverse_ok = { λ c h. let xs : List CodeLineOf = shown_lines c.first c.lists c.names c.lines in
-        ap (λ (n : ℕ). record c { first = n; lines = linked_lines xs; lists = all_lists xs; names = all_names xs }) (sym h.least)
-        ∙ (ap (λ (ps : List PooledLine). record c { lines = ps; lists = all_lists xs; names = all_names xs }) (sym h.lines)
+        ap (λ (n : ℕ). record c { first = n; lines = linked_lines xs; lists = all_lists xs; names = all_names xs })
+        (sym h.least)
+        ∙ (ap (λ (ps : List PooledLine). record c { lines = ps; lists = all_lists xs; names = all_names xs })
+        (sym h.lines)
         ∙ (ap (λ (ls : List ℤ). record c { lists = ls; names = all_names xs }) (sym h.lists)
         ∙ ap (λ (ns : List ℕ). record c { names = ns }) (sym h.names))) };
 }
@@ -386,7 +388,8 @@ fn shown_item<'a>(item: &PooledItem, lists: &'a [i64], names: &'a [u8]) -> CodeI
 #[inline(always)]
 fn called_by<'a>(item: &PooledItem, names: &'a [u8]) -> Option<&'a [u8]>
     requires { (lists : List ℤ) × ItemLiesIn lists names.now item.now }
-    ensures { (lists : List ℤ) → option_map (λ name. name.now) result ≡ called_by (shown_item lists names.now item.now) }
+    ensures { (lists : List ℤ) → option_map (λ name. name.now) result
+        ≡ called_by (shown_item lists names.now item.now) }
 {
     match item {
         PooledItem::Call(span) => Some(part_of(names, *span)),

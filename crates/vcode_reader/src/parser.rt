@@ -255,7 +255,8 @@ impl<A: Allocator + Clone> Parser<A> {
         line: u64,
     ) -> Result<(), AllocError>
         requires fits { FitsParse (after_part (with_callee word.now self.old.parts) keyword begun line self.old) }
-        ensures { OnOk result (self.new ≡ after_part (with_callee word.now self.old.parts) keyword begun line self.old) }
+        ensures { OnOk result (self.new
+            ≡ after_part (with_callee word.now self.old.parts) keyword begun line self.old) }
     {
         if is_no_name(word) {
             self.refuse(CodeFault::BadWord, line);
@@ -514,7 +515,8 @@ impl<A: Allocator + Clone> Parser<A> {
         requires upper { IsDigit upper }
         requires fits { let begun = after_slot (Move motion) line (keyword_slots (Move motion)) self.old in
             FitsParse (take (upper ∷ []) line (take (lower ∷ []) line begun)) }
-        ensures { let first = take (lower ∷ []) line (after_slot (Move motion) line (keyword_slots (Move motion)) self.old) in
+        ensures { let first = take (lower ∷ []) line (after_slot (Move motion) line
+            (keyword_slots (Move motion)) self.old) in
             OnOk result (self.new ≡ take (upper ∷ []) line first) }
     {
         self.parts.lower = u16::from(lower - b'0');
@@ -597,7 +599,8 @@ impl<A: Allocator + Clone> Parser<A> {
     #[inline(always)]
     pub(crate) fn take_number(&mut self, number: i64, line: u64) -> Result<(), AllocError>
         requires { awaits_number self.old.place self.old.parts.kind ≡ true }
-        ensures taken { OnOk result ((word : List ℕ) → number_of word ≡ Some number → self.new ≡ take word line self.old) }
+        ensures taken { OnOk result ((word : List ℕ) → number_of word ≡ Some number → self.new
+            ≡ take word line self.old) }
         ensures number { awaits_number self.new.place self.new.parts.kind ≡ true }
     {
         if self.fault.is_some() {

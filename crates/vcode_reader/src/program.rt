@@ -151,7 +151,11 @@ impl<A: Allocator> Model for Program<A> {
 
     ghost invariant = { λ p. HoldsProgram p.functions p.callees };
 
-    ghost inverse = { λ p. record { first_line = p.first_line; functions = p.functions; callees = held_callees p.functions } };
+    ghost inverse = { λ p. record {
+      first_line = p.first_line;
+      functions = p.functions;
+      callees = held_callees p.functions;
+    } };
 
     ghost inverse_ok = { λ p h. ap (λ (cs : List (List ℕ)). record p { callees = cs }) (sym h.callees) };
 }

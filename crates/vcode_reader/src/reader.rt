@@ -50,7 +50,8 @@ impl<A: Allocator> Model for Scanner<A> {
     ghost use Rattle.std.specs.Coded.{codes};
     ghost use Rattle.vcode_reader.specs.ParseCode.{parse_code, scan_code};
 
-    ghost coded = { scan_code (parse_code (Prim.hlevel codes) (Prim.hlevel codes) (Prim.hlevel codes) (Prim.hlevel codes)
+    ghost coded = { scan_code (parse_code (Prim.hlevel codes) (Prim.hlevel codes) (Prim.hlevel codes)
+        (Prim.hlevel codes)
         (Prim.hlevel codes) (Prim.hlevel codes)) (Prim.hlevel codes) };
 
     ghost view = { λ s. record { found = s.parser; line = s.line; word = s.word.items; comment = s.comment } };
@@ -166,8 +167,8 @@ impl<A: Allocator + Clone> Scanner<A> {
         }
     }
 
-    /// Begins an instruction after its first word, and takes the words that belong to it if they are short and at the front
-    /// of a text. Answers what is after them.
+    /// Begins an instruction after its first word, and takes the words that belong to it if they are short and at the
+    /// front of a text. Answers what is after them.
     #[inline(always)]
     fn instruction<'p>(&mut self, keyword: Keyword, text: &'p [u8]) -> Result<&'p [u8], AllocError>
         requires text { self.old.comment ≡ None }
@@ -257,8 +258,8 @@ impl<A: Allocator + Clone> Scanner<A> {
         Ok(rest)
     }
 
-    /// Takes a number of a list at the front of a text outside a comment, if it is whole, with the separator after it, and
-    /// answers what is after them. Else nothing changes.
+    /// Takes a number of a list at the front of a text outside a comment, if it is whole, with the separator after it,
+    /// and answers what is after them. Else nothing changes.
     #[inline(always)]
     fn next_number<'p>(&mut self, text: &'p [u8]) -> Result<Option<&'p [u8]>, AllocError>
         requires text { self.old.comment ≡ None }
@@ -348,8 +349,8 @@ impl<A: Allocator + Clone> Scanner<A> {
         text
     }
 
-    /// Passes over the bytes at the front of a text that change nothing, if a comment is open, and answers what is after
-    /// them.
+    /// Passes over the bytes at the front of a text that change nothing, if a comment is open, and answers what is
+    /// after them.
     #[inline(always)]
     fn pass_comment<'p>(&self, text: &'p [u8]) -> &'p [u8]
         ensures same { scan_all take self.now text.now ≡ scan_all take self.now result.now }
@@ -469,7 +470,8 @@ impl<A: Allocator + Clone> CodeReader<A> {
         requires line { self.old.failed ≡ false → self.old.scan.line + line_feeds piece.now < 2 ^ 64 }
         requires size { self.old.failed ≡ false → self.old.size + length piece.now ≤ MOST_CODE_BYTES }
         // The bytes of the piece follow the bytes before.
-        ensures fed { OnOk result ((before : List ℕ) → HasCome self.old before → HasCome self.new (before ++ piece.now)) }
+        ensures fed { OnOk result ((before : List ℕ) → HasCome self.old before → HasCome self.new (before
+            ++ piece.now)) }
         ensures first_line { self.new.first_line ≡ self.old.first_line }
         ensures line { OnOk result (self.new.scan.line ≡ self.old.scan.line + line_feeds piece.now) }
         ensures size { OnOk result (self.new.size ≡ self.old.size + length piece.now) }

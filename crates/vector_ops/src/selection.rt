@@ -23,8 +23,8 @@ pub(crate) fn select(flags: &[i64], chosen: &[i64], other: &[i64], out: &mut [i6
     select_many(flags, chosen, other, out);
 }
 
-/// The same for any number of elements. It is a call of its own, so that one element alone is tested for at once: a loop
-/// in its place would first test for none.
+/// The same for any number of elements. It is a call of its own, so that one element alone is tested for at once: a
+/// loop in its place would first test for none.
 #[inline(never)]
 fn select_many(flags: &[i64], chosen: &[i64], other: &[i64], out: &mut [i64])
     requires kind { All IsFlag flags.now }

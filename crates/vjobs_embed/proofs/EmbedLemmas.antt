@@ -43,7 +43,8 @@ delivered_short report out status l =
 
 -- the same report and status
 pub delivered_as : (report items of : List ℕ) (status is : Status) (out new : List ℕ) (result needed : ℕ)
-    → record { status = result; needed = length report; out = new } ≡ delivered report status out → report ≡ items → items ≡ of
+    → record { status = result; needed = length report; out = new } ≡ delivered report status out → report
+    ≡ items → items ≡ of
     → status ≡ is → needed ≡ length items → record { status = result; needed = needed; out = new } ≡ delivered of is out
 delivered_as report items of status is out new result needed d e f g h =
     let long : needed ≡ length report = h ∙ ap length (sym e) in

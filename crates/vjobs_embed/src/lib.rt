@@ -50,7 +50,8 @@ pub extern "C" fn vjobs_run(
     // The report and the status are those that the definitions give for the batch.
     ensures report { IsRegion region → result ≢ NO_MEMORY →
         (b : Batch (List JobEntry)) × IsBatch region (first_bytes batch.now) b ×
-        (record { status = result; needed = needed.new; out = out.new } ≡ delivered (report_of b) (status_of b) out.old) }
+        (record { status = result; needed = needed.new; out = out.new }
+        ≡ delivered (report_of b) (status_of b) out.old) }
 {
     *needed = 0;
     if region == 0 {
@@ -91,7 +92,8 @@ fn report_and_status(
 /// Writes a report to the front of a buffer, if it has room. Answers what the call answers.
 #[tactic(auto, using(crate::proofs::EmbedLemmas::delivered_long, crate::proofs::EmbedLemmas::delivered_short, crate::proofs::EmbedLemmas::exit_apart))]
 fn deliver(report: &[u8], status: Status, out: &mut [u8]) -> u32
-    ensures left { record { status = result; needed = length report.now; out = out.new } ≡ delivered report.now status out.old }
+    ensures left { record { status = result; needed = length report.now; out = out.new }
+        ≡ delivered report.now status out.old }
     ensures memory { result ≢ NO_MEMORY }
 {
     if report.len() > out.len() {

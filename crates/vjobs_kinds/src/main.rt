@@ -22,8 +22,8 @@ fn first_bytes<R: Read + Drop>(rt: &HostRuntime, reader: R, most: u32) -> io::Re
     Ok(bytes)
 }
 
-/// The same of the file of this name; `-` is standard input. A file that isn't a regular one isn't opened, since that may
-/// wait for ever.
+/// The same of the file of this name; `-` is standard input. A file that isn't a regular one isn't opened, since that
+/// may wait for ever.
 fn bytes_of(rt: &HostRuntime, file: &str, most: u32) -> io::Result<Vec<u8>> {
     if file == "-" {
         return first_bytes(rt, rt.stdin(), most);

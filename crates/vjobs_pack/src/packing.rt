@@ -86,7 +86,7 @@ pub struct Packing<'a> {
 }
 
 impl<'a> Packing<'a> {
-    /// No batch, for a folder, a region of `region` words, and files of at most so many bytes.
+    /// No batch, for a folder, a region of `region` words, and files of at most `most_bytes` bytes.
     pub fn new(out: &'a str, region: u32, most_bytes: usize) -> Packing<'a> {
         Packing {
             out,

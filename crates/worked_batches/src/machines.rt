@@ -12,7 +12,8 @@
 //! | `begin JOB WORDS`, `step JOB WORDS` | that call on a new desk of WORDS words |
 //! | `finish TICKET` | `compute` and `finish` |
 //! | `recall JOB`, `collect JOB`, `status JOB`, `outcome JOB`, `executed JOB`, `peak JOB`, `passed JOB` | that call |
-//! | `replay EVENTS` | that call; an event is `a` (admit), or `b` (begin), `f` (finish), `r` (recall) or `c` (collect) with the number of a job |
+//! | `replay EVENTS` | that call; an event is `a` (admit), or `b` (begin), `f` (finish), `r` (recall) or `c` (collect)
+//! with the number of a job |
 //! | `list` | whether `holds` is true of the machine's own `list` |
 //! | `holds JOBS` | whether `holds` is true of these jobs |
 //!

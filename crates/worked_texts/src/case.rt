@@ -91,7 +91,7 @@ fn same(alloc: Global, text: &str) -> Result<String, CaseFault> {
     Ok(format!(in alloc; "{is_equal}")?)
 }
 
-/// The signatures that are found for a code with stacks of so many entries at most, or why there are none.
+/// The signatures that are found for a code with stacks of at most `within` entries, or why there are none.
 fn find(alloc: Global, text: &str, most_entries: usize) -> Result<String, CaseFault> {
     let code = bytes_of(alloc, text)?;
     match find_signatures(alloc, code.as_slice(), most_entries) {

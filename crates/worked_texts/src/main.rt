@@ -14,7 +14,7 @@
 //! | `kinds` | signatures, `\|`, code | whether the code is well kinded, and the kinds of what its `MAIN` leaves |
 //! | `same` | signatures, `\|`, signatures, `\|`, code | whether the code is verified alike by both |
 //! | `find` | code | the signatures that are found for it, or why there are none |
-//! | `within` | a number, `\|`, code | the same, with stacks of so many entries at most |
+//! | `within` | a number, `\|`, code | the same, with stacks of at most that many entries |
 //!
 //! Each code and each text of signatures is read at once, and in pieces of 1 and of 7 bytes: if these
 //! give something else, the answer is `otherwise in pieces`. The code of `find` and `within` is read once.

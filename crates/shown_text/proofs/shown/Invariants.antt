@@ -6,4 +6,5 @@ use Rattle.shown_text.proofs.shown.Given as goal
 
 abbrev pub invariant-loop-chunk : goal.invariant-loop-chunk
 invariant-loop-chunk g l =
-    string_bytes l.text ++ encode_utf8_all (shown_text (utf8_chunks_rest l.chunk-iterator)) ≡ encode_utf8_all (shown_text l.fn.bytes)
+    string_bytes l.text ++ encode_utf8_all (shown_text (utf8_chunks_rest l.chunk-iterator))
+    ≡ encode_utf8_all (shown_text l.fn.bytes)

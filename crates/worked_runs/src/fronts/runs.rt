@@ -108,8 +108,8 @@ fn by_workers(tally: &Tally<Global>) -> u64 {
     sum
 }
 
-/// What the workers and the calling thread have executed, if this many workers were asked for: the workers have executed
-/// all, but one alone isn't started.
+/// What the workers and the calling thread have executed, if this many workers were asked for: the workers have
+/// executed all, but one alone isn't started.
 fn shared(workers: usize, executed: u64) -> (u64, u64) {
     if workers > 1 {
         (executed, 0)

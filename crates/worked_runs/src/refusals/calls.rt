@@ -155,7 +155,8 @@ fn has_stopped(rt: &impl Abort, machine: &HeapMachine<'_>) {
     assert_eq!(rt; stood.second.executed, Some(executed));
 }
 
-/// Whether the jobs are run out at once. If not, no step is in flight, a job has ended, and a second call runs them out.
+/// Whether the jobs are run out at once. If not, no step is in flight, a job has ended, and a second call runs them
+/// out.
 fn are_run_out<'h>(
     rt: &impl Abort,
     heap: &'h Heap,

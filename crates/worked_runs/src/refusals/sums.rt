@@ -29,7 +29,7 @@ const REPORT_BYTES: usize = 2_992_308;
 /// How many threads run jobs, beside the calling thread.
 const WORKERS: usize = 2;
 
-/// The sum for a batch of so many bytes and for this number of desks: the region, its holes, cells and calls, the code
+/// The sum for a batch of `batch` bytes and this number of desks: the region, its holes, cells and calls, the code
 /// and the check of its kinds, desks, results, and the buffer of the report.
 fn sum(batch: usize, desks: usize) -> usize {
     let region = 16 * REGION + REGION / 4;

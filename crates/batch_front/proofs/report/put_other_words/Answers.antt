@@ -15,7 +15,8 @@ words-preserved g c =
       first = omega arith;
       within = more_within words c.copy_from.new.into c.words.done room before.within c.copy_from.ensures;
       put = puts_same (puts_then before.put c.put_next_words.ensures)
-          (more_words (next_word_text c.args.kind) words c.copy_from.new.into c.words.done room before.first before.within
+          (more_words (next_word_text c.args.kind) words c.copy_from.new.into c.words.done room before.first
+          before.within
           c.copy_from.ensures);
     }
 

@@ -9,7 +9,8 @@ returns-then-not-is_separator g c =
 
 pub loop-i-preserved : goal.loop-i-preserved
 loop-i-preserved g c =
-    words_next _ c.loop-i.text.items c.args.bytes.now c.loop-i.i (get_or c.args.bytes.now c.loop-i.i 0) _ c.loop-i-test.true refl
+    words_next _ c.loop-i.text.items c.args.bytes.now c.loop-i.i (get_or c.args.bytes.now c.loop-i.i 0) _
+    c.loop-i-test.true refl
     (sym c.is_separator.ensures ∙ c.if-not-is_separator.false) c.in_ok-push.ensures.items c.loop-i.invariant
 
 pub returns : goal.returns

@@ -58,7 +58,8 @@ invariant_of-self g c =
     same_holes new (with_items c.self.inside.bits new).items nodes nodes changed near c.self.inside.size
     (c.self.inside.free + 1) c.self.inside.most k.bits refl
     (holes_after bits new nodes nodes changed changed c.self.inside.near near c.self.inside.size c.self.inside.free
-    c.self.inside.most c.args.place 1 (c.self.inside.free + 1) true c.self.invariant tree c.self.invariant.few_changed k.filled k.range.within
+    c.self.inside.most c.args.place 1 (c.self.inside.free + 1) true c.self.invariant tree c.self.invariant.few_changed
+    k.filled k.range.within
     (omega (arith, c.self.invariant.near_within)) low k.range.free_is k.range.few)
 
 pub returns : goal.returns

@@ -15,7 +15,8 @@ loop-first-preserved c =
       same_length = step.same_length ∙ i.same_length;
       order = omega (arith, i.order);
       shrunk = omega (arith, i.shrunk);
-      joining = λ bits is. joining_step bits nodes (set (set nodes first c.join.result) last c.join-in-loop-first.result) first last
+      joining = λ bits is. joining_step bits nodes
+          (set (set nodes first c.join.result) last c.join-in-loop-first.result) first last
           (omega arith) (i.joining bits is) step;
     }
 

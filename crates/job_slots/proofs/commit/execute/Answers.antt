@@ -53,7 +53,11 @@ pub go_past-requires-clause-can : goal.go_past-requires-clause-can
 go_past-requires-clause-can g c = (can g (goal.at.go_past-requires-clause-can g c).After-used-used).goes_past
 
 pub go_past-requires-clause-given : goal.go_past-requires-clause-given
-go_past-requires-clause-given g c = omega (arith, ap length c.as_slice.ensures, c.settle-results.ensures.settled.1.given)
+go_past-requires-clause-given g c = omega (
+  arith,
+  ap length c.as_slice.ensures,
+  c.settle-results.ensures.settled.1.given,
+)
 
 -- the instruction is executed
 executed : (g : Over) (c : goal.After-go_past g) →

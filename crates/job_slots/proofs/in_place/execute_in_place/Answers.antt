@@ -129,7 +129,10 @@ executed g c =
     ∙ (ap (λ (n : ℕ). words_by c.args.rule n c.held.result) before
     ∙ (ap (λ (n : ℕ). words_by c.args.rule (old + length placed.words) n) c.held.ensures.value ∙ here.counted)) in
     let all : c.words_by-words.result ≡ held + length placed.words + 0 = omega (arith, words) in
-    executed_past {form = c.args.rule} (can g at.In-Ok) (record { given = sym c.requires.placeable.one; settled = here.is }) refl
+    executed_past {form = c.args.rule} (can g at.In-Ok) (record {
+      given = sym c.requires.placeable.one;
+      settled = here.is;
+    }) refl
     (subst (λ (n : ℕ). Advances c.args.job.now.verified c.args.op c.args.placement.flag (c.in-Ok.id ∷ []) n
     c.args.track.now c.go_past.new.track) all c.go_past.ensures)
 

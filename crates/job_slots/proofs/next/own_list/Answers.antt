@@ -10,6 +10,7 @@ returns-in-Const g c =
     let job = ruled c.args.rule c.args.job.now in
     let run = c.requires.running in
     c.list_of.ensures
-    ∙ ap (λ (i : Item). list_in i) (same_instruction job c.args.track.now run.state c.args.line.now c.next_line-own.result
+    ∙ ap (λ (i : Item). list_in i) (same_instruction job c.args.track.now run.state c.args.line.now
+    c.next_line-own.result
     (can_begin c.steps_can_begin.ensures _ job c.args.track.now run c.requires.verified) c.requires.line
     c.next_line-own.ensures)

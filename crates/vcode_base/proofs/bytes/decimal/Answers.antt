@@ -7,8 +7,10 @@ returns-in_default c = sym (decimal_none 18446744073709551616 c.args.text.now c.
 
 pub returns-then-len-text : goal.returns-then-len-text
 returns-then-len-text c =
-    sym (too_short 18446744073709551616 c.in-Some.value c.in-Some.len c.args.text.now c.in-Some.ensures c.if-len-text.true)
+    sym (too_short 18446744073709551616 c.in-Some.value c.in-Some.len c.args.text.now c.in-Some.ensures
+    c.if-len-text.true)
 
 pub returns : goal.returns
 returns c =
-    sym (decimal_whole 18446744073709551616 c.in-Some.value c.in-Some.len c.args.text.now c.in-Some.ensures c.if-len-text.false)
+    sym (decimal_whole 18446744073709551616 c.in-Some.value c.in-Some.len c.args.text.now c.in-Some.ensures
+    c.if-len-text.false)

@@ -47,7 +47,8 @@ loop-place-preserved c =
     let d = get_or t i 0 in
     let inv = c.loop-place.invariant in
     let digit : is_digit d ≡ true = sym c.is_digit.ensures ∙ c.if-not-is_digit.false in
-    let is = is_below 18446744073709551616 (10 * n + (d - 48)) c.in-Some.longer (sym c.with_digit.ensures ∙ c.in-Some.is) in
+    let is = is_below 18446744073709551616 (10 * n + (d - 48)) c.in-Some.longer (sym c.with_digit.ensures
+    ∙ c.in-Some.is) in
     record {
       value = inv.value ∙ digit_more t i n c.loop-place-test.true digit
           ∙ ap (λ v. value_at_front v (drop (i + 1) t)) (sym is.0);

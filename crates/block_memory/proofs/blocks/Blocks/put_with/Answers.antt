@@ -66,7 +66,8 @@ long g c =
 
 after : (g : Over) (c : goal.After-mark_start g) →
     length (take c.args.len (drop c.args.place c.write_lent-written.new.words)) ≡ c.args.len →
-    IsAfterWrite c.self.inside.words.items c.write_lent-written.new.words c.mark_start.new.starts.items c.self.inside.spans
+    IsAfterWrite c.self.inside.words.items c.write_lent-written.new.words c.mark_start.new.starts.items
+    c.self.inside.spans
     c.insert-number.result (record { owner = c.args.owner; place = c.args.place; len = c.args.len })
     (take c.args.len (drop c.args.place c.write_lent-written.new.words))
 after g c size =

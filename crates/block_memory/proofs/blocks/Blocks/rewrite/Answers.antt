@@ -63,5 +63,6 @@ returns g c =
     let words =
     items_after_write here.words c.deref_mut.result.now c.write_words.new.region c.deref_mut.ensures.value
     c.write_words.ensures.same_size in
-    rw words (same_layout here.size here.size _ _ refl (after g at.After-write_words (long g at.After-value-span)).slots)
+    rw words (same_layout here.size here.size _ _ refl (after g at.After-write_words
+    (long g at.After-value-span)).slots)
     ∙ ap (λ layout. layout_after_rewrite layout c.args.number c.args.words.now) c.self.view_is

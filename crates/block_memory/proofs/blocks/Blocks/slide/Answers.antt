@@ -10,7 +10,8 @@ use Rattle.block_memory.proofs.blocks.Blocks.slide.Goals.{After-mark_start}
 
 after : (g : Over) (c : After-mark_start g) →
     let s = c.value.result.now in
-    IsAfterWrite c.self.inside.words.items c.move_words-moved.new.region c.mark_start.new.starts.items c.self.inside.spans
+    IsAfterWrite c.self.inside.words.items c.move_words-moved.new.region c.mark_start.new.starts.items
+    c.self.inside.spans
     c.args.number (record { owner = s.owner; place = c.args.to; len = s.len })
     (take s.len (drop s.place c.self.inside.words.items))
 after g c =

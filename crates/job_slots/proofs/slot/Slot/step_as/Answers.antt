@@ -58,7 +58,8 @@ pub returns-in-Some-clause-standing : goal.returns-in-Some-clause-standing
 returns-in-Some-clause-standing g c =
     let at = goal.at.returns-in-Some-clause-standing g c in
     stands_halted c.args.number c.args.desk.now c.args.blocks.now (ruled c.args.rule c.args.job.now) c.args.self.now
-    c.requires.shows c.requires.live c.end.new.self c.in-Some.ending (halts g at.In-Some (running g at.After-next_at-next))
+    c.requires.shows c.requires.live c.end.new.self c.in-Some.ending
+    (halts g at.In-Some (running g at.After-next_at-next))
     c.end.ensures.ended
 
 -- ---- the instruction is executed

@@ -5,7 +5,10 @@ use Rattle.vcode_reader.proofs.link.Linker.callees.Goals as goal
 
 pub loop-place-preserved-in_default : goal.loop-place-preserved-in_default
 loop-place-preserved-in_default g c =
-    let within : c.loop-place.place < length (lines_of c.args.function.now) = omega (arith, c.line_count-count.ensures) in
+    let within : c.loop-place.place < length (lines_of c.args.function.now) = omega (
+      arith,
+      c.line_count-count.ensures,
+    ) in
     record {
       count = omega arith;
       room = omega arith;
@@ -16,7 +19,10 @@ loop-place-preserved-in_default g c =
 
 pub loop-place-preserved : goal.loop-place-preserved
 loop-place-preserved g c =
-    let within : c.loop-place.place < length (lines_of c.args.function.now) = omega (arith, c.line_count-count.ensures) in
+    let within : c.loop-place.place < length (lines_of c.args.function.now) = omega (
+      arith,
+      c.line_count-count.ensures,
+    ) in
     record {
       count = omega arith;
       room = omega arith;

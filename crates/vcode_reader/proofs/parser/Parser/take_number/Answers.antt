@@ -13,7 +13,11 @@ returns-in_ok-push-clause-taken g c =
     let fits : FitsSigned w64 c.args.number = search rules in
     let few : length c.self.inside.parts.numbers < MOST_ELEMENTS =
     omega (arith, c.len.ensures, c.if-len-lt-MOST_ELEMENTS.true) in
-    λ word known. rw (← c.self.view_is, c.in_ok-push.ensures.pushed, to_z-of_z fits) (takes_few _ word c.args.number c.args.line
+    λ word known. rw (
+      ← c.self.view_is,
+      c.in_ok-push.ensures.pushed,
+      to_z-of_z fits,
+    ) (takes_few _ word c.args.number c.args.line
     (sym c.is_some.ensures ∙ c.if-is_some.false) (rw (← c.self.view_is) at c.requires) known few)
 
 pub returns-else-len-lt-MOST_ELEMENTS-clause-taken : goal.returns-else-len-lt-MOST_ELEMENTS-clause-taken
