@@ -1,12 +1,10 @@
 -- Chunks of kinds.
-use Rattle.std.proofs.Common.{◌≡◌, ℕ, zero, suc, ◌+◌, ◌-◌, ◌*◌, ◌/◌, ◌%◌, ◌^◌, ◌<◌, ◌≤◌, List, [], ◌∷◌, ◌++◌, length}
-use Rattle.std.proofs.Common.{take, drop, true, eqb, refl, sym, ◌∙◌, ap, subst, arith}
-use Rattle.std.specs.Prelude.{bit_or, bit_and}
-use Rattle.std.proofs.Math.Nat.{mod-eq_of_lt}
+use Rattle.std.proofs.Common.{◌≡◌, ℕ, ◌+◌, ◌-◌, ◌*◌, ◌/◌, ◌%◌, ◌^◌, ◌<◌, ◌≤◌, List, [], ◌∷◌, ◌++◌, length}
+use Rattle.std.proofs.Common.{take, drop, refl, sym, ◌∙◌, ap, subst, arith}
+use Rattle.std.specs.Prelude.{bit_or}
 use Rattle.std.proofs.Math.Pow.{pow_mono}
-use Rattle.std.proofs.lemmas.Bool.{eqb-true, eq-eqb}
-use Rattle.std.proofs.lemmas.Nat.{shl_whole, or_shifted, or_comm, shr_high, mod_low, and_mask, pow-add, mul-add-lt}
-use Rattle.std.proofs.lemmas.List.{length-drop, drop_more, drop_all}
+use Rattle.std.proofs.lemmas.Nat.{shl_whole, or_shifted}
+use Rattle.std.proofs.lemmas.List.{length-drop, drop_all}
 use Rattle.vcode_base.specs.declared.kind.Kind.{Kind}
 use Rattle.kind_list.specs.Packed.{digit_of, digits_of, kinds_of, packed, IsPacked, IsChunk}
 use Rattle.kind_list.proofs.Digits.{length-kinds, same_packed, packed_kinds, packed-lt, highest, lowest, join}
@@ -74,18 +72,28 @@ joined_chunks len n more m ks ls is also p q few =
     let j = join len more n m p.packed q.packed in
     (record { few = few; packed = j.0 }, j.1 ∙ (λ i. is i ++ also i))
 
+-- the first kinds
+pub first_chunk : (len n count : ℕ) (ks : List Kind) → kinds_of len n ≡ ks → IsChunk len n → count ≤ len
+    → IsChunk count (n % 2 ^ (2 * count)) × (kinds_of count (n % 2 ^ (2 * count)) ≡ take count ks)
+first_chunk len n count ks is p within =
+    let low = lowest len count n within p.packed in
+    (record { few = omega (arith, p.few); packed = low.0 }, low.1 ∙ ap (take count) is)
+
 -- the first kinds at the end
 pub rotated_chunk : (len n count : ℕ) (ks : List Kind) → kinds_of len n ≡ ks → IsChunk len n → count ≤ len
     → IsChunk len (n % 2 ^ (2 * count) * 2 ^ (2 * (len - count)) + n / 2 ^ (2 * count))
-    × (kinds_of len (n % 2 ^ (2 * count) * 2 ^ (2 * (len - count)) + n / 2 ^ (2 * count)) ≡ drop count ks ++ take count ks)
+    × (kinds_of len (n % 2 ^ (2 * count) * 2 ^ (2 * (len - count)) + n / 2 ^ (2 * count))
+    ≡ drop count ks ++ take count ks)
 rotated_chunk len n count ks is p within =
     let rest = len - count in
     let back : len - rest ≡ count = omega arith in
     let whole : rest + count ≡ len = omega arith in
     let high = highest len rest n (omega arith) p.packed in
     let low = lowest len count n within p.packed in
-    let high' : IsPacked rest (n / 2 ^ (2 * count)) × (kinds_of rest (n / 2 ^ (2 * count)) ≡ drop count (kinds_of len n)) =
-    subst (λ k. IsPacked rest (n / 2 ^ (2 * k)) × (kinds_of rest (n / 2 ^ (2 * k)) ≡ drop k (kinds_of len n))) back high in
+    let high' : IsPacked rest (n / 2 ^ (2 * count)) × (kinds_of rest (n / 2 ^ (2 * count))
+    ≡ drop count (kinds_of len n)) =
+    subst (λ k. IsPacked rest (n / 2 ^ (2 * k)) × (kinds_of rest (n / 2 ^ (2 * k)) ≡ drop k (kinds_of len n)))
+    back high in
     let m = n % 2 ^ (2 * count) * 2 ^ (2 * rest) + n / 2 ^ (2 * count) in
     let j = join rest count (n / 2 ^ (2 * count)) (n % 2 ^ (2 * count)) high'.0 low.0 in
     let j' : IsPacked len m × (kinds_of len m ≡ drop count (kinds_of len n) ++ take count (kinds_of len n)) =

@@ -4,12 +4,13 @@ use Rattle.std.proofs.Common.{take, drop, map, refl, sym, ◌∙◌, ap, subst, 
 use Rattle.std.specs.List.{All}
 use Rattle.std.proofs.Math.Nat.{div-one, mod-eq_of_lt, mod-mod}
 use Rattle.std.proofs.Math.Pow.{mod-mod-pow}
-use Rattle.std.proofs.lemmas.Nat.{pow_pos, pow-add, shr-shr, field_of, shr_below, shr_high, mod_low, mod_below, mul-add-lt}
+use Rattle.std.proofs.lemmas.Nat.{pow_pos, pow-add, shr-shr, field_of}
+use Rattle.std.proofs.lemmas.Nat.{shr_below, shr_high, mod_low, mod_below, mul-add-lt}
 use Rattle.std.proofs.lemmas.List.{take-append-drop, take-map, drop-map, map-append, length-map, length-drop, take_all}
 use Rattle.std.proofs.lemmas.List.Elements.{All-nil, All-cons, All-head, All-tail, All-append, All-take, All-drop}
 use Rattle.vcode_base.specs.declared.kind.Kind.{Kind}
 use Rattle.vcode_base.specs.declared.kind.Kind.TheVariants.{Int, Bool, Segdes}
-use Rattle.kind_list.specs.Packed.{digit_of, kind_of_digit, digits_of, kinds_of, AreKinds, packed, IsPacked}
+use Rattle.kind_list.specs.Packed.{digit_of, kind_of_digit, digits_of, kinds_of, packed, IsPacked}
 
 -- ---- digits
 
@@ -125,7 +126,8 @@ middle len from count n within p =
     let is = digits_middle len from count n within in (
       record {
         fits = mod_below (n / 2 ^ (2 * from)) (2 ^ (2 * count)) (pow_pos (2 * count));
-        kinds = subst (All P) (sym is) (All-take P count (drop from (digits_of len n)) (All-drop P from (digits_of len n) p.kinds));
+        kinds = subst (All P) (sym is)
+            (All-take P count (drop from (digits_of len n)) (All-drop P from (digits_of len n) p.kinds));
       },
       ap (map kind_of_digit) is
           ∙ (sym (take-map kind_of_digit count (drop from (digits_of len n)))
@@ -135,7 +137,8 @@ middle len from count n within p =
 pub lowest : (len count n : ℕ) → count ≤ len → IsPacked len n
     → IsPacked count (n % 2 ^ (2 * count)) × (kinds_of count (n % 2 ^ (2 * count)) ≡ take count (kinds_of len n))
 lowest len count n within p =
-    subst (λ m. IsPacked count (m % 2 ^ (2 * count)) × (kinds_of count (m % 2 ^ (2 * count)) ≡ take count (kinds_of len n)))
+    subst (λ m. IsPacked count (m % 2 ^ (2 * count)) × (kinds_of count (m % 2 ^ (2 * count))
+    ≡ take count (kinds_of len n)))
     (div-one n) (middle len 0 count n (omega arith) p)
 
 pub highest : (len count n : ℕ) → count ≤ len → IsPacked len n

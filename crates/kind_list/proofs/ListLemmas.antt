@@ -4,13 +4,12 @@ use Rattle.std.proofs.Common.{take, drop, get_or, refl, sym, ◌∙◌, ap, subs
 use Rattle.std.proofs.Math.Pow.{pow_mono}
 use Rattle.std.proofs.lemmas.Nat.{mod_below, pow_pos, shr-shr, shr_high}
 use Rattle.std.proofs.lemmas.List.{take-append-le, length-take-le, length_push, get_or_append_left, get_or_at}
-use Rattle.std.proofs.lemmas.List.{take-append-drop, drop_at, take_at, drop_all, length-append}
 use Rattle.std.proofs.lemmas.List.{append_assoc, drop-append-le, drop-drop, drop-take, take-take, length-drop, take_all}
 use Rattle.vcode_base.specs.declared.kind.Kind.{Kind}
 use Rattle.kind_list.specs.Packed.{digits_of, kinds_of, IsPacked, IsChunk}
 use Rattle.kind_list.specs.Words.{number_of}
 use Rattle.kind_list.specs.Lists.{number_in, kinds_in, AreInWords}
-use Rattle.kind_list.proofs.Digits.{length-kinds, middle, lowest, highest, join}
+use Rattle.kind_list.proofs.Digits.{middle, lowest, highest, join}
 use Rattle.kind_list.proofs.Chunks.{length-seen}
 use Rattle.kind_list.proofs.Numbers.{number_cut, number_in_last, number_in_next, last_small, number_bound, number_more}
 
@@ -32,7 +31,8 @@ pub stretch : (len from count : ℕ) (ws : List ℕ) (last : ℕ) (ks : List Kin
     → IsChunk count (number_in ws last / 2 ^ (2 * from) % 2 ^ (2 * count))
     × (kinds_of count (number_in ws last / 2 ^ (2 * from) % 2 ^ (2 * count)) ≡ take count (drop from ks))
 stretch len from count ws last ks in' is within few =
-    let m = middle len from count (number_in ws last) (omega (arith, length-seen len (number_in ws last) ks is)) in'.packed in
+    let m =
+    middle len from count (number_in ws last) (omega (arith, length-seen len (number_in ws last) ks is)) in'.packed in
     (record { few = few; packed = m.0 }, m.1 ∙ ap (λ (xs : List Kind). take count (drop from xs)) is)
 
 -- the last kinds, which are among those of the last word
@@ -49,7 +49,8 @@ last_stretch len count ws last ks in' is few =
     let same : n / 2 ^ (2 * from) ≡ last / 2 ^ s =
     ap (λ k. n / 2 ^ k) place
     ∙ (sym (shr-shr n p s)
-    ∙ ap (λ k. k / 2 ^ s) (ap (λ k. k / 2 ^ p) (number_more ws last in'.fits) ∙ shr_high last p (number_of ws) (number_bound ws))) in
+    ∙ ap (λ k. k / 2 ^ s) (ap (λ k. k / 2 ^ p) (number_more ws last in'.fits)
+    ∙ shr_high last p (number_of ws) (number_bound ws))) in
     let h = highest len count n (omega arith) in'.packed in
     let long : from ≡ length ks - count = omega (arith, length-seen len n ks is) in (
       record { few = omega arith; packed = subst (IsPacked count) same h.0 },
@@ -88,7 +89,8 @@ last_fits len ws last in' =
     let place : 2 * len ≡ 2 * (len % 32) + 64 * length ws = omega (arith, in'.full) in
     last_small ws last (2 * (len % 32)) in'.fits (rw place at in'.packed.fits)
 
-joined_number : (len count n bits m : ℕ) (ks ls : List Kind) → IsPacked len n → kinds_of len n ≡ ks → IsPacked count bits
+joined_number : (len count n bits m : ℕ) (ks ls : List Kind) → IsPacked len n → kinds_of len n ≡ ks
+    → IsPacked count bits
     → kinds_of count bits ≡ ls → m ≡ bits * 2 ^ (2 * len) + n
     → IsPacked (len + count) m × (kinds_of (len + count) m ≡ ks ++ ls)
 joined_number len count n bits m ks ls p is q also e =
@@ -107,7 +109,8 @@ pushed len count bits new ws last ks ls in' is chunk also few now fits =
     ap (number_in ws) now
     ∙ (number_in_last ws last bits s (2 * count) (last_fits len ws last in') chunk.packed.fits (omega arith)
     ∙ ap (λ n. bits * 2 ^ n + number_in ws last) place) in
-    let j = joined_number len count (number_in ws last) bits (number_in ws new) ks ls in'.packed is chunk.packed also number in
+    let j =
+    joined_number len count (number_in ws last) bits (number_in ws new) ks ls in'.packed is chunk.packed also number in
     (record { full = omega (arith, in'.full); fits = fits; packed = j.0 }, j.1)
 
 -- which fill the last word
@@ -126,8 +129,11 @@ pushed_word len count bits one two ws vs last ks ls in' is chunk also many first
     ∙ (ap (λ o. number_in (ws ++ o ∷ []) (bits / 2 ^ (64 - s))) first
     ∙ (number_in_next ws last bits s (last_fits len ws last in') bits_fit (omega arith)
     ∙ ap (λ n. bits * 2 ^ n + number_in ws last) place)) in
-    let j = joined_number len count (number_in ws last) bits (number_in vs two) ks ls in'.packed is chunk.packed also number in
-    (record { full = omega (arith, ap length now, length_push ws one, in'.full, chunk.few); fits = fits; packed = j.0 }, j.1)
+    let j =
+    joined_number len count (number_in ws last) bits (number_in vs two) ks ls in'.packed is chunk.packed also number in
+    let full : length vs ≡ (len + count) / 32 =
+    omega (arith, ap length now, length_push ws one, in'.full, chunk.few) in
+    (record { full = full; fits = fits; packed = j.0 }, j.1)
 
 pub same_word : (ws : List ℕ) (last place : ℕ) → place ≡ length ws → last ≡ get_or (ws ++ last ∷ []) place 0
 same_word ws last place is = sym (get_or_at ws last [] 0 place (sym is))
@@ -228,7 +234,8 @@ piece_is ks ls piece from place end same is more within =
 pub replaced : (len count bits new : ℕ) (ws : List ℕ) (last : ℕ) (ks ls : List Kind) → AreInWords len ws last
     → kinds_in len ws last ≡ ks → IsChunk (length ls) bits → kinds_of (length ls) bits ≡ ls → count ≤ len % 32
     → len % 32 + length ls < 32 + count
-    → new ≡ bits % 2 ^ (64 - 2 * (len % 32 - count)) * 2 ^ (2 * (len % 32 - count)) + last % 2 ^ (2 * (len % 32 - count))
+    → new ≡ bits % 2 ^ (64 - 2 * (len % 32 - count)) * 2 ^ (2 * (len % 32 - count)) +
+    last % 2 ^ (2 * (len % 32 - count))
     → new < 2 ^ 64
     → AreInWords ((len - count) + length ls) ws new
     × (kinds_in ((len - count) + length ls) ws new ≡ take (length ks - count) ks ++ ls)
@@ -249,33 +256,3 @@ replaced len count bits new ws last ks ls in' is chunk also few room now fits =
     (omega (arith, part, room))
     (now ∙ (λ i. bits % 2 ^ (64 - 2 * sym part i) * 2 ^ (2 * sym part i) + last % 2 ^ s)) fits in
     (p.0, p.1 ∙ ap (λ n. take n ks ++ ls) long)
-
--- ---- a list that is compared piece by piece
-
-pub too_long : (ks list piece rest : List Kind) (place : ℕ) → list ≡ piece ++ rest → place ≤ length ks
-    → length ks - place < length piece → drop place ks ≡ list → ⊥
-too_long ks list piece rest place is within few same =
-    omega (arith, ap length (same ∙ is), length-drop place ks, length-append piece rest)
-
-pub piece_found : (ks list piece rest : List Kind) (place : ℕ) → list ≡ piece ++ rest
-    → take (length piece) (drop place ks) ≡ piece → drop (place + length piece) ks ≡ rest → drop place ks ≡ list
-piece_found ks list piece rest place is here after =
-    sym (take-append-drop (length piece) (drop place ks))
-    ∙ ((λ i. here i ++ (drop-drop (length piece) place ks ∙ after) i) ∙ sym is)
-
-pub after_piece : (ks list piece rest : List Kind) (place : ℕ) → list ≡ piece ++ rest → drop place ks ≡ list
-    → drop (place + length piece) ks ≡ rest
-after_piece ks list piece rest place is same =
-    sym (drop-drop (length piece) place ks)
-    ∙ (ap (drop (length piece)) (same ∙ is) ∙ drop_at piece rest (length piece) refl)
-
-pub piece_here : (ks list piece rest : List Kind) (place : ℕ) → list ≡ piece ++ rest → drop place ks ≡ list
-    → take (length piece) (drop place ks) ≡ piece
-piece_here ks list piece rest place is same =
-    ap (take (length piece)) (same ∙ is) ∙ take_at piece rest (length piece) refl
-
-pub nothing_more : (ks list : List Kind) (place : ℕ) → list ≡ [] → place ≡ length ks → drop place ks ≡ list
-nothing_more ks list place none all = drop_all place ks (omega (arith, all)) ∙ sym none
-
-pub all_found : (ks list : List Kind) (place : ℕ) → list ≡ [] → place ≤ length ks → drop place ks ≡ list → place ≡ length ks
-all_found ks list place none within same = omega (arith, ap length (same ∙ none), length-drop place ks)

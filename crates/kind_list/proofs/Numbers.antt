@@ -1,6 +1,6 @@
 -- Stretches of bits of the number that words make.
 use Rattle.std.proofs.Common.{◌≡◌, ℕ, zero, suc, ◌+◌, ◌-◌, ◌*◌, ◌/◌, ◌%◌, ◌^◌, ◌<◌, ◌≤◌, List, [], ◌∷◌, ◌++◌, length}
-use Rattle.std.proofs.Common.{take, drop, get_or, refl, sym, ◌∙◌, ap, arith}
+use Rattle.std.proofs.Common.{take, drop, get_or, sym, ◌∙◌, ap, arith}
 use Rattle.std.specs.Prelude.{bit_or}
 use Rattle.std.proofs.Math.Nat.{mul_assoc, mul-add-mod_self_right, add-mul-div_right, mod-eq_of_lt, mul-mod_left}
 use Rattle.std.proofs.Math.Pow.{mod-mod-pow, pow_mono}
@@ -154,10 +154,12 @@ low_fits w s part = omega (arith, mod_below w (2 ^ s) (pow_pos s), pow_mono part
 pub number_bound : (ws : List ℕ) → number_of ws < 2 ^ (64 * length ws)
 number_bound ws =
     let n = number_of ws in
-    let whole : n % 2 ^ (64 * length ws) ≡ n = number_take (length ws) ws ∙ ap number_of (take_all (length ws) ws (omega arith)) in
+    let whole : n % 2 ^ (64 * length ws) ≡ n =
+    number_take (length ws) ws ∙ ap number_of (take_all (length ws) ws (omega arith)) in
     omega (arith, whole, mod_below n (2 ^ (64 * length ws)) (pow_pos (64 * length ws)))
 
-pub number_more : (ws : List ℕ) (z : ℕ) → z < 2 ^ 64 → number_of (ws ++ z ∷ []) ≡ z * 2 ^ (64 * length ws) + number_of ws
+pub number_more : (ws : List ℕ) (z : ℕ) → z < 2 ^ 64
+    → number_of (ws ++ z ∷ []) ≡ z * 2 ^ (64 * length ws) + number_of ws
 unfolding number_of
 number_more [] z small = omega (arith, mod-eq_of_lt small)
 number_more (w ∷ ws) z small =
@@ -204,11 +206,13 @@ made_fits bits w s part low =
     let a = bits % 2 ^ (64 - s) in
     let small : a < 2 ^ (64 - s) = mod_below bits (2 ^ (64 - s)) (pow_pos (64 - s)) in
     let bound : a * 2 ^ s + w < 2 ^ s * 2 ^ (64 - s) = mul-add-lt a (2 ^ s) w (2 ^ (64 - s)) small low in
-    let all : 2 ^ s * 2 ^ (64 - s) ≡ 2 ^ 64 = sym (pow-add 2 s (64 - s)) ∙ ap (λ n. 2 ^ n) (let e : s + (64 - s) ≡ 64 = omega arith in e) in
+    let all : 2 ^ s * 2 ^ (64 - s) ≡ 2 ^ 64 =
+    sym (pow-add 2 s (64 - s)) ∙ ap (λ n. 2 ^ n) (let e : s + (64 - s) ≡ 64 = omega arith in e) in
     omega (arith, bound, all)
 
 -- the low bits of what follows words
-pub last_small : (ws : List ℕ) (last s : ℕ) → last < 2 ^ 64 → number_of (ws ++ last ∷ []) < 2 ^ (s + 64 * length ws) → last < 2 ^ s
+pub last_small : (ws : List ℕ) (last s : ℕ) → last < 2 ^ 64
+    → number_of (ws ++ last ∷ []) < 2 ^ (s + 64 * length ws) → last < 2 ^ s
 last_small ws last s small fits =
     let p = 64 * length ws in
     let is : number_of (ws ++ last ∷ []) / 2 ^ p ≡ last =
@@ -250,7 +254,8 @@ number_in_next ws last bits s low fits part =
     number_more (ws ++ one ∷ []) two two_fits
     ∙ ((λ i. two * 2 ^ next i + number_more ws one (made_fits bits last s part low) i)
     ∙ (ap (λ n. two * n + (one * 2 ^ p + number_of ws)) (pow-add 2 64 p)
-    ∙ ((let e : two * (2 ^ 64 * 2 ^ p) + (one * 2 ^ p + number_of ws) ≡ (two * 2 ^ 64 + one) * 2 ^ p + number_of ws = omega arith in e)
+    ∙ ((let e : two * (2 ^ 64 * 2 ^ p) + (one * 2 ^ p + number_of ws) ≡ (two * 2 ^ 64 + one) * 2 ^ p + number_of ws =
+    omega arith in e)
     ∙ (ap (λ n. n * 2 ^ p + number_of ws) (ap (λ n. two * 2 ^ n + one) whole ∙ joined bits k s last)
     ∙ (spread bits last s p (number_of ws)
     ∙ ap (λ n. bits * 2 ^ (s + p) + n) (sym (number_more ws last last_fits)))))))

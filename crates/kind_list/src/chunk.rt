@@ -39,7 +39,26 @@ fn digit_of(kind: Kind) -> u64
 
 /// The digits of the kinds, that of the first lowest.
 #[inline(always)]
+#[tactic(auto, unfolding(crate::specs::Packed::packed))]
 fn packed(kinds: &[Kind]) -> u64
+    requires { length kinds.now ≤ 32 }
+    ensures is { result ≡ packed kinds.now }
+    ensures fits { result < 2 ^ (2 * length kinds.now) }
+{
+    match kinds {
+        [] => 0,
+        [first] => digit_of(*first),
+        [first, second] => digit_of(*second) * 4 + digit_of(*first),
+        [first, second, third] => {
+            (digit_of(*third) * 4 + digit_of(*second)) * 4 + digit_of(*first)
+        }
+        _ => packed_many(kinds),
+    }
+}
+
+/// The same of any kinds. Few instructions have more than three.
+#[inline(never)]
+fn packed_many(kinds: &[Kind]) -> u64
     requires { length kinds.now ≤ 32 }
     ensures is { result ≡ packed kinds.now }
     ensures fits { result < 2 ^ (2 * length kinds.now) }
@@ -132,6 +151,19 @@ impl Chunk {
         Chunk {
             digits: joined(self.digits, self.len, other.digits, other.len),
             len: self.len + other.len,
+        }
+    }
+
+    /// The first `count` kinds.
+    #[inline(always)]
+    pub fn first(&self, count: usize) -> Chunk
+        requires few { count < 32 }
+        requires within { count ≤ length self.now }
+        ensures { result ≡ take count self.now }
+    {
+        Chunk {
+            digits: digits_below(self.digits, count),
+            len: count,
         }
     }
 

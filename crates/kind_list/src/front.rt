@@ -1,4 +1,4 @@
-ghost use Rattle.std.specs.Prelude.{◌≡◌, ◌<◌, ◌≤◌, ◌++◌, ◌↔◌, [], length, drop, IsTrue, IfSome, OnOk, OnErr, MatchOption};
+ghost use Rattle.std.specs.Prelude.{◌≡◌, ◌<◌, ◌++◌, [], length, IfSome, OnOk, OnErr, MatchOption};
 
 use crate::chunk::Chunk;
 use crate::full::FullChunk;
@@ -69,26 +69,8 @@ impl<A: Allocator> FrontList<A> {
         ensures { OnOk result (kinds.new ≡ kinds.old ++ self) }
     {
         while let Some(chunk) = self.take_front() {
-            kinds.push_chunk(&chunk)?;
+            kinds.push_mostly_full(&chunk)?;
         }
         Ok(())
-    }
-
-    /// Whether the kinds of another list, from a place on, are those of this.
-    pub fn is_end_of(mut self, kinds: &KindList<A>, from: usize) -> bool
-        requires { from ≤ length kinds.now }
-        ensures { IsTrue result ↔ (drop from kinds.now ≡ self) }
-    {
-        let mut place = from;
-        while let Some(chunk) = self.take_front() {
-            if kinds.len() - place < chunk.len() {
-                return false;
-            }
-            if !kinds.has_chunk_at(place, &chunk) {
-                return false;
-            }
-            place += chunk.len();
-        }
-        place == kinds.len()
     }
 }

@@ -1,4 +1,5 @@
-ghost use Rattle.std.specs.Prelude.{◌≡◌, ◌+◌, ◌<◌, ◌≤◌, ◌++◌, ◌-◌, ◌%◌, ◌↔◌, [], length, take, drop, IsTrue, IfOk, OnOk, OnErr};
+ghost use Rattle.std.specs.Prelude.{◌≡◌, ◌+◌, ◌<◌, ◌≤◌, ◌++◌, ◌-◌, ◌%◌, ◌↔◌};
+ghost use Rattle.std.specs.Prelude.{[], length, take, drop, IsTrue, IfOk, OnOk, OnErr};
 
 use crate::bits::{WORD_DIGITS, digits_at, digits_below, high_word, low_word, word_at};
 use crate::chunk::Chunk;
@@ -143,6 +144,32 @@ impl<A: Allocator> KindList<A> {
         true
     }
 
+    /// Whether these are the kinds of a slice.
+    pub fn equals(&self, kinds: &[Kind]) -> bool
+        ensures { IsTrue result ↔ (self.now ≡ kinds.now) }
+    {
+        self.len() == kinds.len() && self.has_at(0, kinds)
+    }
+
+    /// Whether the kinds from a place on are those of another list.
+    pub fn ends_with_list(&self, from: usize, other: &KindList<A>) -> bool
+        requires { from ≤ length self.now }
+        ensures { IsTrue result ↔ (drop from self.now ≡ other.now) }
+    {
+        if self.len() - from != other.len() {
+            return false;
+        }
+        let mut place = 0;
+        while place < other.len() {
+            let step = WORD_DIGITS.min(other.len() - place);
+            if !self.has_chunk_at(from + place, &other.chunk(place, step)) {
+                return false;
+            }
+            place += step;
+        }
+        true
+    }
+
     /// The last kinds: at most 32.
     #[inline(always)]
     pub fn last_chunk(&self, count: usize) -> Chunk
@@ -171,10 +198,20 @@ impl<A: Allocator> KindList<A> {
             self.len += count;
             return Ok(());
         }
+        self.push_over(chunk)
+    }
+
+    #[inline(never)]
+    fn push_over(&mut self, chunk: &Chunk) -> Result<(), AllocError>
+        requires { 32 ≤ length self.old % 32 + length chunk.now }
+        ensures pushed { OnOk result (self.new ≡ self.old ++ chunk.now) }
+        ensures unchanged { OnErr result (self.new ≡ self.old) }
+    {
         self.push_word(chunk)
     }
 
-    /// The same, if a word is filled.
+    /// Adds the kinds of a chunk at the end, if they fill a word.
+    #[inline(always)]
     fn push_word(&mut self, chunk: &Chunk) -> Result<(), AllocError>
         requires { 32 ≤ length self.old % 32 + length chunk.now }
         ensures pushed { OnOk result (self.new ≡ self.old ++ chunk.now) }
@@ -225,42 +262,78 @@ impl<A: Allocator> KindList<A> {
         Ok(())
     }
 
-    /// Takes off the last `count` kinds, and adds these at the end. If memory is refused, kinds after the rest are lost.
+    /// Whether the last kinds are these. If they are, others take their place. If memory is refused, kinds after the
+    /// rest are lost.
     #[inline(always)]
-    pub fn replace_end(&mut self, count: usize, kinds: &[Kind]) -> Result<(), AllocError>
-        requires { count ≤ length self.old }
-        ensures replaced { OnOk result (self.new ≡ take (length self.old - count) self.old ++ kinds.now) }
-        ensures below { OnErr result (take (length self.old - count) self.new ≡ take (length self.old - count) self.old) }
+    pub fn replace_end(&mut self, kinds: &[Kind], others: &[Kind]) -> Result<bool, AllocError>
+        ensures same { IfOk result (λ same. IsTrue same
+            ↔ (drop (length self.old - length kinds.now) self.old ≡ kinds.now)) }
+        ensures replaced { IfOk result (λ same. IsTrue same
+            → self.new ≡ take (length self.old - length kinds.now) self.old ++ others.now) }
+        ensures below { take (length self.old - length kinds.now) self.new
+            ≡ take (length self.old - length kinds.now) self.old }
     {
-        let rest = self.len % WORD_DIGITS;
-        if count <= rest && rest + kinds.len() < WORD_DIGITS + count {
-            self.replace_in_word(count, kinds);
-            return Ok(());
+        let count = kinds.len();
+        if count <= self.len() % WORD_DIGITS
+            && others.len() <= count
+            && self.last_chunk(count).equals(&Chunk::new(kinds))
+        {
+            self.replace_in_word(count, &Chunk::new(others));
+            return Ok(true);
         }
-        self.replace_many(count, kinds)
+        self.replace_many(kinds, others)
     }
 
-    /// The same, if no word is filled and none but the last changes.
+    /// Takes off the last `count` kinds, and adds those of a chunk, if no word is filled and none but the last changes.
     #[inline(always)]
-    fn replace_in_word(&mut self, count: usize, kinds: &[Kind])
+    fn replace_in_word(&mut self, count: usize, chunk: &Chunk)
         requires few { count ≤ length self.old % 32 }
-        requires room { length self.old % 32 + length kinds.now < 32 + count }
-        ensures { self.new ≡ take (length self.old - count) self.old ++ kinds.now }
+        requires room { length self.old % 32 + length chunk.now < 32 + count }
+        ensures { self.new ≡ take (length self.old - count) self.old ++ chunk.now }
     {
         let rest = self.len % WORD_DIGITS - count;
-        let chunk = Chunk::new(kinds);
         self.last = low_word(digits_below(self.last, rest), rest, chunk.digits());
-        self.len = self.len - count + kinds.len();
+        self.len = self.len - count + chunk.len();
     }
 
     #[inline(never)]
-    fn replace_many(&mut self, count: usize, kinds: &[Kind]) -> Result<(), AllocError>
-        requires { count ≤ length self.old }
-        ensures replaced { OnOk result (self.new ≡ take (length self.old - count) self.old ++ kinds.now) }
-        ensures below { OnErr result (take (length self.old - count) self.new ≡ take (length self.old - count) self.old) }
+    fn replace_many(&mut self, kinds: &[Kind], others: &[Kind]) -> Result<bool, AllocError>
+        ensures same { IfOk result (λ same. IsTrue same
+            ↔ (drop (length self.old - length kinds.now) self.old ≡ kinds.now)) }
+        ensures replaced { IfOk result (λ same. IsTrue same
+            → self.new ≡ take (length self.old - length kinds.now) self.old ++ others.now) }
+        ensures below { take (length self.old - length kinds.now) self.new
+            ≡ take (length self.old - length kinds.now) self.old }
     {
-        self.truncate(self.len() - count);
-        self.extend_from_slice(kinds)
+        if self.len() < kinds.len() || !self.ends_with(kinds) {
+            return Ok(false);
+        }
+        self.truncate(self.len() - kinds.len());
+        self.extend_from_slice(others)?;
+        Ok(true)
+    }
+
+    /// Adds the kinds of a chunk, which are 32, at the end.
+    #[inline(always)]
+    fn push_full(&mut self, chunk: &Chunk) -> Result<(), AllocError>
+        requires { length chunk.now ≡ 32 }
+        ensures pushed { OnOk result (self.new ≡ self.old ++ chunk.now) }
+        ensures unchanged { OnErr result (self.new ≡ self.old) }
+    {
+        self.push_word(chunk)
+    }
+
+    /// Adds the kinds of a chunk at the end, in few steps if they are 32.
+    #[inline(always)]
+    pub(crate) fn push_mostly_full(&mut self, chunk: &Chunk) -> Result<(), AllocError>
+        ensures pushed { OnOk result (self.new ≡ self.old ++ chunk.now) }
+        ensures unchanged { OnErr result (self.new ≡ self.old) }
+    {
+        if chunk.len() == WORD_DIGITS {
+            self.push_full(chunk)
+        } else {
+            self.push_chunk(chunk)
+        }
     }
 
     /// Adds the `count` kinds from a place of another list on at the end.
@@ -278,18 +351,26 @@ impl<A: Allocator> KindList<A> {
         let len = self.len();
         let _available = other.len();
         let mut place = 0;
-        while place < count {
-            let step = WORD_DIGITS.min(count - place);
-            match self.push_chunk(&other.chunk(from + place, step)) {
+        while count - place >= WORD_DIGITS {
+            match self.push_full(&other.chunk(from + place, WORD_DIGITS)) {
                 Ok(()) => {}
                 Err(refused) => {
                     self.truncate(len);
                     return Err(refused);
                 }
             }
-            place += step;
+            place += WORD_DIGITS;
         }
-        Ok(())
+        if place == count {
+            return Ok(());
+        }
+        match self.push_chunk(&other.chunk(from + place, count - place)) {
+            Ok(()) => Ok(()),
+            Err(refused) => {
+                self.truncate(len);
+                Err(refused)
+            }
+        }
     }
 
     /// Adds the `count` kinds from a place on at the end once more.
@@ -299,13 +380,30 @@ impl<A: Allocator> KindList<A> {
         ensures added { OnOk result (self.new ≡ self.old ++ take count (drop from self.old)) }
         ensures unchanged { OnErr result (self.new ≡ self.old) }
     {
-        if count == 0 {
-            Ok(())
-        } else if count <= WORD_DIGITS {
+        let rest = self.len() % WORD_DIGITS;
+        let above = self.len() - from;
+        if above <= rest && rest + count < WORD_DIGITS {
+            let chunk = self.last_chunk(above).first(count);
+            return self.push_chunk(&chunk);
+        }
+        self.repeat_many(from, count)
+    }
+
+    /// The same of at least 1, and at most 32.
+    #[inline(always)]
+    fn repeat_chunk(&mut self, from: usize, count: usize) -> Result<(), AllocError>
+        requires some { 0 < count }
+        requires few { count ≤ 32 }
+        requires within { from + count ≤ length self.old }
+        ensures added { OnOk result (self.new ≡ self.old ++ take count (drop from self.old)) }
+        ensures unchanged { OnErr result (self.new ≡ self.old) }
+    {
+        if count == WORD_DIGITS {
+            let chunk = self.chunk(from, WORD_DIGITS);
+            self.push_full(&chunk)
+        } else {
             let chunk = self.chunk(from, count);
             self.push_chunk(&chunk)
-        } else {
-            self.repeat_many(from, count)
         }
     }
 
@@ -319,8 +417,7 @@ impl<A: Allocator> KindList<A> {
         let mut place = 0;
         while place < count {
             let step = WORD_DIGITS.min(count - place);
-            let chunk = self.chunk(from + place, step);
-            match self.push_chunk(&chunk) {
+            match self.repeat_chunk(from + place, step) {
                 Ok(()) => {}
                 Err(refused) => {
                     self.truncate(len);
@@ -342,10 +439,21 @@ impl<A: Allocator + Clone> KindList<A> {
         ensures below { OnErr result (take from self.new ≡ take from self.old) }
     {
         let above = self.len() - (from + count);
-        if above == 0 {
-            self.truncate(from);
+        if above + count <= self.len() % WORD_DIGITS {
+            let top = self.last_chunk(above);
+            self.replace_in_word(above + count, &top);
             return Ok(());
         }
+        self.remove_many(from, count)
+    }
+
+    #[inline(never)]
+    fn remove_many(&mut self, from: usize, count: usize) -> Result<(), AllocError>
+        requires { from + count ≤ length self.old }
+        ensures removed { OnOk result (self.new ≡ take from self.old ++ drop (from + count) self.old) }
+        ensures below { OnErr result (take from self.new ≡ take from self.old) }
+    {
+        let above = self.len() - (from + count);
         if above <= WORD_DIGITS {
             let top = self.last_chunk(above);
             self.truncate(from);
@@ -380,22 +488,32 @@ impl<A: Allocator + Clone> KindList<A> {
         if count == 0 || above == count {
             return Ok(());
         }
-        if above <= WORD_DIGITS {
+        if above <= self.len() % WORD_DIGITS {
             let top = self.last_chunk(above).rotated(count);
-            self.truncate(from);
-            return self.push_chunk(&top);
+            self.replace_in_word(above, &top);
+            return Ok(());
         }
         self.move_many_to_end(from, count)
     }
 
     #[inline(never)]
     fn move_many_to_end(&mut self, from: usize, count: usize) -> Result<(), AllocError>
-        requires { from + count ≤ length self.old }
+        requires some { 0 < count }
+        requires within { from + count < length self.old }
         ensures moved { OnOk result (self.new ≡ take from self.old
             ++ (drop count (drop from self.old) ++ take count (drop from self.old))) }
         ensures below { OnErr result (take from self.new ≡ take from self.old) }
     {
-        self.repeat_range(from, count)?;
-        self.remove_range(from, count)
+        let above = self.len() - from;
+        if above <= WORD_DIGITS {
+            let top = self.last_chunk(above).rotated(count);
+            self.truncate(from);
+            return self.push_chunk(&top);
+        }
+        let mut top = KindList::new(self.allocator().clone()?);
+        top.append_range(self, from + count, above - count)?;
+        top.append_range(self, from, count)?;
+        self.truncate(from);
+        self.append_range(&top, 0, above)
     }
 }

@@ -21,7 +21,8 @@ arrow_at signatures program fs i f h same lt is =
     ((takes, gives), ap (λ (g : Function). kinds_of signatures g.name) is ∙ signature)
 
 -- an answer that is none only if there is no signature
-pub is_known : {T : Type 0} (o : Option T) (P : T → Type 0) (known : Option FunctionType) → MatchOption o (known ≡ None) P
+pub is_known : {T : Type 0} (o : Option T) (P : T → Type 0) (known : Option FunctionType)
+    → MatchOption o (known ≡ None) P
     → ((arrow : FunctionType) × (known ≡ Some arrow)) → IsSome o
 is_known None P known h k = absurd (let e : Some k.0 ≡ None = sym k.1 ∙ h in cc)
 is_known (Some x) P known h k = refl

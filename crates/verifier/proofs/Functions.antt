@@ -51,7 +51,8 @@ pub some_line : (f : Function) → 1 ≤ length (lines_of f)
 some_line f = (own_lines f (instruction_line Return 0)).some
 
 -- the number of the last line
-pub last_number : (f : Function) (n : ℕ) (x : CodeLine) → n ≡ length (lines_of f) → slice_get (lines_of f) (n - 1) ≡ Some x
+pub last_number : (f : Function) (n : ℕ) (x : CodeLine) → n ≡ length (lines_of f)
+    → slice_get (lines_of f) (n - 1) ≡ Some x
     → x.number ≡ f.ret
 last_number f n x e h =
     let at : length (lines_of f) - 1 ≡ n - 1 = ap (λ z. z - 1) (sym e) in

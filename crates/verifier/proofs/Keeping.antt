@@ -1,20 +1,22 @@
 -- Lists that are kept for open IFs, as the stack below them changes.
-use Rattle.std.proofs.Common.{◌≡◌, ◌∙◌, ℕ, ◌+◌, ◌-◌, ◌≤◌, true, false, ◌&&◌, refl, sym, ap, arith, subst, Ok}
+use Rattle.std.proofs.Common.{◌≡◌, ◌∙◌, ℕ, ◌+◌, ◌-◌, ◌≤◌, Bool, true}
+use Rattle.std.proofs.Common.{false, refl, sym, ap, arith, subst, Result, Ok, Err}
 use Rattle.std.proofs.Common.{List, [], ◌∷◌, ◌++◌, length, take, drop, reverse, append_assoc, zero, suc}
-use Rattle.std.proofs.Common.{take-append-drop}
-use Rattle.std.specs.Prelude.{nat_lt}
+use Rattle.std.proofs.Common.{take-append-drop, get_or}
+use Rattle.std.specs.Prelude.{nat_lt, ◌↔◌, IsTrue, IfOk}
 use Rattle.std.proofs.lemmas.List.{take-append-le, length-drop}
-use Rattle.std.proofs.lemmas.List.{length-take-le, reverse-append, take_all, take-take}
+use Rattle.std.proofs.lemmas.List.{length-take-le, reverse-append, take-take}
+use Rattle.std.proofs.lemmas.List.{drop-take, drop-append-le, drop_all, drop_more}
 use Rattle.std.proofs.lemmas.Bool.Decides.{nat_tests}
 use Rattle.vcode_base.specs.declared.kind.Kind.{Kind}
-use Rattle.vcode_base.specs.declared.kind.Kind.TheVariants as kind
 use Rattle.vcode_base.specs.declared.op.StackMove.{StackMove}
 use Rattle.vcode_base.specs.declared.op.StackMove.TheVariants.{Copy}
-use Rattle.vcode_base.specs.Kinds.{is_same_kind, are_same_kinds}
-use Rattle.verifier.specs.First.{count_below, stack_with_move, stack_after_move}
-use Rattle.verifier.specs.Kept.{KeptList, whole_list, whole_lists, AreShared, SharesAtMost}
+use Rattle.vcode_base.specs.Kinds.{are_same_kinds}
+use Rattle.verifier.specs.First.{count_below, stack_with_move, stack_after_move, stack_after_arrow}
+use Rattle.verifier.specs.Kept.{SharedList, whole_list, OpenIf, begin_list}
+use Rattle.verifier.specs.Kept.{kept_list, kept_lists, AreShared, SharesAtMost}
 use Rattle.verifier.specs.Walk.{State, is_kept_last, others_of, state_after_else, state_with}
-use Rattle.verifier.proofs.SameKinds.{are_same_kinds-Decides}
+use Rattle.verifier.proofs.SameKinds.{same_by_decides, are_same_kinds-Decides}
 
 abbrev pub state_of : List Kind → List (List Kind) → State
 state_of ks kept = record { kinds = ks; kept = kept }
@@ -29,252 +31,354 @@ take_within zero zs = omega arith
 take_within (suc k) [] = omega arith
 take_within (suc k) (z ∷ zs) = let fewer = take_within k zs in omega arith
 
-long_enough : (k : ℕ) (ks zs : List Kind) → k ≤ length ks → take k zs ≡ take k ks → k ≤ length zs
+pub long_enough : (k : ℕ) (ks zs : List Kind) → k ≤ length ks → take k zs ≡ take k ks → k ≤ length zs
 long_enough k ks zs enough same =
     let long : length (take k zs) ≡ length (take k ks) = ap length same in
     omega (arith, long, length-take-le k ks enough, take_within k zs)
 
--- the lists see no change above the entries that the first of them shares
-pub unseen : (ks zs : List Kind) (n : ℕ) (ls : List KeptList) → SharesAtMost n ls → take n zs ≡ take n ks
-    → AreShared ks ls → (whole_lists zs ls ≡ whole_lists ks ls) × AreShared zs ls
+-- the IFs see no change above the entries that the first of them shares
+pub unseen : (ks zs : List Kind) (n : ℕ) (os : List OpenIf) → SharesAtMost n os → take n zs ≡ take n ks
+    → AreShared ks os → (kept_lists zs os ≡ kept_lists ks os) × AreShared zs os
 unseen ks zs n [] few same shared = (refl, tt)
-unseen ks zs n (l ∷ ls) few same shared =
-    let front = same_front l.shared n ks zs few same in
-    let whole : whole_list zs l ≡ whole_list ks l = ap (λ f. f ++ l.above) front in (
-      ap (λ w. w ∷ whole_lists w ls) whole,
-      (long_enough l.shared ks zs shared.0 front, subst (λ (w : List Kind). AreShared w ls) (sym whole) shared.1),
+unseen ks zs n (o ∷ os) few same shared =
+    let front = same_front o.begin.shared n ks zs few same in
+    let whole : begin_list zs o ≡ begin_list ks o = ap (λ f. f ++ o.begin.above) front in (
+      ap (λ w. whole_list w o.kept ∷ kept_lists w os) whole,
+      (
+        long_enough o.begin.shared ks zs shared.0 front,
+        subst (λ (w : List Kind). AreShared w os) (sym whole) shared.1,
+      ),
     )
 
-pub shares_all : (ks : List Kind) (ls : List KeptList) → AreShared ks ls → SharesAtMost (length ks) ls
+shares_all : (ks : List Kind) (os : List OpenIf) → AreShared ks os → SharesAtMost (length ks) os
 shares_all ks [] shared = tt
-shares_all ks (l ∷ ls) shared = shared.0
+shares_all ks (o ∷ os) shared = shared.0
 
 -- entries on top
-pub on_top : (ks xs : List Kind) (ls : List KeptList) → AreShared ks ls
-    → (whole_lists (ks ++ xs) ls ≡ whole_lists ks ls) × AreShared (ks ++ xs) ls
-on_top ks xs ls shared =
-    unseen ks (ks ++ xs) (length ks) ls (shares_all ks ls shared)
+pub on_top : (ks xs : List Kind) (os : List OpenIf) → AreShared ks os
+    → (kept_lists (ks ++ xs) os ≡ kept_lists ks os) × AreShared (ks ++ xs) os
+on_top ks xs os shared =
+    unseen ks (ks ++ xs) (length ks) os (shares_all ks os shared)
     (take-append-le (length ks) ks xs (omega arith)) shared
 
--- the entries above a place are gone
-pub without_top : (ks : List Kind) (n : ℕ) (ls : List KeptList) → SharesAtMost n ls → AreShared ks ls
-    → (whole_lists (take n ks) ls ≡ whole_lists ks ls) × AreShared (take n ks) ls
-without_top ks n ls few shared = unseen ks (take n ks) n ls few (take-take n n ks (omega arith)) shared
+-- the lowest entries of a list are those that it shares
+front_of_whole : (ks : List Kind) (list : SharedList) (n : ℕ) → n ≤ list.shared → n ≤ length ks
+    → take n (whole_list ks list) ≡ take n ks
+front_of_whole ks list n few within =
+    let low = take-take n list.shared ks few in
+    take-append-le n (take list.shared ks) list.above (long_enough n ks (take list.shared ks) within low) ∙ low
 
--- other entries lie above a place
-pub other_top : (ks xs : List Kind) (n : ℕ) (ls : List KeptList) → n ≤ length ks → SharesAtMost n ls → AreShared ks ls
-    → (whole_lists (take n ks ++ xs) ls ≡ whole_lists ks ls) × AreShared (take n ks ++ xs) ls
-other_top ks xs n ls within few shared =
-    let long = length-take-le n ks within in
-    unseen ks (take n ks ++ xs) n ls few
-    (take-append-le n (take n ks) xs (omega (arith, long)) ∙ take-take n n ks (omega arith)) shared
+-- the entries become those of a list that shares some of them
+pub other_top : (ks : List Kind) (list : SharedList) (os : List OpenIf) → SharesAtMost list.shared os → AreShared ks os
+    → (kept_lists (whole_list ks list) os ≡ kept_lists ks os) × AreShared (whole_list ks list) os
+other_top ks list [] few shared = (refl, tt)
+other_top ks list (o ∷ os) few shared =
+    unseen ks (whole_list ks list) o.begin.shared (o ∷ os) (omega arith)
+    (front_of_whole ks list o.begin.shared few shared.0) shared
 
--- ---- the first list takes entries over
+-- ---- the list with which an IF began
 
-first_of : (rest : List KeptList) (l : KeptList) → reverse (rest ++ l ∷ []) ≡ l ∷ reverse rest
-first_of rest l = reverse-append rest (l ∷ [])
+-- the next entries that are taken over
+takes_over : (ks above : List Kind) (place count : ℕ)
+    → take place ks ++ (take count (drop place ks) ++ above) ≡ take (place + count) ks ++ above
+takes_over ks above place count =
+    let front = take (place + count) ks in
+    let low : take place front ≡ take place ks = take-take place (place + count) ks (omega arith) in
+    let high : drop place front ≡ take count (drop place ks) = drop-take place count ks in
+    sym (append_assoc (take place ks) (take count (drop place ks)) above)
+    ∙ ap (λ (zs : List Kind). zs ++ above)
+    (sym (λ i. low i ++ high i) ∙ take-append-drop place front)
 
-pub first_shares : (ks : List Kind) (items rest : List KeptList) (l : KeptList) → items ≡ rest ++ l ∷ []
-    → AreShared ks (reverse items) → l.shared ≤ length ks
-first_shares ks items rest l is shared =
-    let all = subst (λ (ls : List KeptList). AreShared ks ls) (ap reverse is ∙ first_of rest l) shared in all.0
+pub taken_over : (ks chunk above now : List Kind) (s : ℕ) (old : SharedList)
+    → record { shared = s; above = above } ≡ old → 32 ≤ s → chunk ≡ take 32 (drop (s - 32) ks) → now ≡ chunk ++ above
+    → take (s - 32) ks ++ now ≡ whole_list ks old
+taken_over ks chunk above now s old is enough piece e =
+    let back : s - 32 + 32 ≡ s = omega arith in
+    ap (λ (zs : List Kind). take (s - 32) ks ++ zs) (e ∙ ap (λ (zs : List Kind). zs ++ above) piece)
+    ∙ (takes_over ks above (s - 32) 32
+    ∙ (ap (λ n. take n ks ++ above) back ∙ ap (whole_list ks) is))
 
-pub first_takes : (ks : List Kind) (items rest news : List KeptList) (old new : KeptList) → items ≡ rest ++ old ∷ []
-    → news ≡ rest ++ new ∷ [] → AreShared ks (reverse items) → whole_list ks new ≡ whole_list ks old
-    → new.shared ≤ old.shared
-    → (whole_lists ks (reverse news) ≡ whole_lists ks (reverse items)) × AreShared ks (reverse news)
-first_takes ks items rest news old new is now shared same fewer =
+-- ---- the first IF takes entries over
+
+ends_with_last : (items : List OpenIf) (o : OpenIf) → 1 ≤ length items → o ≡ get_or items (length items - 1) o
+    → items ≡ take (length items - 1) items ++ o ∷ []
+ends_with_last items o some is =
+    let n = length items - 1 in
+    let none : drop (n + 1) items ≡ [] = drop_all (n + 1) items (omega arith) in
+    sym (take-append-drop n items)
+    ∙ ap (λ (zs : List OpenIf). take n items ++ zs) (drop_more items n o (omega arith) ∙ (λ i. sym is i ∷ none i))
+
+first_of : (rest : List OpenIf) (o : OpenIf) → reverse (rest ++ o ∷ []) ≡ o ∷ reverse rest
+first_of rest o = reverse-append rest (o ∷ [])
+
+pub first_shares_at_most : (count : ℕ) (items seen ifs : List OpenIf) (o : OpenIf) → seen ≡ items
+    → reverse items ≡ ifs → 1 ≤ length seen → o ≡ get_or seen (length seen - 1) o
+    → (o.begin.shared ≤ count) ↔ SharesAtMost count ifs
+first_shares_at_most count items seen ifs o shown is some last =
+    let rest = take (length seen - 1) seen in
+    let e : ifs ≡ o ∷ reverse rest =
+    sym is ∙ (ap reverse (sym shown ∙ ends_with_last seen o some last) ∙ first_of rest o) in
+    (λ few. subst (SharesAtMost count) (sym e) few, λ few. subst (SharesAtMost count) e few)
+
+pub first_shares : (ks : List Kind) (items rest : List OpenIf) (o : OpenIf) → items ≡ rest ++ o ∷ []
+    → AreShared ks (reverse items) → o.begin.shared ≤ length ks
+first_shares ks items rest o is shared =
+    let all = subst (λ (os : List OpenIf). AreShared ks os) (ap reverse is ∙ first_of rest o) shared in all.0
+
+pub first_takes : (ks : List Kind) (items rest news : List OpenIf) (old new : OpenIf) → items ≡ rest ++ old ∷ []
+    → news ≡ rest ++ new ∷ [] → AreShared ks (reverse items) → begin_list ks new ≡ begin_list ks old
+    → new.kept ≡ old.kept → new.begin.shared ≤ old.begin.shared
+    → (kept_lists ks (reverse news) ≡ kept_lists ks (reverse items)) × AreShared ks (reverse news)
+first_takes ks items rest news old new is now shared same kept fewer =
     let rs = reverse rest in
     let before : reverse items ≡ old ∷ rs = ap reverse is ∙ first_of rest old in
     let after : reverse news ≡ new ∷ rs = ap reverse now ∙ first_of rest new in
-    let had : AreShared ks (old ∷ rs) = subst (λ (ls : List KeptList). AreShared ks ls) before shared in
+    let had : AreShared ks (old ∷ rs) = subst (λ (os : List OpenIf). AreShared ks os) before shared in
     let enough = had.0 in
     let has : AreShared ks (new ∷ rs) =
     (omega (arith, enough, fewer), subst (λ (w : List Kind). AreShared w rs) (sym same) had.1) in (
-      ap (whole_lists ks) after ∙ (ap (λ w. w ∷ whole_lists w rs) same ∙ ap (whole_lists ks) (sym before)),
-      subst (λ (ls : List KeptList). AreShared ks ls) (sym after) has,
+      ap (kept_lists ks) after
+          ∙ ((λ i. whole_list (same i) (kept i) ∷ kept_lists (same i) rs) ∙ ap (kept_lists ks) (sym before)),
+      subst (λ (os : List OpenIf). AreShared ks os) (sym after) has,
     )
 
-pub first_below : (len : ℕ) (rest news : List KeptList) (new : KeptList) → news ≡ rest ++ new ∷ [] → new.shared ≤ len
-    → SharesAtMost len (reverse news)
+pub first_below : (len : ℕ) (rest news : List OpenIf) (new : OpenIf) → news ≡ rest ++ new ∷ []
+    → new.begin.shared ≤ len → SharesAtMost len (reverse news)
 first_below len rest news new now few =
-    subst (λ (ls : List KeptList). SharesAtMost len ls) (sym (ap reverse now ∙ first_of rest new)) few
+    subst (λ (os : List OpenIf). SharesAtMost len os) (sym (ap reverse now ∙ first_of rest new)) few
+
+-- ---- an IF begins
+
+-- an IF that began with these entries, inside the others
+pub begun_shared : (ks : List Kind) (o : OpenIf) (os : List OpenIf) → begin_list ks o ≡ ks → o.begin.shared ≤ length ks
+    → AreShared ks os → AreShared ks (o ∷ os)
+begun_shared ks o os begin within shared = (within, subst (λ (w : List Kind). AreShared w os) (sym begin) shared)
+
+pub begun_kept : (ks kept : List Kind) (list : SharedList) (o : OpenIf) (os : List OpenIf) → begin_list ks o ≡ ks
+    → o.kept ≡ list → whole_list ks list ≡ kept → kept_lists ks (o ∷ os) ≡ kept ∷ kept_lists ks os
+begun_kept ks kept list o os begin is whole =
+    (λ i. whole_list (begin i) (is i) ∷ kept_lists (begin i) os) ∙ ap (λ w. w ∷ kept_lists ks os) whole
+
+-- all of these entries are shared
+pub all_shared : (ks : List Kind) (n : ℕ) (list : SharedList) → n ≡ length ks
+    → list ≡ record { shared = n; above = drop n ks } → whole_list ks list ≡ ks
+all_shared ks n list all is = ap (whole_list ks) is ∙ take-append-drop n ks
+
+-- ---- the parts of an IF
+
+-- what a part ends with, above the entries that are shared with the list with which the IF began
+end_is : (ks base : List Kind) (n : ℕ) (begin list : SharedList) → base ≡ whole_list ks begin → n ≡ begin.shared
+    → begin.shared ≤ length ks → list ≡ record { shared = n; above = drop n ks } → whole_list base list ≡ ks
+end_is ks base n begin list restored same within is =
+    ap (whole_list base) is
+    ∙ (ap (λ m. take m base ++ drop m ks) same
+    ∙ (ap (λ (zs : List Kind). zs ++ drop begin.shared ks)
+    (ap (take begin.shared) restored ∙ front_of_whole ks begin begin.shared (omega arith) within)
+    ∙ take-append-drop begin.shared ks))
+
+-- a list is as long as what it shares
+base_long : (ks base : List Kind) (begin : SharedList) → base ≡ whole_list ks begin → begin.shared ≤ length ks
+    → begin.shared ≤ length base
+base_long ks base begin restored within =
+    long_enough begin.shared ks base within
+    (ap (take begin.shared) restored ∙ front_of_whole ks begin begin.shared (omega arith) within)
+
+-- entries that one list shares, and the other too
+pub shared_long : (base zs : List Kind) (more less : SharedList) → zs ≡ whole_list base more → less.shared ≤ more.shared
+    → less.shared ≤ length base → less.shared ≤ length zs
+shared_long base zs more less is few within =
+    long_enough less.shared base zs within
+    (ap (take less.shared) is ∙ front_of_whole base more less.shared few within)
+
+drop_front : (n : ℕ) (ks xs : List Kind) → n ≤ length ks → drop n (take n ks ++ xs) ≡ xs
+drop_front n ks xs within =
+    let long = length-take-le n ks within in
+    drop-append-le n (take n ks) xs (omega (arith, long))
+    ∙ ap (λ (zs : List Kind). zs ++ xs) (drop_all n (take n ks) (omega (arith, long)))
+
+-- two lists that share entries are the same exactly if what follows these is
+same_wholes : (base zs : List Kind) (more less : SharedList) → zs ≡ whole_list base more
+    → less.shared ≤ more.shared → less.shared ≤ length base
+    → (drop less.shared zs ≡ less.above) ↔ (zs ≡ whole_list base less)
+same_wholes base zs more less is few within =
+    let n = less.shared in
+    let front : take n zs ≡ take n base = ap (take n) is ∙ front_of_whole base more n few within in (
+      λ above. sym (take-append-drop n zs) ∙ (λ i. front i ++ above i),
+      λ same. ap (drop n) same ∙ drop_front n base less.above within,
+    )
+
+turned : {A B C : Type 0} → (A ↔ B) → (B ↔ C) → A ↔ C
+turned p q = (λ a. q.0 (p.0 a), λ c. p.1 (q.1 c))
+
+straight_sides : (xs ys us vs : List Kind) → xs ≡ us → ys ≡ vs → (xs ≡ ys) ↔ (us ≡ vs)
+straight_sides xs ys us vs x y = (λ e. sym x ∙ (e ∙ y), λ e. x ∙ (e ∙ sym y))
+
+-- an equation with other sides
+same_sides : (xs ys us vs : List Kind) → xs ≡ us → ys ≡ vs → (xs ≡ ys) ↔ (vs ≡ us)
+same_sides xs ys us vs x y = (λ e. sym y ∙ (sym e ∙ x), λ e. x ∙ (sym e ∙ sym y))
+
+-- what both parts of an IF end with, over the list with which it began
+pub record Parts (ks base : List Kind) (first : OpenIf) (kept end : SharedList) : Type 0 where
+  pub kept_is : whole_list base kept ≡ kept_list ks first
+  pub end_is : whole_list base end ≡ ks
+  pub within : end.shared ≤ length base
+
+pub both_parts : (ks base : List Kind) (first : OpenIf) (lists : SharedList × SharedList) (n : ℕ) (end : SharedList)
+    → lists ≡ (first.begin, first.kept) → first.begin.shared ≤ length ks → base ≡ whole_list ks lists.0
+    → n ≡ lists.0.shared → end ≡ record { shared = n; above = drop n ks } → Parts ks base first lists.1 end
+both_parts ks base first lists n end are within restored same is =
+    let begin : lists.0 ≡ first.begin = ap (λ (l : SharedList × SharedList). l.0) are in
+    let restored' : base ≡ whole_list ks first.begin = restored ∙ ap (whole_list ks) begin in
+    let same' : n ≡ first.begin.shared = same ∙ ap (λ (l : SharedList). l.shared) begin in
+    let shared : end.shared ≡ first.begin.shared = ap (λ (l : SharedList). l.shared) is ∙ same' in
+    record {
+      kept_is = λ i. whole_list (restored' i) (are i).1;
+      end_is = end_is ks base n first.begin end restored' same' within is;
+      within = omega (arith, shared, base_long ks base first.begin restored' within);
+    }
+
+pub kept_shared : (ks base zs : List Kind) (first : OpenIf) (kept end : SharedList) → Parts ks base first kept end
+    → zs ≡ whole_list base end → kept.shared ≤ end.shared → kept.shared ≤ length zs
+kept_shared ks base zs first kept end p is few =
+    shared_long base zs end kept is few (omega (arith, few, p.within))
+
+pub end_shared : (ks base zs : List Kind) (first : OpenIf) (kept end : SharedList) → Parts ks base first kept end
+    → zs ≡ whole_list base kept → end.shared ≤ kept.shared → end.shared ≤ length zs
+end_shared ks base zs first kept end p is few = shared_long base zs kept end is few p.within
+
+-- the test of what is kept, after the other part's end
+pub kept_tested : (ks base zs : List Kind) (first : OpenIf) (kept end : SharedList) (same : Bool)
+    → Parts ks base first kept end → zs ≡ whole_list base end → kept.shared ≤ end.shared
+    → IsTrue same ↔ (drop kept.shared zs ≡ kept.above) → IsTrue same ↔ (kept_list ks first ≡ ks)
+kept_tested ks base zs first kept end same p is few tested =
+    turned tested (turned (same_wholes base zs end kept is few (omega (arith, few, p.within)))
+    (same_sides zs (whole_list base kept) ks (kept_list ks first) (is ∙ p.end_is) p.kept_is))
+
+-- the other way round
+pub end_tested : (ks base zs : List Kind) (first : OpenIf) (kept end : SharedList) (same : Bool)
+    → Parts ks base first kept end → zs ≡ whole_list base kept → end.shared ≤ kept.shared
+    → IsTrue same ↔ (drop end.shared zs ≡ end.above) → IsTrue same ↔ (kept_list ks first ≡ ks)
+end_tested ks base zs first kept end same p is few tested =
+    turned tested (turned (same_wholes base zs kept end is few p.within)
+    (straight_sides zs (whole_list base end) (kept_list ks first) ks (is ∙ p.kept_is) p.end_is))
+
+-- the parts of an IF whose list that is kept shares no more entries than the one with which it began
+pub kept_here : (ks : List Kind) (o : OpenIf) (same : Bool) → o.begin.shared ≤ length ks
+    → o.kept.shared ≤ o.begin.shared → IsTrue same ↔ (drop o.kept.shared ks ≡ o.kept.above)
+    → IsTrue same ↔ (kept_list ks o ≡ ks)
+kept_here ks o same within few tested =
+    let n = o.begin.shared in
+    let end : SharedList = record { shared = n; above = drop n ks } in
+    let base = begin_list ks o in
+    let p = both_parts ks base o (o.begin, o.kept) n end refl within refl refl refl in
+    kept_tested ks base ks o o.kept end same p (sym p.end_is) few tested
+
+-- what the IFs outside share is not changed
+pub untouched : (ks : List Kind) (o : OpenIf) (os : List OpenIf) → o.begin.shared ≤ length ks
+    → SharesAtMost o.begin.shared os → AreShared (begin_list ks o) os
+    → (kept_lists ks os ≡ kept_lists (begin_list ks o) os) × AreShared ks os
+untouched ks o os within few shared =
+    unseen (begin_list ks o) ks o.begin.shared os few
+    (sym (front_of_whole ks o.begin o.begin.shared (omega arith) within)) shared
 
 -- ---- the stack's state
 
-pub extended : (ks xs zs : List Kind) (ls : List KeptList) (old : State) → AreShared ks ls
-    → state_of ks (whole_lists ks ls) ≡ old → zs ≡ ks ++ xs
-    → state_of zs (whole_lists zs ls) ≡ state_of (old.kinds ++ xs) old.kept
-extended ks xs zs ls old shared is e =
-    ap (λ z. state_of z (whole_lists z ls)) e
-    ∙ (ap (state_of (ks ++ xs)) (on_top ks xs ls shared).0
-    ∙ ap (λ (s : State). state_of (s.kinds ++ xs) s.kept) is)
+pub if_ok_weaker : {A E : Type 0} (r : Result A E) (P Q : A → Type 0) → ((x : A) → P x → Q x) → IfOk r P → IfOk r Q
+if_ok_weaker (Ok x) P Q f h = f x h
+if_ok_weaker (Err e) P Q f h = tt
 
-pub repeated : (ks zs : List Kind) (place count : ℕ) (ls : List KeptList) (old : State) → AreShared ks ls
-    → state_of ks (whole_lists ks ls) ≡ old → zs ≡ ks ++ take count (drop place ks)
-    → state_of zs (whole_lists zs ls) ≡ state_of (old.kinds ++ take count (drop place old.kinds)) old.kept
-repeated ks zs place count ls old shared is e =
-    let xs = take count (drop place ks) in
-    ap (λ z. state_of z (whole_lists z ls)) e
-    ∙ (ap (state_of (ks ++ xs)) (on_top ks xs ls shared).0
-    ∙ ap (λ (s : State). state_of (s.kinds ++ take count (drop place s.kinds)) s.kept) is)
-
--- what the first list took over, as a slice of the entries shows it
-pub record TakesOver (seen : List Kind) (len : ℕ) (old new : List KeptList) : Type 0 where
-  pub same : whole_lists seen new ≡ whole_lists seen old
-  pub shared : AreShared seen new
+-- what the first IF took over
+pub record TakesOver (ks : List Kind) (len : ℕ) (old new : List OpenIf) : Type 0 where
+  pub same : kept_lists ks new ≡ kept_lists ks old
+  pub shared : AreShared ks new
   pub below : SharesAtMost len new
 
-seen_as : (seen ks : List Kind) (len : ℕ) (old new : List KeptList) → seen ≡ ks → TakesOver seen len old new
-    → TakesOver ks len old new
-seen_as seen ks len old new s t = subst (λ (z : List Kind). TakesOver z len old new) s t
+-- the lists that are kept after a change above these entries
+pub changed : (ks zs : List Kind) (n : ℕ) (os ns : List OpenIf) (old : State) → state_of ks (kept_lists ks os) ≡ old
+    → take n zs ≡ take n ks → TakesOver ks n os ns → (kept_lists zs ns ≡ old.kept) × AreShared zs ns
+changed ks zs n os ns old is front t =
+    let u = unseen ks zs n ns t.below front t.shared in (u.0 ∙ (t.same ∙ ap (λ (s : State). s.kept) is), u.1)
 
-pub truncated : (ks zs seen : List Kind) (len : ℕ) (ls ns : List KeptList) (old : State)
-    → state_of ks (whole_lists ks ls) ≡ old → seen ≡ ks → zs ≡ take len ks → TakesOver seen len ls ns
-    → state_of zs (whole_lists zs ns) ≡ state_of (take len old.kinds) old.kept
-truncated ks zs seen len ls ns old is s e t =
-    let k = seen_as seen ks len ls ns s t in
-    ap (λ z. state_of z (whole_lists z ns)) e
-    ∙ (ap (state_of (take len ks)) ((without_top ks len ns k.below k.shared).0 ∙ k.same)
-    ∙ ap (λ (s : State). state_of (take len s.kinds) s.kept) is)
+-- the state then
+pub state_now : (ks zs : List Kind) (after : List Kind → List Kind) (os ns : List OpenIf) (old : State)
+    → state_of ks (kept_lists ks os) ≡ old → zs ≡ after ks → kept_lists zs ns ≡ old.kept
+    → state_of zs (kept_lists zs ns) ≡ state_of (after old.kinds) old.kept
+state_now ks zs after os ns old is e kept =
+    λ i. state_of ((e ∙ ap (λ (s : State). after s.kinds) is) i) (kept i)
 
-pub truncated_shared : (ks zs seen : List Kind) (len : ℕ) (ls ns : List KeptList) → seen ≡ ks → zs ≡ take len ks
-    → TakesOver seen len ls ns → AreShared zs ns
-truncated_shared ks zs seen len ls ns s e t =
-    let k = seen_as seen ks len ls ns s t in
-    subst (λ (z : List Kind). AreShared z ns) (sym e) (without_top ks len ns k.below k.shared).1
+pub kept_of_state : (ks : List Kind) (os : List OpenIf) (old : State) → state_of ks (kept_lists ks os) ≡ old
+    → kept_lists ks os ≡ old.kept
+kept_of_state ks os old is = ap (λ (s : State). s.kept) is
 
-pub removed : (ks zs seen : List Kind) (place count : ℕ) (ls ns : List KeptList) (old : State)
-    → state_of ks (whole_lists ks ls) ≡ old → place + count ≤ length ks → seen ≡ ks
-    → zs ≡ take place ks ++ drop (place + count) ks → TakesOver seen place ls ns
-    → state_of zs (whole_lists zs ns) ≡ state_of (take place old.kinds ++ drop (place + count) old.kinds) old.kept
-removed ks zs seen place count ls ns old is within s e t =
-    let k = seen_as seen ks place ls ns s t in
-    let top = drop (place + count) ks in
-    ap (λ z. state_of z (whole_lists z ns)) e
-    ∙ (ap (state_of (take place ks ++ top)) ((other_top ks top place ns (omega arith) k.below k.shared).0 ∙ k.same)
-    ∙ ap (λ (s : State). state_of (take place s.kinds ++ drop (place + count) s.kinds) s.kept) is)
+pub extended : (ks xs zs : List Kind) (os : List OpenIf) (old : State) → AreShared ks os
+    → state_of ks (kept_lists ks os) ≡ old → zs ≡ ks ++ xs
+    → state_of zs (kept_lists zs os) ≡ state_of (old.kinds ++ xs) old.kept
+extended ks xs zs os old shared is e =
+    state_now ks zs (λ z. z ++ xs) os os old is e
+    (ap (λ z. kept_lists z os) e ∙ ((on_top ks xs os shared).0 ∙ kept_of_state ks os old is))
 
-pub removed_shared : (ks zs seen : List Kind) (place count : ℕ) (ls ns : List KeptList) → place + count ≤ length ks
-    → seen ≡ ks → zs ≡ take place ks ++ drop (place + count) ks → TakesOver seen place ls ns → AreShared zs ns
-removed_shared ks zs seen place count ls ns within s e t =
-    let k = seen_as seen ks place ls ns s t in
-    subst (λ (z : List Kind). AreShared z ns) (sym e)
-    (other_top ks (drop (place + count) ks) place ns (omega arith) k.below k.shared).1
+pub repeated : (ks zs : List Kind) (place count : ℕ) (os : List OpenIf) (old : State) → AreShared ks os
+    → state_of ks (kept_lists ks os) ≡ old → zs ≡ ks ++ take count (drop place ks)
+    → state_of zs (kept_lists zs os) ≡ state_of (old.kinds ++ take count (drop place old.kinds)) old.kept
+repeated ks zs place count os old shared is e =
+    state_now ks zs (λ z. z ++ take count (drop place z)) os os old is e
+    (ap (λ z. kept_lists z os) e
+    ∙ ((on_top ks (take count (drop place ks)) os shared).0 ∙ kept_of_state ks os old is))
 
--- the first list after the entries and those of the list have changed places
-abbrev pub exchanged : List Kind → KeptList → KeptList
-exchanged ks first = record { shared = first.shared; above = drop first.shared ks }
+-- the entries above a place are others
+pub low_same : (ks zs top : List Kind) (n : ℕ) → n ≤ length ks → zs ≡ take n ks ++ top → take n zs ≡ take n ks
+low_same ks zs top n within e =
+    let long = length-take-le n ks within in
+    ap (take n) e ∙ (take-append-le n (take n ks) top (omega (arith, long)) ∙ take-take n n ks (omega arith))
 
--- the lists then are the entries that there were, and the other lists
-pub record HasSwapped (ks zs : List Kind) (first : KeptList) (ls all : List KeptList) : Type 0 where
-  pub kept : whole_lists zs all ≡ ks ∷ whole_lists (whole_list ks first) ls
-  pub shared : AreShared zs all
-
-swapped_by : (ks zs seen : List Kind) (first : KeptList) (ls ns : List KeptList) → zs ≡ whole_list ks first → seen ≡ zs
-    → AreShared ks (first ∷ ls) → TakesOver seen first.shared ls ns → HasSwapped ks zs first ls (exchanged ks first ∷ ns)
-swapped_by ks zs seen first ls ns e s within takes =
-    let n = first.shared in
-    let k = seen_as seen zs n ls ns s takes in
-    let front : take n zs ≡ take n ks = ap (take n) e
-    ∙ (take-append-le n (take n ks) first.above (omega (arith, length-take-le n ks within.0))
-    ∙ take-take n n ks (omega arith)) in
-    let whole : whole_list zs (exchanged ks first) ≡ ks =
-    ap (λ f. f ++ drop n ks) front ∙ take-append-drop n ks in
-    let others = unseen zs ks n ns k.below (sym front) k.shared in
-    record {
-      kept = ap (λ w. w ∷ whole_lists w ns) whole
-          ∙ ap (λ ws. ks ∷ ws) (others.0 ∙ (k.same ∙ ap (λ z. whole_lists z ls) e));
-      shared = (
-        long_enough n ks zs within.0 front,
-        subst (λ (w : List Kind). AreShared w ns) (sym whole) others.1,
-      );
-    }
-
--- the entries, and those of the first list, have changed places
-pub swapped_lists : (ks zs seen : List Kind) (n : ℕ) (first list : KeptList) (ls ns all : List KeptList)
-    → list ≡ exchanged ks first → n ≡ list.shared → zs ≡ whole_list ks first → seen ≡ zs → AreShared ks (first ∷ ls)
-    → TakesOver seen n ls ns → all ≡ list ∷ ns → HasSwapped ks zs first ls all
-swapped_lists ks zs seen n first list ls ns all is same e s within takes now =
-    let there : HasSwapped ks zs first ls (exchanged ks first ∷ ns) =
-    swapped_by ks zs seen first ls ns e s within
-    (subst (λ (i : ℕ). TakesOver seen i ls ns) (same ∙ ap (λ (l : KeptList). l.shared) is) takes) in
-    subst (λ (l : List KeptList). HasSwapped ks zs first ls l) (sym (now ∙ ap (λ l. l ∷ ns) is)) there
-
-pub swapped : (ks zs : List Kind) (lists ls ns : List KeptList) (first : KeptList) (old : State)
-    → state_of ks (whole_lists ks lists) ≡ old → lists ≡ first ∷ ls → zs ≡ whole_list ks first
-    → whole_lists zs ns ≡ ks ∷ whole_lists (whole_list ks first) ls
-    → state_of zs (whole_lists zs ns) ≡ state_after_else old.kinds old.kept
-swapped ks zs lists ls ns first old is e z k =
-    ap (λ x. state_of x (whole_lists zs ns)) z
-    ∙ (ap (state_of (whole_list ks first)) k
-    ∙ (ap (λ l. state_after_else ks (whole_lists ks l)) (sym e)
+-- the entries, and those of the list that was kept last, have changed places
+pub swapped : (ks zs : List Kind) (os rest ns : List OpenIf) (first : OpenIf) (old : State)
+    → state_of ks (kept_lists ks os) ≡ old → os ≡ first ∷ rest → zs ≡ kept_list ks first
+    → kept_lists zs ns ≡ ks ∷ kept_lists (begin_list ks first) rest
+    → state_of zs (kept_lists zs ns) ≡ state_after_else old.kinds old.kept
+swapped ks zs os rest ns first old is e z k =
+    ap (λ x. state_of x (kept_lists zs ns)) z
+    ∙ (ap (state_of (kept_list ks first)) k
+    ∙ (ap (λ l. state_after_else ks (kept_lists ks l)) (sym e)
     ∙ ap (λ (s : State). state_after_else s.kinds s.kept) is))
 
--- ---- the test at an ENDIF
-
-same_self : (k : Kind) → is_same_kind k k ≡ true
-same_self kind.Int = refl
-same_self kind.Bool = refl
-same_self kind.Segdes = refl
-
--- the test of two lists with one front is that of what follows it
-same_behind : (front xs ys : List Kind) → are_same_kinds (front ++ xs) (front ++ ys) ≡ are_same_kinds xs ys
-same_behind [] xs ys = refl
-same_behind (k ∷ front) xs ys =
-    ap (λ b. b && are_same_kinds (front ++ xs) (front ++ ys)) (same_self k) ∙ same_behind front xs ys
-
-pub same_above : (ks : List Kind) (list : KeptList)
-    → are_same_kinds (whole_list ks list) ks ≡ are_same_kinds list.above (drop list.shared ks)
-same_above ks list =
-    ap (are_same_kinds (whole_list ks list)) (sym (take-append-drop list.shared ks))
-    ∙ same_behind (take list.shared ks) list.above (drop list.shared ks)
-
--- the entries from a place on
-tail_all : {A : Type 0} (xs : List A) (n : ℕ) → take (length xs - n) (drop n xs) ≡ drop n xs
-tail_all xs n = take_all (length xs - n) (drop n xs) (omega (arith, length-drop n xs))
-
--- the same of the list's parts, as slices show them
-pub same_parts : (ks above : List Kind) (n : ℕ) (list : KeptList) → n ≡ list.shared → above ≡ list.above
-    → are_same_kinds above (take (length ks - n) (drop n ks)) ≡ are_same_kinds (whole_list ks list) ks
-same_parts ks above n list shares is =
-    ap (are_same_kinds above) (tail_all ks n)
-    ∙ ((λ i. are_same_kinds (is i) (drop (shares i) ks)) ∙ sym (same_above ks list))
-
--- the first list is that of the innermost open IF
-pub shares_first : (ks seen : List Kind) (lists ls : List KeptList) (first : KeptList) → seen ≡ ks → lists ≡ first ∷ ls
-    → AreShared ks lists → first.shared ≤ length seen
-shares_first ks seen lists ls first s e shared =
-    let all = subst (λ (l : List KeptList). AreShared ks l) e shared in
-    subst (λ (z : List Kind). first.shared ≤ length z) (sym s) all.0
-
-pub kept_last : (ks seen : List Kind) (lists ls : List KeptList) (first : KeptList) (old : State)
-    → state_of ks (whole_lists ks lists) ≡ old → seen ≡ ks → lists ≡ first ∷ ls
-    → are_same_kinds (whole_list seen first) seen ≡ is_kept_last old.kinds old.kept
-kept_last ks seen lists ls first old is s e =
-    ap (λ z. are_same_kinds (whole_list z first) z) s
-    ∙ (ap (λ l. is_kept_last ks (whole_lists ks l)) (sym e) ∙ ap (λ (s : State). is_kept_last s.kinds s.kept) is)
+-- whether the entries are those that were kept last
+pub kept_last : (ks : List Kind) (os rest : List OpenIf) (first : OpenIf) (old : State) (same : Bool)
+    → state_of ks (kept_lists ks os) ≡ old → os ≡ first ∷ rest → IsTrue same ↔ (kept_list ks first ≡ ks)
+    → same ≡ is_kept_last old.kinds old.kept
+kept_last ks os rest first old same is e decides =
+    same_by_decides (kept_list ks first) ks same decides
+    ∙ (ap (λ l. is_kept_last ks (kept_lists ks l)) (sym e) ∙ ap (λ (s : State). is_kept_last s.kinds s.kept) is)
 
 -- both parts of an IF came to the same
-whole_is : (ks seen : List Kind) (first : KeptList) → seen ≡ ks → are_same_kinds (whole_list seen first) seen ≡ true
-    → whole_list ks first ≡ ks
-whole_is ks seen first s h =
-    (are_same_kinds-Decides (whole_list ks first) ks).0 (ap (λ z. are_same_kinds (whole_list z first) z) (sym s) ∙ h)
-
-pub others_shared : (ks seen : List Kind) (lists ls : List KeptList) (first : KeptList) → seen ≡ ks
-    → lists ≡ first ∷ ls → are_same_kinds (whole_list seen first) seen ≡ true → AreShared ks lists → AreShared ks ls
-others_shared ks seen lists ls first s e h shared =
-    let all = subst (λ (l : List KeptList). AreShared ks l) e shared in
-    subst (λ (w : List Kind). AreShared w ls) (whole_is ks seen first s h) all.1
-
-pub forgotten : (ks seen : List Kind) (lists ls : List KeptList) (first : KeptList) (old : State)
-    → state_of ks (whole_lists ks lists) ≡ old → seen ≡ ks → lists ≡ first ∷ ls
-    → are_same_kinds (whole_list seen first) seen ≡ true
-    → state_of ks (whole_lists ks ls) ≡ state_of old.kinds (others_of old.kept)
-forgotten ks seen lists ls first old is s e h =
-    ap (λ w. state_of ks (whole_lists w ls)) (sym (whole_is ks seen first s h))
-    ∙ (ap (λ l. state_of ks (others_of (whole_lists ks l))) (sym e)
+pub forgotten : (ks zs : List Kind) (os rest ns : List OpenIf) (first : OpenIf) (old : State)
+    → state_of ks (kept_lists ks os) ≡ old → os ≡ first ∷ rest → zs ≡ ks
+    → kept_lists zs ns ≡ kept_lists (begin_list ks first) rest
+    → state_of zs (kept_lists zs ns) ≡ state_of old.kinds (others_of old.kept)
+forgotten ks zs os rest ns first old is e same kept =
+    (λ i. state_of (same i) (kept i))
+    ∙ (ap (λ l. state_of ks (others_of (kept_lists ks l))) (sym e)
     ∙ ap (λ (s : State). state_of s.kinds (others_of s.kept)) is)
+
+-- ---- instructions that take and give entries
+
+not_fewer : (ks takes : List Kind) → drop (length ks - length takes) ks ≡ takes
+    → nat_lt (length ks) (length takes) ≡ false
+not_fewer ks takes same =
+    let long : length takes ≡ length ks - (length ks - length takes) =
+    sym (ap length same) ∙ length-drop (length ks - length takes) ks in
+    grind (arith, nat_tests, long)
+
+pub replaced : (takes gives : List Kind) (line : ℕ) (old new : State) (same : Bool)
+    → same ≡ are_same_kinds (drop (length old.kinds - length takes) old.kinds) takes → same ≡ true
+    → new ≡ state_of (take (length old.kinds - length takes) old.kinds ++ gives) old.kept
+    → state_with old.kept (stack_after_arrow takes gives line old.kinds) ≡ Ok new
+unfolding stack_after_arrow
+replaced takes gives line old new same is true_is e =
+    let ks = old.kinds in
+    let equal : are_same_kinds (drop (length ks - length takes) ks) takes ≡ true = sym is ∙ true_is in
+    let enough = not_fewer ks takes ((are_same_kinds-Decides (drop (length ks - length takes) ks) takes).0 equal) in
+    rw enough (rw equal (ap (λ z. Ok z) (sym e)))
 
 -- ---- motions
 

@@ -22,6 +22,7 @@
 mod fault;
 pub mod laws;
 mod lines;
+mod open_ifs;
 mod scope;
 mod stack;
 mod verified;

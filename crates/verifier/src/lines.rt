@@ -12,7 +12,7 @@ ghost use Rattle.verifier.specs.Walk.{state_after_line, state_after_lines, front
 
 use crate::fault::{KindFault, VerifyFault};
 use crate::scope::Scope;
-use crate::stack::{KindStack, are_same_kinds};
+use crate::stack::KindStack;
 use std::alloc::{AllocError, Allocator};
 use vcode_base::{Instr, Instruction, Kind, StackMove};
 use vcode_reader::{CodeItem, CodeLine, Function};
@@ -29,17 +29,19 @@ fn replace<A: Allocator + Clone>(
     ensures { Goes result stack.new
         (state_with stack.old.kept (stack_after_arrow takes.now gives.now line stack.old.kinds)) }
 {
-    let entries = stack.as_slice();
-    if entries.len() < takes.len() {
-        return Err(VerifyFault::At(KindFault::MissingOperand, line));
+    if takes.is_empty() {
+        stack.extend(gives)?;
+        return Ok(());
     }
-    let below = entries.len() - takes.len();
-    if !are_same_kinds(&entries[below..], takes) {
-        return Err(VerifyFault::At(KindFault::WrongKind, line));
+    let len = stack.len();
+    if stack.replace_end(takes, gives)? {
+        return Ok(());
     }
-    stack.truncate(below)?;
-    stack.extend(gives)?;
-    Ok(())
+    if len < takes.len() {
+        Err(VerifyFault::At(KindFault::MissingOperand, line))
+    } else {
+        Err(VerifyFault::At(KindFault::WrongKind, line))
+    }
 }
 
 /// Moves the entries above the first `below`, of which the first `lower` are the lower ones.
@@ -74,12 +76,11 @@ fn shift<A: Allocator + Clone>(
     ensures { Goes result stack.new
         (state_with stack.old.kept (stack_after_move motion lower upper line stack.old.kinds)) }
 {
-    let entries = stack.as_slice();
     let count = lower as usize + upper as usize;
-    if entries.len() < count {
+    if stack.len() < count {
         return Err(VerifyFault::At(KindFault::MissingOperand, line));
     }
-    let below = entries.len() - count;
+    let below = stack.len() - count;
     place(stack, motion, below, lower as usize)?;
     Ok(())
 }
@@ -163,7 +164,7 @@ fn begin_if<A: Allocator + Clone>(stack: &mut KindStack<A>, line: u64) -> Result
 fn end_if<A: Allocator + Clone>(stack: &mut KindStack<A>, line: u64) -> Result<(), VerifyFault>
     ensures { Goes result stack.new (state_after_endif stack.old.kept line stack.old.kinds) }
 {
-    if stack.forget() {
+    if stack.forget()? {
         Ok(())
     } else {
         Err(VerifyFault::At(KindFault::ArmsDiffer, line))

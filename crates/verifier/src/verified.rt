@@ -13,7 +13,7 @@ ghost use Rattle.verifier.specs.Typed.{IsVerified, IsVerifiedBy, AreArrows};
 use crate::fault::{KindFault, VerifyFault};
 use crate::lines::check_lines;
 use crate::scope::Scope;
-use crate::stack::{KindStack, are_same_kinds};
+use crate::stack::KindStack;
 use signatures::{FunctionType, Signatures};
 use std::alloc::{AllocError, Allocator};
 use std::marker::Model;
@@ -203,7 +203,7 @@ fn check_body<A: Allocator + Clone>(
 {
     let mut stack = KindStack::new(alloc, takes)?;
     match check_lines(&mut stack, scope, place, function) {
-        Ok(()) => check_results(stack.as_slice(), gives, return_line(function)),
+        Ok(()) => check_results(&stack, gives, return_line(function)),
         Err(fault) => Err(fault),
     }
 }
@@ -217,10 +217,14 @@ fn return_line<A: Allocator>(function: &Function<A>) -> u64
 }
 
 /// The entries at the `RET` of this line are those that the signature gives.
-fn check_results(entries: &[Kind], gives: &[Kind], ret: u64) -> Result<(), VerifyFault>
-    ensures { Finds result (fault_at_return gives.now ret (Ok entries.now)) }
+fn check_results<A: Allocator + Clone>(
+    stack: &KindStack<A>,
+    gives: &[Kind],
+    ret: u64,
+) -> Result<(), VerifyFault>
+    ensures { Finds result (fault_at_return gives.now ret (Ok stack.now.kinds)) }
 {
-    if are_same_kinds(entries, gives) {
+    if stack.equals(gives) {
         Ok(())
     } else {
         Err(VerifyFault::At(KindFault::ResultDiffers, ret))

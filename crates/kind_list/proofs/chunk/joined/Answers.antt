@@ -1,4 +1,4 @@
-use Rattle.kind_list.proofs.Chunks.{joined, joined_none}
+use Rattle.kind_list.proofs.Chunks.{joined}
 use Rattle.kind_list.proofs.chunk.joined.Goals as goal
 
 pub returns : goal.returns

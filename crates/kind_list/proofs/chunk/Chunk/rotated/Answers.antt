@@ -1,4 +1,4 @@
-use Rattle.std.proofs.Common.{◌≡◌, ◌+◌, ◌-◌, ◌*◌, ◌/◌, ◌%◌, ◌^◌, ◌≤◌, ◌∙◌, ap, subst, sym, arith}
+use Rattle.std.proofs.Common.{◌+◌, ◌-◌, ◌*◌, ◌/◌, ◌^◌, ◌≤◌, ◌∙◌, ap, subst, sym, arith}
 use Rattle.kind_list.specs.Packed.{kinds_of, IsChunk}
 use Rattle.kind_list.proofs.Chunks.{length-seen, rotated_chunk, rotated_fits}
 use Rattle.kind_list.proofs.chunk.Chunk.rotated.Goals as goal
@@ -6,7 +6,11 @@ use Rattle.kind_list.proofs.chunk.Chunk.rotated.Goals as goal
 pub joined-requires-clause-low : goal.joined-requires-clause-low
 joined-requires-clause-low c =
     let within : c.args.count ≤ c.self.inside.len =
-    omega (arith, length-seen c.self.inside.len c.self.inside.digits c.args.self.now c.self.view_is, c.requires.within) in
+    omega (
+      arith,
+      length-seen c.self.inside.len c.self.inside.digits c.args.self.now c.self.view_is,
+      c.requires.within,
+    ) in
     (rotated_fits c.self.inside.len c.self.inside.digits c.args.count c.self.invariant within).0
 
 pub returns : goal.returns

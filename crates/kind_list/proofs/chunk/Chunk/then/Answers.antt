@@ -1,4 +1,4 @@
-use Rattle.std.proofs.Common.{◌≡◌, ◌+◌, ◌≤◌, ◌∙◌, ap, subst, sym, arith}
+use Rattle.std.proofs.Common.{◌+◌, ◌≤◌, ◌∙◌, ap, subst, sym, arith}
 use Rattle.kind_list.specs.Packed.{kinds_of, IsChunk}
 use Rattle.kind_list.proofs.Chunks.{length-seen, joined_chunks}
 use Rattle.kind_list.proofs.chunk.Chunk.then.Goals as goal

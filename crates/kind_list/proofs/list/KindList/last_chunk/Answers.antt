@@ -1,4 +1,4 @@
-use Rattle.std.proofs.Common.{◌≡◌, ◌+◌, ◌-◌, ◌%◌, ◌≤◌, ◌∙◌, length, drop, ap, sym, arith}
+use Rattle.std.proofs.Common.{◌-◌, ◌∙◌, drop, ap, arith}
 use Rattle.std.proofs.lemmas.List.{take_all, length-drop}
 use Rattle.kind_list.specs.Lists.{number_in}
 use Rattle.kind_list.proofs.Chunks.{length-seen}
@@ -37,7 +37,13 @@ chunk-requires-clause-within g c =
 pub returns-else-count-rest : goal.returns-else-count-rest
 returns-else-count-rest g c =
     let ks = c.args.self.now in
-    let seen = length-seen c.self.inside.len (number_in c.self.inside.words.items c.self.inside.last) ks c.self.view_is in
+    let seen =
+    length-seen c.self.inside.len (number_in c.self.inside.words.items c.self.inside.last) ks c.self.view_is in
     c.chunk.ensures
-    ∙ (take_all c.args.count (drop (c.self.inside.len - c.args.count) ks) (omega (arith, length-drop (c.self.inside.len - c.args.count) ks, seen))
+    ∙ (take_all c.args.count (drop (c.self.inside.len - c.args.count) ks) (omega (
+      arith,
+      length-drop
+          (c.self.inside.len - c.args.count) ks,
+      seen,
+    ))
     ∙ ap (λ n. drop (n - c.args.count) ks) seen)

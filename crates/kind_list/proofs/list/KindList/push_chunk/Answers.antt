@@ -1,4 +1,4 @@
-use Rattle.std.proofs.Common.{◌≡◌, ◌+◌, ◌%◌, ◌≤◌, ap, arith}
+use Rattle.std.proofs.Common.{◌%◌, ap, arith}
 use Rattle.kind_list.specs.Lists.{number_in}
 use Rattle.kind_list.proofs.Chunks.{length-seen}
 use Rattle.kind_list.proofs.ListLemmas.{last_fits, pushed_chunk}
@@ -22,7 +22,9 @@ returns-then-rest-count-lt-WORD_DIGITS-clause-pushed g c =
     c.len-count.ensures.is c.digits.ensures.chunk c.digits.ensures.is c.if-rest-count-lt-WORD_DIGITS.true
     c.low_word-self-inside.ensures c.low_word-self-inside.type_inv).1
 
-pub push_word-requires : goal.push_word-requires
-push_word-requires g c =
-    let seen = length-seen c.self.inside.len (number_in c.self.inside.words.items c.self.inside.last) c.args.self.now c.self.view_is in
+pub push_over-requires : goal.push_over-requires
+push_over-requires g c =
+    let seen =
+    length-seen c.self.inside.len (number_in c.self.inside.words.items c.self.inside.last) c.args.self.now
+    c.self.view_is in
     omega (arith, seen, c.len-count.ensures.is, ap (λ n. n % 32) seen)

@@ -1,4 +1,4 @@
-use Rattle.std.proofs.Common.{◌≡◌, ◌+◌, ◌%◌, ◌≤◌, ap, arith}
+use Rattle.std.proofs.Common.{◌+◌, ◌%◌, ◌≤◌, arith}
 use Rattle.kind_list.specs.Lists.{number_in}
 use Rattle.kind_list.proofs.Chunks.{length-seen}
 use Rattle.kind_list.proofs.ListLemmas.{last_fits, pushed_word_chunk}
@@ -10,7 +10,9 @@ low_word-requires-clause-fits g c =
 
 pub invariant_of-self-2 : goal.invariant_of-self-2
 invariant_of-self-2 g c =
-    let seen = length-seen c.self.inside.len (number_in c.self.inside.words.items c.self.inside.last) c.args.self.now c.self.view_is in
+    let seen =
+    length-seen c.self.inside.len (number_in c.self.inside.words.items c.self.inside.last) c.args.self.now
+    c.self.view_is in
     let many : 32 ≤ c.self.inside.len % 32 + c.len.result = omega (arith, c.requires, seen, c.len.ensures.is) in
     (pushed_word_chunk c.self.inside.len c.len.result c.in-Some.len c.digits-digits.result c.low_word.result
     c.high_word-self-inside.result c.self.inside.words.items c.push.new.self.items c.self.inside.last c.args.self.now
@@ -20,7 +22,9 @@ invariant_of-self-2 g c =
 
 pub returns-clause-pushed : goal.returns-clause-pushed
 returns-clause-pushed g c =
-    let seen = length-seen c.self.inside.len (number_in c.self.inside.words.items c.self.inside.last) c.args.self.now c.self.view_is in
+    let seen =
+    length-seen c.self.inside.len (number_in c.self.inside.words.items c.self.inside.last) c.args.self.now
+    c.self.view_is in
     let many : 32 ≤ c.self.inside.len % 32 + c.len.result = omega (arith, c.requires, seen, c.len.ensures.is) in
     (pushed_word_chunk c.self.inside.len c.len.result c.in-Some.len c.digits-digits.result c.low_word.result
     c.high_word-self-inside.result c.self.inside.words.items c.push.new.self.items c.self.inside.last c.args.self.now

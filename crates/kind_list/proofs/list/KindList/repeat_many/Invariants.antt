@@ -1,4 +1,4 @@
-use Rattle.std.proofs.Common.{◌≡◌, ◌++◌, ◌-◌, ◌≤◌, length, take, drop}
+use Rattle.std.proofs.Common.{◌≡◌, ◌++◌, ◌-◌, ◌≤◌, take, drop}
 use Rattle.kind_list.proofs.list.KindList.repeat_many.Given as goal
 
 abbrev pub invariant-loop-place : goal.invariant-loop-place

@@ -6,11 +6,11 @@ use Rattle.verifier.proofs.stack.KindStack.repeat.Goals as goal
 
 pub invariant_of-self-2 : goal.invariant_of-self-2
 invariant_of-self-2 g c =
-    let ks = c.self.inside.kinds.items in
-    subst (λ (z : List Kind). AreShared z c.self.inside.kept) (sym c.in_ok-repeat_range.ensures.added)
-    (on_top ks (take c.args.count (drop c.args.from ks)) c.self.inside.kept c.self.invariant).1
+    let ks = c.self.inside.kinds in
+    subst (λ (z : List Kind). AreShared z c.self.inside.ifs) (sym c.in_ok-repeat_range.ensures.added)
+    (on_top ks (take c.args.count (drop c.args.from ks)) c.self.inside.ifs c.self.invariant).1
 
 pub returns : goal.returns
 returns g c =
-    repeated c.self.inside.kinds.items c.repeat_range.new.kinds.items c.args.from c.args.count c.self.inside.kept
-    c.args.self.now c.self.invariant c.self.view_is c.in_ok-repeat_range.ensures.added
+    repeated c.self.inside.kinds c.repeat_range.new.self c.args.from c.args.count c.self.inside.ifs c.args.self.now
+    c.self.invariant c.self.view_is c.in_ok-repeat_range.ensures.added

@@ -1,10 +1,10 @@
-use Rattle.std.proofs.Common.{◌≡◌, ◌-◌, ◌+◌, ◌<◌, ◌^◌, ◌*◌, ◌∙◌, drop, get_or, sym, arith, ap}
+use Rattle.std.proofs.Common.{◌≡◌, ◌-◌, ◌+◌, ◌*◌, ◌∙◌, drop, get_or, sym, arith, ap}
 use Rattle.std.proofs.lemmas.List.{drop_more}
 use Rattle.vcode_base.specs.declared.kind.Kind.TheVariants.{Int}
 use Rattle.kind_list.specs.Packed.{packed}
 use Rattle.kind_list.proofs.Digits.{packed-lt}
 use Rattle.kind_list.proofs.Chunks.{packed_none, packed_room, packed_more}
-use Rattle.kind_list.proofs.chunk.packed.Goals as goal
+use Rattle.kind_list.proofs.chunk.packed_many.Goals as goal
 
 pub loop-place-init : goal.loop-place-init
 loop-place-init c = record { within = omega arith; is = packed_none c.args.kinds.now }

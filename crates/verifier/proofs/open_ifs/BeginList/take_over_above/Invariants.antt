@@ -1,6 +1,6 @@
 use Rattle.std.proofs.Common.{◌≡◌, ◌≤◌}
 use Rattle.verifier.specs.Kept.{whole_list}
-use Rattle.verifier.proofs.stack.KeptList.take_over_above.Given as goal
+use Rattle.verifier.proofs.open_ifs.BeginList.take_over_above.Given as goal
 
 abbrev pub invariant-loop-self : goal.invariant-loop-self
 invariant-loop-self g l = record {
