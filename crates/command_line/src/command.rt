@@ -1,6 +1,7 @@
 //! The command line as clap knows it.
 
 use clap::{Arg, Command, value_parser};
+use program_words::Program;
 use std::alloc::Global;
 use vcode_base::limits::{MOST_WORDS, MOST_WORKERS};
 
@@ -69,17 +70,21 @@ fn file_argument<'a>(alloc: Global) -> Arg<'a> {
         .help("The batch, or - for standard input")
 }
 
-/// The command.
-pub(crate) fn command<'a>(alloc: Global) -> Result<Command<'a>, clap::Error> {
-    Ok(
-        Command::new(alloc, NAME)
-            .bin_name(NAME)?
-            .about("Runs a batch of VCODE jobs and prints a report")
-            .version("0.1.0")
-            .after_help(AFTER_HELP)
-            .arg(region_option(alloc))?
-            .arg(workers_option(alloc))?
-            .arg(schedule_option(alloc))?
-            .arg(file_argument(alloc))?,
-    )
+/// The program whose words these are.
+pub struct Vjobs;
+
+impl Program for Vjobs {
+    fn command<'a>(alloc: Global) -> Result<Command<'a>, clap::Error> {
+        Ok(
+            Command::new(alloc, NAME)
+                .bin_name(NAME)?
+                .about("Runs a batch of VCODE jobs and prints a report")
+                .version("0.1.0")
+                .after_help(AFTER_HELP)
+                .arg(region_option(alloc))?
+                .arg(workers_option(alloc))?
+                .arg(schedule_option(alloc))?
+                .arg(file_argument(alloc))?,
+        )
+    }
 }

@@ -3,6 +3,7 @@ ghost use Rattle.std.specs.Prelude.{◌≡◌};
 ghost use Rattle.command_line.specs.Exits.{line_exit_of};
 
 use batch_front::ScheduleFault;
+use program_words::WordsFault;
 use thiserror::Error;
 
 /// Why a command line gives no run.
@@ -29,6 +30,15 @@ impl From<ScheduleFault> for LineFault {
         match fault {
             ScheduleFault::Bad => LineFault::BadSchedule,
             ScheduleFault::Memory => LineFault::Memory,
+        }
+    }
+}
+
+impl From<WordsFault> for LineFault {
+    fn from(fault: WordsFault) -> LineFault {
+        match fault {
+            WordsFault::Refused(text) => LineFault::Usage(text),
+            WordsFault::Memory => LineFault::Memory,
         }
     }
 }

@@ -1,8 +1,7 @@
 //! The command line of the program.
 //!
-//! [`read_line`] reads it, and [`arguments_fault`] says why there is none. Both give a [`LineFault`] with its text and
-//! its exit if there is nothing to run. The options and the schedule are those of `batch_front`, which stands without
-//! this crate and so without `clap`.
+//! [`read_line`] reads it. It gives a [`LineFault`] with its text and its exit if there is nothing to run. The options
+//! and the schedule are those of `batch_front`, which stands without this crate and so without `clap`.
 #![tactic(auto)]
 
 mod command;
@@ -11,5 +10,6 @@ mod line;
 #[cfg(test)]
 mod tests;
 
+pub use command::Vjobs;
 pub use fault::LineFault;
-pub use line::{Line, arguments_fault, read_line};
+pub use line::{Line, read_line};

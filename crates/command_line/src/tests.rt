@@ -1,10 +1,19 @@
 //! Command lines, and the texts of what is wrong with one.
-use crate::{Line, LineFault, arguments_fault, read_line};
+use crate::{Line, LineFault};
 use batch_front::{Options, ScheduleFault};
-use shown_text::ArgumentFault;
 use std::alloc::{AllocError, Global};
 use std::test::Fail;
 use vcode_base::limits::MOST_WORDS;
+
+/// What a line of these words asks for.
+fn read_line(alloc: Global, words: &[&str]) -> Result<Line, LineFault> {
+    let mut texts = Vec::new(alloc);
+    for word in words {
+        let text = String::from_str(alloc, word).map_err(|_| LineFault::Memory)?;
+        texts.push(text).map_err(|_| LineFault::Memory)?;
+    }
+    crate::read_line(alloc, &texts)
+}
 
 #[test]
 fn reads_a_region_and_standard_input(rt: HostRuntime) {
@@ -159,25 +168,6 @@ fn shows_what_it_refuses_wherever_it_stands(rt: HostRuntime) -> Result<(), Fail>
 fn reads_a_name_as_it_is(rt: HostRuntime) {
     let line = read_line(rt.alloc(), &["vjobs", "--", "-a\u{1b}\n\\"]);
     assert!(rt; matches!(&line, Ok(Line::Run(_, file)) if file.as_str() == "-a\u{1b}\n\\"));
-}
-
-#[test]
-fn refuses_an_argument_that_is_no_text(rt: HostRuntime) -> Result<(), Fail> {
-    let shown = String::from_str(rt.alloc(), "a\\xff")?;
-    let fault = arguments_fault(rt.alloc(), &ArgumentFault::NotText(3, shown));
-    assert!(rt;
-        matches!(&fault, LineFault::Usage(text)
-        if text.starts_with("error: argument 3 is no UTF-8: a\\xff\n\nUsage: vjobs "))
-    );
-    assert_eq!(rt; fault.exit_status(), 2);
-    Ok(())
-}
-
-#[test]
-fn wants_memory_for_arguments(rt: HostRuntime) {
-    let fault = arguments_fault(rt.alloc(), &ArgumentFault::Memory);
-    assert!(rt; matches!(&fault, LineFault::Memory));
-    assert_eq!(rt; fault.exit_status(), 3);
 }
 
 #[test]

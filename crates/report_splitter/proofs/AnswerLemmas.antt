@@ -1,8 +1,8 @@
 -- Which reports have an entry at a place, and which faults are answered to the others.
-use Rattle.std.proofs.Common.{◌≡◌, ◌≢◌, ◌<◌, ◌≤◌, ◌+◌, ◌-◌, ◌⊎◌, inl, inr, ℕ, List, [], ◌∷◌, ◌++◌, length, get_or, take}
+use Rattle.std.proofs.Common.{◌≡◌, ◌≢◌, ◌<◌, ◌≤◌, ◌+◌, ◌-◌, inl, inr, ℕ, List, ◌∷◌, ◌++◌, length, get_or}
 use Rattle.std.proofs.Common.{drop, refl, sym, ap, subst, ◌∙◌, arith, ⊎_elim, Option, Some, None, Result, Ok, Err}
 use Rattle.std.proofs.lemmas.Bool.{cases_lt}
-use Rattle.std.proofs.lemmas.List.{append_assoc, append_cancel_left, get_or-drop, length-append, length-drop}
+use Rattle.std.proofs.lemmas.List.{append_cancel_left, get_or-drop, length-append, length-drop}
 use Rattle.std.specs.Prelude.{MatchOption, MatchResult, option_map}
 use Rattle.memchr.specs.Find.{FindsNeedle, OccursAt}
 use Rattle.report_splitter.specs.declared.fault.CutFault.{CutFault}

@@ -4,7 +4,6 @@ use Rattle.report_splitter.specs.declared.ending.LineEnd.{LineEnd}
 use Rattle.report_splitter.specs.declared.fault.CutFault.{CutFault}
 use Rattle.report_splitter.specs.declared.fault.CutFault.TheVariants.{Memory, BrokenOff, OtherBatch}
 use Rattle.report_splitter.specs.Fronts.{Begins, HasLine}
-use Rattle.report_splitter.specs.ReportTexts.{head_text, next_head}
 
 -- a report begins with this head, and the line that begins with the next head comes after it with its LF
 pub record HasEntry (head next report : List ℕ) : Type 0 where

@@ -1,5 +1,5 @@
 -- Manifests as texts: an entry for the batch, and one for each job, each with a NUL at its end.
-use Rattle.std.specs.Prelude.{◌≡◌, ◌≢◌, ℕ, ◌+◌, ◌<◌, ◌^◌, List, [], ◌∷◌, ◌++◌, All, codes, decimal, length}
+use Rattle.std.specs.Prelude.{◌≢◌, ℕ, ◌+◌, ◌<◌, ◌^◌, List, [], ◌∷◌, ◌++◌, All, codes, decimal}
 
 -- ---- jobs
 

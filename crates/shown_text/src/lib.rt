@@ -1,11 +1,11 @@
 //! Bytes that a stranger chose, as a text of one line that a terminal shows as it is; and a program's arguments.
 //!
 //! Names of files and arguments may have any bytes. Printed as they are, some of them move the cursor, ring, begin a
-//! line that nobody wrote, or turn the direction of reading. [`shown`] writes these as escapes. [`arguments`] reads the
-//! arguments, and names one that is no text.
+//! line that nobody wrote, or turn the direction of reading. [`shown`] writes these as escapes. [`shown_lines`] keeps a
+//! text of lines that has none of them. [`arguments`] reads the arguments, and names one that is no text.
 #![tactic(auto)]
 
-ghost use Rattle.std.specs.Prelude.{◌≡◌, ◌≤◌, ◌++◌, IfOk, OnOk, string_bytes, encode_utf8_all, flat_map, chars};
+ghost use Rattle.std.specs.Prelude.{◌≡◌, ◌≤◌, ◌∷◌, ◌++◌, IfOk, OnOk, string_bytes, encode_utf8_all, flat_map, chars};
 ghost use Rattle.std.specs.Char.Iter.{escape_rest, escape_end};
 ghost use Rattle.shown_text.specs.Shown.{is_printable, is_plain, shown_char, shown_byte, shown_text};
 
@@ -16,15 +16,17 @@ use ucd_derived::is_default_ignorable_code_point;
 
 mod argument;
 pub mod laws;
+mod lines;
 #[cfg(test)]
 mod tests;
 
 pub use argument::{ArgumentFault, arguments};
+pub use lines::{has_shown_lines, shown_lines};
 
 /// Whether the character has a shape, or is the blank: by its category it is none of the others (controls, formats,
 /// private and unassigned ones) and no separator, and it isn't one that may be left out where it isn't known.
 #[tactic(auto, unfolding(crate::specs::Shown::is_printable))]
-fn is_printable(c: char) -> bool
+pub fn is_printable(c: char) -> bool
     ensures { result ≡ is_printable c }
 {
     let category = GeneralCategory::for_char(c);
@@ -113,5 +115,20 @@ pub fn shown<A: Allocator>(alloc: A, bytes: &[u8]) -> Result<String<A>, AllocErr
         push_text(&mut text, chunk.valid())?;
         push_bytes(&mut text, chunk.invalid())?;
     }
+    Ok(text)
+}
+
+/// What is wrong with the file or folder of this name: the name as it may be printed, a colon, a blank, and the reason.
+///
+/// # Errors
+///
+/// [`AllocError`] if the memory for the text is refused.
+pub fn named<A: Allocator>(alloc: A, name: &str, reason: &str) -> Result<String<A>, AllocError>
+    ensures { IfOk result (λ text. string_bytes text
+        ≡ encode_utf8_all (shown_text name.now) ++ (58 ∷ 32 ∷ reason.now)) }
+{
+    let mut text = shown(alloc, name.as_bytes())?;
+    text.push_str(": ")?;
+    text.push_str(reason)?;
     Ok(text)
 }

@@ -1,5 +1,5 @@
 //! Rows that were worked out by hand.
-use crate::{ArgumentFault, arguments, shown};
+use crate::{ArgumentFault, arguments, shown, shown_lines};
 use std::env::FillError;
 use std::rt::Env;
 use std::test::Fail;
@@ -47,6 +47,20 @@ fn shows_bytes(rt: HostRuntime) -> Result<(), Fail> {
     ];
     for (bytes, text) in rows {
         assert_eq!(rt; shown(rt.alloc(), bytes)?.as_str(), text);
+    }
+    Ok(())
+}
+
+#[test]
+fn keeps_lines_that_a_terminal_shows(rt: HostRuntime) -> Result<(), Fail> {
+    for (text, wanted) in [
+        ("", ""),
+        ("usage: a\\b\n\n  \u{e4}\n", "usage: a\\b\n\n  \u{e4}\n"),
+        ("a\nb\r", "a\\nb\\r"),
+        ("a\u{1b}\n", "a\\u{1b}\\n"),
+    ] {
+        let text = String::from_str(rt.alloc(), text)?;
+        assert_eq!(rt; shown_lines(rt.alloc(), text)?.as_str(), wanted);
     }
     Ok(())
 }

@@ -2,8 +2,8 @@
 #![tactic(auto)]
 
 use batch_front::{Device, FrontFault, NoGate, Options, Status, exit_status, run};
-use command_line::{Line, LineFault, arguments_fault, read_line};
-use shown_text::arguments;
+use command_line::{Line, LineFault, Vjobs, read_line};
+use program_words::words_of;
 use std::alloc::Global;
 use std::fs::File;
 use std::io::{Read, Write};
@@ -14,15 +14,8 @@ use std::thread::Threads;
 
 /// Reads the command line.
 fn line_of(rt: &HostRuntime) -> Result<Line, LineFault> {
-    let words = match arguments(rt) {
-        Ok(words) => words,
-        Err(fault) => return Err(arguments_fault(rt.alloc(), &fault)),
-    };
-    let mut texts = Vec::new(rt.alloc());
-    for word in &words {
-        texts.push(word.as_str()).map_err(|_| LineFault::Memory)?;
-    }
-    read_line(rt.alloc(), texts.as_slice())
+    let words = words_of::<Vjobs, HostRuntime>(rt)?;
+    read_line(rt.alloc(), &words)
 }
 
 /// Runs the batch that a reader gives, with the report on a writer.

@@ -1,18 +1,14 @@
 //! The command line.
 
 use crate::fault::Fault;
-use clap::error::ErrorKind;
 use clap::{Arg, ArgMatches, Command, value_parser};
 use kind_finder::MOST_ENTRIES;
-use shown_text::shown;
+use program_words::{Program, help_of, matches_of};
 use std::alloc::{AllocError, Global};
 use vcode_base::limits::MOST_BATCH_BYTES;
 
 /// The name of the program in its texts, by whatever name it was called.
 const NAME: &str = "vjobs-kinds";
-
-/// What is printed if clap refuses words and doesn't refuse them as they are shown. No line is known that gives this.
-const REFUSED: &str = "error: the command line is refused\n\nFor more information, try '--help'.\n";
 
 /// What help ends with.
 const AFTER_HELP: &str = "\
@@ -80,18 +76,22 @@ fn entries_option<'a>(alloc: Global) -> Arg<'a> {
         .help("Most entries of a function's stack")
 }
 
-/// The command.
-fn command<'a>(alloc: Global) -> Result<Command<'a>, clap::Error> {
-    Ok(
-        Command::new(alloc, NAME)
-            .bin_name(NAME)?
-            .about("Prints the signatures of VCODE code that has none")
-            .version("0.1.0")
-            .after_help(AFTER_HELP)
-            .arg(bytes_option(alloc))?
-            .arg(entries_option(alloc))?
-            .arg(file_argument(alloc))?,
-    )
+/// The program whose words these are.
+pub struct VjobsKinds;
+
+impl Program for VjobsKinds {
+    fn command<'a>(alloc: Global) -> Result<Command<'a>, clap::Error> {
+        Ok(
+            Command::new(alloc, NAME)
+                .bin_name(NAME)?
+                .about("Prints the signatures of VCODE code that has none")
+                .version("0.1.0")
+                .after_help(AFTER_HELP)
+                .arg(bytes_option(alloc))?
+                .arg(entries_option(alloc))?
+                .arg(file_argument(alloc))?,
+        )
+    }
 }
 
 /// What was matched.
@@ -104,58 +104,6 @@ fn find_of(alloc: Global, matches: &ArgMatches<'_>) -> Result<Line, AllocError> 
     Ok(Line::Find(String::from_str(alloc, file)?, Bounds { bytes, entries }))
 }
 
-/// The words as they may be printed.
-fn shown_words(alloc: Global, words: &[String]) -> Result<Vec<String>, AllocError> {
-    let mut texts = Vec::new(alloc);
-    for word in words {
-        texts.push(shown(alloc, word.as_bytes())?)?;
-    }
-    Ok(texts)
-}
-
-/// What clap says of words that are shown: why it refuses them.
-fn refusal_of(alloc: Global, texts: &[String]) -> Result<String, clap::Error> {
-    let command = command(alloc)?;
-    match command.try_get_matches_from(texts) {
-        Ok(_matches) => Ok(String::from_str(alloc, REFUSED)?),
-        Err(error) => text_of(alloc, error),
-    }
-}
-
-/// The text of an error by which clap refuses a line.
-fn text_of(alloc: Global, error: clap::Error) -> Result<String, clap::Error> {
-    if error.kind() == ErrorKind::OutOfMemory {
-        return Err(error);
-    }
-    if error.use_stderr() {
-        Ok(error.to_string(alloc)?)
-    } else {
-        Ok(String::from_str(alloc, REFUSED)?)
-    }
-}
-
-/// Why a line is refused. clap quotes words as they are, so it reads them once more, each as it may be printed.
-fn refusal(alloc: Global, words: &[String]) -> Fault {
-    let Ok(texts) = shown_words(alloc, words) else {
-        return Fault::Memory;
-    };
-    match refusal_of(alloc, &texts) {
-        Ok(text) => Fault::Usage(text),
-        Err(_) => Fault::Memory,
-    }
-}
-
-/// What clap answered in place of matches of these words.
-fn line_of(alloc: Global, error: &clap::Error, words: &[String]) -> Result<Line, Fault> {
-    if error.kind() == ErrorKind::OutOfMemory {
-        return Err(Fault::Memory);
-    }
-    if error.use_stderr() {
-        return Err(refusal(alloc, words));
-    }
-    Ok(Line::Help(error.to_string(alloc)?))
-}
-
 /// Reads a command line, the program's name first.
 ///
 /// # Errors
@@ -163,12 +111,8 @@ fn line_of(alloc: Global, error: &clap::Error, words: &[String]) -> Result<Line,
 /// [`Fault::Usage`] if the line is refused, with a text in which its words are shown, and [`Fault::Memory`] if a growth
 /// was refused.
 pub fn read_line(alloc: Global, words: &[String]) -> Result<Line, Fault> {
-    let command = match command(alloc) {
-        Ok(command) => command,
-        Err(error) => return line_of(alloc, &error, words),
-    };
-    match command.try_get_matches_from(words) {
+    match matches_of::<VjobsKinds>(alloc, words) {
         Ok(matches) => Ok(find_of(alloc, &matches)?),
-        Err(error) => line_of(alloc, &error, words),
+        Err(error) => Ok(Line::Help(help_of::<VjobsKinds>(alloc, &error, words)?)),
     }
 }

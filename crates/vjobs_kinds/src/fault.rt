@@ -1,6 +1,7 @@
 //! Why no signatures are printed.
 
-use shown_text::{ArgumentFault, shown};
+use program_words::WordsFault;
+use shown_text::shown;
 use std::alloc::{AllocError, Global};
 use std::fmt::Display;
 use std::io;
@@ -34,6 +35,15 @@ impl From<AllocError> for Fault {
     }
 }
 
+impl From<WordsFault> for Fault {
+    fn from(fault: WordsFault) -> Fault {
+        match fault {
+            WordsFault::Refused(text) => Fault::Usage(text),
+            WordsFault::Memory => Fault::Memory,
+        }
+    }
+}
+
 impl Fault {
     /// That the code in the file of this name has no signatures, for this reason, which comes right after a colon.
     pub fn of_code<D: Display + Drop>(alloc: Global, file: &str, reason: D) -> Fault {
@@ -59,17 +69,6 @@ impl Fault {
         match error.to_string(alloc) {
             Ok(text) => Fault::Device(text),
             Err(_) => Fault::Memory,
-        }
-    }
-
-    /// That the arguments of the program can't be had as texts.
-    pub fn of_arguments(alloc: Global, fault: &ArgumentFault) -> Fault {
-        match fault {
-            ArgumentFault::Memory => Fault::Memory,
-            ArgumentFault::NotText(..) => match format!(in alloc; "error: {fault}\n") {
-                Ok(text) => Fault::Usage(text),
-                Err(_) => Fault::Memory,
-            },
         }
     }
 

@@ -6,10 +6,10 @@ mod fault;
 #[cfg(test)]
 mod tests;
 
-use command::{Bounds, Line, read_line};
+use command::{Bounds, Line, VjobsKinds, read_line};
 use fault::Fault;
 use kind_finder::{FindFault, find_signatures};
-use shown_text::arguments;
+use program_words::words_of;
 use std::fs::{self, File};
 use std::io::{self, ErrorKind, Read, Write};
 use std::process::ExitCode;
@@ -54,10 +54,7 @@ fn signatures_of(rt: &HostRuntime, file: &str, bounds: Bounds) -> Result<Vec<u8>
 
 /// What is to be printed: the signatures of the code that the command line names, or help.
 fn text_of(rt: &HostRuntime) -> Result<Vec<u8>, Fault> {
-    let words = match arguments(rt) {
-        Ok(words) => words,
-        Err(fault) => return Err(Fault::of_arguments(rt.alloc(), &fault)),
-    };
+    let words = words_of::<VjobsKinds, HostRuntime>(rt)?;
     match read_line(rt.alloc(), &words)? {
         Line::Find(file, bounds) => signatures_of(rt, file.as_str(), bounds),
         Line::Help(text) => Ok(text.into_bytes()),

@@ -1,7 +1,7 @@
 //! Command lines, and the texts of what is wrong.
 use crate::command::{Bounds, Line, read_line};
 use crate::fault::Fault;
-use shown_text::ArgumentFault;
+use program_words::WordsFault;
 use std::alloc::{AllocError, Global};
 use std::io;
 use std::test::Fail;
@@ -87,7 +87,6 @@ fn shows_the_words_that_it_refuses(rt: HostRuntime) -> Result<(), Fail> {
 
 #[test]
 fn shows_names_of_files(rt: HostRuntime) -> Result<(), Fail> {
-    let argument = String::from_str(rt.alloc(), "a\\xff")?;
     let error = io::Error::new(io::ErrorKind::InvalidInput, "not a regular file");
     let no_memory = io::Error::from(io::ErrorKind::OutOfMemory);
     let odd = "a\u{1b}\n";
@@ -108,12 +107,7 @@ fn shows_names_of_files(rt: HostRuntime) -> Result<(), Fail> {
             3,
         ),
         (
-            Fault::of_arguments(rt.alloc(), &ArgumentFault::NotText(1, argument)),
-            "error: argument 1 is no UTF-8: a\\xff\n",
-            2,
-        ),
-        (
-            Fault::of_arguments(rt.alloc(), &ArgumentFault::Memory),
+            Fault::from(WordsFault::Memory),
             "vjobs-kinds: out of memory\n",
             3,
         ),

@@ -1,6 +1,6 @@
 //! Why packing stops.
 
-use shown_text::shown;
+use shown_text::named;
 use std::alloc::{AllocError, Global};
 use std::io;
 use std::io::ErrorKind;
@@ -44,10 +44,4 @@ pub fn stop_at(alloc: Global, name: &str, error: &io::Error) -> Stop {
         Ok(text) => stop_by(alloc, name, text.as_str()),
         Err(_) => Stop::Memory,
     }
-}
-
-/// What is wrong, after the name.
-fn named(alloc: Global, name: &str, what: &str) -> Result<String, AllocError> {
-    let name = shown(alloc, name.as_bytes())?;
-    format!(in alloc; "{name}: {what}")
 }

@@ -2,16 +2,17 @@
 #![tactic(auto)]
 
 mod command;
+mod entries;
 mod fault;
 mod folder;
 mod packing;
 mod second;
 
-use command::{Asked, Line, LineFault, read_line};
+use command::{Asked, Line, VjobsPack, read_line};
 use fault::{Stop, stop_at, stop_by};
 use folder::batch_in;
 use packing::Packing;
-use shown_text::{ArgumentFault, arguments};
+use program_words::{WordsFault, print_fault, print_help, words_of};
 use std::process::ExitCode;
 use std::str;
 use whole_files::{read_regular, read_up_to};
@@ -20,17 +21,9 @@ use whole_files::{read_regular, read_up_to};
 const MOST_LIST_BYTES: usize = 16_777_216;
 
 /// Reads the command line.
-fn line_of(rt: &HostRuntime) -> Result<Line, LineFault> {
-    let words = match arguments(rt) {
-        Ok(words) => words,
-        Err(ArgumentFault::Memory) => return Err(LineFault::Memory),
-        Err(ArgumentFault::NotText(number, text)) => return Err(LineFault::NotText(number, text)),
-    };
-    let mut texts = Vec::new(rt.alloc());
-    for word in &words {
-        texts.push(word.as_str()).map_err(|_| LineFault::Memory)?;
-    }
-    read_line(rt.alloc(), texts.as_slice())
+fn line_of(rt: &HostRuntime) -> Result<Line, WordsFault> {
+    let words = words_of::<VjobsPack, HostRuntime>(rt)?;
+    read_line(rt.alloc(), &words)
 }
 
 /// The bytes of a list of names; `-` is standard input.
@@ -89,8 +82,7 @@ fn check_folder(rt: &HostRuntime, out: &str) -> Result<(), Stop> {
 /// Packs all files that were asked for. Answers whether every one was packed.
 fn pack_all(rt: &HostRuntime, asked: &Asked) -> Result<bool, Stop> {
     check_folder(rt, asked.out.as_str())?;
-    let most_bytes = asked.most_bytes as usize;
-    let mut packing = Packing::new(asked.out.as_str(), asked.region, most_bytes);
+    let mut packing = Packing::new(asked.out.as_str(), asked.region, asked.bounds);
     for name in &asked.files {
         packing.pack(rt, name.as_str())?;
     }
@@ -114,21 +106,6 @@ fn stopped(rt: &HostRuntime, stop: &Stop) -> u8 {
     3
 }
 
-/// Says why the command line asks for nothing. Answers the exit status.
-fn refused(rt: &HostRuntime, fault: &LineFault) -> u8 {
-    match fault {
-        LineFault::Usage(text) => {
-            let _ = eprint!(rt; "{text}");
-            2
-        }
-        LineFault::NotText(number, text) => {
-            let _ = eprintln!(rt; "vjobs-pack: argument {number} is no UTF-8: {text}");
-            2
-        }
-        LineFault::Memory => stopped(rt, &Stop::Memory),
-    }
-}
-
 fn main(rt: HostRuntime) -> ExitCode {
     let status = match line_of(&rt) {
         Ok(Line::Pack(asked)) => match pack_all(&rt, &asked) {
@@ -136,11 +113,8 @@ fn main(rt: HostRuntime) -> ExitCode {
             Ok(false) => 1,
             Err(stop) => stopped(&rt, &stop),
         },
-        Ok(Line::Help(text)) => match print!(rt; "{text}") {
-            Ok(()) => 0,
-            Err(_) => 3,
-        },
-        Err(fault) => refused(&rt, &fault),
+        Ok(Line::Help(text)) => print_help(&rt, text.as_str()),
+        Err(fault) => print_fault(&rt, "vjobs-pack", &fault),
     };
     ExitCode::from(status)
 }

@@ -1,5 +1,7 @@
 //! Files that go into batches.
 
+use crate::command::Bounds;
+use crate::entries::line_past;
 use crate::fault::{Stop, stop_at};
 use crate::second::second_job_line;
 use batch_packer::{JobFile, Pack, PackFault, one_job};
@@ -78,7 +80,7 @@ fn write_into(rt: &HostRuntime, out: &str, name: &str, bytes: &[u8]) -> Result<(
 pub struct Packing<'a> {
     out: &'a str,
     region: u32,
-    most_bytes: usize,
+    bounds: Bounds,
     begun: u64,
     first: Option<Open>,
     second: Option<Open>,
@@ -86,12 +88,12 @@ pub struct Packing<'a> {
 }
 
 impl<'a> Packing<'a> {
-    /// No batch, for a folder, a region of `region` words, and files of at most `most_bytes` bytes.
-    pub fn new(out: &'a str, region: u32, most_bytes: usize) -> Packing<'a> {
+    /// No batch, for a folder, a region of `region` words, and files within bounds.
+    pub fn new(out: &'a str, region: u32, bounds: Bounds) -> Packing<'a> {
         Packing {
             out,
             region,
-            most_bytes,
+            bounds,
             begun: 0,
             first: None,
             second: None,
@@ -141,19 +143,37 @@ impl<'a> Packing<'a> {
 
     /// Packs the file of this name, or says why not.
     pub fn pack(&mut self, rt: &HostRuntime, name: &str) -> Result<(), Stop> {
-        match read_regular(rt, name, self.most_bytes) {
+        match read_regular(rt, name, self.bounds.bytes as usize) {
             Ok(Some(bytes)) => self.pack_bytes(rt, name, &bytes),
             Ok(None) => self.refuse(rt, name.as_bytes(), 1, "not a regular file"),
             Err(error) => self.refuse_at(rt, name, &error),
         }
     }
 
+    /// By which bound a file of these bytes is refused, and at which line, if it is.
+    fn past_bound(&self, alloc: Global, bytes: &[u8]) -> Result<Option<(u64, String)>, AllocError> {
+        let most = self.bounds.bytes as usize;
+        if bytes.len() > most && most < MOST_BATCH_BYTES {
+            return Ok(Some((1, format!(in alloc; "more than {most} bytes")?)));
+        }
+        let Some(most) = self.bounds.entries else {
+            return Ok(None);
+        };
+        match line_past(alloc, bytes, most as usize)? {
+            Some(line) => {
+                let text = format!(in alloc;
+                    "more than {most} entries on the stack of a function"
+                )?;
+                Ok(Some((line, text)))
+            }
+            None => Ok(None),
+        }
+    }
+
     /// Packs the file of this name and of these bytes, or says why not.
     fn pack_bytes(&mut self, rt: &HostRuntime, name: &str, bytes: &[u8]) -> Result<(), Stop> {
-        let most = self.most_bytes;
-        if bytes.len() > most && most < MOST_BATCH_BYTES {
-            let text = format!(in rt.alloc(); "more than {most} bytes")?;
-            return self.refuse(rt, name.as_bytes(), 1, text.as_str());
+        if let Some((line, text)) = self.past_bound(rt.alloc(), bytes)? {
+            return self.refuse(rt, name.as_bytes(), line, text.as_str());
         }
         match one_job(rt.alloc(), bytes, self.region as usize) {
             Ok(file) => self.join(rt, name, &file),

@@ -1,7 +1,8 @@
 //! The batch that a manifest names.
 
-use crate::fault::{Stop, named, stop_at};
+use crate::fault::{Stop, stop_at};
 use report_splitter::{SealedBatch, is_sealed};
+use shown_text::named;
 use std::io::ErrorKind;
 use std::str;
 use vcode_base::limits::MOST_BATCH_BYTES;

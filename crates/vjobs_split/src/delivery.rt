@@ -2,10 +2,10 @@
 
 use crate::batch::folder_of;
 use crate::command::Target;
-use crate::fault::{Stop, error_text, named, stop_at};
+use crate::fault::{Stop, error_text, stop_at};
 use crate::packed::PackedFiles;
 use report_splitter::{CutFault, Manifest, PackedJob, cut_job};
-use shown_text::shown;
+use shown_text::{named, shown};
 use std::alloc::{AllocError, Global};
 use std::fmt::Write;
 use std::io::ErrorKind;

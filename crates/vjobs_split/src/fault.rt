@@ -1,6 +1,6 @@
 //! Why splitting stops.
 
-use shown_text::shown;
+use shown_text::named;
 use std::alloc::{AllocError, Global};
 use std::io;
 use std::io::ErrorKind;
@@ -29,12 +29,6 @@ impl From<AllocError> for Stop {
     fn from(_: AllocError) -> Stop {
         Stop::Memory
     }
-}
-
-/// What is wrong, after the name of the file or the folder that it is about, as it may be printed.
-pub fn named(alloc: Global, name: &str, what: &str) -> Result<String, AllocError> {
-    let name = shown(alloc, name.as_bytes())?;
-    format!(in alloc; "{name}: {what}")
 }
 
 /// What an error at the file of this name says. Refused memory is no file's fault.

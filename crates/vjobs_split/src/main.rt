@@ -9,12 +9,13 @@ mod packed;
 mod report;
 
 use batch::{batch_name, check_batch};
-use command::{Asked, Line, LineFault, Target, read_line};
+use command::{Asked, Line, Target, VjobsSplit, read_line};
 use delivery::{check_folder, deliver};
-use fault::{Stop, named, stop_at};
+use fault::{Stop, stop_at};
+use program_words::{WordsFault, print_fault, print_help, words_of};
 use report::check_report;
 use report_splitter::{Manifest, ManifestFault, read_manifest};
-use shown_text::{ArgumentFault, arguments};
+use shown_text::named;
 use std::alloc::Global;
 use std::process::ExitCode;
 use whole_files::{read_regular, read_up_to};
@@ -23,17 +24,9 @@ use whole_files::{read_regular, read_up_to};
 const MOST_MANIFEST_BYTES: usize = 16_777_216;
 
 /// Reads the command line.
-fn line_of(rt: &HostRuntime) -> Result<Line, LineFault> {
-    let words = match arguments(rt) {
-        Ok(words) => words,
-        Err(ArgumentFault::Memory) => return Err(LineFault::Memory),
-        Err(ArgumentFault::NotText(number, text)) => return Err(LineFault::NotText(number, text)),
-    };
-    let mut texts = Vec::new(rt.alloc());
-    for word in &words {
-        texts.push(word.as_str()).map_err(|_| LineFault::Memory)?;
-    }
-    read_line(rt.alloc(), texts.as_slice())
+fn line_of(rt: &HostRuntime) -> Result<Line, WordsFault> {
+    let words = words_of::<VjobsSplit, HostRuntime>(rt)?;
+    read_line(rt.alloc(), &words)
 }
 
 /// The bytes of the manifest at a path.
@@ -107,21 +100,6 @@ fn stopped(rt: &HostRuntime, stop: &Stop) -> u8 {
     status
 }
 
-/// Says why the command line asks for nothing. Answers the exit status.
-fn refused(rt: &HostRuntime, fault: &LineFault) -> u8 {
-    match fault {
-        LineFault::Usage(text) => {
-            let _ = eprint!(rt; "{text}");
-            2
-        }
-        LineFault::NotText(number, text) => {
-            let _ = eprintln!(rt; "vjobs-split: argument {number} is no UTF-8: {text}");
-            2
-        }
-        LineFault::Memory => stopped(rt, &Stop::Memory),
-    }
-}
-
 fn main(rt: HostRuntime) -> ExitCode {
     let status = match line_of(&rt) {
         Ok(Line::Split(asked)) => match run(&rt, &asked) {
@@ -129,11 +107,8 @@ fn main(rt: HostRuntime) -> ExitCode {
             Ok(false) => 1,
             Err(stop) => stopped(&rt, &stop),
         },
-        Ok(Line::Help(text)) => match print!(rt; "{text}") {
-            Ok(()) => 0,
-            Err(_) => 3,
-        },
-        Err(fault) => refused(&rt, &fault),
+        Ok(Line::Help(text)) => print_help(&rt, text.as_str()),
+        Err(fault) => print_fault(&rt, "vjobs-split", &fault),
     };
     ExitCode::from(status)
 }

@@ -45,8 +45,8 @@ const RANGES: &[Range] = &[
     },
 ];
 
-/// Whether a JOB line with this word as the limit at a place, and 1 as the other limits, is refused.
-fn is_bad_limit(alloc: Global, place: usize, word: &[u8]) -> Result<bool, AllocError> {
+/// A batch whose JOB line has this word as the limit at a place, and 1 as the other limits.
+fn batch_with(alloc: Global, place: usize, word: &[u8]) -> Result<Vec<u8>, AllocError> {
     let mut text = b"JOB t".to_vec(alloc)?;
     for other in 0..RANGES.len() {
         let limit = if other == place { word } else { b"1" };
@@ -54,12 +54,23 @@ fn is_bad_limit(alloc: Global, place: usize, word: &[u8]) -> Result<bool, AllocE
         text.extend_from_slice(limit)?;
     }
     text.extend_from_slice(b"\nSIGNATURES\nCODE\nEND\n")?;
+    Ok(text)
+}
+
+/// Whether a batch is refused as a whole.
+fn is_refused(alloc: Global, text: &[u8]) -> Result<bool, AllocError> {
     let mut feed = Feed::new(alloc, MOST_WORDS)?;
-    feed.feed(&text)?;
+    feed.feed(text)?;
     match feed.end()? {
         Batch::Refused(..) => Ok(true),
         Batch::Jobs(..) => Ok(false),
     }
+}
+
+/// Whether a JOB line with this word as the limit at a place, and 1 as the other limits, is refused.
+fn is_bad_limit(alloc: Global, place: usize, word: &[u8]) -> Result<bool, AllocError> {
+    let text = batch_with(alloc, place, word)?;
+    is_refused(alloc, &text)
 }
 
 /// What is wrong with the name of a job, if something is.
@@ -94,8 +105,8 @@ fn limits_note(alloc: Global, limits: &[&[u8]]) -> Result<String, AllocError> {
     Ok(String::new(alloc))
 }
 
-/// What is wrong with a JOB line.
-fn job_line_note(alloc: Global, line: &[u8]) -> Result<String, AllocError> {
+/// The words of a line.
+fn words_of(alloc: Global, line: &[u8]) -> Result<Vec<&[u8]>, AllocError> {
     let mut words = Vec::new(alloc);
     let mut rest = LineWords::new(line, Parentheses::StandInWords);
     for _ in 0..line.len() {
@@ -104,6 +115,12 @@ fn job_line_note(alloc: Global, line: &[u8]) -> Result<String, AllocError> {
         };
         words.push(word)?;
     }
+    Ok(words)
+}
+
+/// What is wrong with a JOB line.
+fn job_line_note(alloc: Global, line: &[u8]) -> Result<String, AllocError> {
+    let words = words_of(alloc, line)?;
     let count = words.len();
     if count != JOB_WORDS {
         return format!(in alloc;

@@ -20,9 +20,9 @@ pub struct Chain {
 /// The chains of a run, that of `MAIN` alone first, and the chain of each active call, the innermost last.
 ///
 /// Each chain has a row, which has for each function the chain in which it goes on if it is called there: for one that
-/// runs in the chain already the chain up to it, and for one that was called from the chain the chain with it. So a call
-/// takes one look, however deep it is. Each chain comes after its outer chain. So in a row the chains of functions that run
-/// already are those up to the row's own chain, and those of others come after it.
+/// runs in the chain already the chain up to it, and for one that was called from the chain the chain with it. So a
+/// call takes one look, however deep it is. Each chain comes after its outer chain. So in a row the chains of functions
+/// that run already are those up to the row's own chain, and those of others come after it.
 #[derive(Drop)]
 pub struct Chains {
     alloc: Global,
@@ -119,8 +119,8 @@ impl Chains {
         Ok(place)
     }
 
-    /// The place of the chain of a function that is called in the chain at a place. One that runs already goes on in its
-    /// chain, so that a recursion is one chain. A chain that is missing is added, unless there are too many.
+    /// The place of the chain of a function that is called in the chain at a place. One that runs already goes on in
+    /// its chain, so that a recursion is one chain. A chain that is missing is added, unless there are too many.
     fn inner(&mut self, outer: usize, function: usize) -> Result<usize, AllocError> {
         if let Some(place) = self.known(outer, function) {
             return Ok(place);

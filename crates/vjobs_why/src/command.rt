@@ -1,11 +1,13 @@
 //! The command line.
 
 use crate::selection::{Selection, line_range};
-use clap::error::ErrorKind;
 use clap::{Arg, ArgAction, ArgMatches, Command, value_parser};
-use shown_text::{ArgumentFault, shown};
+use program_words::{Program, WordsFault, help_of, matches_of};
 use std::alloc::{AllocError, Global};
 use vcode_base::limits::MOST_BUDGET;
+
+/// The name of the program in its texts, by whatever name it was called.
+const NAME: &str = "vjobs-why";
 
 /// What is to be shown of a job on a terminal.
 #[derive(Clone, Copy, Drop)]
@@ -55,37 +57,6 @@ pub enum Line {
     Show(Asked),
     /// The text of help or of the version, to be printed.
     Help(String),
-}
-
-/// Why a command line asks for nothing.
-#[derive(Drop)]
-pub enum LineFault {
-    /// It is refused, with the reason as it is to be printed.
-    Usage(String),
-    /// A word of it is no text.
-    NotText(ArgumentFault),
-    /// Memory was refused.
-    Memory,
-}
-
-impl From<AllocError> for LineFault {
-    ghost use Rattle.std.specs.Prelude.{◌≡◌};
-    ghost use Rattle.vjobs_why.specs.declared.command.LineFault.TheVariants.{Memory};
-
-    ghost from_gives = { λ _ fault. fault ≡ Memory };
-
-    fn from(_: AllocError) -> LineFault {
-        LineFault::Memory
-    }
-}
-
-impl From<ArgumentFault> for LineFault {
-    fn from(fault: ArgumentFault) -> LineFault {
-        match fault {
-            ArgumentFault::NotText(..) => LineFault::NotText(fault),
-            ArgumentFault::Memory => LineFault::Memory,
-        }
-    }
 }
 
 /// The greatest number that an option takes.
@@ -219,16 +190,21 @@ fn with_profiles<'a>(alloc: Global, command: Command<'a>) -> Result<Command<'a>,
     )
 }
 
-/// The command.
-fn command<'a>(alloc: Global) -> Result<Command<'a>, clap::Error> {
-    let command = Command::new(alloc, "vjobs-why")
-        .about("Shows why a VCODE job ended, and what there was on the way")
-        .version("0.1.0");
-    let command = with_states(alloc, command)?;
-    let command = with_steps(alloc, command)?;
-    let command = with_filters(alloc, command)?;
-    let command = with_profiles(alloc, command)?.arg(no_least_option(alloc))?;
-    Ok(command.arg(file_argument(alloc))?)
+/// The program whose words these are.
+pub struct VjobsWhy;
+
+impl Program for VjobsWhy {
+    fn command<'a>(alloc: Global) -> Result<Command<'a>, clap::Error> {
+        let command = Command::new(alloc, NAME)
+            .bin_name(NAME)?
+            .about("Shows why a VCODE job ended, and what there was on the way")
+            .version("0.1.0");
+        let command = with_states(alloc, command)?;
+        let command = with_steps(alloc, command)?;
+        let command = with_filters(alloc, command)?;
+        let command = with_profiles(alloc, command)?.arg(no_least_option(alloc))?;
+        Ok(command.arg(file_argument(alloc))?)
+    }
 }
 
 /// The number of an option, if it was given.
@@ -307,12 +283,12 @@ fn form_of(alloc: Global, matches: &ArgMatches<'_>, look: Look) -> Result<Form, 
 }
 
 /// What was matched.
-fn asked_of(alloc: Global, matches: &ArgMatches<'_>) -> Result<Line, LineFault> {
+fn asked_of(alloc: Global, matches: &ArgMatches<'_>) -> Result<Line, WordsFault> {
     let look = match look_of(matches) {
         Ok(look) => look,
         Err(reason) => {
             let text = format!(in alloc; "vjobs-why: {reason}\n")?;
-            return Err(LineFault::Usage(text));
+            return Err(WordsFault::Refused(text));
         }
     };
     let file = String::from_str(alloc, matches.get_str("file").unwrap_or("-"))?;
@@ -324,54 +300,10 @@ fn asked_of(alloc: Global, matches: &ArgMatches<'_>) -> Result<Line, LineFault> 
     }))
 }
 
-/// What clap answered in place of matches.
-fn line_of(alloc: Global, error: &clap::Error) -> Result<Line, LineFault> {
-    if error.kind() == ErrorKind::OutOfMemory {
-        return Err(LineFault::Memory);
-    }
-    let text = error.to_string(alloc).map_err(|_| LineFault::Memory)?;
-    if error.use_stderr() {
-        Err(LineFault::Usage(text))
-    } else {
-        Ok(Line::Help(text))
-    }
-}
-
-/// Matches the words of a command line.
-fn matches_of<'a>(alloc: Global, words: &'a [&'a str]) -> Result<ArgMatches<'a>, clap::Error> {
-    command(alloc)?.try_get_matches_from(words)
-}
-
-/// Words as they may be shown on a terminal.
-fn shown_words(alloc: Global, words: &[&str]) -> Result<Vec<String>, AllocError> {
-    let mut all = Vec::new(alloc);
-    for word in words {
-        all.push(shown(alloc, word.as_bytes())?)?;
-    }
-    Ok(all)
-}
-
-/// What clap answers in place of matches to these words as they are shown, since it quotes them.
-fn answer_of(alloc: Global, words: &[&str]) -> Result<Line, LineFault> {
-    let shown = shown_words(alloc, words)?;
-    let mut texts = Vec::new(alloc);
-    for word in &shown {
-        texts.push(word.as_str()).map_err(|_| LineFault::Memory)?;
-    }
-    match matches_of(alloc, texts.as_slice()) {
-        Err(error) => line_of(alloc, &error),
-        Ok(_) => {
-            let text = String::from_str(alloc, "vjobs-why: the command line is refused\n")?;
-            Err(LineFault::Usage(text))
-        }
-    }
-}
-
 /// Reads a command line, the program's name first.
-pub fn read_line(alloc: Global, words: &[&str]) -> Result<Line, LineFault> {
-    match matches_of(alloc, words) {
+pub fn read_line(alloc: Global, words: &[String]) -> Result<Line, WordsFault> {
+    match matches_of::<VjobsWhy>(alloc, words) {
         Ok(matches) => asked_of(alloc, &matches),
-        Err(error) if error.kind() == ErrorKind::OutOfMemory => Err(LineFault::Memory),
-        Err(_) => answer_of(alloc, words),
+        Err(error) => Ok(Line::Help(help_of::<VjobsWhy>(alloc, &error, words)?)),
     }
 }

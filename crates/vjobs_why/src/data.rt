@@ -2,7 +2,7 @@
 
 use crate::chains::Chains;
 use crate::end::{End, Ending};
-use crate::lines::Lines;
+use crate::lines::{Lines, printable};
 use crate::meanings::job_meaning;
 use crate::profile::{function_places, functions_of, last_line_of, lines_of};
 use crate::survey::Survey;
@@ -50,9 +50,10 @@ fn push_comma(text: &mut String, place: usize) -> Result<(), AllocError> {
 }
 
 /// Adds the first members: the place and the name of a job.
-fn push_job(text: &mut String, place: u64, name: &str) -> Result<(), AllocError> {
+fn push_job(text: &mut String, alloc: Global, place: u64, name: &[u8]) -> Result<(), AllocError> {
     write!(text, "{{\"job\":{place},\"name\":")?;
-    push_quoted(text, name)
+    let name = printable(alloc, name)?;
+    push_quoted(text, name.as_str())
 }
 
 /// Adds how a job ended, and its last line if a fault has one.
@@ -133,18 +134,44 @@ fn push_numbers(text: &mut String, member: &str, numbers: &[usize]) -> Result<()
     text.push(']')
 }
 
-/// Of each column the most words, the least, and the line of the most.
-fn numbers_of(
-    alloc: Global,
-    columns: &[Column],
-) -> Result<(Vec<usize>, Vec<usize>, Vec<usize>), AllocError> {
-    let (mut most, mut least, mut lines) = (Vec::new(alloc), Vec::new(alloc), Vec::new(alloc));
+/// Adds the member for the most words of each column.
+fn push_most(text: &mut String, alloc: Global, columns: &[Column]) -> Result<(), AllocError> {
+    let mut numbers = Vec::new(alloc);
     for column in columns {
-        most.push(column.most)?;
-        least.push(column.least)?;
+        numbers.push(column.most)?;
+    }
+    push_numbers(text, "most", numbers.as_slice())
+}
+
+/// Adds the member for the least words of each column.
+fn push_least(text: &mut String, alloc: Global, columns: &[Column]) -> Result<(), AllocError> {
+    let mut numbers = Vec::new(alloc);
+    for column in columns {
+        numbers.push(column.least)?;
+    }
+    push_numbers(text, "least", numbers.as_slice())
+}
+
+/// The line of the most words of each column.
+fn lines_at(alloc: Global, columns: &[Column]) -> Result<Vec<usize>, AllocError> {
+    let mut lines = Vec::new(alloc);
+    for column in columns {
         lines.push(column.line)?;
     }
-    Ok((most, least, lines))
+    Ok(lines)
+}
+
+/// Adds the members for the line of the most words of each column and for its function.
+fn push_places(
+    text: &mut String,
+    alloc: Global,
+    columns: &Columns<Global>,
+) -> Result<(), AllocError> {
+    let (_, list) = columns.columns();
+    let lines = lines_at(alloc, list)?;
+    push_numbers(text, "line", lines.as_slice())?;
+    let functions = function_places(alloc, columns.profile(), lines.as_slice())?;
+    push_numbers(text, "function", functions.as_slice())
 }
 
 /// Adds the member for the words over time.
@@ -154,13 +181,10 @@ fn push_columns(
     columns: &Columns<Global>,
 ) -> Result<(), AllocError> {
     let (each, list) = columns.columns();
-    let (most, least, lines) = numbers_of(alloc, list)?;
-    let functions = function_places(alloc, columns.profile(), lines.as_slice())?;
     write!(text, ",\"columns\":{{\"each\":{each}")?;
-    push_numbers(text, "most", most.as_slice())?;
-    push_numbers(text, "least", least.as_slice())?;
-    push_numbers(text, "line", lines.as_slice())?;
-    push_numbers(text, "function", functions.as_slice())?;
+    push_most(text, alloc, list)?;
+    push_least(text, alloc, list)?;
+    push_places(text, alloc, columns)?;
     text.push('}')
 }
 
@@ -204,24 +228,35 @@ fn push_code(
     text.push_str("]}")
 }
 
+/// Adds the members for the refusal of a job at a line, and ends its object.
+fn push_refusal(
+    text: &mut String,
+    alloc: Global,
+    lines: &Lines,
+    line: u64,
+    fault: JobFault,
+) -> Result<(), AllocError> {
+    let word = fault.text();
+    write!(text, ",\"end\":\"REFUSED {word}\",\"line\":{line}")?;
+    push_note(text, job_meaning(fault))?;
+    let first = line.saturating_sub(LINES_BESIDE).max(1);
+    let last = line.saturating_add(LINES_BESIDE).min(lines.count());
+    push_code(text, alloc, lines, first, last)?;
+    text.push('}')
+}
+
 /// The object of a job of this place and this name that was refused at a line for a fault.
 pub fn refusal_object(
     alloc: Global,
     lines: &Lines,
     place: u64,
-    name: &str,
+    name: &[u8],
     line: u64,
     fault: JobFault,
 ) -> Result<String, AllocError> {
     let mut text = String::new(alloc);
-    push_job(&mut text, place, name)?;
-    let word = fault.text();
-    write!(text, ",\"end\":\"REFUSED {word}\",\"line\":{line}")?;
-    push_note(&mut text, job_meaning(fault))?;
-    let first = line.saturating_sub(LINES_BESIDE).max(1);
-    let last = line.saturating_add(LINES_BESIDE).min(lines.count());
-    push_code(&mut text, alloc, lines, first, last)?;
-    text.push('}')?;
+    push_job(&mut text, alloc, place, name)?;
+    push_refusal(&mut text, alloc, lines, line, fault)?;
     Ok(text)
 }
 
@@ -281,17 +316,27 @@ fn push_counts(
     )
 }
 
-/// The object of a job of this place and this name that has run to its end, up to what is said of its end.
+/// Adds the members of a job of this place that has run to its end, up to what is said of its end.
+fn push_members(
+    text: &mut String,
+    alloc: Global,
+    lines: &Lines,
+    place: u64,
+    survey: &Survey,
+) -> Result<(), AllocError> {
+    push_job(text, alloc, place, survey.profile().run().job().name())?;
+    push_end(text, survey)?;
+    push_counts(text, alloc, lines, survey)
+}
+
+/// The object of a job of this place that has run to its end, up to what is said of its end.
 pub fn job_object(
     alloc: Global,
     lines: &Lines,
     place: u64,
-    name: &str,
     survey: &Survey,
 ) -> Result<String, AllocError> {
     let mut text = String::new(alloc);
-    push_job(&mut text, place, name)?;
-    push_end(&mut text, survey)?;
-    push_counts(&mut text, alloc, lines, survey)?;
+    push_members(&mut text, alloc, lines, place, survey)?;
     Ok(text)
 }

@@ -54,7 +54,8 @@ fn mark(column: Column, below: usize, peak: usize, blank: char) -> char {
 }
 
 impl Drawing {
-    /// The drawing of columns of `each` instructions: some that follow one another are drawn as one, so that there are few.
+    /// The drawing of columns of `each` instructions: some that follow one another are drawn as one, so that there are
+    /// few.
     fn of(
         alloc: Global,
         columns: &[Column],

@@ -38,7 +38,8 @@ pub fn ending_of(run: &Run<Global>) -> Ending {
     }
 }
 
-/// The end of a run, whose results are collected, with the number of instructions that lead to the last state before it.
+/// The end of a run, whose results are collected, with the number of instructions that lead to the last state before
+/// it.
 pub fn end_of(uses: &Uses<Global>, steps: u64) -> End {
     End {
         ending: ending_of(uses.run()),

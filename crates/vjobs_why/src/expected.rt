@@ -42,17 +42,22 @@ fn joined(alloc: Global, first: &[u8], second: &[u8]) -> Result<Vec<u8>, AllocEr
     Ok(text)
 }
 
-/// Whether code that begins so has a fault if this word is next.
-pub fn is_fault_next(alloc: Global, front: &[u8], word: &[u8]) -> Result<bool, AllocError> {
-    let text = joined(alloc, front, word)?;
-    let text = joined(alloc, &text, b"")?;
-    if text.len() > MOST_CODE_BYTES {
+/// Whether code that begins so has a fault, unless it is too large.
+fn is_fault(alloc: Global, code: &[u8]) -> Result<bool, AllocError> {
+    if code.len() > MOST_CODE_BYTES {
         return Ok(false);
     }
     line_feeds_are_few();
     let mut reader = CodeReader::new(alloc, 1)?;
-    reader.feed(&text)?;
+    reader.feed(code)?;
     Ok(reader.fault().is_some())
+}
+
+/// Whether code that begins so has a fault if this word is next.
+pub fn is_fault_next(alloc: Global, front: &[u8], word: &[u8]) -> Result<bool, AllocError> {
+    let mut text = joined(alloc, front, word)?;
+    text.push(b' ')?;
+    is_fault(alloc, &text)
 }
 
 /// Whether a signature that begins so is one with these words after it, or too large.

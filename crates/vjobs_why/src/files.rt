@@ -46,8 +46,8 @@ fn read_file(rt: &HostRuntime, name: &str) -> io::Result<Vec<u8>> {
     read_up_to(rt, &mut file)
 }
 
-/// The bytes of the regular file of this name; `-` is standard input. Of a file that is longer than a batch may be, enough
-/// of it to be refused.
+/// The bytes of the regular file of this name; `-` is standard input. Of a file that is longer than a batch may be,
+/// enough of it to be refused.
 pub fn read_batch(rt: &HostRuntime, name: &str) -> Result<Vec<u8>, Failure> {
     if name == "-" {
         return read_up_to(rt, &mut rt.stdin()).map_err(|error| Failure::of(
@@ -65,8 +65,8 @@ fn write_all(mut file: File, text: &str) -> io::Result<()> {
     file.sync_all()
 }
 
-/// Writes a text to a new file of the name `part`, which then takes the place of the file `name`. After an error there is
-/// no new file, and the file `name` is as it was.
+/// Writes a text to a new file of the name `part`, which then takes the place of the file `name`. After an error there
+/// is no new file, and the file `name` is as it was.
 fn replace(rt: &HostRuntime, file: File, part: &str, name: &str, text: &str) -> io::Result<()> {
     let replaced = match write_all(file, text) {
         Ok(()) => fs::rename(rt, part, name),
@@ -78,8 +78,8 @@ fn replace(rt: &HostRuntime, file: File, part: &str, name: &str, text: &str) -> 
     replaced
 }
 
-/// Writes a text to the file of this name as a whole, or not at all: to a new file with `.part` after the name, which then
-/// takes its place.
+/// Writes a text to the file of this name as a whole, or not at all: to a new file with `.part` after the name, which
+/// then takes its place.
 fn write_file(rt: &HostRuntime, name: &str, text: &str) -> Result<(), Failure> {
     check_place(rt, name).map_err(|error| Failure::of(rt.alloc(), name, error))?;
     let part = format!(in rt.alloc(); "{name}.part")?;

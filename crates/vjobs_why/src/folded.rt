@@ -35,8 +35,8 @@ struct Level {
     end: usize,
 }
 
-/// The names of the functions of a chain with semicolons between them, and the chain and those around it, that of `MAIN`
-/// first.
+/// The names of the functions of a chain with semicolons between them, and the chain and those around it, that of
+/// `MAIN` first.
 #[derive(Drop)]
 struct Stack {
     alloc: Global,
@@ -155,12 +155,23 @@ fn print_chains(rt: &HostRuntime, chains: &Chains, names: &[String]) -> io::Resu
     Ok(())
 }
 
+/// The chains of a run that has executed nothing, which goes to its end.
+fn chains_of(alloc: Global, run: &mut Run<Global>) -> Result<Chains, AllocError> {
+    let mut chains = Chains::new(alloc, run)?;
+    run_out(&mut chains, run)?;
+    Ok(chains)
+}
+
+/// Prints the lines of a run that has executed nothing, which goes to its end.
+fn print_run(rt: &HostRuntime, run: &mut Run<Global>) -> io::Result<()> {
+    let names = names_of(rt.alloc(), run.job())?;
+    let chains = chains_of(rt.alloc(), run)?;
+    print_chains(rt, &chains, names.as_slice())
+}
+
 /// Runs a job, and prints a line for each chain of functions that executed an instruction itself: their names, and how
 /// many.
 pub fn print_folded(rt: &HostRuntime, rule: Rule, job: Job<Global>) -> io::Result<()> {
     let mut run = Run::new(rt.alloc(), rule, job)?;
-    let mut chains = Chains::new(rt.alloc(), &run)?;
-    run_out(&mut chains, &mut run)?;
-    let names = names_of(rt.alloc(), run.job())?;
-    print_chains(rt, &chains, names.as_slice())
+    print_run(rt, &mut run)
 }

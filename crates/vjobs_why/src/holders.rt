@@ -25,8 +25,18 @@ pub struct Holder {
     pub unread: usize,
 }
 
-/// The vectors that were read from a state on, of those that were held there. They are named by how many entries were made
-/// before each, the least first.
+impl Holder {
+    /// Adds what is held of another vector of its line.
+    fn add(&mut self, other: Holder) {
+        self.words = self.words.saturating_add(other.words);
+        self.vectors = self.vectors.saturating_add(other.vectors);
+        self.entries = self.entries.saturating_add(other.entries);
+        self.unread = self.unread.saturating_add(other.unread);
+    }
+}
+
+/// The vectors that were read from a state on, of those that were held there. They are named by how many entries were
+/// made before each, the least first.
 #[derive(Drop)]
 struct Reads {
     vectors: Vec<u64>,
@@ -86,8 +96,8 @@ impl Reads {
         }
     }
 
-    /// Runs a job to its end, and notes what it reads. `None` if it doesn't return.
-    fn to_end(mut self, watch: &mut Watch) -> Result<Option<Reads>, AllocError> {
+    /// Runs a job to its end, and notes what it reads.
+    fn note_all(&mut self, watch: &mut Watch) -> Result<(), AllocError> {
         for _ in 0..=MOST_BUDGET {
             let Some(next) = watch.next() else {
                 break;
@@ -95,12 +105,24 @@ impl Reads {
             self.note_next(watch, next);
             watch.step()?;
         }
-        watch.uses.collect()?;
-        if ending_of(watch.run()) == Ending::Returned {
-            Ok(Some(self))
-        } else {
-            Ok(None)
-        }
+        Ok(())
+    }
+}
+
+/// The vectors of these entries that are read from the state of a run on, which is run to its end. `None` if it doesn't
+/// return.
+fn reads_of(
+    alloc: Global,
+    entries: &[Held],
+    watch: &mut Watch,
+) -> Result<Option<Reads>, AllocError> {
+    let mut reads = Reads::new(alloc, entries)?;
+    reads.note_all(watch)?;
+    watch.uses.collect()?;
+    if ending_of(watch.run()) == Ending::Returned {
+        Ok(Some(reads))
+    } else {
+        Ok(None)
     }
 }
 
@@ -120,7 +142,8 @@ fn entries_of(alloc: Global, watch: &Watch) -> Result<Vec<Held>, AllocError> {
     Ok(entries)
 }
 
-/// Adds a vector to what its line holds, and how many of its words are never read again; or a copy of the vector before it.
+/// Adds a vector to what its line holds, and how many of its words are never read again; or a copy of the vector before
+/// it.
 fn add_entry(
     holders: &mut Vec<Holder>,
     entry: Held,
@@ -128,24 +151,31 @@ fn add_entry(
     is_read: bool,
 ) -> Result<(), AllocError> {
     let (words, vectors) = if is_copy { (0, 0) } else { (entry.words, 1) };
-    let unread = if is_read { 0 } else { words };
-    if let Some(holder) = holders.last_mut() {
-        if holder.line == entry.line {
-            holder.words = holder.words.saturating_add(words);
-            holder.vectors = holder.vectors.saturating_add(vectors);
-            holder.entries = holder.entries.saturating_add(1);
-            holder.unread = holder.unread.saturating_add(unread);
-            return Ok(());
-        }
-    }
-    holders.push(Holder {
+    let added = Holder {
         line: entry.line,
         words,
         vectors,
         entries: 1,
-        unread,
-    })?;
-    Ok(())
+        unread: if is_read { 0 } else { words },
+    };
+    match holders.last_mut() {
+        Some(holder) if holder.line == entry.line => {
+            holder.add(added);
+            Ok(())
+        }
+        Some(_) | None => {
+            holders.push(added)?;
+            Ok(())
+        }
+    }
+}
+
+/// Whether a vector is read, as far as that is known.
+fn is_read(reads: &Option<Reads>, vector: u64) -> bool {
+    match reads {
+        Some(reads) => reads.has(vector),
+        None => true,
+    }
 }
 
 /// What the lines hold of these entries, those with the most words first.
@@ -157,19 +187,16 @@ fn holders_of(
     let mut holders = Vec::new(alloc);
     let mut last = None;
     for entry in entries {
-        let is_read = match reads {
-            Some(reads) => reads.has(entry.before),
-            None => true,
-        };
-        add_entry(&mut holders, *entry, last == Some(entry.before), is_read)?;
+        let is_copy = last == Some(entry.before);
+        add_entry(&mut holders, *entry, is_copy, is_read(reads, entry.before))?;
         last = Some(entry.before);
     }
     holders.sort_by_key(|holder| usize::MAX - holder.words)?;
     Ok(holders)
 }
 
-/// What is held before an instruction of a job, the line of the instruction, and how many words of it this run never reads
-/// again, if it returns.
+/// What is held before an instruction of a job, the line of the instruction, and how many words of it this run never
+/// reads again, if it returns.
 #[derive(Drop)]
 pub struct Holdings {
     pub holders: Vec<Holder>,
@@ -179,18 +206,22 @@ pub struct Holdings {
 }
 
 impl Holdings {
-    /// What is held at the state of a run, which is run to its end.
-    fn at(alloc: Global, watch: &mut Watch) -> Result<Holdings, AllocError> {
-        let entries = entries_of(alloc, watch)?;
+    /// What is held after this many instructions of a run that has executed nothing, which is run to its end.
+    fn after(alloc: Global, watch: &mut Watch, count: u64) -> Result<Holdings, AllocError> {
+        watch.go_to(count)?;
         let (words, line) = (watch.run().held(), next_line(watch));
-        let reads = Reads::new(alloc, entries.as_slice())?.to_end(watch)?;
+        let entries = entries_of(alloc, watch)?;
+        let reads = reads_of(alloc, entries.as_slice(), watch)?;
         let holders = holders_of(alloc, entries.as_slice(), &reads)?;
-        let unread = unread_words(holders.as_slice());
+        let unread = match reads {
+            Some(_) => Some(unread_words(holders.as_slice())),
+            None => None,
+        };
         Ok(Holdings {
             holders,
             words,
             line,
-            unread: if reads.is_some() { Some(unread) } else { None },
+            unread,
         })
     }
 
@@ -202,8 +233,7 @@ impl Holdings {
         number: u64,
     ) -> Result<(Holdings, Job<Global>), AllocError> {
         let mut watch = Watch::new(alloc, rule, job)?;
-        watch.go_to(number.saturating_sub(1))?;
-        let holdings = Holdings::at(alloc, &mut watch)?;
+        let holdings = Holdings::after(alloc, &mut watch, number.saturating_sub(1))?;
         Ok((holdings, watch.into_job()))
     }
 }

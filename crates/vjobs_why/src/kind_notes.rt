@@ -161,6 +161,22 @@ fn print_misfit(
     }
 }
 
+/// Prints where kinds don't fit in a program.
+fn print_found(
+    rt: &HostRuntime,
+    source: Source<'_>,
+    program: &Program<Global>,
+    misfit: &Misfit,
+) -> io::Result<()> {
+    match program.functions().get(misfit.function) {
+        Some(function) => {
+            let name = printable(rt.alloc(), function.name())?;
+            print_misfit(rt, source, name.as_str(), misfit)
+        }
+        None => Ok(()),
+    }
+}
+
 /// Prints where kinds don't fit, if that is at this line.
 fn print_clash(
     rt: &HostRuntime,
@@ -175,13 +191,7 @@ fn print_clash(
     if absolute(source.parts.code, misfit.line) != line {
         return Ok(());
     }
-    match program.functions().get(misfit.function) {
-        Some(function) => {
-            let name = printable(rt.alloc(), function.name())?;
-            print_misfit(rt, source, name.as_str(), &misfit)
-        }
-        None => Ok(()),
-    }
+    print_found(rt, source, program, &misfit)
 }
 
 /// Adds a name to a list of names.

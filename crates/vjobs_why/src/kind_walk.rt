@@ -38,8 +38,8 @@ pub enum Clash {
     Parts(Vec<StackEntry>),
 }
 
-/// The first place where the kinds of a program don't fit: the function, the line, how many instructions of the line come
-/// before it, the stack there, and why.
+/// The first place where the kinds of a program don't fit: the function, the line, how many instructions of the line
+/// come before it, the stack there, and why.
 #[derive(Drop)]
 pub struct Misfit {
     pub function: usize,
@@ -207,16 +207,22 @@ impl Walk {
         Ok(Some(Clash::Operands(wanted, &[])))
     }
 
+    /// Keeps the stack for the other part of an IF.
+    fn keep(&mut self) -> Result<(), AllocError> {
+        let count = self.stack.len();
+        self.touch(count);
+        let copy = self.stack.to_vec(self.alloc)?;
+        self.kept.push(copy)?;
+        Ok(())
+    }
+
     /// An IF.
     fn begin_parts(&mut self, line: u64) -> Result<Option<Clash>, AllocError> {
-        let clash = self.replace(&[Kind::Bool], &[], &["flag"], line)?;
-        if clash.is_none() {
-            let count = self.stack.len();
-            self.touch(count);
-            let copy = self.stack.to_vec(self.alloc)?;
-            self.kept.push(copy)?;
+        if let Some(clash) = self.replace(&[Kind::Bool], &[], &["flag"], line)? {
+            return Ok(Some(clash));
         }
-        Ok(clash)
+        self.keep()?;
+        Ok(None)
     }
 
     /// An ELSE: the stack and the one that was kept last change places.

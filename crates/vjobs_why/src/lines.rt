@@ -14,7 +14,8 @@ pub struct Lines {
     begins: Vec<usize>,
 }
 
-/// The character that shows a byte: a blank for a tab and a CR, and a question mark for any other byte outside 32 to 126.
+/// The character that shows a byte: a blank for a tab and a CR, and a question mark for any other byte outside 32 to
+/// 126.
 fn shown_byte(byte: u8) -> char {
     if byte == b'\t' || byte == b'\r' {
         return ' ';
@@ -34,7 +35,8 @@ pub fn printable(alloc: Global, bytes: &[u8]) -> Result<String, AllocError> {
     Ok(shown)
 }
 
-/// The code of a line: what comes before its comment, or the whole line if nothing does, without the blanks at its ends.
+/// The code of a line: what comes before its comment, or the whole line if nothing does, without the blanks at its
+/// ends.
 fn code_of(line: &str) -> &str {
     match line.split_once('{') {
         Some((code, _)) if !code.trim_ascii().is_empty() => code.trim_ascii(),
@@ -115,7 +117,8 @@ impl Lines {
         self.text.get(begin..end).unwrap_or(&[])
     }
 
-    /// A line as it may be shown, without its LF. Two dots end one that is cut. It is empty if there is none of this number.
+    /// A line as it may be shown, without its LF. Two dots end one that is cut. It is empty if there is none of this
+    /// number.
     pub fn line(&self, alloc: Global, number: u64) -> Result<String, AllocError> {
         let Some(bytes) = self.bytes(number) else {
             return Ok(String::new(alloc));
@@ -152,8 +155,8 @@ impl Lines {
         self.print_marked(rt, number, carets.as_str(), note)
     }
 
-    /// The same with carets below a word alone, whose first byte and the byte after whose last are at these places of the
-    /// lines from `first` on. If that isn't a part of the line that is shown, they are below its code.
+    /// The same with carets below a word alone, whose first byte and the byte after whose last are at these places of
+    /// the lines from `first` on. If that isn't a part of the line that is shown, they are below its code.
     pub fn print_word(
         &self,
         rt: &HostRuntime,

@@ -4,7 +4,6 @@ use crate::command::Look;
 use crate::data::{Told, job_object, push_told};
 use crate::end::{End, Ending, ending_of, run_through};
 use crate::folded::print_folded;
-use crate::holders::Holdings;
 use crate::lines::{Lines, printable};
 use crate::memory_notes::memory_note;
 use crate::operands::operand_names;
@@ -13,10 +12,8 @@ use crate::reasons::reason;
 use crate::stack::{print_calls, print_stack};
 use crate::steps::show_steps;
 use crate::survey::Survey;
-use crate::tally::Tally;
 use crate::watch::Watch;
 use crate::wide::{Course, MOST_BEFORE, Wide, Work, run_wide};
-use job_profile::Columns;
 use job_steps::Job;
 use std::alloc::{AllocError, Global};
 use std::io;
@@ -25,8 +22,8 @@ use vcode_base::{Limits, MemoryFault, Op, Rule};
 /// The last instructions that are shown of a job.
 const LAST: u64 = 6;
 
-/// The rule and the lines of a batch, and whether a job that a limit ended is run again within the widest limits, to find
-/// the least within which it returns.
+/// The rule and the lines of a batch, and whether a job that a limit ended is run again within the widest limits, to
+/// find the least within which it returns.
 #[derive(Clone, Copy)]
 pub struct Batch<'a> {
     pub rule: Rule,
@@ -76,14 +73,15 @@ fn print_picture(rt: &HostRuntime, watch: &Watch) -> io::Result<()> {
 /// Prints what a job used beside its limits.
 fn print_used(rt: &HostRuntime, end: End, limits: Limits) -> io::Result<()> {
     println!(rt; "\nused")?;
-    let (used, limit) = (end.executed, limits.budget);
-    println!(rt; "  instructions {used:>13} of {limit:>13}")?;
-    let (used, limit) = (end.words, limits.words);
-    println!(rt; "  words        {used:>13} of {limit:>13}")?;
-    let (used, limit) = (end.cells, limits.cells);
-    println!(rt; "  cells        {used:>13} of {limit:>13}")?;
-    let (used, limit) = (end.calls, limits.calls);
-    println!(rt; "  calls        {used:>13} of {limit:>13}")
+    for (name, used, limit) in [
+        ("instructions", end.executed, limits.budget),
+        ("words", end.words as u64, limits.words as u64),
+        ("cells", end.cells as u64, limits.cells as u64),
+        ("calls", end.calls as u64, limits.calls as u64),
+    ] {
+        println!(rt; "  {name:<12} {used:>13} of {limit:>13}")?;
+    }
+    Ok(())
 }
 
 /// Prints the least limits within which a job of this name returns, if they are known.
@@ -107,9 +105,8 @@ fn print_course(rt: &HostRuntime, name: &str, course: Course) -> io::Result<()> 
         }
         Course::GoesOn(work) => {
             let (instructions, elements) = (work.instructions, work.elements);
-            println!(rt;
-                "\nNo limits within which it returns were found within {instructions} instructions and {elements} elements"
-            )
+            print!(rt; "\nNo limits within which it returns were found ")?;
+            println!(rt; "within {instructions} instructions and {elements} elements")
         }
         Course::NotRun => println!(rt;
             "\nIt is not run within wider limits, since it executed more than {MOST_BEFORE} instructions"
@@ -234,11 +231,22 @@ fn wide_of(
 }
 
 /// Prints how a job ended, what there was before, and what it used.
-fn print_end(rt: &HostRuntime, batch: Batch<'_>, job: Job<Global>, name: &str) -> io::Result<()> {
+fn print_end(rt: &HostRuntime, batch: Batch<'_>, job: Job<Global>) -> io::Result<()> {
     let (end, job) = run_through(rt.alloc(), batch.rule, job)?;
     let (wide, job) = wide_of(rt.alloc(), batch, job, end)?;
+    print_ended(rt, batch, job, end, wide)
+}
+
+/// Prints how a job ended, what there was before, and what it used.
+fn print_ended(
+    rt: &HostRuntime,
+    batch: Batch<'_>,
+    job: Job<Global>,
+    end: End,
+    wide: Option<Wide>,
+) -> io::Result<()> {
     let mut watch = Watch::new(rt.alloc(), batch.rule, job)?;
-    print_all(rt, batch, &mut watch, end, wide, name)
+    print_all(rt, batch, &mut watch, end, wide)
 }
 
 /// Prints how a job ended, what there was before, and what it used. The run has executed nothing.
@@ -248,14 +256,24 @@ fn print_all(
     watch: &mut Watch,
     end: End,
     wide: Option<Wide>,
-    name: &str,
 ) -> io::Result<()> {
     print_ending(rt, end.ending, end.executed)?;
     print_last(rt, batch, watch, end, wide)?;
-    print_used(rt, end, watch.run().job().limits())?;
+    print_limits(rt, watch.run().job(), end, wide)
+}
+
+/// Prints what a job used, and within which limits it returns.
+fn print_limits(
+    rt: &HostRuntime,
+    job: &Job<Global>,
+    end: End,
+    wide: Option<Wide>,
+) -> io::Result<()> {
+    print_used(rt, end, job.limits())?;
+    let name = printable(rt.alloc(), job.name())?;
     match wide {
-        Some(wide) => print_course(rt, name, wide.course),
-        None => print_least(rt, name, end.least),
+        Some(wide) => print_course(rt, name.as_str(), wide.course),
+        None => print_least(rt, name.as_str(), end.least),
     }
 }
 
@@ -288,31 +306,25 @@ fn show_run(rt: &HostRuntime, batch: Batch<'_>, watch: &mut Watch, look: Look) -
     }
 }
 
-/// The columns of a job that has run to its end, and how it ended.
-fn columns_of(
-    alloc: Global,
-    rule: Rule,
-    job: Job<Global>,
-) -> Result<(Columns<Global>, Ending), AllocError> {
-    let mut columns = Columns::new(alloc, rule, job)?;
-    columns.run_out()?;
-    columns.collect()?;
-    let ending = ending_of(columns.profile().run());
-    Ok((columns, ending))
-}
-
 /// Prints how a job ended and its profile, on the line of its name.
 fn show_profile(rt: &HostRuntime, batch: Batch<'_>, job: Job<Global>, all: bool) -> io::Result<()> {
-    let (tally, job) = Tally::of(rt.alloc(), batch.rule, job)?;
-    let (holdings, job) = Holdings::before(rt.alloc(), batch.rule, job, tally.peak_after)?;
-    let (columns, ending) = columns_of(rt.alloc(), batch.rule, job)?;
-    print_ending(rt, ending, columns.profile().run().executed())?;
-    let shown = Shown {
-        columns,
-        tally,
-        holdings,
-    };
+    let shown = Shown::of(rt.alloc(), batch.rule, job)?;
+    let run = shown.run();
+    print_ending(rt, ending_of(run), run.executed())?;
     print_profile(rt, batch.lines, &shown, all)
+}
+
+/// The note at the last line of a run that has executed nothing, and goes to this end.
+fn note_at(
+    alloc: Global,
+    watch: &mut Watch,
+    end: End,
+    wide: Option<Wide>,
+) -> Result<String, AllocError> {
+    if let Ending::Fault(..) | Ending::Memory(..) = end.ending {
+        watch.go_to(end.steps)?;
+    }
+    note_of(alloc, watch, end.ending, wide)
 }
 
 /// The note at the last line of a job that ended so.
@@ -324,10 +336,7 @@ fn last_note(
     wide: Option<Wide>,
 ) -> Result<String, AllocError> {
     let mut watch = Watch::new(alloc, rule, job)?;
-    if let Ending::Fault(..) | Ending::Memory(..) = end.ending {
-        watch.go_to(end.steps)?;
-    }
-    note_of(alloc, &watch, end.ending, wide)
+    note_at(alloc, &mut watch, end, wide)
 }
 
 /// The least limits within which a job returns, if it returned, or returns within wider ones.
@@ -376,6 +385,18 @@ fn told_of(
     })
 }
 
+/// Adds what is said of a job that ended so, and ends its object.
+fn push_told_of(
+    text: &mut String,
+    alloc: Global,
+    batch: Batch<'_>,
+    job: Job<Global>,
+    end: End,
+) -> Result<(), AllocError> {
+    let told = told_of(alloc, batch, job, end)?;
+    push_told(text, &told)
+}
+
 /// A job of this place as data.
 pub fn object_of(
     alloc: Global,
@@ -383,34 +404,36 @@ pub fn object_of(
     place: u64,
     job: Job<Global>,
 ) -> Result<String, AllocError> {
-    let name = printable(alloc, job.name())?;
     let survey = Survey::of(alloc, batch.rule, job)?;
-    let mut text = job_object(alloc, batch.lines, place, name.as_str(), &survey)?;
-    let (end, job) = (survey.end(), survey.into_job());
-    push_told(&mut text, &told_of(alloc, batch, job, end)?)?;
+    let mut text = job_object(alloc, batch.lines, place, &survey)?;
+    let end = survey.end();
+    push_told_of(&mut text, alloc, batch, survey.into_job(), end)?;
     Ok(text)
 }
 
-/// Shows what was asked for of a job of this name, on the line of its name.
-fn show_named(
-    rt: &HostRuntime,
-    batch: Batch<'_>,
-    job: Job<Global>,
-    name: &str,
-    look: Look,
-) -> io::Result<()> {
+/// Prints the place and the name of a job, without an LF.
+fn print_name(rt: &HostRuntime, place: u64, name: &[u8]) -> io::Result<()> {
+    let name = printable(rt.alloc(), name)?;
+    print!(rt; "JOB {place} {name} ")
+}
+
+/// Shows a state of a job, on the line of its name.
+fn show_state(rt: &HostRuntime, batch: Batch<'_>, job: Job<Global>, look: Look) -> io::Result<()> {
+    let mut watch = Watch::new(rt.alloc(), batch.rule, job)?;
+    show_run(rt, batch, &mut watch, look)
+}
+
+/// Shows what was asked for of a job, on the line of its name.
+fn show_named(rt: &HostRuntime, batch: Batch<'_>, job: Job<Global>, look: Look) -> io::Result<()> {
     match look {
-        Look::End => print_end(rt, batch, job, name),
+        Look::End => print_end(rt, batch, job),
         Look::Profile { all } => show_profile(rt, batch, job, all),
         Look::Steps(selection) => show_steps(rt, batch, job, selection),
-        Look::After(_) | Look::At { .. } | Look::Folded => {
-            let mut watch = Watch::new(rt.alloc(), batch.rule, job)?;
-            show_run(rt, batch, &mut watch, look)
-        }
+        Look::After(_) | Look::At { .. } | Look::Folded => show_state(rt, batch, job, look),
     }
 }
 
-/// Shows what was asked for of a job of this place and this name.
+/// Shows what was asked for of a job of this place.
 pub fn show(
     rt: &HostRuntime,
     batch: Batch<'_>,
@@ -418,12 +441,9 @@ pub fn show(
     job: Job<Global>,
     look: Look,
 ) -> io::Result<()> {
-    let name = printable(rt.alloc(), job.name())?;
-    match look {
-        Look::Folded => print_folded(rt, batch.rule, job),
-        Look::End | Look::Profile { .. } | Look::After(_) | Look::At { .. } | Look::Steps(_) => {
-            print!(rt; "JOB {place} {name} ")?;
-            show_named(rt, batch, job, name.as_str(), look)
-        }
+    if let Look::Folded = look {
+        return print_folded(rt, batch.rule, job);
     }
+    print_name(rt, place, job.name())?;
+    show_named(rt, batch, job, look)
 }

@@ -39,29 +39,25 @@ mod words;
 
 use batch_notes::print_batch_note;
 use batch_reader::{Batch, BatchFault, Entry, Fate, Feed, JobEntries, JobEntry};
-use command::{Asked, Form, Line, LineFault, Look, read_line};
+use command::{Asked, Form, Line, Look, VjobsWhy, read_line};
 use data::refusal_object;
 use failure::Failure;
 use files::{read_batch, write_text};
-use lines::{Lines, printable};
+use lines::Lines;
 use look::{object_of, show};
 use meanings::{batch_meaning, job_meaning};
 use page::page_of;
+use program_words::{WordsFault, print_fault, words_of};
 use refusals::print_refused;
-use shown_text::arguments;
 use std::alloc::{AllocError, Global};
 use std::io;
 use std::process::ExitCode;
 use vcode_base::limits::MOST_WORDS;
 
 /// Reads the command line.
-fn line_of(rt: &HostRuntime) -> Result<Line, LineFault> {
-    let words = arguments(rt)?;
-    let mut texts = Vec::new(rt.alloc());
-    for word in &words {
-        texts.push(word.as_str()).map_err(|_| LineFault::Memory)?;
-    }
-    read_line(rt.alloc(), texts.as_slice())
+fn line_of(rt: &HostRuntime) -> Result<Line, WordsFault> {
+    let words = words_of::<VjobsWhy, HostRuntime>(rt)?;
+    read_line(rt.alloc(), &words)
 }
 
 /// Shows what was asked for of an entry of the batch.
@@ -75,13 +71,10 @@ fn show_entry(
     let Entry { name, fate } = entry;
     match fate {
         Fate::Ready(job) => show(rt, batch, place, job, look),
-        Fate::Refused(line, fault) => {
-            if let Look::Folded = look {
-                return Ok(());
-            }
-            let name = printable(rt.alloc(), name.as_slice())?;
-            print_refused(rt, batch.lines, place, name.as_str(), line, fault)
-        }
+        Fate::Refused(line, fault) => match look {
+            Look::Folded => Ok(()),
+            _ => print_refused(rt, batch.lines, place, name.as_slice(), line, fault),
+        },
     }
 }
 
@@ -96,10 +89,22 @@ fn entry_object(
     match fate {
         Fate::Ready(job) => object_of(alloc, batch, place, job),
         Fate::Refused(line, fault) => {
-            let name = printable(alloc, name.as_slice())?;
-            refusal_object(alloc, batch.lines, place, name.as_str(), line, fault)
+            refusal_object(alloc, batch.lines, place, name.as_slice(), line, fault)
         }
     }
+}
+
+/// Adds an entry of the batch as data.
+fn push_object(
+    objects: &mut Vec<String>,
+    alloc: Global,
+    batch: look::Batch<'_>,
+    place: u64,
+    entry: JobEntry<Global>,
+) -> Result<(), AllocError> {
+    let object = entry_object(alloc, batch, place, entry)?;
+    objects.push(object)?;
+    Ok(())
 }
 
 /// The jobs of the batch as data: the one of this place, or all.
@@ -114,7 +119,7 @@ fn objects_of(
     for entry in entries.into_vec() {
         place = place.saturating_add(1);
         if job.is_none() || job == Some(place) {
-            objects.push(entry_object(alloc, batch, place, entry)?)?;
+            push_object(&mut objects, alloc, batch, place, entry)?;
         }
     }
     Ok(objects)
@@ -141,24 +146,36 @@ fn show_objects(rt: &HostRuntime, objects: &[String], form: &Form) -> Result<(),
     }
 }
 
-/// Shows the jobs of the batch in the form that was asked for. Answers whether there was one if one alone was asked for.
-fn show_jobs(
+/// Shows the jobs of the batch as data. Answers whether there was one if one alone was asked for.
+fn show_data(
     rt: &HostRuntime,
     batch: look::Batch<'_>,
     entries: JobEntries<Global>,
     asked: &Asked,
 ) -> Result<bool, Failure> {
-    if let Form::Texts(look) = &asked.form {
-        return show_entries(rt, batch, entries, asked.job, *look).map_err(
-            |error| Failure::of_output(rt.alloc(), error),
-        );
-    }
     let objects = objects_of(rt.alloc(), batch, entries, asked.job)?;
     if objects.is_empty() && asked.job.is_some() {
         return Ok(false);
     }
     show_objects(rt, &objects, &asked.form)?;
     Ok(true)
+}
+
+/// Shows the jobs of the batch in the form that was asked for. Answers whether there was one if one alone was asked
+/// for.
+fn show_jobs(
+    rt: &HostRuntime,
+    batch: look::Batch<'_>,
+    entries: JobEntries<Global>,
+    asked: &Asked,
+) -> Result<bool, Failure> {
+    match &asked.form {
+        Form::Texts(look) => match show_entries(rt, batch, entries, asked.job, *look) {
+            Ok(found) => Ok(found),
+            Err(error) => Err(Failure::of_output(rt.alloc(), error)),
+        },
+        Form::Data | Form::Page(_) => show_data(rt, batch, entries, asked),
+    }
 }
 
 /// Shows what was asked for of the jobs of the batch. Answers whether there was one if one alone was asked for.
@@ -194,54 +211,66 @@ fn print_batch_fault(
     print_batch_note(rt, lines, line, fault)
 }
 
+/// The jobs of a batch, or why it is refused as a whole.
+fn batch_of(alloc: Global, text: &[u8]) -> Result<Batch<JobEntries<Global>>, AllocError> {
+    let mut feed = Feed::new(alloc, MOST_WORDS)?;
+    feed.feed(text)?;
+    feed.end()
+}
+
+/// Shows why a batch is refused as a whole. Answers the exit status.
+fn show_refused(
+    rt: &HostRuntime,
+    lines: &Lines,
+    line: u64,
+    fault: BatchFault,
+) -> Result<u8, Failure> {
+    match print_batch_fault(rt, lines, line, fault) {
+        Ok(()) => Ok(1),
+        Err(error) => Err(Failure::of_output(rt.alloc(), error)),
+    }
+}
+
+/// Shows what was asked for of the jobs of the batch. Answers the exit status.
+fn show_ready(
+    rt: &HostRuntime,
+    batch: look::Batch<'_>,
+    entries: JobEntries<Global>,
+    asked: &Asked,
+) -> Result<u8, Failure> {
+    if show_jobs(rt, batch, entries, asked)? {
+        return Ok(0);
+    }
+    let _ = eprintln!(rt; "vjobs-why: the batch has no such job");
+    Ok(1)
+}
+
+/// Shows what was asked for of a batch of these lines. Answers the exit status.
+fn show_lines(rt: &HostRuntime, lines: &Lines, asked: &Asked) -> Result<u8, Failure> {
+    match batch_of(rt.alloc(), lines.text())? {
+        Batch::Refused(line, fault) => show_refused(rt, lines, line, fault),
+        Batch::Jobs(rule, entries) => {
+            let batch = look::Batch {
+                rule,
+                lines,
+                tries_least: asked.tries_least,
+            };
+            show_ready(rt, batch, entries, asked)
+        }
+    }
+}
+
 /// Shows what was asked for. Answers the exit status.
 fn show_asked(rt: &HostRuntime, asked: &Asked) -> Result<u8, Failure> {
     let text = read_batch(rt, asked.file.as_str())?;
     let lines = Lines::of(rt.alloc(), text)?;
-    let mut feed = Feed::new(rt.alloc(), MOST_WORDS)?;
-    feed.feed(lines.text())?;
-    match feed.end()? {
-        Batch::Refused(line, fault) => {
-            print_batch_fault(rt, &lines, line, fault).map_err(|error| Failure::of_output(
-                rt.alloc(),
-                error,
-            ))?;
-            Ok(1)
-        }
-        Batch::Jobs(rule, entries) => {
-            let batch = look::Batch {
-                rule,
-                lines: &lines,
-                tries_least: asked.tries_least,
-            };
-            if show_jobs(rt, batch, entries, asked)? {
-                return Ok(0);
-            }
-            let _ = eprintln!(rt; "vjobs-why: the batch has no such job");
-            Ok(1)
-        }
-    }
+    show_lines(rt, &lines, asked)
 }
 
 /// Prints why nothing is shown, or not all of it. Answers the exit status.
 fn print_failure(rt: &HostRuntime, failure: &Failure) -> u8 {
     let _ = eprintln!(rt; "vjobs-why: {failure}");
     3
-}
-
-/// Prints why the command line is refused. Answers the exit status.
-fn print_fault(rt: &HostRuntime, fault: &LineFault) -> u8 {
-    match fault {
-        LineFault::Usage(text) => {
-            let _ = eprint!(rt; "{text}");
-            2
-        }
-        LineFault::NotText(fault) => {
-            let _ = eprintln!(rt; "vjobs-why: {fault}");
-            2
-        }
-        LineFault::Memory => print_failure(rt, &Failure::Memory),
-    }
 }
 
 /// Does what the command line asks for. Answers the exit status.
@@ -261,7 +290,7 @@ fn main(rt: HostRuntime) -> ExitCode {
             Ok(status) => status,
             Err(failure) => print_failure(&rt, &failure),
         },
-        Err(fault) => print_fault(&rt, &fault),
+        Err(fault) => print_fault(&rt, "vjobs-why", &fault),
     };
     ExitCode::from(status)
 }

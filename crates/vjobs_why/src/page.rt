@@ -4,8 +4,8 @@ use crate::page_script::SCRIPT;
 use crate::page_style::STYLE;
 use std::alloc::{AllocError, Global};
 
-/// The page up to its style. It may fetch nothing and send nothing, and run no script but its own: the hash is the SHA-256
-/// of what is between the tags of the script, an LF and [`SCRIPT`].
+/// The page up to its style. It may fetch nothing and send nothing, and run no script but its own: the hash is the
+/// SHA-256 of what is between the tags of the script, an LF and [`SCRIPT`].
 const HEAD: &str = r#"<!DOCTYPE html>
 <html lang="en">
 <head>

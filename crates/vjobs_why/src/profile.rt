@@ -3,10 +3,12 @@
 use crate::drawing::print_drawing;
 use crate::holders::{Holder, Holdings};
 use crate::lines::{Lines, printable};
-use crate::tally::{LineTally, Tally};
-use job_profile::{Columns, Profile};
+use crate::tally::{FunctionTally, LineTally, Tally};
+use job_profile::{Columns, Profile, Run};
+use job_steps::Job;
 use std::alloc::{AllocError, Global};
 use std::io;
+use vcode_base::Rule;
 use vcode_reader::{Function, Program};
 
 /// The most lines that are shown, unless all are.
@@ -107,26 +109,50 @@ fn share_text(alloc: Global, part: u64, whole: u64) -> Result<String, AllocError
     format!(in alloc; "{percent}.{tenth}%")
 }
 
+/// The functions, those with the most instructions first, and what they did.
+fn sorted_functions(
+    alloc: Global,
+    profile: &Profile<Global>,
+    tally: &Tally,
+) -> Result<Vec<(FunctionCount, FunctionTally)>, AllocError> {
+    let mut rows = Vec::new(alloc);
+    for (place, function) in functions_of(alloc, profile)?.into_iter().enumerate() {
+        rows.push((function, tally.function(place)))?;
+    }
+    rows.sort_by_key(|row| u64::MAX - row.0.instructions)?;
+    Ok(rows)
+}
+
+/// Prints a number of instructions and its share of `whole`, after two blanks.
+fn print_share(rt: &HostRuntime, part: u64, whole: u64) -> io::Result<()> {
+    let share = share_text(rt.alloc(), part, whole)?;
+    print!(rt; "  {part:>12} {share:>7}")
+}
+
+/// Prints a function of a job that executed `whole` instructions.
+fn print_function(
+    rt: &HostRuntime,
+    function: &FunctionCount,
+    tally: FunctionTally,
+    whole: u64,
+) -> io::Result<()> {
+    let (calls, most, line) = (tally.calls, tally.most, function.line);
+    let name = function.name.as_str();
+    print!(rt; "  {calls:>10}")?;
+    print_share(rt, function.instructions, whole)?;
+    print_share(rt, tally.whole, whole)?;
+    println!(rt; " {most:>12} {line:>8}  {name}")
+}
+
 /// Prints the functions, those with the most instructions first.
 fn print_functions(rt: &HostRuntime, profile: &Profile<Global>, tally: &Tally) -> io::Result<()> {
-    let whole = profile.run().executed();
-    let mut functions = Vec::new(rt.alloc());
-    for (place, function) in functions_of(rt.alloc(), profile)?.into_iter().enumerate() {
-        functions.push((function, tally.function(place)))?;
-    }
-    functions.sort_by_key(|row| u64::MAX - row.0.instructions)?;
     println!(rt; "\nthe functions, by their own instructions")?;
     println!(rt;
         "       calls           own   share  with callees   share   most words     line  name"
     )?;
-    for (function, tally) in &functions {
-        let (own, line, calls) = (function.instructions, function.line, tally.calls);
-        let share = share_text(rt.alloc(), own, whole)?;
-        let all = tally.whole;
-        let all_share = share_text(rt.alloc(), all, whole)?;
-        let (most, name) = (tally.most, function.name.as_str());
-        print!(rt; "  {calls:>10}  {own:>12} {share:>7}  {all:>12} {all_share:>7}")?;
-        println!(rt; " {most:>12} {line:>8}  {name}")?;
+    let whole = profile.run().executed();
+    for (function, tally) in &sorted_functions(rt.alloc(), profile, tally)? {
+        print_function(rt, function, *tally, whole)?;
     }
     Ok(())
 }
@@ -146,6 +172,18 @@ fn sorted_lines(
     Ok(rows)
 }
 
+/// Prints a line that was executed.
+fn print_line(
+    rt: &HostRuntime,
+    lines: &Lines,
+    count: LineCount,
+    tally: LineTally,
+) -> io::Result<()> {
+    let (times, line, elements, words) = (count.times, count.line, tally.elements, tally.most);
+    let code = lines.code(rt.alloc(), line as u64)?;
+    println!(rt; "  {times:>12}  {elements:>12} {words:>12} {line:>8}  {code}")
+}
+
 /// Prints the lines that were executed, or the first of them.
 fn print_lines(
     rt: &HostRuntime,
@@ -155,15 +193,12 @@ fn print_lines(
 ) -> io::Result<()> {
     println!(rt; "\nthe lines, by the elements of their operands and results")?;
     println!(rt; "         times      elements   most words     line  instruction")?;
-    for (place, row) in rows.iter().enumerate() {
+    for (place, (count, tally)) in rows.iter().enumerate() {
         if place == most {
             let more = rows.len() - place;
             return println!(rt; "  .. and {more} more");
         }
-        let (times, line) = (row.0.times, row.0.line);
-        let (elements, words) = (row.1.elements, row.1.most);
-        let code = lines.code(rt.alloc(), line as u64)?;
-        println!(rt; "  {times:>12}  {elements:>12} {words:>12} {line:>8}  {code}")?;
+        print_line(rt, lines, *count, *tally)?;
     }
     Ok(())
 }
@@ -236,19 +271,78 @@ fn print_peak(
 /// What is shown of a job that has ended, beside how it ended.
 #[derive(Drop)]
 pub struct Shown {
-    pub columns: Columns<Global>,
-    pub tally: Tally,
-    pub holdings: Holdings,
+    columns: Columns<Global>,
+    tally: Tally,
+    holdings: Holdings,
+}
+
+/// Executes all instructions of a job, and stores how it ended.
+fn run_out(columns: &mut Columns<Global>) -> Result<(), AllocError> {
+    columns.run_out()?;
+    columns.collect()
+}
+
+/// The columns of a job that has run to its end.
+fn columns_of(alloc: Global, rule: Rule, job: Job<Global>) -> Result<Columns<Global>, AllocError> {
+    let mut columns = Columns::new(alloc, rule, job)?;
+    run_out(&mut columns)?;
+    Ok(columns)
+}
+
+impl Shown {
+    /// What is shown of a job that has run to its end.
+    pub fn of(alloc: Global, rule: Rule, job: Job<Global>) -> Result<Shown, AllocError> {
+        let (tally, job) = Tally::of(alloc, rule, job)?;
+        Shown::with_tally(alloc, rule, job, tally)
+    }
+
+    /// What is shown of a job that has this tally.
+    fn with_tally(
+        alloc: Global,
+        rule: Rule,
+        job: Job<Global>,
+        tally: Tally,
+    ) -> Result<Shown, AllocError> {
+        let (holdings, job) = Holdings::before(alloc, rule, job, tally.peak_after)?;
+        let columns = columns_of(alloc, rule, job)?;
+        Ok(Shown {
+            columns,
+            tally,
+            holdings,
+        })
+    }
+
+    /// The run.
+    pub fn run(&self) -> &Run<Global> {
+        self.columns.profile().run()
+    }
+}
+
+/// Prints the words that a job held over time.
+fn print_words(rt: &HostRuntime, columns: &Columns<Global>) -> io::Result<()> {
+    let limit = columns.profile().run().job().limits().words;
+    let (each, list) = columns.columns();
+    print_drawing(rt, list, each, limit)
+}
+
+/// Prints the lines of a job that were executed: all, or the first of them.
+fn print_executed(
+    rt: &HostRuntime,
+    lines: &Lines,
+    profile: &Profile<Global>,
+    tally: &Tally,
+    all: bool,
+) -> io::Result<()> {
+    let rows = sorted_lines(rt.alloc(), profile, tally)?;
+    let most = if all { rows.len() } else { MOST_LINES };
+    print_lines(rt, lines, rows.as_slice(), most)
 }
 
 /// Prints the profile of a job that has ended, after how it ended; all lines, or the first of them.
 pub fn print_profile(rt: &HostRuntime, lines: &Lines, shown: &Shown, all: bool) -> io::Result<()> {
     let profile = shown.columns.profile();
-    let (each, columns) = shown.columns.columns();
-    print_drawing(rt, columns, each, profile.run().job().limits().words)?;
+    print_words(rt, &shown.columns)?;
     print_peak(rt, lines, profile, &shown.holdings)?;
     print_functions(rt, profile, &shown.tally)?;
-    let rows = sorted_lines(rt.alloc(), profile, &shown.tally)?;
-    let most = if all { rows.len() } else { MOST_LINES };
-    print_lines(rt, lines, rows.as_slice(), most)
+    print_executed(rt, lines, profile, &shown.tally, all)
 }

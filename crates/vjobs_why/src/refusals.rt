@@ -1,7 +1,7 @@
 //! Why a job is refused: its line, and what was expected there.
 
 use crate::kind_notes::print_kind_note;
-use crate::lines::Lines;
+use crate::lines::{Lines, printable};
 use crate::meanings::job_meaning;
 use crate::parts::{Parts, parts_of};
 use crate::signature_notes::print_signature_fault;
@@ -29,17 +29,29 @@ fn print_fault(
     }
 }
 
+/// Prints the place and the name of a job, and for what it is refused.
+fn print_head(
+    rt: &HostRuntime,
+    place: u64,
+    name: &[u8],
+    line: u64,
+    fault: JobFault,
+) -> io::Result<()> {
+    let name = printable(rt.alloc(), name)?;
+    let text = fault.text();
+    println!(rt; "JOB {place} {name} REFUSED line {line} {text}")
+}
+
 /// Prints why the job at a place of the batch is refused.
 pub fn print_refused(
     rt: &HostRuntime,
     lines: &Lines,
     place: u64,
-    name: &str,
+    name: &[u8],
     line: u64,
     fault: JobFault,
 ) -> io::Result<()> {
-    let text = fault.text();
-    println!(rt; "JOB {place} {name} REFUSED line {line} {text}")?;
+    print_head(rt, place, name, line, fault)?;
     match parts_of(lines, place) {
         Some(parts) => print_fault(rt, lines, parts, line, fault)?,
         None => lines.print_around(rt, line, job_meaning(fault))?,

@@ -84,7 +84,8 @@ impl Picker {
         }
     }
 
-    /// How many are left out from the instruction that was chosen last up to the last ones, if that is the first of them.
+    /// How many are left out from the instruction that was chosen last up to the last ones, if that is the first of
+    /// them.
     pub fn left_out(self, total: u64) -> Option<u64> {
         let last = self.selection.last?;
         let first = self.selection.first.unwrap_or(0);

@@ -5,6 +5,7 @@ use crate::lines::Lines;
 use crate::parts::Parts;
 use crate::words::{Text, Word, first_fault, words_of};
 use signatures::SignatureFault;
+use std::alloc::{AllocError, Global};
 use std::io;
 use vcode_base::limits::{LONGEST_NAME, MOST_FUNCTIONS, MOST_KINDS};
 use vcode_base::{LineWords, Parentheses};
@@ -15,26 +16,36 @@ fn name_of(line: &[u8]) -> &[u8] {
     words.next().unwrap_or(&[])
 }
 
-/// Prints the line of a fault with carets below the word with which it can't be a signature, and what was expected there.
-fn print_bad_line(rt: &HostRuntime, lines: &Lines, line: u64, note: &str) -> io::Result<()> {
-    let text = lines.bytes(line).unwrap_or(&[]);
-    let words = words_of(rt.alloc(), Text::Signature, text)?;
-    let found: Option<Word> = match first_fault(rt.alloc(), Text::Signature, text, &words)? {
-        Some(place) => words.get(place).copied(),
-        None => None,
-    };
-    let front = match found {
-        Some(word) => text.get(..word.begin).unwrap_or(text),
-        None => text,
-    };
-    match found {
-        Some(word) => lines.print_word(rt, line, line, word, note)?,
-        None => lines.print_around(rt, line, note)?,
+/// The first word with which a line can't be a signature, if there is one.
+fn find_misplaced(alloc: Global, text: &[u8]) -> Result<Option<Word>, AllocError> {
+    let words = words_of(alloc, Text::Signature, text)?;
+    match first_fault(alloc, Text::Signature, text, &words)? {
+        Some(place) => Ok(words.get(place).copied()),
+        None => Ok(None),
     }
-    let place = if found.is_some() { "here" } else { "after it" };
+}
+
+/// Prints what may come next in a signature that begins so, if it is the beginning of one.
+fn print_expected(rt: &HostRuntime, front: &[u8], place: &str) -> io::Result<()> {
     match expected_in_signature(rt.alloc(), front)? {
         Some(expected) => println!(rt; "expected {place}: {expected}"),
         None => Ok(()),
+    }
+}
+
+/// Prints the line of a fault with carets below the word with which it can't be a signature, and what was expected
+/// there.
+fn print_bad_line(rt: &HostRuntime, lines: &Lines, line: u64, note: &str) -> io::Result<()> {
+    let text = lines.bytes(line).unwrap_or(&[]);
+    match find_misplaced(rt.alloc(), text)? {
+        Some(word) => {
+            lines.print_word(rt, line, line, word, note)?;
+            print_expected(rt, text.get(..word.begin).unwrap_or(text), "here")
+        }
+        None => {
+            lines.print_around(rt, line, note)?;
+            print_expected(rt, text, "after it")
+        }
     }
 }
 

@@ -6,6 +6,7 @@ use crate::watch::Watch;
 use job_steps::Job;
 use std::alloc::{AllocError, Global};
 use std::io;
+use vcode_base::Rule;
 
 /// How many instructions of a run that has executed nothing are chosen, but for the first and the last ones.
 fn count_chosen(watch: &mut Watch, selection: Selection) -> Result<u64, AllocError> {
@@ -21,7 +22,8 @@ fn count_chosen(watch: &mut Watch, selection: Selection) -> Result<u64, AllocErr
     Ok(picker.taken)
 }
 
-/// Prints an instruction that was chosen, if it is listed, or how many are left out from it on, if it is the first of these.
+/// Prints an instruction that was chosen, if it is listed, or how many are left out from it on, if it is the first of
+/// these.
 fn print_listed(
     rt: &HostRuntime,
     batch: Batch<'_>,
@@ -65,19 +67,41 @@ fn print_chosen(
     Ok(())
 }
 
-/// Prints the instructions of a job that are chosen, on the line of its name. If the last ones are wanted, it is run once
-/// more to count them.
+/// How many instructions of a job are chosen, but for the first and the last ones, and the job.
+fn count_steps(
+    alloc: Global,
+    rule: Rule,
+    job: Job<Global>,
+    selection: Selection,
+) -> Result<(u64, Job<Global>), AllocError> {
+    let mut watch = Watch::new(alloc, rule, job)?;
+    let total = count_chosen(&mut watch, selection)?;
+    Ok((total, watch.into_job()))
+}
+
+/// Prints the instructions of a job, if this many are chosen in all.
+fn print_steps(
+    rt: &HostRuntime,
+    batch: Batch<'_>,
+    job: Job<Global>,
+    selection: Selection,
+    total: u64,
+) -> io::Result<()> {
+    let mut watch = Watch::new(rt.alloc(), batch.rule, job)?;
+    print_chosen(rt, batch, &mut watch, selection, total)
+}
+
+/// Prints the instructions of a job that are chosen, on the line of its name. If the last ones are wanted, it is run
+/// once more to count them.
 pub fn show_steps(
     rt: &HostRuntime,
     batch: Batch<'_>,
     job: Job<Global>,
     selection: Selection,
 ) -> io::Result<()> {
-    let mut watch = Watch::new(rt.alloc(), batch.rule, job)?;
     if selection.last.is_none() {
-        return print_chosen(rt, batch, &mut watch, selection, u64::MAX);
+        return print_steps(rt, batch, job, selection, u64::MAX);
     }
-    let total = count_chosen(&mut watch, selection)?;
-    let mut watch = Watch::new(rt.alloc(), batch.rule, watch.into_job())?;
-    print_chosen(rt, batch, &mut watch, selection, total)
+    let (total, job) = count_steps(rt.alloc(), batch.rule, job, selection)?;
+    print_steps(rt, batch, job, selection, total)
 }

@@ -8,8 +8,8 @@ use std::alloc::{AllocError, Global};
 use vcode_base::Rule;
 use vcode_base::limits::MOST_BUDGET;
 
-/// A run of a job: how many instructions lead to the last state before its end, the line of the last instruction that was
-/// next, its words and counts, and its chains of functions.
+/// A run of a job: how many instructions lead to the last state before its end, the line of the last instruction that
+/// was next, its words and counts, and its chains of functions.
 #[derive(Drop)]
 pub struct Survey {
     steps: u64,
@@ -68,15 +68,20 @@ impl Survey {
         self.columns.into_job()
     }
 
-    /// The survey of a job that has run to its end.
-    pub fn of(alloc: Global, rule: Rule, job: Job<Global>) -> Result<Survey, AllocError> {
-        let mut survey = Survey::new(alloc, rule, job)?;
+    /// Executes and counts all instructions.
+    fn run_out(&mut self) -> Result<(), AllocError> {
         for _ in 0..=MOST_BUDGET {
-            if !survey.step()? {
+            if !self.step()? {
                 break;
             }
         }
-        survey.columns.collect()?;
+        self.columns.collect()
+    }
+
+    /// The survey of a job that has run to its end.
+    pub fn of(alloc: Global, rule: Rule, job: Job<Global>) -> Result<Survey, AllocError> {
+        let mut survey = Survey::new(alloc, rule, job)?;
+        survey.run_out()?;
         Ok(survey)
     }
 }

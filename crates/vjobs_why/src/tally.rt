@@ -31,8 +31,8 @@ pub struct LineTally {
     pub most: usize,
 }
 
-/// What the functions and the lines of a run did, the functions of its active calls, and after how many instructions its
-/// peak was what it is for the first time.
+/// What the functions and the lines of a run did, the functions of its active calls, and after how many instructions
+/// its peak was what it is for the first time.
 #[derive(Drop)]
 pub struct Tally {
     functions: Vec<FunctionTally>,
@@ -193,6 +193,14 @@ impl Tally {
         }
     }
 
+    /// The tally of a run that has executed nothing, which goes to its end.
+    fn of_run(alloc: Global, run: &mut Run<Global>) -> Result<Tally, AllocError> {
+        let mut tally = Tally::new(alloc, run)?;
+        tally.run_out(run)?;
+        tally.leave_all(run.executed());
+        Ok(tally)
+    }
+
     /// The tally of a job that has run to its end, and the job.
     pub fn of(
         alloc: Global,
@@ -200,9 +208,7 @@ impl Tally {
         job: Job<Global>,
     ) -> Result<(Tally, Job<Global>), AllocError> {
         let mut run = Run::new(alloc, rule, job)?;
-        let mut tally = Tally::new(alloc, &run)?;
-        tally.run_out(&mut run)?;
-        tally.leave_all(run.executed());
+        let tally = Tally::of_run(alloc, &mut run)?;
         Ok((tally, run.into_job()))
     }
 

@@ -150,8 +150,8 @@ impl Watch {
         Ok(())
     }
 
-    /// Executes instructions until this line is next for the time of this number, or none is left before the end. True if
-    /// the line is next.
+    /// Executes instructions until this line is next for the time of this number, or none is left before the end. True
+    /// if the line is next.
     pub fn go_to_line(&mut self, line: u64, time: u64) -> Result<bool, AllocError> {
         let mut times: u64 = 0;
         for _ in 0..u64::MAX {

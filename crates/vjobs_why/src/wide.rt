@@ -12,8 +12,8 @@ use vcode_base::{Limits, Op, Rule};
 /// Within the widest limits a job that another limit than its budget ended may do this many times the work that it did.
 const TIMES: u64 = 4;
 
-/// Any job may do this much more than it did, which takes a tenth of a second at most. A job that its budget ended may do
-/// no more than that, and isn't run again if it executed more instructions.
+/// Any job may do this much more than it did, which takes a tenth of a second at most. A job that its budget ended may
+/// do no more than that, and isn't run again if it executed more instructions.
 const MORE: Work = Work {
     instructions: MOST_BEFORE,
     elements: 4_000_000,

@@ -1,4 +1,4 @@
-use Rattle.std.proofs.Common.{◌≡◌, ◌++◌, List, ℕ, true, false, ap, sym, drop, ◌∙◌, inl, inr, length, refl}
+use Rattle.std.proofs.Common.{◌≡◌, true, drop, inl, inr, length, refl}
 use Rattle.std.proofs.lemmas.Bool.Decides.{Decides-eqb}
 use Rattle.std.proofs.lemmas.Slice.Eq.{starts_is}
 use Rattle.report_splitter.proofs.front.head_fault.Goals as goal

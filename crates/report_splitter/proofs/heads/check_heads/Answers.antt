@@ -1,5 +1,5 @@
-use Rattle.std.proofs.Common.{Err, ◌≡◌, rules, subst, sym}
-use Rattle.report_splitter.specs.Heads.{AllFit, IsHeadFault, heads, whole_lines}
+use Rattle.std.proofs.Common.{Err, ◌≡◌, rules}
+use Rattle.report_splitter.specs.Heads.{whole_lines}
 use Rattle.report_splitter.proofs.HeadLemmas.{fault_at, head_err}
 use Rattle.report_splitter.proofs.heads.check_heads.Goals as goal
 

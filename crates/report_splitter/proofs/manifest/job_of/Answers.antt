@@ -1,4 +1,4 @@
-use Rattle.std.proofs.Common.{◌++◌, List, ℕ}
+use Rattle.std.proofs.Common.{◌++◌}
 use Rattle.std.specs.Prelude.{codes, decimal}
 use Rattle.report_splitter.specs.Manifests.{job_words}
 use Rattle.report_splitter.proofs.ManifestLemmas.{packed_as}

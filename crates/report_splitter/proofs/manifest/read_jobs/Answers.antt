@@ -1,4 +1,4 @@
-use Rattle.std.proofs.Common.{List, Err, ◌≡◌, rules, subst, sym, ◌∙◌, ap, length, arith}
+use Rattle.std.proofs.Common.{List, Err, ◌≡◌, rules, subst, sym, ap, length}
 use Rattle.report_splitter.specs.Manifests.{PackedText}
 use Rattle.report_splitter.proofs.ManifestLemmas.{IsRead, all_read, err_is, next_read, read_none}
 use Rattle.report_splitter.proofs.manifest.read_jobs.Goals as goal

@@ -1,6 +1,6 @@
 use Rattle.std.proofs.Common.{Err, ◌≡◌, ◌<◌, ◌^◌, rules, sym, ◌∙◌, length, arith, ap, List}
 use Rattle.report_splitter.specs.Manifests.{BatchSeal, PackedText, batch_words, job_entries}
-use Rattle.report_splitter.proofs.ManifestLemmas.{batch_apart, err_is, seal_first}
+use Rattle.report_splitter.proofs.ManifestLemmas.{err_is, seal_first}
 use Rattle.report_splitter.proofs.SplitLemmas.{not_apart}
 use Rattle.report_splitter.proofs.manifest.read_manifest.Goals as goal
 

@@ -1,0 +1,14 @@
+-- What a fault of the words says, and by which number a program exits.
+use Rattle.std.specs.Prelude.{ℕ, string_bytes}
+use Rattle.shown_text.specs.Lines.{HasShownLines}
+use Rattle.program_words.specs.declared.fault.WordsFault.{WordsFault}
+use Rattle.program_words.specs.declared.fault.WordsFault.TheVariants.{Refused, Memory}
+
+-- its reason is one that a terminal shows as it is
+abbrev pub SaysShownLines : WordsFault → Type 0
+SaysShownLines (Refused text) = HasShownLines (string_bytes text)
+SaysShownLines Memory = Unit {0}
+
+abbrev pub exit_of : WordsFault → ℕ
+exit_of (Refused text) = 2
+exit_of Memory = 3
