@@ -1,7 +1,8 @@
-"""The crates of crates.txt, and what their sources declare, read as text."""
+"""The crates of crates.txt, and what their sources declare, read as text; and the lines of a page."""
 import pathlib
 import re
-from typing import Iterator, NamedTuple
+from collections.abc import Iterator
+from typing import NamedTuple
 
 TOP = pathlib.Path(__file__).resolve().parent.parent
 CRATES = {line.split(":")[0].split()[0]: TOP / "crates" / line.split(":")[0].split()[0]
@@ -74,3 +75,18 @@ def libraries() -> Iterator[str]:
 
 def sources_of(crate: str) -> list[pathlib.Path]:
     return sorted((CRATES[crate] / "src").glob("**/*.rt"))
+
+
+def whole_lines(page: pathlib.Path) -> Iterator[tuple[int, str]]:
+    """The paragraphs, list items, headings and rows of a page, each as one line, with the number of its first line."""
+    fenced, first = False, 0
+    words: list[str] = []
+    for number, line in enumerate([*page.read_text().splitlines(), ""], 1):
+        is_fence = line.startswith("```")
+        if words and (is_fence or not line.strip() or re.match(r"\s*(?:[-*|#]|\d+\.) ?", line)):
+            yield first, " ".join(words)
+            words = []
+        fenced ^= is_fence
+        if line.strip() and not fenced and not is_fence:
+            first = first if words else number
+            words.append(line.strip())

@@ -10,6 +10,7 @@ programs take turns, and their ratio. A ratio below 1 says that bin/vjobs is fas
 import subprocess
 import sys
 import time
+from collections.abc import Iterator
 from pathlib import Path
 
 import workers
@@ -22,14 +23,14 @@ LENGTH = 10_000
 SMALL = 4 * LENGTH
 
 
-def job(name, words, rounds):
+def job(name: str, words: int, rounds: int) -> str:
     text = workers.steps.batch(workers.divisions(LENGTH, rounds), rounds)
     head, _, rest = text.partition("\n")
     fields = head.split()
     return "\n".join([" ".join(["JOB", name, str(words), *fields[3:]]), rest])
 
 
-def batches():
+def batches() -> Iterator[tuple[str, list[str]]]:
     """The large job second, behind a small one of as many rounds as the others, or of many more; and the large job first."""
     small = [job(f"small{number}", SMALL, 4) for number in range(62)]
     large = job("large", REGION, 4)
@@ -38,17 +39,18 @@ def batches():
     yield "first", [large, job("first", SMALL, 4), *small]
 
 
-def seconds(program, text):
+def seconds(program: list[str], text: str) -> tuple[float, bytes]:
     begin = time.perf_counter()
     words = [*program, "--region", str(REGION), "--workers", "4", "-"]
     ran = subprocess.run(words, input=text.encode(), capture_output=True, check=True)
     return time.perf_counter() - begin, ran.stdout
 
 
-def main():
+def main() -> None:
     other = sys.argv[1:]
     programs = [[str(TOP / "bin" / "vjobs")], *([other] if other else [])]
-    print(f"{'the large job stands':30}" + "".join(f"{Path(program[0]).name:>12}" for program in programs) + f"{'ratio':>8}")
+    print(f"{'the large job stands':30}" + "".join(f"{Path(program[0]).name:>12}"
+                                                   for program in programs) + f"{'ratio':>8}")
     for name, jobs in batches():
         text, least = "".join(jobs), [float("inf")] * len(programs)
         for _ in range(RUNS):

@@ -16,7 +16,7 @@ ROUNDS = 10_000
 MOST = 4_096
 
 
-def batch(function, depth, moved):
+def batch(function: str, depth: int, moved: int) -> str:
     """A job of this function alone, which leaves nothing; the depth is a multiple of MOST."""
     lines = ["JOB kinds 0 1 1 0", "SIGNATURES", "MAIN () -> ()", "CODE", f"FUNC {function}", "CONST INT 1"]
     lines += [f"COPY {2 ** power} 0" for power in range(12)]
@@ -26,7 +26,7 @@ def batch(function, depth, moved):
     return "\n".join([*lines, "RET", "END", ""])
 
 
-def seconds(text, end):
+def seconds(text: str, end: str) -> float:
     """The least of five times that a run takes, which has to end the job so."""
     least = float("inf")
     for _ in range(5):
@@ -38,13 +38,13 @@ def seconds(text, end):
     return least
 
 
-def row(depth, moved):
+def row(depth: int, moved: int) -> None:
     whole = seconds(batch("MAIN", depth, moved), "BUDGET")
     took = whole - seconds(batch("main", depth, moved), "REFUSED line 5 V7 NO_MAIN")
     print(f"{depth:9} {moved:9} {took:9.4f} {took / ROUNDS / moved * 1e9:9.3f}")
 
 
-def main():
+def main() -> None:
     print(f"{ROUNDS} times COPY n 0 and POP n 0")
     print(f"{'depth':>9} {'n':>9} {'seconds':>9} {'ns a kind':>9}")
     for depth in (4_096, 8_192, 40_960, 409_600):

@@ -12,6 +12,7 @@ import bisect
 import pathlib
 import subprocess
 import tempfile
+from collections.abc import Iterator
 
 TOP = pathlib.Path(__file__).resolve().parent.parent
 PROGRAM = str(TOP / "bin" / "vjobs")
@@ -21,7 +22,7 @@ LONG = (1_048_576, 4_096, 495, 200_000)
 MASK = (1 << 64) - 1
 
 
-def numbers():
+def numbers() -> Iterator[int]:
     seed = 7
     while True:
         seed = (seed * 6364136223846793005 + 1442695040888963407) & MASK
@@ -31,12 +32,13 @@ def numbers():
 class Region:
     """Blocks by number, each with its place and length, and the holes in order of place."""
 
-    def __init__(self, size):
+    def __init__(self, size: int) -> None:
         self.size, self.used = size, 0
-        self.blocks, self.holes = {}, [(0, size)]
+        self.blocks: dict[int, tuple[int, int]] = {}
+        self.holes = [(0, size)]
         self.packs = self.moved = self.refused = 0
 
-    def free(self, number):
+    def free(self, number: int) -> None:
         place, length = self.blocks.pop(number, (0, 0))
         self.used -= length
         if not length:
@@ -49,7 +51,7 @@ class Region:
             end, last = sum(self.holes[at]), at + 1
         self.holes[first:last] = [(begin, end - begin)]
 
-    def make(self, number, length):
+    def make(self, number: int, length: int) -> None:
         """A block that doesn't fit is not made, and its number stays without one."""
         if self.used + length > self.size:
             self.refused += 1
@@ -57,7 +59,7 @@ class Region:
         self.blocks[number] = (self.take(length) if length else 0, length)
         self.used += length
 
-    def take(self, length):
+    def take(self, length: int) -> int:
         fit = next((i for i, hole in enumerate(self.holes) if hole[1] >= length), None)
         if fit is None:
             self.pack()
@@ -66,7 +68,7 @@ class Region:
         self.holes[fit : fit + 1] = [(begin + length, size - length)] if size > length else []
         return begin
 
-    def pack(self):
+    def pack(self) -> None:
         self.packs += 1
         to = 0
         for number, (place, length) in sorted(self.blocks.items(), key=lambda it: it[1][0]):
@@ -77,7 +79,7 @@ class Region:
         self.holes = [(to, self.size - to)]
 
 
-def churn(region, blocks, longest, operations):
+def churn(region: Region, blocks: int, longest: int, operations: int) -> None:
     draw = numbers()
     for _ in range(operations):
         place, length = next(draw) % blocks, next(draw) % (longest + 1)
@@ -85,7 +87,7 @@ def churn(region, blocks, longest, operations):
         region.make(place, length)
 
 
-def model(size, blocks, longest, operations):
+def model(size: int, blocks: int, longest: int, operations: int) -> Region:
     """What stands after the load; it is counted over the second part, which the program times."""
     region = Region(size)
     churn(region, blocks, longest, operations // 4)
@@ -94,11 +96,11 @@ def model(size, blocks, longest, operations):
     return region
 
 
-def lines_of(*command):
+def lines_of(*command: str) -> list[str]:
     return subprocess.run(command, check=True, capture_output=True, text=True).stdout.splitlines()
 
 
-def print_blocks(lines, load):
+def print_blocks(lines: list[str], load: tuple[int, int, int, int]) -> None:
     region = model(*load)
     ends = f"{len(region.blocks)} blocks of {region.used} words"
     if lines[0] != ends:
@@ -109,7 +111,7 @@ def print_blocks(lines, load):
         print(f"  {line}")
 
 
-def plain_lines(turns, loads):
+def plain_lines(turns: str, loads: list[str]) -> list[str]:
     """What the plain list of holes prints on these loads."""
     words = [word for load in loads for word in load.split()]
     with tempfile.TemporaryDirectory() as room:
@@ -118,13 +120,13 @@ def plain_lines(turns, loads):
         return lines_of(plain, str(LONG[0]), "10", turns, *words)
 
 
-def nanoseconds(line, load):
+def nanoseconds(line: str, load: str) -> float:
     """Of a take and a give: a turn has both, but in a stack only one of them."""
     words = line.split()
     return int(words[0]) / int(words[3]) * (2 if load.endswith("stack") else 1)
 
 
-def print_takes(lines):
+def print_takes(lines: list[str]) -> None:
     *lines, resets = lines
     loads = [line.partition(":")[0] for line in lines[::2]]
     plain = plain_lines(lines[1].split()[3], loads)
@@ -147,20 +149,20 @@ SHARED_RESULTS, SHARED_WORDS = 256, 1_000_000
 THREE_JOBS_BYTES = 3_000_000_000
 
 
-def job(results, code):
+def job(results: int, code: list[str]) -> bytes:
     signature = f"MAIN () -> ({' '.join(['INT'] * results)})"
     lines = ["JOB t 1048576 300 1 300", "SIGNATURES", signature, "CODE", "FUNC MAIN", *code, "RET", "END"]
     return "".join(f"{line}\n" for line in lines).encode()
 
 
-def most_megabytes(batch, workers, *limited, program=PROGRAM):
+def most_megabytes(batch: bytes, workers: int, *limited: str, program: str = PROGRAM) -> float:
     """The most memory of a run. A small program starts it, since a process begins with the most of what started it."""
     words = ["time", "-f", "%M", *limited, program, "--workers", str(workers), "-"]
     run = subprocess.run(words, input=batch, check=True, stdout=subprocess.DEVNULL, stderr=subprocess.PIPE)
     return int(run.stderr) * 1024 / 1_000_000
 
 
-def print_shared_results():
+def print_shared_results() -> None:
     vector = ["CONST INT 0", "CONST INT 1", f"CONST INT {SHARED_WORDS}", "MAKE_SEGDES", "INDEX"]
     many, few = job(SHARED_RESULTS, [*vector, *["COPY 1 0"] * (SHARED_RESULTS - 1)]), job(0, [])
     print(f"megabytes of a job that returns one vector of {SHARED_WORDS} words {SHARED_RESULTS} times,"
@@ -171,7 +173,7 @@ def print_shared_results():
         print(f"  {workers} workers: {of_many:.1f}, {of_few:.1f}, {of_three:.1f}")
 
 
-def main():
+def main() -> None:
     crate = TOP / "crates" / "bench_ops"
     subprocess.run(["rt", "run"], cwd=crate, check=True, stdout=subprocess.DEVNULL)
     program = str(crate / "out" / "bench_ops")

@@ -17,11 +17,13 @@ import subprocess
 import tempfile
 
 TOP = pathlib.Path(__file__).resolve().parent.parent
+# Picoseconds an element, by what the vectors are and the name of an instruction.
+Times = dict[tuple[str, str], int]
 # How often each of the two programs runs.
 TURNS = 3
 
 
-def least_times(rows, lines):
+def least_times(rows: Times, lines: list[str]) -> None:
     """Each instruction's least picoseconds an element, by what its vectors are and its name."""
     shape = ""
     for line in lines:
@@ -32,9 +34,9 @@ def least_times(rows, lines):
             shape = name
 
 
-def run_in_turn(*builds):
+def run_in_turn(*builds: list[list[str]]) -> list[Times]:
     """The least times of each of these lists of commands."""
-    times = [{} for _ in builds]
+    times: list[Times] = [{} for _ in builds]
     for _ in range(TURNS):
         for rows, commands in zip(times, builds):
             for command in commands:
@@ -43,7 +45,7 @@ def run_in_turn(*builds):
     return times
 
 
-def beside_plain_c():
+def beside_plain_c() -> list[Times]:
     """The least times of the proved build, and those of plain C."""
     crate = TOP / "crates" / "bench_ops"
     subprocess.run(["rt", "run"], cwd=crate, check=True, stdout=subprocess.DEVNULL)
@@ -53,7 +55,7 @@ def beside_plain_c():
         return run_in_turn([[str(crate / "out" / "bench_ops"), "time"]], [[plain]])
 
 
-def print_rows(ours, theirs, other, is_worst_first):
+def print_rows(ours: Times, theirs: Times, other: str, is_worst_first: bool) -> None:
     """Prints a line for each instruction that both have."""
     # One element of 30,000 takes no time that shows.
     rows = [(ours[it] / theirs[it], it) for it in ours if theirs.get(it, 0) > 0]
@@ -65,7 +67,7 @@ def print_rows(ours, theirs, other, is_worst_first):
         print(f"{shape + ': ' + name:56} {row[0]:8.3f} {row[1]:8.3f} {ratio:6.2f}")
 
 
-def main():
+def main() -> None:
     asks = argparse.ArgumentParser(description=__doc__.partition("\n")[0])
     asks.add_argument("--new", nargs="+", metavar="FILE", help="builds of bench_ops, in several layouts")
     asks.add_argument("--old", nargs="+", metavar="FILE", help="the builds to compare them with")
@@ -74,9 +76,11 @@ def main():
         asks.error("--new and --old go together")
     if asked.new:
         builds = ([[str(pathlib.Path(it).resolve()), "time"] for it in files] for files in (asked.new, asked.old))
-        print_rows(*run_in_turn(*builds), "old", True)
+        ours, theirs = run_in_turn(*builds)
+        print_rows(ours, theirs, "old", True)
     else:
-        print_rows(*beside_plain_c(), "plain C", False)
+        ours, theirs = beside_plain_c()
+        print_rows(ours, theirs, "plain C", False)
 
 
 if __name__ == "__main__":

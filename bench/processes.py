@@ -12,6 +12,7 @@ import re
 import subprocess
 import tempfile
 import time
+from collections.abc import Iterator
 from dataclasses import replace
 from pathlib import Path
 
@@ -22,16 +23,17 @@ PROGRAM = Path(__file__).resolve().parent.parent / "bin" / "vjobs"
 PROCESSES = 4
 
 
-def own_batches():
+def own_batches() -> Iterator[tuple[str, str]]:
     loads = [steps.chain("arithmetic on one word", 4_000), replace(steps.recursion(), rounds=50)]
     loads += [steps.sums(length, rounds) for length, rounds in ((300, 4_000), (3_000, 2_000), (30_000, 400))]
     loads += [steps.scans(30_000, 400), steps.permutations(30_000, 200)]
-    loads += [replace(divisions(length, 1_500_000 // length), name=f"divisions of {length} words") for length in (3_000, 30_000)]
+    loads += [replace(divisions(length, 1_500_000 // length), name=f"divisions of {length} words")
+              for length in (3_000, 30_000)]
     for load in loads:
         yield load.name, steps.batch(replace(load, jobs=PROCESSES), load.rounds)
 
 
-def dealt(text, folder):
+def dealt(text: str, folder: Path) -> Iterator[Path]:
     """Files with the jobs of a batch, dealt out to the processes."""
     jobs = re.split(r"(?m)^(?=JOB )", text)[1:]
     for place in range(PROCESSES):
@@ -40,15 +42,16 @@ def dealt(text, folder):
         yield path
 
 
-def seconds(workers, paths):
+def seconds(workers: int, paths: list[Path]) -> float:
     begin = time.perf_counter()
-    running = [subprocess.Popen([PROGRAM, "--workers", str(workers), path], stdout=subprocess.DEVNULL) for path in paths]
+    running = [subprocess.Popen([PROGRAM, "--workers", str(workers), path], stdout=subprocess.DEVNULL)
+               for path in paths]
     for process in running:
         process.wait()
     return time.perf_counter() - begin
 
 
-def row(name, text, rounds, folder):
+def row(name: str, text: str, rounds: int, folder: Path) -> None:
     whole = folder / "whole"
     whole.write_text(text, "latin1")
     ways = [(1, [whole]), (2, [whole]), (4, [whole]), (1, list(dealt(text, folder)))]
@@ -56,7 +59,7 @@ def row(name, text, rounds, folder):
     print(f"{name:30}" + "".join(f"{time:12.2f}" for time in least), flush=True)
 
 
-def main():
+def main() -> None:
     options = argparse.ArgumentParser()
     options.add_argument("--rounds", type=int, default=3)
     options.add_argument("--batches")

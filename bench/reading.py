@@ -11,6 +11,7 @@ import os
 import subprocess
 import sys
 import tempfile
+from collections.abc import Iterator
 from pathlib import Path
 
 TOP = Path(__file__).resolve().parent.parent
@@ -24,11 +25,11 @@ LINES = [
 ]
 
 
-def job(signatures, code, words=1_000):
+def job(signatures: str, code: str, words: int = 1_000) -> str:
     return f"JOB long {words} 16 4 100000\nSIGNATURES\n{signatures}CODE\n{code}END\n"
 
 
-def ordinary_code(end=""):
+def ordinary_code(end: str = "") -> str:
     """Functions of at most some thousand lines, of which none is called."""
     body = "\n".join(LINES * 40) + "\n"
     count = min(500, LENGTH // len(body))
@@ -39,7 +40,7 @@ def ordinary_code(end=""):
     return job(signatures, code + end)
 
 
-def constants(end=""):
+def constants(end: str = "") -> str:
     """One function that pushes a long constant and adds it to itself, again and again."""
     constant = "CONST INT (" + " ".join(str(number) for number in range(ELEMENTS)) + ")\n"
     times = LENGTH // len(constant)
@@ -47,12 +48,12 @@ def constants(end=""):
     return job("MAIN () -> (INT)\n", code + end + "RET\n", 3 * ELEMENTS)
 
 
-def filled(line):
+def filled(line: str) -> str:
     """A good job of little code that has this line again and again."""
     return job("MAIN () -> ()\n", "FUNC MAIN\n" + line * (LENGTH // len(line)) + "RET\n")
 
 
-def loads():
+def loads() -> Iterator[tuple[str, str]]:
     yield "code", ordinary_code()
     yield "code, the batch refused in its last line", ordinary_code() + "END\n"
     yield "code, the job refused in its last line", ordinary_code("+ INT\n")
@@ -65,7 +66,7 @@ def loads():
     yield "one long line", "JOB " + "x" * LENGTH + "\n"
 
 
-def run(program, file):
+def run(program: list[str], file: str) -> tuple[float, bytes]:
     """The processor seconds of a run, and its report."""
     with tempfile.TemporaryFile() as report:
         running = subprocess.Popen([*program, file], stdin=subprocess.DEVNULL, stdout=report, stderr=subprocess.DEVNULL)
@@ -75,7 +76,7 @@ def run(program, file):
         return used.ru_utime + used.ru_stime, report.read()
 
 
-def measured(programs, text):
+def measured(programs: list[list[str]], text: str) -> tuple[list[float], bool]:
     """The least seconds of each program, and whether all reports are the same."""
     with tempfile.NamedTemporaryFile("w", suffix=".vcode") as file:
         file.write(text)
@@ -86,7 +87,7 @@ def measured(programs, text):
     return [min(seconds for seconds, _ in each) for each in runs], same
 
 
-def main():
+def main() -> None:
     programs = [[str(TOP / "bin" / "vjobs")], *([sys.argv[1:]] if sys.argv[1:] else [])]
     for name, text in loads():
         seconds, same = measured(programs, text)

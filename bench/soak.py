@@ -14,6 +14,7 @@ import random
 import subprocess
 import sys
 import time
+from collections.abc import Iterator
 from dataclasses import dataclass, replace
 from pathlib import Path
 
@@ -38,13 +39,13 @@ class Batch:
     answer: tuple
 
 
-def answered(text, region, options):
+def answered(text: bytes, region: int, options: list[str]) -> tuple[tuple[str, int], bytes]:
     words = [PROGRAM, "--region", str(region), *options, "-"]
     run = subprocess.run(words, input=text, capture_output=True)
     return (run.stdout.decode("latin1"), run.returncode), run.stderr
 
 
-def kept():
+def kept() -> Iterator[Batch]:
     for path in sorted((TOP / "examples").glob("*.vcode")):
         text = path.read_bytes()
         status = batches.report(text, MOST_WORDS)[1]
@@ -54,7 +55,7 @@ def kept():
     yield Batch("stored run", text, 64, ((stored / "stdout").read_text("latin1"), batches.report(text, 64)[1]))
 
 
-def mixed(source):
+def mixed(source: random.Random) -> Batch:
     """Jobs of many kinds, for which the region is large enough together or only for a few at once."""
     count = source.choice([2, 4, 8, 16, MOST_JOBS])
     loads = [load for load in steps.loads() if load.jobs == 1]
@@ -68,7 +69,7 @@ def mixed(source):
     return alone("mixed", text, region)
 
 
-def turning(source):
+def turning(source: random.Random) -> Batch:
     """Jobs whose rounds are a stretch of short steps and one of long divisions, the same length in all jobs or not."""
     count = source.choice([2, 4, 8, 16])
     share, text = MOST_WORDS // count, ""
@@ -81,31 +82,32 @@ def turning(source):
     return alone("turning", text, MOST_WORDS)
 
 
-def alone(kind, text, region):
+def alone(kind: str, text: str, region: int) -> Batch:
     """A batch that is to answer what the calling thread alone answers."""
     data = text.encode()
     answer, _ = answered(data, region, ["--schedule", "1"])
     return Batch(kind, data, region, answer)
 
 
-def random_batch(jobs):
+def random_batch(jobs: RandomBatches) -> Batch:
     text, region = jobs.whole_batch()
     return Batch("random", text, region, batches.report(text, region))
 
 
-def differs(batch, count):
+def differs(batch: Batch, count: int) -> bool:
     answer, errors = answered(batch.text, batch.region, ["--workers", str(count)])
     if answer == batch.answer and not errors:
         return False
     print(f"{batch.kind} differs on {count} workers and {batch.region} words\n{batch.text.decode('latin1')}")
-    print(f"wanted {batch.answer}\ngot    {answer} {errors}")
+    print(f"wanted {batch.answer}\ngot    {answer} {errors!r}")
     return True
 
 
-def main(minutes, seed=1, *_):
+def main(minutes: str, seed: int | str = 1, *_: str) -> None:
     source = random.Random(int(seed))
     jobs, stored = RandomBatches(source), [*kept()]
-    runs, end = {}, time.monotonic() + 60 * float(minutes)
+    runs: dict[str, int] = {}
+    end = time.monotonic() + 60 * float(minutes)
     while time.monotonic() < end:
         for batch in (source.choice(stored), random_batch(jobs), mixed(source), turning(source)):
             for count in source.sample(range(1, MOST_WORKERS + 1), 4):

@@ -45,7 +45,8 @@ def timed(room: Path, engine: str, nodes: int, batch: int, lane: int, batches: i
     seconds = time.monotonic() - begun_at
     tasks = -(-batches // lane)
     each = f"{1000 * seconds / jobs:9.1f} {1000 * seconds * slots / batches:12.0f} {1000 * seconds * slots / tasks:12.0f}"
-    print(f"{engine:9}{nodes:6}{batch:6}{lane:6}{jobs:7}{seconds:9.1f}  {each} {3600 * jobs / seconds:14,.0f}", flush=True)
+    print(f"{engine:9}{nodes:6}{batch:6}{lane:6}{jobs:7}{seconds:9.1f}  {each} {3600 * jobs / seconds:14,.0f}",
+          flush=True)
 
 
 def main() -> None:

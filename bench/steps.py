@@ -12,6 +12,7 @@ import os
 import subprocess
 import sys
 import tempfile
+from collections.abc import Iterable, Iterator
 from dataclasses import dataclass, field
 from pathlib import Path
 
@@ -40,7 +41,7 @@ class Load:
     words: int = 0
 
 
-def times(rounds):
+def times(rounds: int) -> tuple[list[tuple[str, list[str]]], list[str]]:
     """Functions that call the one below them ten times, and the calls that come to these rounds."""
     name, functions, calls = "round", [], []
     while rounds:
@@ -52,10 +53,11 @@ def times(rounds):
     return functions, calls
 
 
-def batch(load, rounds):
+def batch(load: Load, rounds: int) -> str:
     """With no rounds the text has the same functions, so that reading it takes as long."""
     functions, calls = times(load.rounds)
-    rounds_of_kinds = [(f"{name} ({load.kinds}) -> ({load.kinds})", code) for name, code in [("round", load.round), *functions]]
+    rounds_of_kinds = [(f"{name} ({load.kinds}) -> ({load.kinds})", code)
+                       for name, code in [("round", load.round), *functions]]
     main = [*load.begin, *(calls if rounds else []), f"POP {load.entries} 0"]
     lines = [f"JOB t {WORDS // load.jobs} {CELLS} 1024 1000000000", "SIGNATURES"]
     every = [("MAIN () -> ()", main), *rounds_of_kinds, *load.functions]
@@ -65,52 +67,55 @@ def batch(load, rounds):
     return "\n".join([*lines, "END", ""]) * load.jobs
 
 
-def numbers(count, stride):
+def numbers(count: int, stride: int) -> list[str]:
     """An arithmetic progression on the stack, under its descriptor."""
-    return ["CONST INT 0", f"CONST INT {stride}", f"CONST INT {count}", "MAKE_SEGDES", "COPY 1 0", "CPOP 3 1", "INDEX", "CPOP 1 1"]
+    return ["CONST INT 0", f"CONST INT {stride}", f"CONST INT {count}", "MAKE_SEGDES", "COPY 1 0", "CPOP 3 1", "INDEX",
+            "CPOP 1 1"]
 
 
-def chain(name, rounds, jobs=1, options=()):
+def chain(name: str, rounds: int, jobs: int = 1, options: Iterable[str] = ()) -> Load:
     """One word, by 100 instructions."""
     step = ["CONST INT 7", "* INT", "CONST INT 3", "+ INT"]
     return Load(name, rounds, "INT", ["CONST INT 1"], 1, step * 25, jobs=jobs, options=[*options])
 
 
-def recursion():
+def recursion() -> Load:
     down = ["COPY 1 0", "CONST INT 0", "> INT", "IF", "CONST INT 1", "- INT", "CALL down", "ENDIF", "RET"]
-    return Load("calls, IF, RET", 500, "", ["CONST INT 1"], 1, ["CONST INT 900", "CALL down", "POP 1 0"], [("down (INT) -> (INT)", down[:-1])])
+    return Load("calls, IF, RET", 500, "", ["CONST INT 1"], 1, ["CONST INT 900", "CALL down", "POP 1 0"],
+                [("down (INT) -> (INT)", down[:-1])])
 
 
-def deep_stack():
+def deep_stack() -> Load:
     """Stack motions over 4,000 entries, which are copies of one vector."""
     fill = ["CONST INT 1", *(f"COPY {2**power} 0" for power in range(11)), "COPY 1952 0"]
     return Load("COPY, POP at 4,000 entries", 40_000, "INT", fill, 4_000, ["COPY 1 0", "POP 1 0"] * 50)
 
 
-def moved_entries():
+def moved_entries() -> Load:
     fill = ["CONST INT 1", *(f"COPY {2**power} 0" for power in range(11))]
     kinds = " ".join(["INT"] * 100)
     return Load("COPY, POP of 100 entries", 4_000, kinds, fill, 2_048, ["COPY 100 0", "POP 100 0"] * 50)
 
 
-def sums(length, rounds):
+def sums(length: int, rounds: int) -> Load:
     body = ["CPOP 1 1", *["COPY 1 0", "+ INT"] * 10, "CPOP 1 1"]
     return Load(f"sums of {length} words", rounds, "INT SEGDES", numbers(length, 3), 2, body, words=10 * length)
 
 
-def scans(length, rounds):
+def scans(length: int, rounds: int) -> Load:
     body = ["COPY 1 0", "CPOP 2 1", "+_SCAN INT", "CPOP 1 1"] * 10
     return Load(f"scans of {length} words", rounds, "INT SEGDES", numbers(length, 3), 2, body, words=10 * length)
 
 
-def permutations(length, rounds):
+def permutations(length: int, rounds: int) -> Load:
     """Each permutation reverses a vector."""
     reverse = [*numbers(length, -1), "CPOP 1 1", f"CONST INT {length - 1}", "COPY 1 2", "DIST INT", "+ INT", "CPOP 1 1"]
     body = ["CPOP 1 2", "COPY 2 1", "PERMUTE INT", "CPOP 2 1"] * 10
-    return Load(f"permutations of {length} words", rounds, "INT INT SEGDES", ["CONST INT 5", f"CONST INT {length}", "MAKE_SEGDES", "DIST INT", *reverse], 3, body, words=10 * length)
+    return Load(f"permutations of {length} words", rounds, "INT INT SEGDES",
+                ["CONST INT 5", f"CONST INT {length}", "MAKE_SEGDES", "DIST INT", *reverse], 3, body, words=10 * length)
 
 
-def loads():
+def loads() -> Iterator[Load]:
     by_turns = ",".join(str(job) for _ in range(600) for job in range(1, 65))
     yield chain("chain of one word", 40_000)
     yield recursion()
@@ -123,7 +128,7 @@ def loads():
     yield chain("64 chains, scheduled", 6, jobs=64, options=["--schedule", by_turns])
 
 
-def run(program, load, text):
+def run(program: list[str], load: Load, text: str) -> tuple[float, bytes | None]:
     """The processor seconds of a run, and the report where each job returned."""
     with tempfile.TemporaryFile() as report, tempfile.NamedTemporaryFile("w") as file:
         file.write(text)
@@ -136,13 +141,14 @@ def run(program, load, text):
         return used.ru_utime + used.ru_stime, report.read() if running.returncode == 0 else None
 
 
-def executed(report):
+def executed(report: bytes) -> int:
     return sum(int(line.split()[1]) for line in report.decode().splitlines() if line.startswith("USED"))
 
 
-def measured(programs, load):
+def measured(programs: list[list[str]], load: Load) -> dict[int, tuple[float, int]]:
     """For each program that takes the load its seconds and the instructions of all rounds."""
-    least, reports = {}, {}
+    least: dict[tuple[int, int], float] = {}
+    reports: dict[tuple[int, int], bytes | None] = {}
     for _ in range(RUNS):
         for rounds in (load.rounds, 0):
             text = batch(load, rounds)
@@ -153,10 +159,11 @@ def measured(programs, load):
     for rounds in (load.rounds, 0):
         if len({reports[place, rounds] for place in taken}) > 1:
             sys.exit(f"the reports on {load.name} differ")
-    return {place: (least[place, load.rounds] - least[place, 0], executed(reports[place, load.rounds]) - executed(reports[place, 0])) for place in taken}
+    return {place: (least[place, load.rounds] - least[place, 0],
+                    executed(reports[place, load.rounds]) - executed(reports[place, 0])) for place in taken}
 
 
-def row(programs, load):
+def row(programs: list[list[str]], load: Load) -> None:
     found = measured(programs, load)
     cells = []
     for place in range(len(programs)):
@@ -172,7 +179,7 @@ def row(programs, load):
     print(f"{load.name:30} {unit:16}{''.join(cells)}{ratio}", flush=True)
 
 
-def main():
+def main() -> None:
     other = sys.argv[1:]
     programs = [[str(TOP / "bin" / "vjobs")], *([other] if other else [])]
     names = "".join(f"{Path(program[0]).name:>12}" for program in programs)

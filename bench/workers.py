@@ -19,6 +19,7 @@ import subprocess
 import sys
 import tempfile
 import time
+from collections.abc import Iterator
 from dataclasses import dataclass, replace
 from pathlib import Path
 
@@ -37,14 +38,15 @@ class Times:
     wall: float = float("inf")
     processor: float = float("inf")
 
-    def least(self, wall, processor):
+    def least(self, wall: float, processor: float) -> None:
         self.wall, self.processor = min(self.wall, wall), min(self.processor, processor)
 
 
-def divisions(length, rounds):
+def divisions(length: int, rounds: int) -> steps.Load:
     """Each divides the numbers by a vector of sevens."""
     divide = ["COPY 1 0", "CONST INT 7", f"CONST INT {length}", "MAKE_SEGDES", "DIST INT", "/ INT", "POP 1 0"]
-    return steps.Load("divisions", rounds, "INT SEGDES", steps.numbers(length, 3), 2, ["CPOP 1 1", *divide * 10, "CPOP 1 1"])
+    return steps.Load("divisions", rounds, "INT SEGDES", steps.numbers(length, 3), 2,
+                      ["CPOP 1 1", *divide * 10, "CPOP 1 1"])
 
 
 # What is repeated, and the words that its results have in all jobs of a batch together.
@@ -55,7 +57,7 @@ INSTRUCTIONS = {
 }
 
 
-def own_batches(scale):
+def own_batches(scale: float) -> Iterator[tuple[str, list[str], str]]:
     for sign, (load, words) in INSTRUCTIONS.items():
         for length in LENGTHS:
             for jobs in JOBS:
@@ -64,13 +66,13 @@ def own_batches(scale):
                     yield f"{sign:8} {length:7} {jobs:5}", [], steps.batch(replace(load(length, rounds), jobs=jobs), rounds)
 
 
-def batches_of(folder):
+def batches_of(folder: str) -> Iterator[tuple[str, list[str], str]]:
     for path in sorted(Path(folder).glob("*.vcode")):
         options = path.with_suffix(".args")
         yield path.stem, options.read_text().split() if options.exists() else [], path.read_text("latin1")
 
 
-def run(words):
+def run(words: list) -> tuple[float, float, tuple[bytes, int]]:
     """Wall seconds, processor seconds, and what was printed, with the exit status."""
     with tempfile.TemporaryFile() as report:
         begin = time.perf_counter()
@@ -85,11 +87,12 @@ def run(words):
 class Measured:
     """A batch, with its times by the calling thread alone and by each number of workers, and what its runs printed."""
 
-    def __init__(self, name, options, path, ways):
+    def __init__(self, name: str, options: list[str], path: Path, ways: list[list[str]]) -> None:
         self.name, self.options, self.path = name, options, path
-        self.times, self.answers = [Times() for _ in ways], set()
+        self.times = [Times() for _ in ways]
+        self.answers: set[tuple[bytes, int]] = set()
 
-    def run_round(self, program, ways, turn):
+    def run_round(self, program: str, ways: list[list[str]], turn: int) -> None:
         """Runs the batch once in each way; the first of them is another one in each round."""
         for step in range(len(ways)):
             place = (step + turn) % len(ways)
@@ -99,16 +102,16 @@ class Measured:
         if len(self.answers) > 1:
             sys.exit(f"the reports on {self.name} differ")
 
-    def ratios(self):
+    def ratios(self) -> list[tuple[float, float]]:
         alone, *workers = self.times
         return [(time.wall / alone.wall, time.processor / alone.processor) for time in workers]
 
-    def row(self):
+    def row(self) -> str:
         cells = "".join(f"{wall:9.2f}{processor:6.2f}" for wall, processor in self.ratios())
         return f"{self.name:22}{self.times[0].wall:8.3f}{self.times[0].processor:8.3f}{cells}"
 
 
-def measure(batches, given, ways):
+def measure(batches: list[Measured], given: argparse.Namespace, ways: list[list[str]]) -> int:
     """Runs all batches in each round, and answers how many rounds there were."""
     end = time.monotonic() + 60 * given.minutes
     for turn in range(given.rounds):
@@ -119,7 +122,7 @@ def measure(batches, given, ways):
     return given.rounds
 
 
-def print_table(batches, workers, rounds):
+def print_table(batches: list[Measured], workers: list[int], rounds: int) -> None:
     print(f"least of {rounds} rounds")
     print(f"{'batch':22}{'wall':>8}{'cpu':>8}" + "".join(f"{f'wall {count}':>9}{'cpu':>6}" for count in workers))
     for batch in batches:
@@ -129,12 +132,12 @@ def print_table(batches, workers, rounds):
         print(f"greatest wall by {count} workers: {greatest.ratios()[place][0]:.2f}, {greatest.name}")
 
 
-def print_memory(program, workers):
+def print_memory(program: str, workers: list[int]) -> None:
     most = (f"{memory.most_megabytes(memory.job(0, []), count, program=program):.1f} by {count}" for count in workers)
     print(f"megabytes of one RET: {', '.join(most)} workers")
 
 
-def arguments():
+def arguments() -> argparse.Namespace:
     parser = argparse.ArgumentParser()
     parser.add_argument("--rounds", type=int, default=5)
     parser.add_argument("--minutes", type=float, default=60)
@@ -146,7 +149,7 @@ def arguments():
     return parser.parse_args()
 
 
-def main():
+def main() -> None:
     given = arguments()
     ways = [["--schedule", "1"], *(["--workers", str(count)] for count in given.workers)]
     found = [batch for folder in given.batches for batch in batches_of(folder)]

@@ -1,25 +1,30 @@
 """A batch: its report, and the exit status."""
 import re
+from collections.abc import Callable
 
 import kinds
 from faults import Fault
-from reader import read
+from reader import Function, read
 from runs import Limits, run
 
+# The line of a job's head, its name, its limits, its signatures and its code, both with the number of their first line.
+JobText = tuple[int, str, list[int], tuple[int, bytes], tuple[int, bytes]]
+# Says how a job ends, and what it used.
+Runner = Callable[[list[Function], Limits, bool], str]
 MOST_JOBS = 64
 LIMITS = [range(0, 1_048_577), range(1, 4_097), range(1, 1_025), range(0, 1_000_000_001)]
 
 
 class BatchRefused(Exception):
-    def __init__(self, line, name):
+    def __init__(self, line: int, name: str) -> None:
         super().__init__(f"BATCH line {line} {name}")
 
 
-def words_of(line):
+def words_of(line: bytes) -> list[bytes]:
     return [word for word in re.split(rb"[ \t\r]+", line) if word]
 
 
-def heading(words):
+def heading(words: list[bytes]) -> tuple[str, list[int]] | None:
     """The name and the limits of a good JOB line, or None."""
     if len(words) != 6 or words[0] != b"JOB" or not re.fullmatch(rb"[!-~]{1,64}", words[1]):
         return None
@@ -28,16 +33,17 @@ def heading(words):
     return words[1].decode(), [int(word) for word in words[2:]]
 
 
-def jobs_of(data):
+def jobs_of(data: bytes) -> tuple[bool, list[JobText]]:
     """Whether the second rule holds, and each job's JOB line, name, limits, and its signatures and code, each with the
     number of its first line."""
     lines = data.split(b"\n")
     lines = lines if lines[-1] else lines[:-1]
     first = next((place for place, line in enumerate(lines) if words_of(line)), len(lines))
     is_second = first < len(lines) and words_of(lines[first]) == [b"BATCH", b"2"]
-    jobs, place = [], first + is_second
+    jobs: list[JobText] = []
+    place = first + is_second
 
-    def until(word, begun, other=None):
+    def until(word: bytes, begun: int, other: bytes | None = None) -> tuple[int, bytes]:
         nonlocal place
         first = place
         while place < len(lines) and words_of(lines[place]) not in ([word], [other]):
@@ -64,7 +70,7 @@ def jobs_of(data):
     return is_second, jobs
 
 
-def verified(signatures_line, signatures, code_line, code):
+def verified(signatures_line: int, signatures: bytes, code_line: int, code: bytes) -> list[Function]:
     """The functions of a job, or its first Fault."""
     known = kinds.read_signatures(signatures, signatures_line)
     functions = read(code, code_line)
@@ -72,7 +78,7 @@ def verified(signatures_line, signatures, code_line, code):
     return functions
 
 
-def job_lines(job, region, is_second, run):
+def job_lines(job: JobText, region: int, is_second: bool, run: Runner) -> str:
     begun, _, numbers, signatures, code = job
     limits = Limits(*numbers)
     if limits.words > region:
@@ -80,7 +86,7 @@ def job_lines(job, region, is_second, run):
     return run(verified(*signatures, *code), limits, is_second)
 
 
-def report(data, region, run=run):
+def report(data: bytes, region: int, run: Runner = run) -> tuple[str, int]:
     """The report of a batch over a region of so many words, and the exit status; `run` says how a job ends."""
     try:
         is_second, jobs = jobs_of(data)

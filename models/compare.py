@@ -17,6 +17,8 @@ import pathlib
 import random
 import subprocess
 import sys
+from collections.abc import Callable, Sequence, Sized
+from typing import Any
 
 import admissions
 import batches
@@ -34,36 +36,36 @@ TOP = pathlib.Path(__file__).resolve().parent.parent
 CODE_LINE, SIGNATURES_LINE, MOST_SHOWN = 5, 3, 500
 
 
-def program(name):
+def program(name: str) -> pathlib.Path:
     return TOP / "crates" / name / "out" / name
 
 
-def escaped(text):
+def escaped(text: bytes) -> str:
     """A text of bytes as a line of the table of `worked_texts`, which keeps `|` to itself."""
     plain = {byte: chr(byte) for byte in range(32, 127)} | {10: "\\n", 9: "\\t", 13: "\\r", 92: "\\\\"}
     return "".join(plain[byte] if byte in plain and byte != ord("|") else f"\\x{byte:02x}" for byte in text)
 
 
-def shortened(text, things, name):
+def shortened(text: str, things: Sized, name: str) -> str:
     return text if len(text) <= MOST_SHOWN else f"{len(things)} {name}"
 
 
-def code_answer(text):
+def code_answer(text: bytes) -> str:
     functions = reader.read(text, CODE_LINE)
     return shortened(reader.shown_program(functions), functions, "functions")
 
 
-def signatures_answer(text):
+def signatures_answer(text: bytes) -> str:
     signatures = kinds.read_signatures(text, SIGNATURES_LINE)
     return shortened(kinds.shown_signatures(signatures), signatures, "signatures")
 
 
-def kinds_answer(signatures, code):
+def kinds_answer(signatures: bytes, code: bytes) -> str:
     known = kinds.read_signatures(signatures, SIGNATURES_LINE)
     return f"well kinded, {kinds.shown_kinds(kinds.verify(reader.read(code, CODE_LINE), known, CODE_LINE))}"
 
 
-def text_case(cases):
+def text_case(cases: Random) -> tuple[str, str]:
     """A line of the table, and its answer."""
     word = cases.pick(["code", "code", "signatures", "kinds", "kinds"])
     try:
@@ -79,26 +81,28 @@ def text_case(cases):
         return line, str(fault)
 
 
-def list_text(kind, elements):
+def list_text(kind: str, elements: list[int]) -> str:
     return f"({' '.join('FT'[element] if kind == BOOL else str(element) for element in elements)})"
 
 
-def vector_case(cases):
+def vector_case(cases: Random) -> tuple[str, str]:
     """An instruction over its operands as a line of VCODE, and its answer."""
     word, written = cases.vector_instruction()
     kind = SCALARS[written[0]] if written else None
     operands, of = cases.operands(word, kind), kinds_of(word, kind)
-    constants = [f"CONST {'BOOL' if k == BOOL else 'INT'} {list_text(k, operand)}" for k, operand in zip(of.operands, operands)]
+    constants = [f"CONST {'BOOL' if k == BOOL else 'INT'} {list_text(k, operand)}"
+                 for k, operand in zip(of.operands, operands)]
     line = " ".join([*constants, word, *written])
     if any(k == SEGDES and sum(operand) > vectors.GREATEST_TOTAL for k, operand in zip(of.operands, operands)):
         return line, "not of its kinds"
     try:
-        return line, " ".join(list_text(k, result) for k, result in zip(of.results, vectors.results(word, kind, operands)))
+        return line, " ".join(list_text(k, result)
+                              for k, result in zip(of.results, vectors.results(word, kind, operands)))
     except vectors.NoResult as end:
         return line, str(end)
 
 
-def differing_lines(name, case, cases, count):
+def differing_lines(name: str, case: Callable, cases: Any, count: int) -> int:
     """How many cases the program of this name answers otherwise; the first of them are printed."""
     wanted = [f"{line} = {answer}" for line, answer in (case(cases) for _ in range(count))]
     lines = "".join(f"{line.rpartition(' = ')[0]}\n" for line in wanted)
@@ -109,7 +113,7 @@ def differing_lines(name, case, cases, count):
     return told(name, [(want, answer) for want, answer in zip(wanted, answers) if want != answer])
 
 
-def differing_batches(program, cases, count):
+def differing_batches(program: Sequence, cases: RandomBatches, count: int) -> int:
     differing = []
     for _ in range(count):
         batch, region = cases.whole_batch()
@@ -123,13 +127,13 @@ def differing_batches(program, cases, count):
     return told(program[0], differing)
 
 
-def told(name, differing):
+def told(name: Any, differing: list) -> int:
     for want, answer in differing[:3]:
         print(f"{name} differs\n  wanted {want}\n  got    {answer}")
     return len(differing)
 
 
-def main(count=10_000, seed=1, *program):
+def main(count: int | str = 10_000, seed: int | str = 1, *program: str) -> None:
     count, source = int(count), random.Random(int(seed))
     cases, jobs = Random(source), RandomBatches(source)
     if program:
@@ -140,7 +144,8 @@ def main(count=10_000, seed=1, *program):
     instructions = differing_lines("worked_vectors", vector_case, cases, count)
     reports = differing_batches([TOP / "bin" / "vjobs"], jobs, count // 100)
     regions = differing_lines("worked_regions", RandomTable.case, RandomTable(source), count)
-    machines = differing_lines("worked_batches", admissions.RandomMachines.case, admissions.RandomMachines(source), count)
+    machines = differing_lines("worked_batches", admissions.RandomMachines.case, admissions.RandomMachines(source),
+                               count)
     of_programs = f"{texts} of {count} texts, {instructions} of {count} instructions, {reports} of {count // 100} batches"
     of_calls = f"{regions} of {count} calls on memories, {machines} of {count} on machines"
     print(f"differing: {of_programs}, {of_calls} (seed {seed})")

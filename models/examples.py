@@ -4,11 +4,15 @@ program in Python.
 
     python3 models/examples.py
 
+Each function that docs/COMPILING.md shows has to be one of the examples, word for word.
+
 The modules of this folder follow the rules of the language. The program beside an example, as `examples/histogram.py`,
 doesn't know them.
 """
+import re
 import subprocess
 import sys
+from collections.abc import Iterator
 from pathlib import Path
 
 from batches import report
@@ -18,11 +22,11 @@ REGION = 1_048_576
 KINDS = ("INT", "BOOL", "SEGDES")
 
 
-def results(text):
+def results(text: str) -> list[str]:
     return [line for line in text.splitlines() if line.split()[0] in KINDS]
 
 
-def differences(batch):
+def differences(batch: Path) -> Iterator[str]:
     wanted = batch.with_suffix(".report").read_text()
     if report(batch.read_bytes(), REGION)[0] != wanted:
         yield f"{batch.stem}: the models give another report"
@@ -33,9 +37,16 @@ def differences(batch):
             yield f"{batch.stem}: {program.name} gives other results"
 
 
-def main():
+def blocks_that_differ(batches: list[Path]) -> Iterator[str]:
+    codes = "".join(batch.read_text() for batch in batches)
+    for block in re.findall(r"^FUNC .*?^RET$", (TOP / "docs" / "COMPILING.md").read_text(), re.M | re.S):
+        if block not in codes:
+            yield f"docs/COMPILING.md: {block.split()[1]} isn't in an example"
+
+
+def main() -> None:
     batches = sorted((TOP / "examples").glob("*.vcode"))
-    found = [difference for batch in batches for difference in differences(batch)]
+    found = [difference for batch in batches for difference in differences(batch)] + [*blocks_that_differ(batches)]
     print(*found, f"examples: {len(batches)} batches, {len(found)} differences", sep="\n")
     sys.exit(bool(found))
 

@@ -22,18 +22,21 @@ import subprocess
 import sys
 import time
 from collections import Counter
+from collections.abc import Callable, Iterator, Sized
 from dataclasses import dataclass, replace
 from functools import partial
 from pathlib import Path
 from random import Random as Source
+from typing import Any
 
 import batches
 import runs
 from instructions import OF_EITHER, VECTOR_WORDS, kinds_of
 from random_batches import MOST_WORDS, RandomBatches
 from random_cases import NOISE, NOTABLE
+from reader import Item
+from tables import TOP, batches_of
 
-TOP = Path(__file__).resolve().parent.parent
 MOST_WORKERS = 16
 # How many entries and words the second writing looks at for one batch. Beyond that the budgets are lowered once.
 MOST_WORK, LOWERED_BUDGET = 150_000, 150
@@ -53,39 +56,16 @@ class Job:
     """A job as the lines of its parts. The limits are the four numbers of its JOB line."""
 
     name: bytes
-    limits: list
-    signatures: list
-    code: list
+    limits: list[int]
+    signatures: list[bytes]
+    code: list[bytes]
 
-    def text(self):
+    def text(self) -> bytes:
         head = b" ".join([b"JOB", self.name, *(b"%d" % limit for limit in self.limits)])
         return b"\n".join([head, b"SIGNATURES", *self.signatures, b"CODE", *self.code, b"END", b""])
 
 
-def written_out(text):
-    """A batch of a table, with its lines as often as they are to stand there."""
-    first, *parts = text.split("=== ")
-    for part in parts:
-        head, _, lines = part.partition("\n")
-        if "times" in head:
-            lines = lines if head.endswith("times") else lines.rstrip()
-            first += "".join(lines.replace("#", str(number + 1)) for number in range(int(head.split()[0])))
-        else:
-            first += lines
-        if head == "open":
-            first = first[:-1]
-    return first
-
-
-def batches_of(table):
-    for case in table.read_text("latin1").split("=== job ")[1:]:
-        head, _, text = case.partition("\n")
-        batch = text.partition("=== report, exit ")[0]
-        batch = batch.partition("=== batch\n")[2] or batch
-        yield written_out(batch).encode("latin1"), int(head.rpartition(" ")[2])
-
-
-def stored_batches():
+def stored_batches() -> list[tuple[bytes, int]]:
     """The batches of the repository, each with a region, except those whose second writing takes long."""
     data = TOP / "crates" / "worked_batches" / "data"
     found = [(path.read_bytes(), MOST_WORDS) for path in sorted((data / "examples").glob("*.vcode"))]
@@ -94,7 +74,7 @@ def stored_batches():
     return [batch for batch in found if len(batch[0]) < 20_000]
 
 
-def jobs_of(batch):
+def jobs_of(batch: bytes) -> list[Job]:
     """The jobs of a batch that isn't refused."""
     try:
         _, found = batches.jobs_of(batch)
@@ -105,69 +85,69 @@ def jobs_of(batch):
 
 
 # The words that have the same kinds, so that one may stand for the other.
-LIKE = {}
+SAME_KINDS: dict[str, list[bytes]] = {}
 for one in VECTOR_WORDS:
-    LIKE.setdefault(str(kinds_of(one, "k")) + str(one in OF_EITHER), []).append(one.encode())
-LIKE = {one: words for words in LIKE.values() for one in words}
+    SAME_KINDS.setdefault(str(kinds_of(one, "k")) + str(one in OF_EITHER), []).append(one.encode())
+LIKE = {one: words for words in SAME_KINDS.values() for one in words}
 
 
 class Changes(RandomBatches):
     """Changes of lines, jobs and batches. Those of jobs change the job that they are given."""
 
-    def __init__(self, source, stored, jobs):
+    def __init__(self, source: Source, stored: list[tuple[bytes, int]], jobs: list[Job]) -> None:
         super().__init__(source)
         self.stored, self.jobs = stored, jobs
 
-    def place(self, lines):
+    def place(self, lines: Sized) -> int:
         return self.random.randrange(len(lines))
 
     # ---- of lines
 
-    def doubled(self, lines):
+    def doubled(self, lines: list[bytes]) -> None:
         place = self.place(lines)
         lines[place:place] = [lines[place]] * self.pick([1, 1, 1, 2, 5, 70])
 
-    def cut(self, lines):
+    def cut(self, lines: list[bytes]) -> None:
         place = self.place(lines)
         del lines[place : place + self.pick([1, 1, 2, 5])]
 
-    def swapped(self, lines):
+    def swapped(self, lines: list[bytes]) -> None:
         one, other = self.place(lines), self.place(lines)
         lines[one], lines[other] = lines[other], lines[one]
 
-    def word_changed(self, lines):
+    def word_changed(self, lines: list[bytes]) -> None:
         place = self.place(lines)
         words = lines[place].split(b" ")
         words[self.place(words)] = self.pick([*NOISE, *VECTOR_WORDS]).encode("latin1")
         lines[place] = b" ".join(words)
 
-    def byte_changed(self, lines):
+    def byte_changed(self, lines: list[bytes]) -> None:
         place = self.place(lines)
         line = bytearray(lines[place] or b" ")
         at = self.place(line)
         line[at] = self.pick([line[at] ^ 1 << self.random.randrange(8), self.random.randrange(256)])
         lines[place] = bytes(line)
 
-    def replaced_somewhere(self, lines, pattern, by):
+    def replaced_somewhere(self, lines: list[bytes], pattern: bytes, by: Callable[[bytes], bytes]) -> None:
         """Replaces one place of this pattern, if there is one."""
         found = [(place, match) for place, line in enumerate(lines) for match in re.finditer(pattern, line)]
         if found:
             place, match = self.pick(found)
             lines[place] = lines[place][: match.start()] + by(match[0]) + lines[place][match.end() :]
 
-    def number_changed(self, lines):
-        def near(number):
+    def number_changed(self, lines: list[bytes]) -> None:
+        def near(number: bytes) -> bytes:
             at_ends = [*NOTABLE, 4_096, 4_097, 4_294_967_295, 2**63]
             return str(self.pick([int(number) + 1, int(number) - 1, *at_ends])).encode()
 
         self.replaced_somewhere(lines, rb"-?\b\d{1,20}\b", near)
 
-    def flag_changed(self, lines):
+    def flag_changed(self, lines: list[bytes]) -> None:
         flags = [b"T", b"F", b"( )", b"(T F)", b"(F T T)"]
         self.replaced_somewhere(lines, rb"\b[TF]\b", lambda _: self.pick(flags))
 
-    def list_changed(self, lines):
-        def near(text):
+    def list_changed(self, lines: list[bytes]) -> None:
+        def near(text: bytes) -> bytes:
             elements = text.split()
             place = self.random.randrange(len(elements) + 1)
             some = self.pick(elements or [b"1"])
@@ -176,16 +156,16 @@ class Changes(RandomBatches):
 
         self.replaced_somewhere(lines, rb"(?<=\()[^()]*(?=\))", near)
 
-    def instruction_changed(self, lines):
+    def instruction_changed(self, lines: list[bytes]) -> None:
         """An instruction becomes another of the same kinds."""
         self.replaced_somewhere(lines, rb"(?<!\S)[^\s(){}]+(?!\S)", lambda word: self.pick(LIKE.get(word, [word])))
 
-    def moved_about(self, lines):
+    def moved_about(self, lines: list[bytes]) -> None:
         """An instruction that changes nothing, or only the order."""
         moves = [b"COPY 0 0", b"COPY 1 0 POP 1 0", b"CPOP 1 1", b"CPOP 1 0", b"POP 0 1"]
         lines.insert(self.place(lines), self.pick(moves))
 
-    def lent(self, lines):
+    def lent(self, lines: list[bytes]) -> None:
         """Lines of another job."""
         other = self.pick(self.jobs).code
         place, lent = self.place(lines), self.random.randrange(len(other) or 1)
@@ -193,7 +173,7 @@ class Changes(RandomBatches):
 
     # ---- of jobs
 
-    def limit_changed(self, job):
+    def limit_changed(self, job: Job) -> None:
         place = self.random.randrange(4)
         limits, now = batches.LIMITS[place], job.limits[place]
         at_ends = [limits[0], limits[-1], limits[0] + 1, limits[-1] - 1]
@@ -201,14 +181,14 @@ class Changes(RandomBatches):
         if job.limits[place] not in limits and self.chance(0.8):
             job.limits[place] = now
 
-    def to_its_edge(self, job):
+    def to_its_edge(self, job: Job) -> None:
         """One limit is what the job takes, or one less."""
         signatures, code = (b"".join(line + b"\n" for line in lines) for lines in (job.signatures, job.code))
         takes = self.uses(signatures, code, False)
         place = self.random.randrange(4)
         job.limits[place] = max(batches.LIMITS[place][0], takes[place] - self.pick([0, 1, 1]))
 
-    def signature_changed(self, job):
+    def signature_changed(self, job: Job) -> None:
         if self.chance(0.1):
             name = self.pick([b"a" * 64, b"a" * 65, b"spare", b"MAIN"])
             line = name + b" (" + b"INT " * self.pick([0, 1, 256, 257]) + b") -> ()"
@@ -217,19 +197,19 @@ class Changes(RandomBatches):
             change = self.pick([self.doubled, self.cut, self.swapped, self.word_changed, self.byte_changed])
             change(job.signatures)
 
-    def spoiled(self, job):
+    def spoiled(self, job: Job) -> None:
         """Mostly a job that is refused."""
         if self.chance(0.2):
             return self.signature_changed(job)
         changes = [self.doubled, self.swapped, self.byte_changed, self.lent]
         self.pick([*changes, *[self.cut, self.word_changed] * 2])(job.code)
 
-    def bent(self, job):
+    def bent(self, job: Job) -> None:
         """Mostly a job that still runs."""
         changes = [self.number_changed, self.number_changed, self.flag_changed, self.list_changed, self.list_changed]
         self.pick([*changes, self.instruction_changed, self.instruction_changed, self.moved_about])(job.code)
 
-    def changed(self, job):
+    def changed(self, job: Job) -> Job:
         job = replace(job, limits=[*job.limits], signatures=[*job.signatures], code=[*job.code])
         while self.chance(0.7):
             of_limits = [self.limit_changed, self.limit_changed, self.to_its_edge]
@@ -240,7 +220,7 @@ class Changes(RandomBatches):
 
     # ---- of batches
 
-    def of_jobs(self):
+    def of_jobs(self) -> tuple[bytes, int]:
         """A batch of jobs from anywhere, and a region."""
         count = self.pick([1, 2, 3, 3, 4, 5, 6, 8, 12]) if self.chance(0.98) else self.pick([63, 64, 65])
         kept = self.pick(self.jobs)
@@ -250,7 +230,7 @@ class Changes(RandomBatches):
         region = self.pick([widest, widest, widest + 1, together, together, MOST_WORDS, widest - 1])
         return self.rule_line(self.chance(0.3)) + b"".join(job.text() for job in jobs), region
 
-    def of_lines(self):
+    def of_lines(self) -> tuple[bytes, int]:
         """A stored batch, some lines of which are changed."""
         text, region = self.pick(self.stored)
         lines = text.split(b"\n")
@@ -259,10 +239,10 @@ class Changes(RandomBatches):
             self.pick([self.bent_lines] * 4 + changes)(lines)
         return b"\n".join(lines), region
 
-    def bent_lines(self, lines):
+    def bent_lines(self, lines: list[bytes]) -> None:
         self.pick([self.number_changed, self.list_changed, self.instruction_changed, self.flag_changed])(lines)
 
-    def batch(self):
+    def batch(self) -> tuple[bytes, int]:
         """The bytes of a batch, and the words of a region."""
         text, region = self.pick([self.of_jobs, self.of_jobs, self.of_jobs, self.of_lines, self.whole_batch])()
         while self.chance(0.04):
@@ -279,11 +259,11 @@ class TooLong(Exception):
 class Watched(runs.Run):
     """A run that keeps account of its work, and of the words that it held and made."""
 
-    def __init__(self, account, *job):
+    def __init__(self, account: Counter, *job: Any) -> None:
         super().__init__(*job)
         self.account = account
 
-    def checked(self, item, fault, operands, need_words, depth):
+    def checked(self, item: Item | runs.Choice, fault: str | None, operands: int, need_words: int, depth: int) -> None:
         super().checked(item, fault, operands, need_words, depth)
         self.account["work"] += depth + need_words + 5
         self.account["widest"] = max(self.account["widest"], runs.held(self.stack) + need_words)
@@ -291,14 +271,14 @@ class Watched(runs.Run):
             raise TooLong
 
 
-def wanted(text, region):
+def wanted(text: bytes, region: int) -> tuple[tuple[str, int], Counter]:
     """The report and the exit, and the account."""
-    account = Counter()
+    account: Counter = Counter()
     return batches.report(text, region, partial(runs.run, of=partial(Watched, account))), account
 
 
-def with_low_budgets(text):
-    def lowered(match):
+def with_low_budgets(text: bytes) -> bytes:
+    def lowered(match: re.Match[bytes]) -> bytes:
         return match[1] + b"%d" % min(int(match[2]), LOWERED_BUDGET)
 
     return re.sub(rb"(?m)^([ \t\r]*JOB(?:[ \t\r]+[!-~]+){4}[ \t\r]+)(\d+)\b", lowered, text)
@@ -306,20 +286,20 @@ def with_low_budgets(text):
 
 # ---- what a run may take
 
-def limits_of(text):
+def limits_of(text: bytes) -> list[list[int]]:
     """The limits of the jobs, those of refused ones among them."""
     heads = (batches.heading(batches.words_of(line)) for line in text.split(b"\n"))
     return [head[1] for head in heads if head] or [[0, 0, 0, 0]]
 
 
-def most_kinds(text):
+def most_kinds(text: bytes) -> int:
     """At most so many kinds are kept while one job is checked."""
     copied = sum(int(count) for count in re.findall(rb"\bCOPY\s+(\d{1,4})\b", text))
     pushed = copied + len(text.split()) + 256 * text.count(b"CALL")
     return pushed * (1 + min(64, text.count(b"IF")))
 
 
-def most_bytes(text, region, widest, desks):
+def most_bytes(text: bytes, region: int, widest: int, desks: int) -> int:
     """The sum of docs/OPERATING.md, as address space."""
     limits = limits_of(text)
     words, cells, calls, _ = ([job[place] for job in limits] for place in range(4))
@@ -328,7 +308,7 @@ def most_bytes(text, region, widest, desks):
     return fixed + 26 * len(text) + 2 * most_kinds(text) + 48 * max(words) * desks + results
 
 
-def most_seconds(text):
+def most_seconds(text: bytes) -> float:
     return 1 + sum(job[0] + job[3] for job in limits_of(text)) / 10_000_000
 
 
@@ -336,12 +316,12 @@ def most_seconds(text):
 class Trial:
     """A run of the program: its options, the bytes that it may take, and whether that is less than the sum."""
 
-    options: list
+    options: list[str]
     most_bytes: int
     is_starved: bool = False
 
 
-def trials(changes, text, region, widest):
+def trials(changes: Changes, text: bytes, region: int, widest: int) -> Iterator[Trial]:
     """Runs of a batch, each of its own kind."""
     workers = changes.random.randint(1, MOST_WORKERS)
     by_workers = ["--workers", str(workers)]
@@ -353,9 +333,10 @@ def trials(changes, text, region, widest):
         yield Trial(by_workers, less, is_starved=True)
 
 
-def answered(program, text, region, trial):
+def answered(program: Path | str, text: bytes, region: int,
+             trial: Trial) -> tuple[tuple[tuple[str, int], bytes], float]:
     """The report, the exit, standard error, and the processor's seconds."""
-    def limited():
+    def limited() -> None:
         resource.setrlimit(resource.RLIMIT_AS, (trial.most_bytes, trial.most_bytes))
 
     before = resource.getrusage(resource.RUSAGE_CHILDREN)
@@ -366,7 +347,7 @@ def answered(program, text, region, trial):
     return ((run.stdout.decode("latin1"), run.returncode), run.stderr), seconds
 
 
-def shortened(thing):
+def shortened(thing: object) -> str:
     text = str(thing)
     return text if len(text) < 2_000 else f"{text[:1_000]} .. {text[-1_000:]}"
 
@@ -374,7 +355,7 @@ def shortened(thing):
 AS_WANTED, WITHOUT_MEMORY = "as wanted", "out of memory"
 
 
-def how_it_ends(program, text, region, want, trial):
+def how_it_ends(program: Path | str, text: bytes, region: int, want: tuple[str, int], trial: Trial) -> str:
     """Whether a run ends as wanted or, where it may, for lack of memory; else what is wrong about it."""
     try:
         answer, seconds = answered(program, text, region, trial)
@@ -392,13 +373,14 @@ def how_it_ends(program, text, region, want, trial):
 # ---- the search
 
 class Search:
-    def __init__(self, program):
+    def __init__(self, program: Path | str) -> None:
         self.program = program
         self.stored = stored_batches()
         self.jobs = [job for text, _ in self.stored for job in jobs_of(text)]
-        self.counts, self.ends = Counter(), Counter()
+        self.counts: Counter = Counter()
+        self.ends: Counter = Counter()
 
-    def made(self, seed):
+    def made(self, seed: int) -> tuple[Changes, bytes, int, tuple[str, int], Counter]:
         """The batch of this seed, its region, what is wanted of it, and the source of what is still to be chosen."""
         changes = Changes(Source(seed), self.stored, self.jobs)
         text, region = changes.batch()
@@ -408,7 +390,7 @@ class Search:
             text = with_low_budgets(text)
             return changes, text, region, *wanted(text, region)
 
-    def compare(self, seed):
+    def compare(self, seed: int) -> None:
         try:
             changes, text, region, want, account = self.made(seed)
         except TooLong:
@@ -425,7 +407,7 @@ class Search:
                 options = f"--region {region} {' '.join(trial.options)}"
                 print(f"seed {seed} differs by {options} in {trial.most_bytes} bytes\n  {end}", flush=True)
 
-    def count(self, report):
+    def count(self, report: str) -> None:
         """Counts a batch by its report, and its jobs by their ends."""
         unnamed = re.sub(r"(?m)^(JOB \d+) \S+", r"\1", report)
         ends = re.findall(r"(?m)^(?:JOB|BATCH)\b.*?\b(RETURNED|BUDGET|[A-Z]\d)\b", unnamed)
@@ -435,7 +417,7 @@ class Search:
         self.counts["refused whole" if is_whole else "with refused jobs" if refused else "without"] += 1
         self.counts["with jobs that ran"] += not is_whole and len(refused) < len(ends)
 
-    def told(self, minutes, first, last):
+    def told(self, minutes: str, first: int, last: int) -> bool:
         counts = self.counts
         print("ends of jobs and refusals:", ", ".join(f"{self.ends[name]} {name}" for name in NAMES))
         whole, some, none = (counts[how] for how in ("refused whole", "with refused jobs", "without"))
@@ -447,7 +429,7 @@ class Search:
         return bool(counts["differ"])
 
 
-def main(minutes, seed="1", program=TOP / "bin" / "vjobs"):
+def main(minutes: str, seed: str = "1", program: Path | str = TOP / "bin" / "vjobs") -> None:
     search, first = Search(program), int(seed)
     if minutes == "batch":
         sys.stdout.buffer.write(search.made(first)[1])

@@ -4,7 +4,8 @@ from dataclasses import dataclass
 INT, BOOL, SEGDES = "Int", "Bool", "Segdes"
 SCALARS = {"INT": INT, "BOOL": BOOL}
 
-ARITHMETIC = {"+": "Add", "-": "Subtract", "*": "Multiply", "/": "Divide", "%": "Remainder", "LSHIFT": "ShiftLeft", "RSHIFT": "ShiftRight"}
+ARITHMETIC = {"+": "Add", "-": "Subtract", "*": "Multiply", "/": "Divide", "%": "Remainder", "LSHIFT": "ShiftLeft",
+              "RSHIFT": "ShiftRight"}
 COMPARISONS = {"<": "Less", "<=": "LessOrEqual", ">": "Greater", ">=": "GreaterOrEqual", "=": "Equal", "!=": "NotEqual"}
 LOGIC = {"AND": "And", "OR": "Or", "XOR": "Xor"}
 NUMBER_FOLDS = {"+": "Sum", "*": "Product", "MAX": "Max", "MIN": "Min"}
@@ -25,11 +26,11 @@ VECTOR_WORDS = [*OF_NUMBERS, *OF_EITHER, *ALONE, *WITH_OPTION]
 class Kinds:
     """The kinds of an instruction's operands and results, from the bottom of the stack up."""
 
-    operands: list
-    results: list
+    operands: list[str]
+    results: list[str]
 
 
-def kinds_of(word, k):
+def kinds_of(word: str, k: str | None) -> Kinds:
     """The kinds of a vector instruction; k is the kind that is written after its word."""
     if word in ARITHMETIC:
         return Kinds([INT, INT], [INT])
@@ -57,7 +58,7 @@ def kinds_of(word, k):
     }[word]
 
 
-def shown(word, k):
+def shown(word: str, k: str | None) -> str:
     """A vector instruction as `worked_texts` prints it."""
     if word in ARITHMETIC:
         return f"Elementwise(Arith({ARITHMETIC[word]}))"

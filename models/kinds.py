@@ -1,32 +1,37 @@
 """The reader of signatures, and the verifier."""
 import re
 
-from faults import (ARMS_DIFFER, BAD_LINE, MAIN_TAKES, MISSING_OPERAND, NAME_TWICE, NO_MAIN, NO_SIGNATURE, RESULT_DIFFERS,
-                    SIGNATURES_TOO_LARGE, UNKNOWN_FUNCTION, WRONG_KIND, Fault)
+from faults import (ARMS_DIFFER, BAD_LINE, MAIN_TAKES, MISSING_OPERAND, NAME_TWICE, NO_MAIN, NO_SIGNATURE,
+                    RESULT_DIFFERS, SIGNATURES_TOO_LARGE, UNKNOWN_FUNCTION, WRONG_KIND, Fault)
 from instructions import BOOL, SCALARS, SEGDES, kinds_of
-from reader import GREATEST_NAME
+from reader import GREATEST_NAME, Function, Item
 
+# The kinds that each name takes and gives.
+Signatures = dict[str, tuple[list[str], list[str]]]
 MOST_KINDS, MOST_SIGNATURES = 256, 512
 KINDS = {**SCALARS, "SEGDES": SEGDES}
 SIGNATURE = re.compile(r"([^ ()]+) \( ((?:(?:INT|BOOL|SEGDES) )*)\) -> \( ((?:(?:INT|BOOL|SEGDES) )*)\)")
 
 
-def line_words(line):
+def line_words(line: bytes) -> list[str] | None:
     """The words of a line, or None where a byte is in no word."""
     if any(not (33 <= byte <= 126 or byte in b" \t\r") or byte in b"{}" for byte in line):
         return None
     return line.decode().replace("(", " ( ").replace(")", " ) ").split()
 
 
-def signature(words):
+def signature(words: list[str]) -> tuple[str, list[str], list[str]] | None:
     """The name, operands and results of a line, or None where it is no signature."""
     found = SIGNATURE.fullmatch(" ".join(words))
-    return found and (found[1], *([KINDS[kind] for kind in found[part].split()] for part in (2, 3)))
+    if not found:
+        return None
+    takes, gives = ([KINDS[kind] for kind in found[part].split()] for part in (2, 3))
+    return found[1], takes, gives
 
 
-def read_signatures(text, first_line):
+def read_signatures(text: bytes, first_line: int) -> Signatures:
     """The kinds that each name takes and gives, by name; or a Fault."""
-    found = {}
+    found: Signatures = {}
     for line, bytes_of_line in enumerate(text.split(b"\n"), first_line):
         words = line_words(bytes_of_line)
         if words == []:
@@ -43,16 +48,17 @@ def read_signatures(text, first_line):
     return found
 
 
-def shown_kinds(kinds):
+def shown_kinds(kinds: list[str]) -> str:
     return f"[{', '.join(kinds)}]"
 
 
-def shown_signatures(signatures):
+def shown_signatures(signatures: Signatures) -> str:
     """Signatures as `worked_texts` prints them."""
-    return " | ".join(f"{name} {shown_kinds(takes)} -> {shown_kinds(gives)}" for name, (takes, gives) in signatures.items()) or "no signatures"
+    lines = (f"{name} {shown_kinds(takes)} -> {shown_kinds(gives)}" for name, (takes, gives) in signatures.items())
+    return " | ".join(lines) or "no signatures"
 
 
-def replaced(stack, takes, gives, line):
+def replaced(stack: list[str], takes: list[str], gives: list[str], line: int) -> list[str]:
     below = len(stack) - len(takes)
     if below < 0:
         raise Fault(line, MISSING_OPERAND)
@@ -61,7 +67,7 @@ def replaced(stack, takes, gives, line):
     return stack[:below] + gives
 
 
-def moved(stack, item):
+def moved(stack: list[str], item: Item) -> list[str]:
     lower_count, upper_count = item.numbers
     below = len(stack) - lower_count - upper_count
     if below < 0:
@@ -71,11 +77,11 @@ def moved(stack, item):
 
 
 class Verifier:
-    def __init__(self, functions, signatures):
+    def __init__(self, functions: list[Function], signatures: Signatures) -> None:
         self.signatures = signatures
         self.names = {f.name for f in functions}
 
-    def body(self, function):
+    def body(self, function: Function) -> None:
         """Follows a function's items; the lists that stand at open IFs are kept."""
         takes, gives = self.signatures[function.name]
         stack, kept = list(takes), []
@@ -95,7 +101,7 @@ class Verifier:
                 case _:
                     stack = self.after(stack, item)
 
-    def after(self, stack, item):
+    def after(self, stack: list[str], item: Item) -> list[str]:
         match item.what:
             case "Const":
                 return [*stack, item.kind]
@@ -111,7 +117,7 @@ class Verifier:
         return replaced(stack, *self.signatures[item.word], item.line)
 
 
-def verify(functions, signatures, first_line):
+def verify(functions: list[Function], signatures: Signatures, first_line: int) -> list[str]:
     """The kinds of what MAIN leaves, or the first Fault."""
     verifier = Verifier(functions, signatures)
     if "MAIN" not in verifier.names:

@@ -10,27 +10,12 @@ import sys
 import tempfile
 import unicodedata
 
+from shown import IGNORED, shown
+
 VJOBS, KINDS = (os.path.abspath(path) for path in sys.argv[1:3])
 HELP = "\n\nFor more information, try '--help'.\n"
-SHORT = {"\\": "\\\\", "\n": "\\n", "\r": "\\r", "\t": "\\t"}
-# The characters that a program may leave out, the property Default_Ignorable_Code_Point.
-IGNORABLE = (0xAD, 0x34F, 0x61C, 0x115F, 0x1160, 0x17B4, 0x17B5, *range(0x180B, 0x1810), *range(0x200B, 0x2010),
-             *range(0x202A, 0x202F), *range(0x2060, 0x2070), 0x3164, *range(0xFE00, 0xFE10), 0xFEFF, 0xFFA0,
-             *range(0xFFF0, 0xFFF9), *range(0x1BCA0, 0x1BCA4), *range(0x1D173, 0x1D17B), *range(0xE0000, 0xE1000))
-IGNORED = frozenset(map(chr, IGNORABLE))
-ODD = ["\x1b[2J", "\x07", "a\nvjobs: out of memory", "\r", "a\u202etxt.exe", "\u2066b", "\x9b31m", "\x85", "\u2028", "\\x1b", "\x7f"]
-
-
-def shown(word: bytes) -> str:
-    """A word as it is to be printed."""
-    return "".join(map(shown_char, word.decode("utf-8", "surrogateescape")))
-
-
-def shown_char(char: str) -> str:
-    if "\udc80" <= char <= "\udcff":
-        return f"\\x{ord(char) - 0xDC00:02x}"
-    plain = char.isprintable() and char not in IGNORED and char != "\\"
-    return char if plain else SHORT.get(char, f"\\u{{{ord(char):x}}}")
+ODD = ["\x1b[2J", "\x07", "a\nvjobs: out of memory", "\r", "a\u202etxt.exe", "\u2066b", "\x9b31m", "\x85", "\u2028",
+       "\\x1b", "\x7f"]
 
 
 def is_known(char: str) -> bool:
@@ -38,12 +23,12 @@ def is_known(char: str) -> bool:
     return unicodedata.category(char) != "Cn" or char in IGNORED
 
 
-def same(what, found, wanted) -> None:
+def same(what: str, found: object, wanted: object) -> None:
     if found != wanted:
         sys.exit(f"{what}:\n{found!r}\nand not\n{wanted!r}")
 
 
-def refused(words: list[bytes], exit_: int) -> str:
+def refused(words: list, exit_: int) -> str:
     """What a program says as it refuses these words."""
     ran = subprocess.run(words, stdin=subprocess.DEVNULL, capture_output=True, timeout=20)
     same(f"exit and output of {words}", (ran.returncode, ran.stdout), (exit_, b""))
@@ -51,7 +36,7 @@ def refused(words: list[bytes], exit_: int) -> str:
 
 
 def usage(program: str) -> str:
-    return "\n\nUsage: " + {VJOBS: "vjobs [OPTIONS] <FILE>", KINDS: "vjobs-kinds <FILE>"}[program] + HELP
+    return "\n\nUsage: " + {VJOBS: "vjobs [OPTIONS] <FILE>", KINDS: "vjobs-kinds [OPTIONS] <FILE>"}[program] + HELP
 
 
 def as_arguments(word: bytes) -> None:
@@ -62,29 +47,28 @@ def as_arguments(word: bytes) -> None:
     except UnicodeDecodeError:
         for program in (VJOBS, KINDS):
             said = refused([program, b"FILE", word], 2)
-            end = usage(VJOBS) if program == VJOBS else "\n"
-            same(f"{word} as an argument", said, f"error: argument 2 is no UTF-8: {text}{end}")
+            same(f"{word!r} as an argument", said, f"error: argument 2 is no UTF-8: {text}{usage(program)}")
         return
     for program in (VJOBS, KINDS):
         if not word.startswith(b"-"):
             said = refused([program, b"FILE", word], 2)
-            same(f"{word} after a file", said, f"error: unexpected argument '{text}' found{usage(program)}")
+            same(f"{word!r} after a file", said, f"error: unexpected argument '{text}' found{usage(program)}")
         if b"=" not in word:
             said = refused([program, b"--x" + word, b"FILE"], 2)
-            same(f"{word} in an option", said.partition("\n")[0], f"error: unexpected argument '--x{text}' found")
+            same(f"{word!r} in an option", said.partition("\n")[0], f"error: unexpected argument '--x{text}' found")
     said = refused([VJOBS, b"--region=x" + word, b"FILE"], 2)
     wanted = f"error: invalid value 'x{text}' for '--region <N>': invalid digit found in string{HELP}"
-    same(f"{word} as a number", said, wanted)
+    same(f"{word!r} as a number", said, wanted)
 
 
 def as_files(word: bytes) -> None:
     """A word as the name of a file: one that isn't there, and one with bad code."""
     text = shown(word)
     said = refused([KINDS, b"--", word], 3)
-    same(f"{word} as a missing file", said, f"vjobs-kinds: {text}: No such file or directory (os error 2)\n")
+    same(f"{word!r} as a missing file", said, f"vjobs-kinds: {text}: No such file or directory (os error 2)\n")
     with open(word, "wb") as file:
         file.write(b"FUNC MAIN\nBAD\n")
-    same(f"{word} as a file", refused([KINDS, b"--", word], 1), f"{text}:2: S1 BAD_WORD\n")
+    same(f"{word!r} as a file", refused([KINDS, b"--", word], 1), f"{text}:2: S1 BAD_WORD\n")
     os.remove(word)
 
 
@@ -95,7 +79,8 @@ def all_characters() -> None:
     for at in range(0, len(known), 25_000):
         word = "".join(known[at : at + 25_000]).encode()
         said = refused([KINDS, b"FILE", word], 2)
-        same(f"characters from {known[at]!r} on", said, f"error: unexpected argument '{shown(word)}' found{usage(KINDS)}")
+        same(f"characters from {known[at]!r} on", said,
+             f"error: unexpected argument '{shown(word)}' found{usage(KINDS)}")
 
 
 def other_files() -> None:
@@ -112,7 +97,8 @@ def main() -> None:
     words = [word.encode() for word in ODD]
     words += [bytes(chance.choices(range(1, 256), k=chance.randint(1, 40))) for _ in range(150)]
     words = [word for word in words if all(map(is_known, word.decode("utf-8", "surrogateescape")))]
-    words += ["".join(chance.choices("ab\\\x1b\n\u00e4\u202e\u3164\u0301\U0001f600\x80", k=12)).encode() for _ in range(50)]
+    words += ["".join(chance.choices("ab\\\x1b\n\u00e4\u202e\u3164\u0301\U0001f600\x80", k=12)).encode()
+              for _ in range(50)]
     with tempfile.TemporaryDirectory() as folder:
         os.chdir(folder)
         for word in words:

@@ -1,7 +1,8 @@
 """What `vjobs-why` has to say of the last line of a job, from the second writing."""
 import vectors
 from instructions import ELEMENTWISE, INT, SEGDES, kinds_of
-from runs import NOT_SINGLE, need
+from reader import Item
+from runs import NOT_SINGLE, Run, need
 from vectors import NoResult, results, segments
 
 GREATEST_WORDS = 1_048_576
@@ -13,29 +14,29 @@ NAMES = {
 }
 
 
-def names_of(word):
+def names_of(word: str) -> list[str]:
     return (NAMES.get(word) or ("a b" if word in ELEMENTWISE else "V S")).split()
 
 
-def length(name, kind, words):
+def length(name: str, kind: str | None, words: list[int]) -> str:
     if kind == SEGDES:
         return f"segments of {name}: {len(words)}, elements: {sum(words)}"
     return f"elements of {name}: {len(words)}"
 
 
-def bad_index(word, of):
+def bad_index(word: str, of: dict[str, list[int]]) -> str:
     """The first index that is outside its segment: its place, its segment, and how many places that has."""
     if word in ("EXTRACT", "REPLACE"):
         found = [(place, place, size) for place, size in enumerate(of["S"])]
     else:
-        cut, sizes = {"PERMUTE": "SS", "BPERMUTE": "RS", "DPERMUTE": "SR"}[word]
+        cut, sizes = {"PERMUTE": ("S", "S"), "BPERMUTE": ("R", "S"), "DPERMUTE": ("S", "R")}[word]
         owners = [segment for segment, size in enumerate(of[cut]) for _ in range(size)]
         found = [(place, segment, of[sizes][segment]) for place, segment in enumerate(owners)]
     place, segment, size = next(it for it in found if not 0 <= of["I"][it[0]] < it[2])
     return f"at place {place} of {len(of['I'])}, I is {of['I'][place]}, and segment {segment} has {size} places"
 
 
-def index_twice(of):
+def index_twice(of: dict[str, list[int]]) -> str | None:
     """The first place whose index an earlier place of its segment has, and that place."""
     begin = 0
     for segment, part in enumerate(segments(of["S"], of["I"])):
@@ -44,9 +45,10 @@ def index_twice(of):
                 first, second = begin + part.index(index), begin + place
                 return f"at places {first} and {second}, I is {index}, both in segment {segment}"
         begin += len(part)
+    return None
 
 
-def bad_length(lengths):
+def bad_length(lengths: list[int]) -> str | None:
     total = 0
     for place, size in enumerate(lengths):
         total += size
@@ -54,9 +56,10 @@ def bad_length(lengths):
             return f"at place {place} of {len(lengths)}, the length is {size}"
         if total > vectors.GREATEST_TOTAL:
             return f"at place {place} of {len(lengths)}, the total is {total}, and at most {vectors.GREATEST_TOTAL} are allowed"
+    return None
 
 
-def fault_note(word, kinds, operands, fault):
+def fault_note(word: str, kinds: list[str], operands: list[list[int]], fault: str) -> str | None:
     """What is said of a fault of an instruction with these operands."""
     of = dict(zip(names_of(word), operands))
     if fault == vectors.ZERO_DIVISOR:
@@ -74,7 +77,7 @@ def fault_note(word, kinds, operands, fault):
     return "; ".join(length(name, kind, of[name]) for name, kind in zip(of, kinds))
 
 
-def needed(item, operands):
+def needed(item: Item, operands: list[list[int]]) -> int | None:
     """The words that an instruction needs, or None if it has no results."""
     if item.what == "Const":
         return len(item.numbers)
@@ -86,7 +89,7 @@ def needed(item, operands):
     return need(item.word, operands)
 
 
-def depth_after(item, depth):
+def depth_after(item: Item, depth: int) -> int:
     if item.what == "Const":
         return depth + 1
     if item.what == "Move":
@@ -95,7 +98,7 @@ def depth_after(item, depth):
     return depth - len(kinds.operands) + len(kinds.results)
 
 
-def note_of(job, item, end):
+def note_of(job: Run, item: Item, end: str) -> tuple[str | None, int | None]:
     """What is said of the instruction that a job ended before, and the words that it wanted if they are known."""
     limits, depth = job.limits, len(job.stack)
     if end in ("RETURNED", "BUDGET"):

@@ -12,6 +12,8 @@ import signal
 import subprocess
 import sys
 import tempfile
+from collections.abc import Callable, Sequence
+from typing import Any
 
 VJOBS, PACK, SPLIT = (os.path.abspath(path) for path in sys.argv[1:4])
 DATA = os.path.join(os.path.dirname(os.path.abspath(__file__)), "../crates/vjobs_pack/data")
@@ -24,39 +26,41 @@ REFUSED = [
     "no_job.vcode:1: no job",
     "kinds.vcode:7: V5 RESULT_DIFFERS",
 ]
+# What a folder has, by name: the bytes of a file, where a link leads, or None.
+Contents = dict[str, Any]
 # The calls of the system by which the programs change files.
 CALLS = ("openat", "mkdir", "write", "fsync", "rename")
 
 
-def run(words, given=b"", **how):
+def run(words: list, given: bytes = b"", **how: Any) -> subprocess.CompletedProcess:
     """Runs a program. One that waits for something is a failure."""
     return subprocess.run(words, input=given, capture_output=True, check=False, timeout=60, **how)
 
 
-def same(what, found, wanted):
+def same(what: str, found: object, wanted: object) -> None:
     if found != wanted:
         sys.exit(f"{what}:\n{found!r}\nand not\n{wanted!r}")
 
 
-def read(path):
+def read(path: str) -> bytes:
     with open(path, "rb") as file:
         return file.read()
 
 
-def write(path, data):
+def write(path: str | bytes, data: bytes) -> None:
     with open(path, "wb") as file:
         file.write(data)
 
 
-def job(name, number=1):
+def job(name: str, number: int = 1) -> bytes:
     """A file of a job of this name, which returns a number."""
     code = f"CODE\nFUNC MAIN\nCONST INT {number}\nRET\nEND\n"
     return f"JOB {name} 5 16 4 100\nSIGNATURES\nMAIN () -> (INT)\n{code}".encode()
 
 
-def contents(folder="."):
+def contents(folder: str = ".") -> Contents:
     """What a folder has: the bytes of each file, and where each link leads."""
-    found = {}
+    found: Contents = {}
     for name in os.listdir(folder):
         path = os.path.join(folder, name)
         if os.path.islink(path):
@@ -68,15 +72,15 @@ def contents(folder="."):
     return found
 
 
-def entries(manifest):
+def entries(manifest: str) -> list[bytes]:
     return [entry for entry in read(manifest).split(b"\0") if entry]
 
 
-def owners(manifest):
+def owners(manifest: str) -> list[str]:
     return [entry.split(b" ", 3)[3].decode() for entry in entries(manifest)[1:]]
 
 
-def check_manifest(manifest):
+def check_manifest(manifest: str) -> None:
     """The first entry seals the batch, and the others have the places, lines and names of its jobs."""
     seal, *jobs = entries(manifest)
     batch = manifest.removesuffix(".manifest") + ".vcode"
@@ -92,7 +96,7 @@ def check_manifest(manifest):
         same(f"name of {file!r}", name, after.split()[1])
 
 
-def split_all(numbers):
+def split_all(numbers: list[int]) -> None:
     """Runs the batches of these numbers, splits their reports both ways, and compares what each owner gets."""
     for number in numbers:
         manifest = f"batch-{number}.manifest"
@@ -109,7 +113,7 @@ def split_all(numbers):
             same("row", rows[place], name.replace("\\", "\\\\").replace("\n", "\\n") + f"\t{place}.report")
 
 
-def attacks():
+def attacks() -> None:
     files = sorted(os.listdir(DATA))
     for name in files:
         shutil.copy(os.path.join(DATA, name), name)
@@ -121,7 +125,37 @@ def attacks():
     same("outside", os.path.exists("../../owned"), False)
 
 
-def broken_off():
+def bounds() -> None:
+    """Files that pass a bound of the command line, which is named with its line."""
+    wide = b"JOB wide 9 99 9 9\nSIGNATURES\nMAIN () -> ()\nCODE\n{ x }\nFUNC MAIN CONST INT 1\n" \
+           b"COPY 1 0 COPY 2 0 POP 4 0\nRET\nEND\n"
+    parts = b"JOB parts 9 99 9 9\nSIGNATURES\nMAIN () -> ()\nf (INT INT INT) -> ()\nCODE\nFUNC MAIN\n" \
+            b"CONST BOOL T\nIF\nCONST INT 1\nPOP 1 0\nELSE\nCONST INT 1\nCONST INT 2\nPOP 2 0\nENDIF\nRET\nFUNC f\nPOP 3 0\nRET\nEND\n"
+    write("wide", wide)
+    write("parts", parts)
+    os.mkdir("packs")
+    cases: list[tuple[list[str], str]] = [
+        ([], ""), (["--most-entries", "4"], ""),
+        (["--most-entries", "3"], "wide:6: more than 3 entries on the stack of a function\n"),
+        (["--most-entries", "2"], "wide:6: more than 2 entries on the stack of a function\n"
+                                  "parts:17: more than 2 entries on the stack of a function\n"),
+        (["--most-entries", "1"], "wide:6: more than 1 entries on the stack of a function\n"
+                                  "parts:6: more than 1 entries on the stack of a function\n"),
+        (["--most-bytes", str(len(wide) - 1)], f"wide:1: more than {len(wide) - 1} bytes\n"
+                                               f"parts:1: more than {len(wide) - 1} bytes\n"),
+    ]
+    for options, wanted in cases:
+        ran = run([PACK, "--out", "packs", *options, "wide", "parts"])
+        same(str(options), (ran.stderr.decode(), ran.returncode), (wanted, int(bool(wanted))))
+        for name in os.listdir("packs"):
+            os.remove(f"packs/{name}")
+    # A second job is checked before the file is refused for it, so its stack is bounded too.
+    write("two", job("first") + wide)
+    ran = run([PACK, "--out", "packs", "--most-entries", "3", "two"])
+    same("a second job", ran.stderr.decode(), "two:14: more than 3 entries on the stack of a function\n")
+
+
+def broken_off() -> None:
     """A report that ends at any byte is named, and only jobs that are whole get their lines."""
     manifest = "batch-1.manifest" if len(owners("batch-1.manifest")) > 1 else "batch-2.manifest"
     jobs = len(owners(manifest))
@@ -133,14 +167,14 @@ def broken_off():
         same(f"named at {end}", found.stderr, f"vjobs-split: the report breaks off after {whole} jobs\n".encode())
         names = [f"{place}.report" for place in range(1, whole + 1)]
         wanted = {name: read(f"reports-{manifest[6]}/{name}") for name in names}
-        found = contents("broken")
-        same(f"rows at {end}", found.pop("table.tsv").count(b".report\n"), whole)
-        same(f"written at {end}", found, wanted)
+        there = contents("broken")
+        same(f"rows at {end}", there.pop("table.tsv").count(b".report\n"), whole)
+        same(f"written at {end}", there, wanted)
         same(f"rest at {end}", jobs >= whole, True)
         shutil.rmtree("broken")
 
 
-def many():
+def many() -> None:
     """The 65th job begins the next batch, and a name may have any character."""
     names = [f"job {i}\nof many" for i in range(65)]
     for name in names:
@@ -151,7 +185,7 @@ def many():
     split_all([1, 2])
 
 
-def packed_into(folder, names):
+def packed_into(folder: str, names: Sequence[str]) -> bytes:
     """Packs jobs of these names into a folder, and returns the report of their batch."""
     os.mkdir(folder)
     for number, name in enumerate(names):
@@ -160,7 +194,7 @@ def packed_into(folder, names):
     return run([VJOBS, f"{folder}/batch-1.vcode"]).stdout
 
 
-def refused_report(what, manifest, report, place, name):
+def refused_report(what: str, manifest: str, report: bytes, place: int, name: str) -> None:
     """A report isn't split by a manifest that has another job at a place, and nothing is written."""
     before = contents()
     found = run([SPLIT, "--beside", manifest], report)
@@ -171,7 +205,7 @@ def refused_report(what, manifest, report, place, name):
     same(what, contents(), before)
 
 
-def other_reports():
+def other_reports() -> None:
     """A report is split only by its own manifest: each place and each name agree, and the number of jobs."""
     abc, acb, abx = (packed_into(names, names) for names in ("abc", "acb", "abx"))
     ab, abcd = (packed_into(names, names) for names in ("ab", "abcd"))
@@ -190,7 +224,7 @@ def other_reports():
     same("its own", run([SPLIT, "--out", "own", manifest], abc).returncode, 0)
 
 
-def other_batches():
+def other_batches() -> None:
     """The batch beside a manifest is the one that it is for; without it an option is needed."""
     report = packed_into("ab", "ab")
     manifest, batch = "ab/batch-1.manifest", "ab/batch-1.vcode"
@@ -227,7 +261,7 @@ def other_batches():
     same("nothing", os.path.exists("none"), False)
 
 
-def used_folders():
+def used_folders() -> None:
     """Nothing is packed into a folder that has a batch, and no reports go into a folder that is there."""
     packed_into("ab", "ab")
     for name in ("batch-1.vcode", "batch-1.manifest", "batch-77.vcode", "batch-x.manifest"):
@@ -238,8 +272,8 @@ def used_folders():
         same(name, (found.returncode, found.stderr, contents("old")), (3, text, {name: b""}))
         shutil.rmtree("old")
     os.mkdir("old")
-    for name in ("other-1.vcode", ".vjobs-0.part", b"batch-\xff.txt"):
-        write(os.path.join(b"old", os.fsencode(name)), b"")
+    for odd in (b"other-1.vcode", b".vjobs-0.part", b"batch-\xff.txt"):
+        write(os.path.join(b"old", odd), b"")
     same("others", run([PACK, "--out", "old", "ab-0"]).returncode, 0)
     report = run([VJOBS, "ab/batch-1.vcode"]).stdout
     for folder in ("old", "ab-0"):
@@ -251,7 +285,7 @@ def used_folders():
     same("both", run([SPLIT, "--beside", "--out", "new", "ab/batch-1.manifest"], report).returncode, 2)
 
 
-def beside():
+def beside() -> None:
     """One owner's trouble is named, others get their reports, and no link is followed and no packed file replaced."""
     names = ["linked", "piped", "held", "plain", "plain.report", "again"]
     for number, name in enumerate(names):
@@ -282,7 +316,7 @@ def beside():
     same("parts", [name for name in os.listdir(".") if name.endswith(".part")], [])
 
 
-def odd_files():
+def odd_files() -> None:
     """Regular files alone are read, without waiting, and each name takes one line that no terminal acts on."""
     os.mkfifo("pipe")
     os.symlink("pipe", "to-pipe")
@@ -328,41 +362,41 @@ def odd_files():
 # ---- stops
 
 
-def killed_at(words, call, count, given):
+def killed_at(words: list[str], call: str, count: int, given: bytes) -> int | None:
     """Runs a program that is killed at a call of the system. Returns its status, or nothing if it made fewer calls."""
     inject = f"inject={call}:signal=SIGKILL:when={count}"
     found = run(["strace", "-f", "-o", "trace", "-e", f"trace={call}", "-e", inject, *words], given)
     return None if b"SIGKILL" not in read("trace") else found.returncode
 
 
-def failed_at(words, call, count, given):
+def failed_at(words: list[str], call: str, count: int, given: bytes) -> int | None:
     """Runs a program for which a call of the system finds no room. Returns its status, or nothing if it made fewer."""
     inject = f"inject={call}:error=ENOSPC:when={count}"
     found = run(["strace", "-f", "-o", "trace", "-e", f"trace={call}", "-e", inject, *words], given)
     return None if b"(INJECTED)" not in read("trace") else found.returncode
 
 
-def limited_at(words, size, given):
+def limited_at(words: list[str], size: int, given: bytes) -> int:
     """Runs a program whose files may have so many bytes, which is killed where one would have more."""
 
-    def limit():
+    def limit() -> None:
         resource.setrlimit(resource.RLIMIT_FSIZE, (size, size))
         signal.signal(signal.SIGXFSZ, signal.SIG_DFL)
 
     return run(words, given, preexec_fn=limit).returncode
 
 
-def without_parts(folder):
+def without_parts(folder: str) -> Contents:
     return {name: data for name, data in contents(folder).items() if not name.endswith(".part")}
 
 
-def is_part_of(what, found, whole):
+def is_part_of(what: str, found: Contents, whole: Contents) -> None:
     """Each file is there as in the whole folder, or not at all."""
     for name, data in found.items():
         same(f"{what}: {name}", data, whole.get(name))
 
 
-def check_pack_stop(what, status, whole):
+def check_pack_stop(what: str, status: int, whole: Contents) -> None:
     """After a stop each file is whole, a manifest has its batch, and nothing more is packed beside a batch."""
     found = without_parts("stopped")
     is_part_of(what, found, whole)
@@ -376,7 +410,7 @@ def check_pack_stop(what, status, whole):
     shutil.rmtree("stopped")
 
 
-def check_split_stop(what, status, whole):
+def check_split_stop(what: str, status: int, whole: Contents) -> None:
     """After a stop each report that is there is whole, and the table is there only if all were tried."""
     found = without_parts("stopped") if os.path.exists("stopped") else {}
     table = found.pop("table.tsv", None)
@@ -388,7 +422,7 @@ def check_split_stop(what, status, whole):
     shutil.rmtree("stopped", ignore_errors=True)
 
 
-def stops():
+def stops() -> None:
     """Each stop of either program leaves what is whole, and what it says."""
     packed_into("a", "abc")
     write("ruled", b"BATCH 2\n" + job("d"))
@@ -418,7 +452,7 @@ def stops():
     print(count, "stops")
 
 
-def each_stop(how, call, words, given, whole, check):
+def each_stop(how: Callable, call: str, words: list[str], given: bytes, whole: Contents, check: Callable) -> int:
     """Stops a program at each call of this kind in turn. Returns how often."""
     for count in range(1, 1000):
         if check is check_pack_stop:
@@ -433,7 +467,7 @@ def each_stop(how, call, words, given, whole, check):
     sys.exit(f"{words[0]} makes too many calls of {call}")
 
 
-def own_folder(case):
+def own_folder(case: Callable[[], None]) -> None:
     """A case has a folder of its own, but for the one that goes on with the files of the case before."""
     if case is not broken_off:
         folder = tempfile.mkdtemp()
@@ -443,5 +477,5 @@ def own_folder(case):
     print(case.__name__, "ok")
 
 
-for each in (attacks, broken_off, many, other_reports, other_batches, used_folders, beside, odd_files, stops):
+for each in (bounds, attacks, broken_off, many, other_reports, other_batches, used_folders, beside, odd_files, stops):
     own_folder(each)

@@ -1,17 +1,20 @@
 """What `vjobs-why --json` has to print of each job of a batch, from the second writing."""
 import json
 from collections import Counter
+from typing import Any
 
 import batches
 import runs
 from faults import Fault
 from notes import GREATEST_WORDS, note_of
+from reader import Function
 from runs import Limits
 
 # The most columns of the words over time.
 MOST_COLUMNS = 2048
 GREATEST_CELLS, GREATEST_CALLS, GREATEST_BUDGET = 4096, 1024, 1_000_000_000
-# What a run within wide limits may execute beside four times what the job did, or what the job did if its budget ended it.
+# What a run within wide limits may execute beside four times what the job did, or what the job did if its budget ended
+# it.
 # It may also be given up after many elements, which no run has that is as short as the next limit.
 MORE_INSTRUCTIONS = 1_000_000
 # A run within wide limits that executes more instructions is given up, and then least limits are not compared.
@@ -27,19 +30,20 @@ class Counted(runs.Run):
     another how often its last function was called and how many instructions it executed. A function that runs already
     goes on in its path."""
 
-    def __init__(self, *job):
+    def __init__(self, *job: Any) -> None:
         super().__init__(*job)
-        self.times, self.peak_at, self.last, self.cells, self.most_calls = Counter(), 0, 0, 0, 1
-        self.samples = []
-        self.active = [("MAIN",)]
-        self.paths = {("MAIN",): [1, 0]}
+        self.times: Counter = Counter()
+        self.peak_at, self.last, self.cells, self.most_calls = 0, 0, 0, 1
+        self.samples: list[tuple[int, int, int]] = []
+        self.active: list[tuple[str, ...]] = [("MAIN",)]
+        self.paths: dict[tuple[str, ...], list[int]] = {("MAIN",): [1, 0]}
 
-    def executes(self, operands=0, need_words=0):
+    def executes(self, operands: int = 0, need_words: int = 0) -> None:
         super().executes(operands, need_words)
         # No entry that a motion moves is an operand: all of them are held.
         self.demand = self.words(0 if self.moves else operands, need_words)
 
-    def step(self):
+    def step(self) -> None:
         item, executed, peak, calls = self.calls[-1][0], self.executed, self.peak, len(self.calls)
         self.item, self.last, self.moves = item, item.line, item.what == "Move"
         super().step()
@@ -55,31 +59,32 @@ class Counted(runs.Run):
         elif len(self.calls) > calls:
             self.enter(item.word)
 
-    def enter(self, name):
+    def enter(self, name: str) -> None:
         path = self.active[-1]
         path = path[: path.index(name) + 1] if name in path else (*path, name)
         self.active.append(path)
         self.paths.setdefault(path, [0, 0])[0] += 1
 
-    def chains(self, functions):
+    def chains(self, functions: list[Function]) -> list[list[int]]:
         """For each path the place of the path around it, that of its function, and its counts."""
-        names, places = [function.name for function in functions], {path: place for place, path in enumerate(self.paths)}
+        names = [function.name for function in functions]
+        places = {path: place for place, path in enumerate(self.paths)}
         return [[places.get(path[:-1], 0), names.index(path[-1]), *counts] for path, counts in self.paths.items()]
 
 
-def shown(line):
+def shown(line: bytes) -> str:
     """A line of a batch as it is shown."""
     text = "".join(chr(byte) if 32 <= byte <= 126 else " " if byte in b"\t\r" else "?" for byte in line[:96])
     return text + ".." if len(line) > 96 else text
 
 
-def shown_code(functions, first, text):
+def shown_code(functions: list[Function], first: int, text: bytes) -> dict[str, Any]:
     """The lines of a code up to its last RET."""
     last = functions[-1].items[-1].line if functions else 0
     return {"first": first, "lines": [shown(line) for line in text.split(b"\n")[: max(last - first + 1, 0)]]}
 
 
-def columns_of(samples, functions):
+def columns_of(samples: list[tuple[int, int, int]], functions: list[Function]) -> dict[str, Any]:
     """The words over time: the columns are of the least power of 2 of instructions of which few enough are enough."""
     each = 1
     while len(samples) > MOST_COLUMNS * each:
@@ -96,7 +101,7 @@ def columns_of(samples, functions):
     }
 
 
-def end_of(job, most=None):
+def end_of(job: runs.Run, most: int | None = None) -> tuple[str, int | None]:
     """How a job ends, and the line that its end has. If it executes more than the most instructions, it is LONG."""
     try:
         while job.calls:
@@ -112,11 +117,11 @@ def end_of(job, most=None):
     return "RETURNED", None
 
 
-def limits_shown(words, cells, calls, budget):
+def limits_shown(words: int, cells: int, calls: int, budget: int) -> dict[str, int]:
     return {"words": words, "cells": cells, "calls": calls, "budget": budget}
 
 
-def least(job, end, functions):
+def least(job: Counted, end: str, functions: list[Function]) -> dict[str, int] | str | None:
     """The least limits within which a job returns, if it returned, or a limit ended it and it returns within wide ones."""
     if end == "BUDGET" and job.executed > MORE_INSTRUCTIONS:
         return None
@@ -130,7 +135,7 @@ def least(job, end, functions):
     return UNKNOWN if end == "LONG" else None
 
 
-def profile(functions, limits, is_second):
+def profile(functions: list[Function], limits: Limits, is_second: bool) -> dict[str, Any]:
     job = Counted(functions, limits, is_second)
     end, line = end_of(job)
     note, wanted = note_of(job, job.item, end)
@@ -161,7 +166,7 @@ def profile(functions, limits, is_second):
     }
 
 
-def profiles(data):
+def profiles(data: bytes) -> list[dict[str, Any]] | None:
     """The object of each job of a batch, or None if the batch is refused."""
     try:
         is_second, jobs = batches.jobs_of(data)
@@ -171,7 +176,8 @@ def profiles(data):
     for place, (begun, name, numbers, signatures, code) in enumerate(jobs, 1):
         try:
             functions = batches.verified(*signatures, *code)
-            made = {**profile(functions, Limits(*numbers), is_second), "code": shown_code(functions, *code)}
+            made: dict[str, Any] = {**profile(functions, Limits(*numbers), is_second),
+                                    "code": shown_code(functions, *code)}
         except Fault as fault:
             words = str(fault).split(" ", 2)
             made = {"end": f"REFUSED {words[2]}", "line": int(words[1])}
@@ -179,7 +185,7 @@ def profiles(data):
     return found
 
 
-def differences(shown, data):
+def differences(shown: str, data: bytes) -> list[str]:
     """The jobs of a batch that are shown otherwise than the second writing has them, by the members that it works out."""
     wanted = profiles(data)
     if wanted is None:

@@ -4,6 +4,7 @@ import reader
 from faults import Fault
 from instructions import ARITHMETIC, BOOL, COMPARISONS, INT, LOGIC, MOVES, SCALARS, SEGDES, kinds_of
 from random_cases import SPELLED, Random
+from kinds import Signatures
 from runs import Ended, Limits, Run
 
 MOST_WORDS, MOST_CELLS, MOST_CALLS, MOST_JOBS = 1_048_576, 4_096, 1_024, 64
@@ -12,7 +13,7 @@ MOST_TRIED = 300
 
 # Functions that call themselves or each other: what each takes and gives, the numbers that it is called with, and its
 # code.
-RECURSIVE = {
+RECURSIVE: dict[str, tuple[list[str], list[str], str]] = {
     "factorial": ([INT], [INT], "COPY 1 0 CONST INT 1 <= INT IF POP 1 0 CONST INT 1 ELSE"
                   " COPY 1 0 CONST INT 1 - INT CALL factorial * INT ENDIF"),
     "even": ([INT], [BOOL], "COPY 1 0 CONST INT 0 = INT IF POP 1 0 CONST BOOL T ELSE CONST INT 1 - INT CALL odd ENDIF"),
@@ -32,14 +33,14 @@ CALLED_WITH = {"even": ["odd"], "odd": ["even"], "shared": ["drop"]}
 class RandomBatches(Random):
     # ---- code that runs
 
-    def list_of(self, kind, elements):
+    def list_of(self, kind: str, elements: list[int]) -> list[str]:
         words = ["FT"[element] if kind == BOOL else str(element) for element in elements]
         return ["CONST", SPELLED[kind], *(words if len(words) == 1 and self.chance(0.5) else ["(", *words, ")"])]
 
-    def value(self, kind, elements):
+    def value(self, kind: str, elements: list[int]) -> list[str]:
         return [*self.list_of(INT, elements), "MAKE_SEGDES"] if kind == SEGDES else self.list_of(kind, elements)
 
-    def running_item(self, stack, signatures, depth):
+    def running_item(self, stack: list[str], signatures: Signatures, depth: int) -> tuple[list[str], list[str]]:
         """Words of an item that mostly runs from a stack of these kinds, and the stack behind it."""
         choice = self.pick(["laden"] * 6 + ["copied", "copied", "any", "move", "if", "call", "call"])
         if choice == "laden":
@@ -54,11 +55,11 @@ class RandomBatches(Random):
             return self.called(stack, signatures)
         return self.kinded_item(stack, signatures, depth) if signatures and self.chance(0.3) else ([], stack)
 
-    def near(self, count):
+    def near(self, count: int) -> int:
         """Lengths that don't fit are more frequent than slips of kinds."""
         return super().near(count) if self.chance(0.95) else count + 1
 
-    def laden(self, stack):
+    def laden(self, stack: list[str]) -> tuple[list[str], list[str]]:
         """A vector instruction over constants, mostly of shapes that fit."""
         word, written = self.vector_instruction()
         kind = SCALARS[written[0]] if written else None
@@ -70,13 +71,14 @@ class RandomBatches(Random):
         constants = [word for k, operand in zip(of.operands, operands) for word in self.value(k, operand)]
         return [*constants, word, *written], stack + of.results
 
-    def copied(self, stack):
+    def copied(self, stack: list[str]) -> tuple[list[str], list[str]]:
         """An instruction over copies of one entry, which is among its operands itself at times."""
         kind = stack[-1]
         if kind == SEGDES:
             word, written = "LENGTHS", []
         else:
-            word, written = self.pick(["NOT", *LOGIC, *([*ARITHMETIC, *COMPARISONS] if kind == INT else [])]), [SPELLED[kind]]
+            word, written = self.pick(["NOT", *LOGIC,
+                                       *([*ARITHMETIC, *COMPARISONS] if kind == INT else [])]), [SPELLED[kind]]
         of, copies = kinds_of(word, kind), self.random.randint(0, 2)
         if copies > len(of.operands):
             return [], stack
@@ -85,12 +87,13 @@ class RandomBatches(Random):
             return [], stack
         return [*["COPY", "1", "0"] * copies, word, *written], stack[: len(stack) - taken] + of.results
 
-    def branched(self, stack, signatures, depth):
+    def branched(self, stack: list[str], signatures: Signatures, depth: int) -> tuple[list[str], list[str]]:
         flag = self.pick([["T"]] * 30 + [["F"]] * 30 + [["(", "T", "F", ")"], ["(", ")"]])
         first, second = (self.brought_back(stack, signatures, depth + 1) for _ in range(2))
-        return ["CONST", "BOOL", *flag, "IF", *first, *(["ELSE", *second] if second or self.chance(0.5) else []), "ENDIF"], stack
+        return ["CONST", "BOOL", *flag, "IF", *first, *(["ELSE", *second] if second or self.chance(0.5) else []),
+                "ENDIF"], stack
 
-    def called(self, stack, signatures):
+    def called(self, stack: list[str], signatures: Signatures) -> tuple[list[str], list[str]]:
         name = self.pick([*signatures])
         takes, gives = signatures[name]
         if takes and stack[-len(takes) :] == takes and self.chance(0.5):
@@ -98,10 +101,12 @@ class RandomBatches(Random):
         if name == "MAIN" and not self.slips():
             return [], stack
         number = [self.pick([0, 1, 2, 3, 5, 8, 40])]
-        arguments = [word for kind in takes for word in self.value(kind, [int(self.chance(0.5))] if kind == BOOL else number)]
+        arguments = [word for kind in takes
+                     for word in self.value(kind, [int(self.chance(0.5))] if kind == BOOL else number)]
         return [*arguments, "CALL", name], stack + gives
 
-    def kinded_items(self, stack, signatures, most, depth):
+    def kinded_items(self, stack: list[str], signatures: Signatures, most: int,
+                     depth: int) -> tuple[list[str], list[str]]:
         words = []
         for _ in self.up_to(most):
             more, stack = self.running_item(stack, signatures, depth)
@@ -110,7 +115,7 @@ class RandomBatches(Random):
 
     # ---- jobs
 
-    def functions(self):
+    def functions(self) -> tuple[Signatures, list[list[str]]]:
         """The signatures of some functions, and their code."""
         names = self.random.sample([*RECURSIVE], self.pick([0, 0, 1, 1, 2]))
         names += [other for name in names for other in CALLED_WITH.get(name, []) if other not in names]
@@ -124,7 +129,7 @@ class RandomBatches(Random):
             codes.append(["FUNC", name, *body, *self.brought(after, gives), "RET"])
         return signatures, codes
 
-    def whole_code(self):
+    def whole_code(self) -> tuple[bytes, bytes]:
         """The texts of a job's signatures and code."""
         signatures, codes = self.functions()
         body, after = self.kinded_items([], signatures, 14, 0)
@@ -132,10 +137,11 @@ class RandomBatches(Random):
         codes.append(["FUNC", "MAIN", *body, *self.brought(after, kept), "RET"])
         signatures["MAIN"] = ([INT] if self.chance(0.01) else []), kept
         self.random.shuffle(codes)
-        lines = [self.signature_line(name, *arrow) for name, arrow in self.random.sample([*signatures.items()], len(signatures))]
+        lines = [self.signature_line(name, *arrow)
+                 for name, arrow in self.random.sample([*signatures.items()], len(signatures))]
         return "\n".join(lines).encode() + b"\n", self.text([word for code in codes for word in code], 0.04) + b"\n"
 
-    def uses(self, signatures, code, is_second):
+    def uses(self, signatures: bytes, code: bytes, is_second: bool) -> tuple[int, int, int, int]:
         """What a job needs of each limit, as far as it is tried."""
         try:
             functions = reader.read(code, 1)
@@ -151,7 +157,7 @@ class RandomBatches(Random):
             pass
         return run.peak, cells, calls, run.executed
 
-    def limit(self, needed, least, most):
+    def limit(self, needed: int, least: int, most: int) -> int:
         """Mostly enough; else what is needed, one less or more, or anything below."""
         if self.chance(0.75):
             found = needed + self.pick([0, 1, 10, 100])
@@ -159,7 +165,7 @@ class RandomBatches(Random):
             found = self.pick([needed, needed - 1, needed - 1, needed + 1, self.random.randint(0, needed)])
         return min(max(found, least), most)
 
-    def whole_job(self, is_second):
+    def whole_job(self, is_second: bool) -> tuple[bytes, int]:
         signatures, code = self.whole_code()
         words, cells, calls, executed = self.uses(signatures, code, is_second)
         limits = [self.limit(words, 0, MOST_WORDS), self.limit(cells, 1, MOST_CELLS), self.limit(calls, 1, MOST_CALLS)]
@@ -170,14 +176,15 @@ class RandomBatches(Random):
 
     # ---- batches
 
-    def rule_line(self, is_second):
+    def rule_line(self, is_second: bool) -> bytes:
         """A line that says the second rule, mostly spelled well; seldom one where it isn't meant."""
         if not is_second:
             return b"" if self.chance(0.98) else b"BATCH 1\n"
-        spelled = self.pick([b"BATCH 2"] * 20 + [b" BATCH\t2 \r", b"BATCH 02", b"BATCH 2 2", b"BATCH 2\nBATCH 2", b"BATCH", b"batch 2"])
+        spelled = self.pick([b"BATCH 2"] * 20 + [b" BATCH\t2 \r", b"BATCH 02", b"BATCH 2 2", b"BATCH 2\nBATCH 2",
+                                                 b"BATCH", b"batch 2"])
         return self.pick([b""] * 9 + [b"\n", b" \t\r\n\n"]) + spelled + b"\n"
 
-    def whole_batch(self):
+    def whole_batch(self) -> tuple[bytes, int]:
         """The bytes of a batch, and the words of a region."""
         is_second = self.chance(0.4)
         made = [self.whole_job(is_second) for _ in range(self.pick([0, 1, 1, 1, 1, 2, 2, 3, 4, 6, 9]))]
@@ -195,7 +202,7 @@ class RandomBatches(Random):
 
     # ---- schedules
 
-    def schedule(self):
+    def schedule(self) -> str:
         """Turns of the first jobs mostly, of any job sometimes, in steps and in halves of steps."""
         items = []
         for _ in range(self.random.randint(1, 60)):

@@ -1,5 +1,6 @@
 """The reader of code: words, grammar, and the first fault."""
 import re
+from collections.abc import Iterator
 from dataclasses import dataclass, field
 
 from faults import BAD_NUMBER, BAD_WORD, CODE_TOO_LARGE, FUNCTION_TWICE, MISPLACED, UNFINISHED, Fault
@@ -17,27 +18,27 @@ class Item:
     line: int
     what: str
     word: str = ""
-    kind: str = None
-    numbers: list = field(default_factory=list)
+    kind: str | None = None
+    numbers: list[int] = field(default_factory=list)
 
 
 @dataclass
 class Function:
     name: str
     line: int
-    items: list
+    items: list[Item]
 
 
 @dataclass
 class Word:
     """A word; a byte that no word has is one whose text is None. The text's end has the line of an open comment, or none."""
 
-    text: str
-    line: int
+    text: str | None
+    line: int | None
     is_end: bool = False
 
 
-def words(text, first_line):
+def words(text: bytes, first_line: int) -> Iterator[Word]:
     line, place = first_line, 0
     while place < len(text):
         if run := re.compile(rb"[ \t\r\n]+").match(text, place):
@@ -56,7 +57,7 @@ def words(text, first_line):
     yield Word(None, None, is_end=True)
 
 
-def number(text):
+def number(text: str | None) -> int | None:
     """The number that a word is, or None."""
     if text is None or not re.fullmatch(r"-?[0-9]+", text) or not -(2**63) <= int(text) < 2**63:
         return None
@@ -66,12 +67,12 @@ def number(text):
 class Reader:
     """Reads a text; the lines of what stands open are kept, the innermost last."""
 
-    def __init__(self, text, first_line):
+    def __init__(self, text: bytes, first_line: int) -> None:
         self.words = words(text, first_line)
-        self.ahead = None
-        self.open = []
+        self.ahead: Word | None = None
+        self.open: list[int] = []
 
-    def next(self):
+    def next(self) -> Word | None:
         """The next word; None at the end, where nothing is open."""
         word, self.ahead = self.ahead or next(self.words), None
         if not word.is_end:
@@ -82,8 +83,8 @@ class Reader:
             raise Fault(self.open[-1], UNFINISHED)
         return None
 
-    def program(self):
-        functions = []
+    def program(self) -> list[Function]:
+        functions: list[Function] = []
         while (word := self.next()) is not None:
             if word.text not in HEADS:
                 raise Fault(word.line, BAD_WORD)
@@ -99,7 +100,7 @@ class Reader:
             self.open = []
         return functions
 
-    def name(self):
+    def name(self) -> Word:
         word = self.next()
         if word.text in (None, "(", ")"):
             raise Fault(word.line, BAD_WORD)
@@ -107,9 +108,10 @@ class Reader:
             raise Fault(word.line, CODE_TOO_LARGE)
         return word
 
-    def body(self):
+    def body(self) -> list[Item]:
         """The items of a function up to its RET. An IF without ELSE has an empty one, at the IF's line as each has."""
-        items, ifs = [], []
+        items: list[Item] = []
+        ifs: list[bool] = []
         while True:
             word = self.next()
             if word.text not in HEADS:
@@ -142,7 +144,7 @@ class Reader:
                 case _:
                     items.append(self.instruction(word))
 
-    def instruction(self, head):
+    def instruction(self, head: Word) -> Item:
         if head.text in WITH_OPTION:
             self.pass_option()
             return Item(head.line, "Vector", head.text)
@@ -164,19 +166,19 @@ class Reader:
         self.open.pop()
         return item
 
-    def pass_option(self):
+    def pass_option(self) -> None:
         """Passes over a word INT, if the next is one."""
         word = next(self.words)
         if word.text != "INT":
             self.ahead = word
 
-    def kind(self, kinds):
+    def kind(self, kinds: dict[str, str]) -> str:
         word = self.next()
         if word.text not in kinds:
             raise Fault(word.line, BAD_WORD)
         return kinds[word.text]
 
-    def count(self):
+    def count(self) -> int:
         word = self.next()
         if word.text is None:
             raise Fault(word.line, BAD_WORD)
@@ -187,12 +189,12 @@ class Reader:
             raise Fault(word.line, CODE_TOO_LARGE)
         return value
 
-    def constant(self, kind):
+    def constant(self, kind: str) -> list[int]:
         word = self.next()
         if word.text != "(":
             return [element(kind, word)]
         self.open.append(word.line)
-        elements = []
+        elements: list[int] = []
         while (word := self.next()).text != ")":
             value = element(kind, word)
             if len(elements) == MOST_ELEMENTS:
@@ -202,7 +204,7 @@ class Reader:
         return elements
 
 
-def element(kind, word):
+def element(kind: str, word: Word) -> int:
     if word.text is None:
         raise Fault(word.line, BAD_WORD)
     if kind == SCALARS["INT"]:
@@ -215,12 +217,12 @@ def element(kind, word):
     return int(word.text == "T")
 
 
-def read(text, first_line):
+def read(text: bytes, first_line: int) -> list[Function]:
     """The functions of a text of bytes, or a Fault."""
     return Reader(text, first_line).program()
 
 
-def targets(items):
+def targets(items: list[Item]) -> dict[int, int]:
     """Where each If goes on without its first part, and each Else behind its Endif."""
     found, open_items = {}, []
     for place, item in enumerate(items):
@@ -233,7 +235,7 @@ def targets(items):
     return found
 
 
-def shown_item(item):
+def shown_item(item: Item) -> str:
     match item.what:
         case "Const":
             return f"Const({item.kind}, [{', '.join(map(str, item.numbers))}])"
@@ -246,7 +248,7 @@ def shown_item(item):
     return item.what
 
 
-def shown_program(functions):
+def shown_program(functions: list[Function]) -> str:
     """A program as `worked_texts` prints it."""
     places = {f.name: place for place, f in enumerate(functions)}
     texts = []

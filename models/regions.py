@@ -11,6 +11,7 @@ free words, and is looked for from the first word on each time.
 import pathlib
 import random
 import sys
+from collections.abc import Callable, Iterator
 from itertools import groupby
 
 from vectors import GREATEST, LEAST
@@ -25,10 +26,10 @@ WORDS = [*range(-9, 90), LEAST, GREATEST]
 class Words:
     """A row of words, free or taken."""
 
-    def __init__(self, size):
-        self.words = [None] * size
+    def __init__(self, size: int) -> None:
+        self.words: list = [None] * size
 
-    def rows(self, is_free):
+    def rows(self, is_free: bool) -> list[tuple[int, int]]:
         """The place and the length of each greatest row of words that are free, or taken, in order of place."""
         rows, place = [], 0
         for free, row in groupby(self.words, key=lambda word: word is None):
@@ -37,31 +38,31 @@ class Words:
             place += length
         return rows
 
-    def holes(self):
+    def holes(self) -> list[tuple[int, int]]:
         return self.rows(is_free=True)
 
-    def widest(self):
+    def widest(self) -> int:
         return max((length for _, length in self.holes()), default=0)
 
-    def free(self):
+    def free(self) -> int:
         return self.words.count(None)
 
-    def lowest_fit(self, length):
+    def lowest_fit(self, length: int) -> int | None:
         return next((place for place, hole in self.holes() if length <= hole), None)
 
-    def put(self, place, values):
+    def put(self, place: int, values: list) -> None:
         self.words[place : place + len(values)] = values
 
 
 class Holes(Words):
-    def __init__(self, size, most):
+    def __init__(self, size: int, most: int) -> None:
         super().__init__(size)
         self.most = most
 
-    def told(self):
+    def told(self) -> str:
         return f"holes {len(self.holes())}, widest {self.widest()}, free {self.free()}"
 
-    def take(self, length):
+    def take(self, length: int) -> str:
         if length == 0:
             return "refused"
         place = self.lowest_fit(length)
@@ -70,14 +71,14 @@ class Holes(Words):
         self.put(place, ["taken"] * length)
         return f"place {place}"
 
-    def give(self, place, length):
+    def give(self, place: int, length: int) -> str:
         words = self.words[place : place + length]
         if length == 0 or len(words) < length or None in words or len(self.holes()) >= self.most:
             return "refused"
         self.put(place, [None] * length)
         return "given"
 
-    def reset(self, place):
+    def reset(self, place: int) -> str:
         if place > len(self.words):
             return "refused"
         self.words = ["taken"] * place + [None] * (len(self.words) - place)
@@ -87,14 +88,19 @@ class Holes(Words):
 class Memory(Words):
     """A word of a block is the number of the block, with its index in it."""
 
-    def __init__(self, size, most):
+    def __init__(self, size: int, most: int) -> None:
         super().__init__(size)
-        self.most, self.moved, self.placed, self.blocks = most, 0, 0, {}
+        self.most, self.moved, self.placed = most, 0, 0
+        self.blocks: dict[int, tuple[int, list[int]]] = {}
 
-    def told(self):
+    def make_room(self, length: int) -> None:
+        """Moves blocks until so many words lie together, as each kind of memory does."""
+        raise NotImplementedError
+
+    def told(self) -> str:
         return f"used {len(self.words) - self.free()}, blocks {len(self.blocks)}, moved {self.moved}"
 
-    def place(self, owner, *words):
+    def place(self, owner: int, *words: int) -> str:
         if len(self.blocks) == self.most:
             return "refused"
         if len(words) > self.free():
@@ -109,19 +115,19 @@ class Memory(Words):
         self.placed += 1
         return f"block {self.placed - 1}"
 
-    def free_block(self, number):
+    def free_block(self, number: int) -> str:
         if number not in self.blocks:
             return "refused"
         del self.blocks[number]
         self.words = [None if word is not None and word[0] == number else word for word in self.words]
         return "freed"
 
-    def pack(self):
+    def pack(self) -> str:
         taken = [word for word in self.words if word is not None]
         self.words = taken + [None] * self.free()
         return "packed"
 
-    def words_of(self, number):
+    def words_of(self, number: int) -> str:
         if number not in self.blocks:
             return "refused"
         owner, words = self.blocks[number]
@@ -131,29 +137,29 @@ class Memory(Words):
 class Plain(Memory):
     """Each block lies apart: room is all that counts, and none moves."""
 
-    def make_room(self, length):
+    def make_room(self, length: int) -> None:
         self.pack()
 
-    def told(self):
+    def told(self) -> str:
         self.moved = 0
         return super().told()
 
 
 class Packed(Memory):
-    def make_room(self, length):
+    def make_room(self, length: int) -> None:
         self.pack()
 
 
 class Sliding(Memory):
-    def __init__(self, size, most):
+    def __init__(self, size: int, most: int) -> None:
         super().__init__(size, most)
         self.slid = 0
 
-    def pack(self):
+    def pack(self) -> str:
         self.slid = 0
         return super().pack()
 
-    def make_room(self, length):
+    def make_room(self, length: int) -> None:
         """The block after the lowest hole slides down to the hole's front, again and again. Once more words slid than
         the region has, all blocks move together."""
         if self.slid > len(self.words):
@@ -166,16 +172,17 @@ class Sliding(Memory):
             self.slid += len(block)
 
 
-MADE = {"holes": Holes, "plain": Plain, "packed": Packed, "sliding": Sliding}
-CALLS = {
+MADE: dict[str, type] = {"holes": Holes, "plain": Plain, "packed": Packed, "sliding": Sliding}
+CALLS: dict[type, dict[str, Callable[..., str]]] = {
     Holes: {"take": Holes.take, "give": Holes.give, "reset": Holes.reset},
     Memory: {"place": Memory.place, "free": Memory.free_block, "pack": Memory.pack, "words": Memory.words_of},
 }
 # How many operands a word has, but `place`, which has an owner and any words.
-OPERANDS = {"holes": 2, "plain": 2, "packed": 2, "sliding": 2, "take": 1, "give": 2, "reset": 1, "free": 1, "pack": 0, "words": 1}
+OPERANDS = {"holes": 2, "plain": 2, "packed": 2, "sliding": 2, "take": 1, "give": 2, "reset": 1, "free": 1, "pack": 0,
+            "words": 1}
 
 
-def numbers_of(texts, least, greatest):
+def numbers_of(texts: list[str], least: int, greatest: int) -> list[int] | None:
     """The numbers that these texts are, or None where one is none."""
     if not all((text.removeprefix("-") if least < 0 else text).isdecimal() for text in texts):
         return None
@@ -183,7 +190,7 @@ def numbers_of(texts, least, greatest):
     return numbers if all(least <= number <= greatest for number in numbers) else None
 
 
-def read(line):
+def read(line: str) -> tuple[str, list[int]] | None:
     """The word of a line and its operands, or None where it isn't understood."""
     word, *texts = line.split(" ")
     if word == "place":
@@ -196,10 +203,10 @@ def read(line):
 class Table:
     """What the lines so far have made, and what the next ones come to."""
 
-    def __init__(self):
-        self.made = None
+    def __init__(self) -> None:
+        self.made: Holes | Memory | None = None
 
-    def answer(self, line):
+    def answer(self, line: str) -> str:
         understood = read(line)
         if understood is None:
             return "no case"
@@ -207,7 +214,7 @@ class Table:
         what = self.call(word, numbers)
         return f"{what}, {self.made.told()}" if self.made else what
 
-    def call(self, word, numbers):
+    def call(self, word: str, numbers: list[int]) -> str:
         if word in MADE and (word != "holes" or numbers[1] > 0):
             self.made = MADE[word](*numbers)
             return "made"
@@ -220,11 +227,11 @@ class Table:
 class RandomTable:
     """Random lines, each with its answer. What was made before decides which lines are likely."""
 
-    def __init__(self, source):
+    def __init__(self, source: random.Random) -> None:
         self.random, self.table = source, Table()
         self.left = 0
 
-    def case(self):
+    def case(self) -> tuple[str, str]:
         if self.left == 0:
             self.left = self.random.randint(20, 80)
             line = self.making()
@@ -235,23 +242,25 @@ class RandomTable:
         self.left -= 1
         return line, self.table.answer(line)
 
-    def making(self):
+    def making(self) -> str:
         pick, between = self.random.choice, self.random.randint
         if pick([True, False]):
             return f"holes {pick(SIZES)} {pick([0, 1, 1, 2, 2, 3, 3, 4, 8, 100])}"
         return f"{pick(['plain', 'packed', 'sliding'])} {between(12, 300)} {pick([0, 1, 4, 8, 8, 16, 16, 16, 40, 40, 40])}"
 
-    def noise(self):
-        return self.random.choice(["take", "take 1 2", "take -1", "take x", "take  1", "give 1", "give 1 ", "pack 1", "places 1", "place", "place x",
+    def noise(self) -> str:
+        return self.random.choice(["take", "take 1 2", "take -1", "take x", "take  1", "give 1", "give 1 ", "pack 1",
+                                   "places 1", "place", "place x",
                                    "place 1 x", "place 1 9223372036854775808", "place 1 ", "place 1 2 ", "words", "free 18446744073709551616", "reset",
                                    f"give {GREATEST_SIZE} {GREATEST_SIZE}", f"take {GREATEST_SIZE}", f"reset {GREATEST_SIZE}", "x", "holes 1"])
 
     # ---- holes
 
-    def holes_call(self):
+    def holes_call(self) -> str:
         region = self.table.made if isinstance(self.table.made, Holes) else Holes(64, 1)
         is_full, rows = len(region.holes()) >= region.most, region.rows(is_free=False)
-        match self.random.choices(["take", "give", "given", "reset"], [12, 1, (3 if is_full else 12) if rows else 0, 1])[0]:
+        match self.random.choices(["take", "give", "given", "reset"],
+                                  [12, 1, (3 if is_full else 12) if rows else 0, 1])[0]:
             case "take":
                 return f"take {self.length(region)}"
             case "give":
@@ -260,12 +269,13 @@ class RandomTable:
                 return self.give(rows)
         return f"reset {self.random.randint(0, len(region.words) + 1)}"
 
-    def length(self, region):
+    def length(self, region: Words) -> int:
         size, widest = len(region.words), region.widest()
         near = [0, 1, 2, 3, 63, 64, 65, widest, widest + 1]
-        return self.random.choice([self.random.choice(near), self.random.randint(1, max(1, widest)), self.random.randint(1, size // 4 + 1)])
+        return self.random.choice([self.random.choice(near), self.random.randint(1, max(1, widest)),
+                                   self.random.randint(1, size // 4 + 1)])
 
-    def give(self, rows):
+    def give(self, rows: list[tuple[int, int]]) -> str:
         """A part of a row of taken words, often the whole of it or one that reaches its end."""
         place, length = self.random.choice(rows)
         first, end = sorted([self.random.randint(0, length), self.random.randint(0, length)])
@@ -274,7 +284,7 @@ class RandomTable:
 
     # ---- memories
 
-    def memory_call(self):
+    def memory_call(self) -> str:
         memory = self.table.made if isinstance(self.table.made, Memory) else Sliding(64, 8)
         is_crowded = memory.free() < len(memory.words) // 4 or len(memory.blocks) >= memory.most
         match self.random.choices(["place", "free", "words", "pack"], [6, 9 if is_crowded else 3, 4, 0.2])[0]:
@@ -286,12 +296,12 @@ class RandomTable:
                 return f"words {self.number(memory)}"
         return "pack"
 
-    def number(self, memory):
+    def number(self, memory: Memory) -> int:
         """A block that is there, mostly."""
         there = list(memory.blocks)
         return self.random.choice(there) if there and self.random.random() < 0.9 else self.random.randint(0, memory.placed + 1)
 
-    def place(self, memory):
+    def place(self, memory: Memory) -> str:
         """A block: where there are several holes often one that fits into none, at times one that just fits or doesn't fit at all."""
         size, free, widest = len(memory.words), memory.free(), memory.widest()
         length = self.random.randint(0, size // 8)
@@ -305,7 +315,8 @@ class RandomTable:
 
 MEMORIES = ["plain", "packed", "sliding"]
 # The first and the third of five blocks are freed, and the words of the others move for four words, or none do.
-MOVES = ["place 1 1 2", "place 2 3 4", "place 1 5 6", "place 2 7 8", "place 1 9 10", "free 0", "free 2", "place 3 -1 -2 -3 -4",
+MOVES = ["place 1 1 2", "place 2 3 4", "place 1 5 6", "place 2 7 8", "place 1 9 10", "free 0", "free 2",
+         "place 3 -1 -2 -3 -4",
          "words 1", "words 3", "words 4", "words 5", "place 1 11 12"]
 # The lowest hole that is long enough is taken of, and what is given back joins the holes on both sides.
 TAKES = ["holes 10 4", "take 3", "take 4", "take 3", "take 1", "give 0 3", "give 7 3", "take 4", "give 3 4", "take 4"]
@@ -314,39 +325,45 @@ JOINS = ["holes 8 3", "take 4", "give 1 1", "take 2", "give 2 4", "take 7"]
 RESETS = ["holes 10 1", "reset 4", "take 6", "reset 10", "take 1", "reset 0", "take 10"]
 # The first of three blocks is freed and another fills its words and the last one; then no word is left, only a block of
 # none.
-FILLS = ["place 1 1 2 3", "place 2 4 5 6 7", "place 1 8 9", "free 0", "place 2 1 1 1 1", "words 1", "words 2", "words 3", "place 1 0", "place 1",
+FILLS = ["place 1 1 2 3", "place 2 4 5 6 7", "place 1 8 9", "free 0", "place 2 1 1 1 1", "words 1", "words 2",
+         "words 3", "place 1 0", "place 1",
          "words 4", "free 2", "free 4", "pack", "words 1", "words 3"]
 # Of ten blocks of seven words every other is freed, and one block takes the words of all five.
-WIDENS = [*(f"place {number}{7 * f' {number}'}" for number in range(10)), *(f"free {number}" for number in range(0, 10, 2)),
+WIDENS = [*(f"place {number}{7 * f' {number}'}" for number in range(10)),
+          *(f"free {number}" for number in range(0, 10, 2)),
           f"place 10{35 * ' -1'}", *(f"words {number}" for number in [10, 1, 3, 5, 7, 9])]
 # Three times two blocks of a word slide for one of two, which are six words in a region of four. For the next block all
 # others move, and for the one after it one slides again.
-SLIDES = ["place 1 0", "place 1 1", "place 1 2", "free 0", "place 1 3 3", "free 1", "free 3", "place 1 4", "place 1 5", "free 4", "place 1 6 6",
+SLIDES = ["place 1 0", "place 1 1", "place 1 2", "free 0", "place 1 3 3", "free 1", "free 3", "place 1 4", "place 1 5",
+          "free 4", "place 1 6 6",
           "free 2", "free 6", "place 1 7", "place 1 8", "free 7", "place 1 9 9", "free 9", "place 1 10", "place 1 11", "free 5", "free 10",
           "place 1 12 12", "free 12", "place 1 13", "place 1 14", "free 8", "free 13", "place 1 15 15", "words 11", "words 14"]
 # Blocks of no words in a memory of none.
 EMPTIES = ["place 3", "place 4", "words 0", "free 0", "place 5 0", "pack", "words 1"]
 
 
-def chosen_rows():
+def chosen_rows() -> Iterator[str]:
     """The rows that were thought of, in their sections."""
     yield from ["# Nothing is made yet.", "take 1", "pack"]
-    for told, rows in [("Taken of the lowest hole", TAKES), ("Given back between holes", JOINS), ("Made free from a place on", RESETS)]:
+    for told, rows in [("Taken of the lowest hole", TAKES), ("Given back between holes", JOINS),
+                       ("Made free from a place on", RESETS)]:
         yield from ["", f"# {told}.", *rows]
     for told, sizes, rows in [("Blocks move or not", "12 6", MOVES), ("A gap is filled", "10 4", FILLS),
-                              ("As wide as all holes together", "70 10", WIDENS), ("More slides than the region has words", "4 4", SLIDES),
+                              ("As wide as all holes together", "70 10", WIDENS),
+                              ("More slides than the region has words", "4 4", SLIDES),
                               ("No words", "0 2", EMPTIES)]:
         for memory in MEMORIES:
             yield from ["", f"# {told}: {memory}.", f"{memory} {sizes}", *rows]
 
 
-def main(seed=1, count=2_000):
+def main(seed: int | str = 1, count: int | str = 2_000) -> None:
     table, cases = Table(), RandomTable(random.Random(int(seed)))
     rows = [*chosen_rows(), "", "# Random calls."]
     told = [line if line == "" or line.startswith("#") else f"{line} = {table.answer(line)}" for line in rows]
-    random_rows = [cases.case() for _ in range(count)]
+    random_rows = [cases.case() for _ in range(int(count))]
     (CRATE / "stdin").write_text("".join(f"{line}\n" for line in [*rows, *(line for line, _ in random_rows)]))
-    (CRATE / "stdout").write_text("".join(f"{line}\n" for line in [*told, *(f"{line} = {answer}" for line, answer in random_rows)]))
+    (CRATE / "stdout").write_text("".join(f"{line}\n"
+                                          for line in [*told, *(f"{line} = {answer}" for line, answer in random_rows)]))
 
 
 if __name__ == "__main__":

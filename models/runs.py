@@ -3,9 +3,11 @@
 Each entry of the stack has a tag, which its copies share, and a call is the list of what it has still to do: no block
 of words is shared or moved here, and no place in the code is kept.
 """
+from collections.abc import Callable
 from dataclasses import dataclass, field
 
 from instructions import BOOL, ELEMENTWISE, INT, kinds_of
+from reader import Function, Item
 from vectors import BAD_INDEX, BAD_LENGTH, BAD_SHIFT, INDEX_TWICE, ZERO_DIVISOR, NoResult, results
 
 VALUE_FAULTS = {ZERO_DIVISOR, BAD_SHIFT, BAD_INDEX, INDEX_TWICE, BAD_LENGTH}
@@ -34,12 +36,12 @@ class Choice:
 class Entry:
     tag: int
     kind: str
-    words: list
+    words: list[int]
 
 
-def tree(items):
+def tree(items: list[Item]) -> list:
     """What a function has to do, its RET last."""
-    open_parts = [[]]
+    open_parts: list[list] = [[]]
     for item in items:
         if item.what == "If":
             choice = Choice(item.line, [])
@@ -55,12 +57,12 @@ def tree(items):
     return open_parts[0]
 
 
-def held(stack):
+def held(stack: list[Entry]) -> int:
     """The words of the vectors on a stack, each counted once."""
     return sum(len(words) for words in {entry.tag: entry.words for entry in stack}.values())
 
 
-def need(word, operands):
+def need(word: str, operands: list[list[int]]) -> int:
     """How many words the results of a vector instruction have, whose operands' lengths fit."""
     if word in ELEMENTWISE or word in ("PERMUTE", "REPLACE", "MAKE_SEGDES", "LENGTHS") or word.endswith("_SCAN"):
         return len(operands[0])
@@ -76,17 +78,18 @@ class Ended(Exception):
 
 
 class Run:
-    def __init__(self, functions, limits, is_second=False):
+    def __init__(self, functions: list[Function], limits: Limits, is_second: bool = False) -> None:
         # The first function of a name counts.
         self.functions = {f.name: tree(f.items) for f in reversed(functions)}
         self.limits, self.is_second = limits, is_second
-        self.stack, self.calls, self.executed, self.peak, self.next_tag = [], [self.functions["MAIN"]], 0, 0, 0
+        self.stack: list[Entry] = []
+        self.calls, self.executed, self.peak, self.next_tag = [self.functions["MAIN"]], 0, 0, 0
 
-    def words(self, operands, need_words):
+    def words(self, operands: int, need_words: int) -> int:
         """What is held and needed by an instruction of so many operands, which the second rule leaves out."""
         return held(self.stack[: len(self.stack) - operands] if self.is_second else self.stack) + need_words
 
-    def checked(self, item, fault, operands, need_words, depth):
+    def checked(self, item: Item | Choice, fault: str | None, operands: int, need_words: int, depth: int) -> None:
         """What comes before the values are looked at."""
         if fault:
             raise Ended(f"FAULT line {item.line} {fault}")
@@ -97,20 +100,20 @@ class Run:
         if item.what == "Call" and len(self.calls) == self.limits.calls:
             raise Ended(f"MEMORY line {item.line} M3 CALLS")
 
-    def executes(self, operands=0, need_words=0):
+    def executes(self, operands: int = 0, need_words: int = 0) -> None:
         self.executed += 1
         self.peak = max(self.peak, self.words(operands, need_words))
 
-    def push(self, kind, words):
+    def push(self, kind: str, words: list[int]) -> None:
         self.stack.append(Entry(self.next_tag, kind, words))
         self.next_tag += 1
 
-    def constant(self, item):
+    def constant(self, item: Item) -> None:
         self.checked(item, None, 0, len(item.numbers), len(self.stack) + 1)
         self.executes(0, len(item.numbers))
         self.push(item.kind, item.numbers)
 
-    def vector(self, item):
+    def vector(self, item: Item) -> None:
         kinds = kinds_of(item.word, item.kind)
         below = len(self.stack) - len(kinds.operands)
         operands = [entry.words for entry in self.stack[below:]]
@@ -128,7 +131,7 @@ class Run:
         for kind, words in zip(kinds.results, found):
             self.push(kind, words)
 
-    def move(self, item):
+    def move(self, item: Item) -> None:
         i, j = item.numbers
         below = len(self.stack) - i - j
         lower, upper = self.stack[below : below + i], self.stack[below + i :]
@@ -137,19 +140,19 @@ class Run:
         self.executes(i + j)
         self.stack[below:] = moved
 
-    def choice(self, item):
+    def choice(self, item: Choice) -> None:
         flag = self.stack[-1].words
         self.checked(item, None if len(flag) == 1 else NOT_SINGLE, 1, 0, len(self.stack) - 1)
         self.executes(1)
         self.stack.pop()
         self.calls[-1] = (item.first if flag[0] else item.second) + self.calls[-1]
 
-    def call(self, item):
+    def call(self, item: Item) -> None:
         self.checked(item, None, 0, 0, len(self.stack))
         self.executes()
         self.calls.append(self.functions[item.word])
 
-    def step(self):
+    def step(self) -> None:
         """Executes one instruction."""
         if self.executed == self.limits.budget:
             raise Ended("BUDGET")
@@ -159,15 +162,18 @@ class Run:
             self.executes()
             self.calls.pop()
         else:
-            {"Const": self.constant, "Vector": self.vector, "Move": self.move, "If": self.choice, "Call": self.call}[item.what](item)
+            how: dict[str, Callable] = {"Const": self.constant, "Vector": self.vector, "Move": self.move,
+                                        "If": self.choice,
+                                        "Call": self.call}
+            how[item.what](item)
 
 
-def shown(entry):
+def shown(entry: Entry) -> str:
     words = ["FT"[word] for word in entry.words] if entry.kind == BOOL else map(str, entry.words)
     return f"{entry.kind.upper()} ({' '.join(words)})"
 
 
-def run(functions, limits, is_second=False, of=Run):
+def run(functions: list[Function], limits: Limits, is_second: bool = False, of: Callable[..., Run] = Run) -> str:
     """How a verified program ends within these limits, and what it used, as the report has it."""
     job = of(functions, limits, is_second)
     try:

@@ -14,14 +14,16 @@ import resource
 import shutil
 import subprocess
 import sys
+from collections.abc import Callable, Iterable, Iterator
 from functools import partial
+from typing import Any
 
 import call_codes
 import kinds
 from batches import BatchRefused, jobs_of
 from faults import Fault
-from hostile import TOP, batches_of
 from reader import read
+from tables import TOP, batches_of
 
 DATA = TOP / "crates" / "worked_batches" / "data"
 MOST_POWER = 1.3
@@ -33,7 +35,7 @@ MOST_BYTES = 200_000_000
 MOST_COPIES, LAST_LINE = 16_383, 16_397
 
 
-def jobs():
+def jobs() -> Iterator[tuple[str, bytes, bytes]]:
     """The name of each job, its written signatures and its code."""
     batches = [(path.stem, path.read_bytes()) for path in sorted((DATA / "examples").glob("*.vcode"))]
     batches += [(path.name, batch) for path in sorted((DATA / "tables").iterdir()) for batch, _ in batches_of(path)]
@@ -45,7 +47,7 @@ def jobs():
             pass
 
 
-def written(signatures, code):
+def written(signatures: bytes, code: bytes) -> kinds.Signatures | None:
     """The signatures of the functions of a job, or None if it isn't verified."""
     try:
         known, functions = kinds.read_signatures(signatures, 1), read(code, 1)
@@ -55,7 +57,7 @@ def written(signatures, code):
     return {function.name: known[function.name] for function in functions}
 
 
-def difference(program, signatures, code):
+def difference(program: str, signatures: bytes, code: bytes) -> str | None:
     """What is wrong with the answer of the program, if anything."""
     ran = subprocess.run([program, "-"], input=code, capture_output=True)
     wanted = written(signatures, code)
@@ -69,27 +71,28 @@ def difference(program, signatures, code):
     return None
 
 
-def find(program, code, before=(), options=(), **how):
+def find(program: str, code: bytes, before: Iterable[str] = (), options: Iterable[str] = (),
+         **how: Any) -> subprocess.CompletedProcess:
     return subprocess.run([*before, program, *options, "-"], input=code, capture_output=True, **how)
 
 
-def cost(program, code):
+def cost(program: str, code: bytes) -> tuple[int, int]:
     """How many instructions a run takes, and how many bytes it reads and prints."""
     ran = find(program, code, ["valgrind", "--tool=callgrind", "--callgrind-out-file=/dev/null"])
     return int(re.search(rb"Collected : (\d+)", ran.stderr)[1]), len(code) + len(ran.stdout)
 
 
-def power(program, shape):
+def power(program: str, shape: Callable[[int], bytes]) -> float:
     """The power of the bytes with which the cost of codes of this shape grows."""
     (few, few_bytes), (many, many_bytes) = (cost(program, shape(size)) for size in (FEW, MANY))
     return math.log(many / few) / math.log(many_bytes / few_bytes)
 
 
-def verifies(found, code):
+def verifies(found: subprocess.CompletedProcess, code: bytes) -> bool:
     return found.returncode == 0 and written(found.stdout, code) is not None
 
 
-def wrong_calls(program):
+def wrong_calls(program: str) -> Iterator[str]:
     """What is wrong with the answers for functions that call each other, and with their cost."""
     counted = shutil.which("valgrind")
     if not counted:
@@ -107,7 +110,7 @@ def wrong_calls(program):
             yield f"{name}: the cost grows as the power {grows:.2f}"
 
 
-def wrong_stacks(program):
+def wrong_stacks(program: str) -> Iterator[str]:
     """What is wrong with the answers for wide stacks."""
     bounded = partial(resource.setrlimit, resource.RLIMIT_AS, (MOST_BYTES, MOST_BYTES))
     for name, code in call_codes.stacks():
@@ -121,7 +124,7 @@ def wrong_stacks(program):
         yield f"a wider stack: exit {wider.returncode}: {wider.stderr.decode()}"
 
 
-def wrong_bounds(program):
+def wrong_bounds(program: str) -> Iterator[str]:
     """What is wrong with the bounds of command lines for a code of 35 bytes with at most 2 entries on its stack."""
     code, found = b"FUNC MAIN\nCONST INT 1\nCOPY 1 0\nRET\n", b"MAIN () -> (INT INT)\n"
     few_bytes, few_entries = b"-: more than 34 bytes\n", b"-:3: MAIN has too many entries on its stack\n"
@@ -132,7 +135,7 @@ def wrong_bounds(program):
             yield f"{number} {option}: exit {ran.returncode}: {ran.stderr.decode()}"
 
 
-def main(program):
+def main(program: str) -> None:
     count = verified = 0
     differing = [*wrong_calls(program), *wrong_stacks(program), *wrong_bounds(program)]
     for name, signatures, code in jobs():

@@ -11,10 +11,11 @@ import random
 import re
 import subprocess
 import sys
+from collections.abc import Iterator
 
 import profiles
-from hostile import TOP, batches_of
 from random_batches import RandomBatches
+from tables import TOP, batches_of
 
 DATA = TOP / "crates" / "worked_batches" / "data"
 ENDING = re.compile(r"JOB (\d+) (\S+) (RETURNED|BUDGET|(?:FAULT|MEMORY) line \d+ \w+ \w+),? after (\d+) instructions")
@@ -24,7 +25,7 @@ LEAST = re.compile(r"it returns: JOB (.+) (\d+) (\d+) (\d+) (\d+)$", re.M)
 LISTED = 40
 
 
-def stored():
+def stored() -> Iterator[tuple[str, bytes]]:
     """The name of each batch, and its bytes."""
     for path in sorted((DATA / "examples").glob("*.vcode")):
         yield path.stem, path.read_bytes()
@@ -33,25 +34,25 @@ def stored():
             yield f"{path.name}, case {place + 1}", batch
 
 
-def run(program, batch, *words):
+def run(program: str, batch: bytes, *words: str) -> tuple[int, str, str]:
     ran = subprocess.run([program, *words, "-"], input=batch, capture_output=True, timeout=300)
     return ran.returncode, ran.stdout.decode("latin1"), ran.stderr.decode("latin1")
 
 
-def ends(report):
+def ends(report: str) -> dict[str, list]:
     """Of each job of a report: how it ended, how many instructions it executed, and the most words."""
-    found = {}
+    found: dict[str, list] = {}
     for line in report.splitlines():
         if line.startswith("JOB "):
             _, place, name, ending = line.split(" ", 3)
             found[place] = [name, ending, None, None]
         elif line.startswith("USED "):
             words = line.split()
-            found[place][2:] = int(words[1]), int(words[3])
+            found[place][2:] = [int(words[1]), int(words[3])]
     return found
 
 
-def with_limits(batch, place, limits):
+def with_limits(batch: bytes, place: int, limits: list[int]) -> bytes:
     """The batch with other limits on the JOB line of a place. Only lines between jobs are JOB lines."""
     lines, inside, seen = batch.split(b"\n"), False, 0
     coded = False
@@ -68,7 +69,7 @@ def with_limits(batch, place, limits):
     return b"\n".join(lines)
 
 
-def wrong_least(programs, batch, place, limits):
+def wrong_least(programs: tuple[str, str], batch: bytes, place: str, limits: list[int]) -> Iterator[str]:
     """What is wrong with the least limits of a job, if anything."""
     tried = [limits]
     for changed, least in enumerate([0, 1, 1, 0]):
@@ -81,7 +82,7 @@ def wrong_least(programs, batch, place, limits):
             yield f"with the limits {limits} it {'returns' if returned else 'does not return'}"
 
 
-def wrong_end(programs, batch, place, wanted):
+def wrong_end(programs: tuple[str, str], batch: bytes, place: str, wanted: list) -> Iterator[str]:
     """What is wrong with what is shown of the end of a job."""
     name, ending, executed, words = wanted
     status, shown, said = run(programs[0], batch, "--job", place)
@@ -103,7 +104,7 @@ def wrong_end(programs, batch, place, wanted):
         yield "no least limits are named"
 
 
-def wrong_looks(programs, batch, place, wanted):
+def wrong_looks(programs: tuple[str, str], batch: bytes, place: str, wanted: list) -> Iterator[str]:
     """What is wrong with what is shown of a job on the way."""
     executed = wanted[2]
     status, shown, said = run(programs[0], batch, "--job", place, "--steps", "--to", str(LISTED))
@@ -122,7 +123,7 @@ def wrong_looks(programs, batch, place, wanted):
             yield f"--at {line}: exit {status}: {said}{shown}"
 
 
-def wrong(programs, batch):
+def wrong(programs: tuple[str, str], batch: bytes) -> Iterator[str]:
     """What is wrong with what is shown of a batch."""
     _, report, _ = run(programs[1], batch, "--workers", "1")
     if report.startswith("BATCH"):
@@ -138,7 +139,7 @@ def wrong(programs, batch):
                 yield f"job {place}: {text}"
 
 
-def wrong_profiles(program, batch):
+def wrong_profiles(program: str, batch: bytes) -> Iterator[str]:
     """What is wrong with the profiles of the jobs of a batch."""
     _, shown, said = run(program, batch, "--json")
     if said:
@@ -147,14 +148,14 @@ def wrong_profiles(program, batch):
         yield from profiles.differences(shown, batch)
 
 
-def random_ones(count, seed):
+def random_ones(count: int, seed: int) -> Iterator[tuple[str, bytes]]:
     """The name of each random batch, and its bytes."""
     cases = RandomBatches(random.Random(seed))
     for place in range(count):
         yield f"random batch {place + 1}", cases.whole_batch()[0]
 
 
-def main(why, vjobs, count=300, seed=1):
+def main(why: str, vjobs: str, count: int | str = 300, seed: int | str = 1) -> None:
     differences = []
     batches = list(stored())
     for name, batch in batches:

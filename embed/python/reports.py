@@ -10,13 +10,13 @@ BATCH_REFUSED, NO_MEMORY, TOO_SMALL, BAD_REGION = range(2, 6)
 class Jobs:
     """Runs batches by the shared object at a path."""
 
-    def __init__(self, path):
+    def __init__(self, path: str) -> None:
         self.call = ctypes.CDLL(path).vjobs_run
         self.call.restype = ctypes.c_uint32
         size = ctypes.c_size_t
         self.call.argtypes = [ctypes.c_char_p, size, ctypes.c_uint32, ctypes.c_char_p, size, ctypes.POINTER(size)]
 
-    def run(self, batch, region=MOST_WORDS, room=64):
+    def run(self, batch: bytes, region: int = MOST_WORDS, room: int = 64) -> tuple[int, bytes]:
         """The status of a batch, 0 to 2, and its report. `room` is the length of the first buffer."""
         needed = ctypes.c_size_t()
         out = ctypes.create_string_buffer(max(room, 1))
@@ -30,7 +30,7 @@ class Jobs:
         return answer, out.raw[: needed.value]
 
 
-def main(library, *files):
+def main(library: str, *files: str) -> None:
     jobs, worst = Jobs(library), 0
     for name in files:
         with open(name, "rb") as file:

@@ -155,7 +155,8 @@ class Hard:
         """Does something when a node has begun a batch, and checks that the batch wasn't published before."""
         attempt = wait_until(lambda: self.begun(run_folder, node))
         fault()
-        self.counts.check(f"{run_folder.name}: in the middle of a batch", attempt in trying_on(run_folder, node), attempt)
+        self.counts.check(f"{run_folder.name}: in the middle of a batch", attempt in trying_on(run_folder, node),
+                          attempt)
         self.trial.freezer.thaw()
         return f"in the middle of {batch_of(attempt)}" if attempt else "no batch"
 

@@ -19,6 +19,7 @@ import sys
 import tempfile
 import time
 from pathlib import Path
+from typing import Any
 
 sys.dont_write_bytecode = True
 
@@ -52,7 +53,8 @@ def install(packages: list[str], commands: list[str]) -> None:
         return
     if os.geteuid() or not shutil.which("apt-get"):
         skip("Slurm and GNU parallel aren't here, and can't be installed by this user")
-    how = {"env": {**os.environ, "DEBIAN_FRONTEND": "noninteractive"}, "capture_output": True, "check": False}
+    how: dict[str, Any] = {"env": {**os.environ, "DEBIAN_FRONTEND": "noninteractive"}, "capture_output": True,
+                           "check": False}
     try:
         subprocess.run(["apt-get", "-q", "update"], timeout=UPDATE_SECONDS, **how)
         words = ["apt-get", "-q", "install", "-y", "--no-install-recommends", *packages]
@@ -99,7 +101,7 @@ def as_another_user() -> int:
         for path in Path(room).rglob("*"):
             path.chmod(0o755 if path.is_dir() or os.access(path, os.X_OK) else 0o644)
         os.chown(room, nobody.pw_uid, nobody.pw_gid)
-        who = {"user": nobody.pw_uid, "group": nobody.pw_gid, "extra_groups": [], "cwd": room}
+        who: dict[str, Any] = {"user": nobody.pw_uid, "group": nobody.pw_gid, "extra_groups": [], "cwd": room}
         words = [python_for(who), "-B", f"{room}/tests/cluster/run.py", *sys.argv[1:]]
         env = {**os.environ, "VJOBS_PROGRAMS": f"{room}/bin", "HOME": room, "TMPDIR": room, MARK: room}
         child = subprocess.Popen(words, env=env, **who)
@@ -295,8 +297,10 @@ def programs_that_fail(trial: Trial) -> None:
 
 def command_lines(trial: Trial) -> None:
     """Command lines that are refused."""
-    cases = [[], ["--run", "x"], ["--run", "x", "--batch", "65", "f"], ["--run", "x", "--time", "0", "f"]]
-    cases += [["--run", "x", "--hosts", "a", "f"], ["--run", "x", "--engine", "parallel", "--hosts", "-oProxyCommand=x", "f"]]
+    cases: list[list[str]] = [[], ["--run", "x"], ["--run", "x", "--batch", "65", "f"],
+                              ["--run", "x", "--time", "0", "f"]]
+    cases += [["--run", "x", "--hosts", "a", "f"],
+              ["--run", "x", "--engine", "parallel", "--hosts", "-oProxyCommand=x", "f"]]
     cases += [["--run", "x", "--slurm-option=--nice", "f"], ["--run", "x", "--files-from", "none"]]
     refused = ("--wait", "-Jx", "--array=1-2", "x")
     cases += [["--run", "x", "--engine", "slurm", f"--slurm-option={it}", "f"] for it in refused]
@@ -357,7 +361,8 @@ def interrupted(trial: Trial) -> None:
 
 def progress(trial: Trial) -> None:
     """The line of progress on a terminal; none with --quiet."""
-    for options in ([], ["--quiet"]):
+    ways: list[list[str]] = [[], ["--quiet"]]
+    for options in ways:
         words = on_slow_files(trial, f"progress {options}", 3, *options)
         leader, terminal = pty.openpty()
         process = subprocess.Popen(words, stdout=subprocess.DEVNULL, stderr=terminal)

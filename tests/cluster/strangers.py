@@ -124,7 +124,8 @@ def ordinary(source: random.Random, at: int) -> str:
         job(f"CONST INT {left}\nCONST INT {right}\n/ INT", name=name),
         job(f"{vector(source.randrange(2000))}\nCOPY 1 0\n* INT", name=name),
         job(f"{vector(source.randrange(50))}\nCONST INT ({left} {right})\n+ INT", name=name),
-        job(f"CONST INT {left}\nCONST INT {right}", "INT INT", f"{source.randrange(1, 5)} 2 4 {source.randrange(5)}", name),
+        job(f"CONST INT {left}\nCONST INT {right}", "INT INT", f"{source.randrange(1, 5)} 2 4 {source.randrange(5)}",
+            name),
         job(f"CONST BOOL {source.choice('TF')}\nIF\nCONST INT 1\nELSE\nCONST INT 2\nENDIF", name=name),
     ]
     return source.choice(choices)

@@ -9,8 +9,10 @@ import subprocess
 import sys
 import time
 from collections import Counter
+from collections.abc import Callable
 from dataclasses import dataclass
 from pathlib import Path
+from typing import Any
 
 import strangers
 from strangers import ANSWERED
@@ -55,7 +57,7 @@ class Counts:
         return 1 if self.failed else 0
 
 
-def wait_until(what, seconds: float = WAIT):
+def wait_until(what: Callable[[], Any], seconds: float = WAIT) -> Any:
     """What a function returns as soon as it is something, or what it returns at the end."""
     until = time.monotonic() + seconds
     while True:
@@ -103,7 +105,8 @@ class Trial:
             alike[content] = self._alone(content)
             slowest = max(slowest, time.monotonic() - begun_at)
         self.seconds = int(min(MOST_TIME, max(LEAST_TIME, TIMES * slowest)))
-        self.wanted = [Wanted(it.end, *alike[it.content]) if it.end == ANSWERED else Wanted(it.end) for it in self.found]
+        self.wanted = [Wanted(it.end, *alike[it.content]) if it.end == ANSWERED else Wanted(it.end)
+                       for it in self.found]
         self.begun: list[subprocess.Popen] = []
         self.freezer = Freezer()
         self.before = self._tree()
@@ -119,9 +122,11 @@ class Trial:
     def _tree(self) -> dict[bytes, tuple]:
         return tree(self.root, {"runs", "slurm", "hosts"})
 
-    def begin(self, name: str, *options: str, env: dict | None = None, programs: Path | None = None) -> subprocess.Popen:
+    def begin(self, name: str, *options: str, env: dict | None = None,
+              programs: Path | None = None) -> subprocess.Popen:
         """Starts the tool on all files."""
-        words = [sys.executable, TOOL, "--run", self.root / "runs" / name, "--programs", programs or self.programs]
+        words: list[Any] = [sys.executable, TOOL, "--run", self.root / "runs" / name, "--programs", programs
+                            or self.programs]
         words += ["--batch", "8", "--time", str(self.seconds), *LIMITS, *options, "--files-from", "-"]
         process = subprocess.Popen(
             list(map(os.fspath, words)),

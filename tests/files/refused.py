@@ -7,6 +7,7 @@ import shutil
 import subprocess
 from concurrent.futures import ThreadPoolExecutor
 from pathlib import Path
+from typing import Any
 
 SHIM = Path(__file__).with_name("refuse.c")
 COUNT = re.compile(rb"(\d+) allocations\n\Z")
@@ -25,7 +26,7 @@ def built(folder: Path) -> Path | None:
 
 
 def run(library: Path, words: list, **variables: str) -> tuple[int, bytes, bytes]:
-    how = {"env": {**os.environ, "LD_PRELOAD": str(library), **variables}, "timeout": SECONDS}
+    how: dict[str, Any] = {"env": {**os.environ, "LD_PRELOAD": str(library), **variables}, "timeout": SECONDS}
     ran = subprocess.run(words, capture_output=True, check=False, **how)
     return ran.returncode, ran.stdout, ran.stderr
 

@@ -6,7 +6,9 @@ import resource
 import signal
 import subprocess
 import tempfile
+from collections.abc import Iterator
 from pathlib import Path
+from typing import Any
 
 from refused import built, wrong_calls
 
@@ -14,53 +16,55 @@ TOP = Path(__file__).resolve().parents[2]
 BATCH = TOP / "examples" / "four_ends.vcode"
 SECONDS = 60
 HINT = "\n\nFor more information, try '--help'.\n"
+USAGE = "\n\nUsage: vjobs-why [OPTIONS] <FILE>" + HINT
 # Arguments, what is printed on standard error, and the exit. What a terminal would take for more than text is escaped.
 NAMES = [
     ([b"/none\x1b[2J\a\n\xe2\x80\xae"],
      "vjobs-why: /none\\u{1b}[2J\\u{7}\\n\\u{202e}: No such file or directory (os error 2)\n", 3),
-    ([b"--job", b"\x1b]0;t\a", b"x"], "error: invalid value '\\u{1b}]0;t\\u{7}' for '--job <K>': invalid digit found in string"
+    ([b"--job", b"\x1b]0;t\a", b"x"],
+     "error: invalid value '\\u{1b}]0;t\\u{7}' for '--job <K>': invalid digit found in string"
      + HINT, 2),
-    ([b"x", b"bad\xff"], "vjobs-why: argument 2 is no UTF-8: bad\\xff\n", 2),
+    ([b"x", b"bad\xff"], "error: argument 2 is no UTF-8: bad\\xff" + USAGE, 2),
     ([b"docs"], "vjobs-why: docs: it is no regular file\n", 3),
     ([b"/dev/null"], "vjobs-why: /dev/null: it is no regular file\n", 3),
     ([b"--html", b"/dev/full", bytes(BATCH)], "vjobs-why: /dev/full: it is no regular file\n", 3),
     ([b"--html", b"no/such", bytes(BATCH)], "vjobs-why: no/such.part: No such file or directory (os error 2)\n", 3),
 ]
 FULL = "vjobs-why: standard output: No space left on device (os error 28)\n"
-WAYS = [[], ["--json"], ["--html", "-"], ["--folded"], ["--profile"], ["--steps"], ["--help"]]
+WAYS: list[list[str]] = [[], ["--json"], ["--html", "-"], ["--folded"], ["--profile"], ["--steps"], ["--help"]]
 
 
-def run(program, words, **how):
+def run(program: Path | str, words: list, **how: Any) -> tuple[int, str]:
     how = {"stdout": subprocess.PIPE, "stderr": subprocess.PIPE, "cwd": TOP, "timeout": SECONDS, **how}
     ran = subprocess.run([program, *words], check=False, **how)
     return ran.returncode, ran.stderr.decode(errors="replace")
 
 
-def differ(words, found, wanted):
+def differ(words: list, found: object, wanted: object) -> Iterator[str]:
     if found != wanted:
         yield f"{words}: exit and text are {found}, and not {wanted}"
 
 
-def wrong_names(program):
+def wrong_names(program: Path | str) -> Iterator[str]:
     """What is wrong with the messages that name a file or an argument."""
     for words, text, status in NAMES:
         yield from differ(words, run(program, words), (status, text))
 
 
-def wrong_outputs(program):
+def wrong_outputs(program: Path | str) -> Iterator[str]:
     """What is wrong if there is no room for what is printed."""
     with open("/dev/full", "wb") as full:
         for way in WAYS:
             yield from differ([*way, "> /dev/full"], run(program, [*way, BATCH], stdout=full), (3, FULL))
 
 
-def little_room():
+def little_room() -> None:
     """Lets a program write files of 4,096 bytes, and no longer ones."""
     signal.signal(signal.SIGXFSZ, signal.SIG_IGN)
     resource.setrlimit(resource.RLIMIT_FSIZE, (4096, 4096))
 
 
-def wrong_pages(program, folder):
+def wrong_pages(program: Path | str, folder: Path) -> Iterator[str]:
     """What is wrong with the file of a page: it has all of the page, or what it had before, and nothing else is left."""
     pipe, page = folder / "pipe", folder / "page.html"
     os.mkfifo(pipe)
@@ -79,7 +83,7 @@ def wrong_pages(program, folder):
         yield f"a page in a file isn't that of standard output, or left {sorted(folder.iterdir())}"
 
 
-def wrong_refusals(program, folder):
+def wrong_refusals(program: Path | str, folder: Path) -> Iterator[str]:
     """What is wrong if an allocation is refused, for each way of calling."""
     library = built(folder)
     if not library:
@@ -87,16 +91,18 @@ def wrong_refusals(program, folder):
         return
     refused, text = folder / "refusals.vcode", b"vjobs-why: out of memory\n"
     refused.write_bytes((TOP / "crates" / "vjobs_why" / "stdin").read_bytes())
-    for words in [["--none"], [b"bad\xff"], ["none"]]:
-        yield from wrong_calls(library, [program, *words], text)
+    names: list[Any] = ["--none", b"bad\xff", "none"]
+    for name in names:
+        yield from wrong_calls(library, [program, name], text)
     yield from wrong_calls(library, [program, "--html", folder / "out.html", BATCH], text, side_by_side=False)
-    for way in [*WAYS, ["--no-least"], ["--profile", "--all"], ["--steps", "--last", "2"], ["--after", "2"], ["--at", "9"]]:
+    for way in [*WAYS, ["--no-least"], ["--profile", "--all"], ["--steps", "--last", "2"], ["--after", "2"],
+                ["--at", "9"]]:
         yield from wrong_calls(library, [program, *way, BATCH], text)
-    for way in [[], ["--json"]]:
+    for way in (WAYS[0], ["--json"]):
         yield from wrong_calls(library, [program, *way, refused], text)
 
 
-def faults(program):
+def faults(program: Path | str) -> list[str]:
     """All that is wrong."""
     with tempfile.TemporaryDirectory() as pages, tempfile.TemporaryDirectory() as other:
         return [*wrong_names(program), *wrong_outputs(program), *wrong_pages(program, Path(pages)),

@@ -38,12 +38,14 @@ FIB_SIGNATURES = "MAIN () -> (INT)\nfib (INT) -> (INT)\nwave (INT) -> ()\n"
 
 def long_run(depth: int, rounds: int) -> str:
     """A job that calls `fib` and `wave` in turns."""
-    turns = "".join(f"CONST INT {500 * (1 + turn)}\nCALL wave\nCONST INT {depth}\nCALL fib\n+ INT\n" for turn in range(rounds))
+    turns = "".join(f"CONST INT {500 * (1 + turn)}\nCALL wave\nCONST INT {depth}\nCALL fib\n+ INT\n"
+                    for turn in range(rounds))
     return f"JOB long 20000 256 128 1000000000\nSIGNATURES\n{FIB_SIGNATURES}CODE\nFUNC MAIN\nCONST INT 0\n{turns}RET\n{FIB}END\n"
 
 
 # What a stranger may write where the batch has room for it.
-ATTACKS = ["</script><script>window.attacked=1</script>", "<img/src=x/onerror=window.attacked=1>", "<!--<script>", "-->]]>",
+ATTACKS = ["</script><script>window.attacked=1</script>", "<img/src=x/onerror=window.attacked=1>", "<!--<script>",
+           "-->]]>",
            "\"'};window.attacked=1;//", "&lt;script&gt;&amp;&#60;b&#62;", "\\u003cb>\\\"", "${window.attacked=1}`",
            "<svg/onload=window.attacked=1>", "javascript:window.attacked=1", "__proto__", "constructor"]
 
@@ -71,7 +73,8 @@ def budget() -> str:
 def batches() -> dict[str, bytes]:
     """Each batch with the name of its page."""
     examples = TOP / "examples"
-    found = {name: (examples / f"{name}.vcode").read_bytes() for name in ["quicksort", "four_ends", "reservation_too_small"]}
+    found = {name: (examples / f"{name}.vcode").read_bytes()
+             for name in ["quicksort", "four_ends", "reservation_too_small"]}
     found["budget"] = budget().encode()
     found["attacks"] = attacks().encode("latin1")
     found["long"] = long_run(28, 5).encode()

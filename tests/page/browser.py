@@ -8,6 +8,7 @@ import shutil
 import subprocess
 import tempfile
 import time
+from typing import Any
 
 # How long an answer may take.
 SECONDS = 30
@@ -20,7 +21,8 @@ class Browser:
         self.folder = tempfile.mkdtemp()
         to_read, self.to_browser = os.pipe()
         self.from_browser, to_write = os.pipe()
-        words = [program, "--headless=new", "--no-sandbox", "--disable-gpu", "--disable-dev-shm-usage", "--no-first-run",
+        words = [program, "--headless=new", "--no-sandbox", "--disable-gpu", "--disable-dev-shm-usage",
+                 "--no-first-run",
                  "--disable-background-networking", "--disable-component-update", "--disable-sync", "--hide-scrollbars",
                  f"--user-data-dir={self.folder}", "--remote-debugging-pipe", "about:blank"]
         shell = ["sh", "-c", f'exec "$@" 3<&{to_read} 4>&{to_write}', "sh", *words]
@@ -28,12 +30,13 @@ class Browser:
                                         stdout=subprocess.DEVNULL, stderr=subprocess.DEVNULL)
         os.close(to_read)
         os.close(to_write)
-        self.count, self.rest, self.events = 0, b"", []
+        self.count, self.rest = 0, b""
+        self.events: list[dict] = []
 
     def __enter__(self) -> Browser:
         return self
 
-    def __exit__(self, *_) -> None:
+    def __exit__(self, *_: object) -> None:
         self.process.kill()
         self.process.wait()
         shutil.rmtree(self.folder, ignore_errors=True)
@@ -51,7 +54,7 @@ class Browser:
         message, _, self.rest = self.rest.partition(b"\0")
         return json.loads(message)
 
-    def ask(self, method: str, session: str | None = None, **parameters) -> dict:
+    def ask(self, method: str, session: str | None = None, **parameters: Any) -> dict:
         """The answer to a call. What happens before it comes is kept in `events`."""
         self.count += 1
         call = {"id": self.count, "method": method, "params": parameters}
@@ -103,10 +106,10 @@ class Page:
         browser.wait_for("Page.loadEventFired", self.session)
         self.run("new Promise((done) => requestAnimationFrame(() => setTimeout(done, 50)))")
 
-    def ask(self, method: str, **parameters) -> dict:
+    def ask(self, method: str, **parameters: Any) -> dict:
         return self.browser.ask(method, self.session, **parameters)
 
-    def run(self, code: str):
+    def run(self, code: str) -> Any:
         """The value of an expression on the page."""
         answer = self.ask("Runtime.evaluate", expression=code, returnByValue=True, awaitPromise=True)
         if "exceptionDetails" in answer:

@@ -17,6 +17,7 @@ import sys
 import tempfile
 import time
 from pathlib import Path
+from typing import Any, NoReturn
 
 sys.dont_write_bytecode = True
 
@@ -32,19 +33,22 @@ OTHER_SCRIPT = ("start();\n</script>", "start();\n\n</script>")
 # For each check a change of a page that it has to refuse: a text of the page, and what comes in its place.
 BROKEN = {
     "numbers": [('"instructions":599', '"instructions":600'), ("number(part));\n  if", "number(part + 1));\n  if"),
-                ("number(column.least)", "number(column.most)"), ("function ending(job) {", "function ending(job) {\n  job.note = '';")],
+                ("number(column.least)", "number(column.most)"), ("function ending(job) {",
+                                                                  "function ending(job) {\n  job.note = '';")],
     "drawings": [("draw('g', {class: 'bars'}, bars)", "[]"), ("scroll('calls', table(", "scroll('calls', String(")],
-    "elements": [('<main id="jobs">', '<img alt="one"><main id="jobs">'), ("document.createTextNode(child)", "(document.createRange().createContextualFragment(child))")],
+    "elements": [('<main id="jobs">', '<img alt="one"><main id="jobs">'),
+                 ("document.createTextNode(child)", "(document.createRange().createContextualFragment(child))")],
     "width": [("* { box-sizing", "body { min-width: 900px; } * { box-sizing")],
     "contrast": [("--dim: #59616b", "--dim: #99a1ab"), ("['#4477aa', '#fff']", "['#4477aa', '#000']")],
     "keyboard": [("tabindex: 0, role", "role"), ("input.addEventListener('input'", "input.addEventListener('other'")],
     "printing": [("  .scroll { max-height: none;", "  .scroll { max-height: 40px;")],
     "console": [("start();\n</script>", "start();\nmissing();\n</script>"), OTHER_SCRIPT],
-    "requests": [("default-src 'none'", "default-src *"), ('<main id="jobs">', '<img src="http://127.0.0.1:9/x.png"><main id="jobs">')],
+    "requests": [("default-src 'none'", "default-src *"),
+                 ('<main id="jobs">', '<img src="http://127.0.0.1:9/x.png"><main id="jobs">')],
 }
 
 
-def skip(why: str) -> None:
+def skip(why: str) -> NoReturn:
     print(f"skipped: {why}")
     sys.exit(0)
 
@@ -52,7 +56,8 @@ def skip(why: str) -> None:
 def chromium() -> str:
     """The browser, which is installed if it is missing."""
     if not shutil.which("chromium") and os.geteuid() == 0 and shutil.which("apt-get"):
-        how = {"env": {**os.environ, "DEBIAN_FRONTEND": "noninteractive"}, "capture_output": True, "check": False}
+        how: dict[str, Any] = {"env": {**os.environ, "DEBIAN_FRONTEND": "noninteractive"}, "capture_output": True,
+                               "check": False}
         try:
             words = "apt-get -q update && apt-get -q install -y --no-install-recommends chromium"
             subprocess.run(["sh", "-c", words], timeout=INSTALL_SECONDS, **how)
@@ -68,7 +73,8 @@ def shown_line(line: bytes) -> str:
 
 
 def said_by(program: str, batch: Path, *words: str) -> str:
-    return subprocess.run([program, *words, batch], capture_output=True, check=True, timeout=120).stdout.decode("latin1")
+    return subprocess.run([program, *words, batch], capture_output=True, check=True,
+                          timeout=120).stdout.decode("latin1")
 
 
 def carets_of(program: str, batch: Path, job: dict) -> str:
@@ -87,7 +93,8 @@ def page_of(program: str, folder: Path, name: str, batch: bytes) -> tuple[Path, 
     said_by(program, source, "--html", str(page))
     text = page.read_bytes()
     jobs = [json.loads(line) for line in data.splitlines()]
-    wanted = Wanted(jobs, [shown_line(line) for line in batch.split(b"\n")], [carets_of(program, source, job) for job in jobs])
+    wanted = Wanted(jobs, [shown_line(line) for line in batch.split(b"\n")],
+                    [carets_of(program, source, job) for job in jobs])
     objects = ",\n".join(data.splitlines())
     faults = [] if f"[\n{objects}\n]</script>".encode() in text else ["its data isn't that of --json"]
     if strange := {byte for byte in text if not 32 <= byte <= 126 and byte != 10}:
@@ -133,7 +140,8 @@ def broken_pages(browser: Browser, folder: Path, pages: dict[str, tuple[Path, Wa
             opened = Page(browser, broken.as_uri(), 400, "light")
             refused = wrong(opened, wanted, [each for each in CHECKS if each.__name__ == check])[check]
             opened.close()
-            print(f"a page that is broken is refused: {refused[0][:150]}" if refused else f"{check} {number}: not refused")
+            print(f"a page that is broken is refused: {refused[0][:150]}" if refused
+                  else f"{check} {number}: not refused")
             if not refused:
                 found.append(f"{check}: it doesn't refuse a page with {change[0][1]!r}")
     return found
@@ -160,7 +168,8 @@ def wrong_exits(program: str, folder: Path) -> list[str]:
     missing, shut = folder / "none.html", folder / "no-folder" / "page.html"
     refused = folder / "refused.vcode"
     refused.write_text("JOB a 1\n")
-    cases = [(["--html", "-", batch], 0, page.read_bytes()), (["--html", missing, "--job", "99", batch], 1, b""),
+    cases: list[tuple[list, int, bytes | None]] = [(["--html", "-", batch], 0, page.read_bytes()),
+                                                   (["--html", missing, "--job", "99", batch], 1, b""),
              (["--html", shut, batch], 3, b""), (["--html", missing, refused], 1, None)]
     for words, status, shown in cases:
         ran = subprocess.run([program, *words], capture_output=True, check=False, timeout=60)

@@ -1,6 +1,7 @@
 """What tasks published becomes reports and ends: each report is cut by the places of its jobs, by vjobs-split."""
 from __future__ import annotations
 
+import builtins
 import json
 import os
 import re
@@ -46,7 +47,7 @@ class Published:
         """The report of the batch."""
         return self.folder / "report"
 
-    def errors(self) -> bytes:
+    def errors(self) -> builtins.bytes:
         """What vjobs wrote to standard error."""
         try:
             with open(self.folder / "errors", "rb") as file:

@@ -8,6 +8,7 @@ import shutil
 import signal
 import sys
 import traceback
+from collections.abc import Callable
 from pathlib import Path
 
 from .collecting import ANSWERED, Collector
@@ -28,7 +29,7 @@ OWN_WORDS = "job-name|array|chdir|parsable|wait|wrap|test-only|help|usage|versio
 OWN_OPTIONS = re.compile(rf"(-[JaDW]|--({OWN_WORDS})(?![a-z-])).*", re.S)
 
 
-def at_least(least: int, most: int = 10**15):
+def at_least(least: int, most: int = 10**15) -> Callable[[str], int]:
     """A type of arguments: numbers within bounds."""
 
     def number(text: str) -> int:

@@ -8,7 +8,7 @@ import subprocess
 import sys
 from dataclasses import dataclass, field
 from pathlib import Path
-from typing import Protocol
+from typing import Any, Protocol
 
 from .folder import Folder, Refused, Stopped
 
@@ -194,7 +194,7 @@ class Parallel:
         return last_lines(sorted(self.home.glob("said-*"), key=lambda path: path.stat().st_mtime))
 
 
-QUIET = {"stdout": subprocess.PIPE, "stderr": subprocess.DEVNULL}
+QUIET: dict[str, Any] = {"stdout": subprocess.PIPE, "stderr": subprocess.DEVNULL}
 
 
 def hosts_of(text: str, slots: int) -> dict[str, int]:

@@ -228,7 +228,7 @@ class Sender:
             each = median(self.round.seconds) if known else SAMPLE_SECONDS
             self._send(self._length(each))
 
-    def _length(self, seconds: float) -> int:
+    def _length(self, seconds: float) -> float:
         """How many batches make a lane's work, with lanes enough for all slots."""
         return max(1, min(-(-WORK // max(seconds, 0.001)), -(-len(self.pool) // (2 * self.slots)), MOST_LANE))
 

@@ -5,6 +5,7 @@ import re
 import subprocess
 import sys
 import time
+from typing import Any
 
 from .engines import Sending
 from .folder import Folder, Settings, Stopped
@@ -17,7 +18,7 @@ LOOK_EVERY, PATIENCE = 2.0, 300.0
 # The states of a job that will still do something.
 ALIVE = "PENDING,RUNNING,SUSPENDED,CONFIGURING"
 QUEUE = ["squeue", "--noheader", "--me", f"--states={ALIVE}", "--format=%j"]
-TEXT = {"text": True, "errors": "replace", "check": False}
+TEXT: dict[str, Any] = {"text": True, "errors": "replace", "check": False}
 # What Slurm's commands say if its controller can't be reached; it may be started again.
 UNREACHED = re.compile(r"Unable to contact|Connection refused|timed out|Socket|controller|Zero Bytes", re.I)
 

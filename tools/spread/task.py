@@ -23,13 +23,13 @@ import traceback
 SECONDS_TO_KILL = 5
 
 
-def allowed(kind, value):
+def allowed(kind: int, value: int) -> int:
     """A limit, or the one that this process has already if that is lower."""
     hard = resource.getrlimit(kind)[1]
     return value if hard == resource.RLIM_INFINITY else min(value, hard)
 
 
-def lower(kind, value):
+def lower(kind: int, value: int) -> None:
     """Lowers a limit of this process."""
     value = allowed(kind, value)
     resource.setrlimit(kind, (value, value))
@@ -38,7 +38,7 @@ def lower(kind, value):
 class Task:
     """One lane of a round."""
 
-    def __init__(self, round_number, lane):
+    def __init__(self, round_number: int, lane: int) -> None:
         with open("settings.json", encoding="utf-8") as file:
             self.settings = json.load(file)
         self.round = os.path.join("rounds", str(round_number))
@@ -47,7 +47,7 @@ class Task:
         self.node = os.environ.get("SLURMD_NODENAME") or socket.gethostname()
         self.begun_at = time.monotonic()
 
-    def batches(self):
+    def batches(self) -> list[str]:
         """The batches of the lane; none if the lane was withdrawn."""
         try:
             with open(self.list, encoding="ascii") as file:
@@ -55,12 +55,12 @@ class Task:
         except FileNotFoundError:
             return []
 
-    def is_over(self):
+    def is_over(self) -> bool:
         """Whether no more batch is to be begun."""
         worked = time.monotonic() - self.begun_at
         return worked > self.settings["lane_seconds"] or not os.path.exists(self.list)
 
-    def limit(self):
+    def limit(self) -> None:
         """Sets the limits of a batch, in the process that becomes it, and lets signals end it."""
         for number in (signal.SIGTERM, signal.SIGHUP, signal.SIGINT, signal.SIGQUIT):
             signal.signal(number, signal.SIG_DFL)
@@ -69,7 +69,7 @@ class Task:
         lower(resource.RLIMIT_AS, self.settings["memory"])
         lower(resource.RLIMIT_FSIZE, self.settings["output"])
 
-    def attempt(self, batch, folder):
+    def attempt(self, batch: str, folder: str) -> None:
         """Runs a batch, with everything that it writes in this folder."""
         group, _, name = batch.rpartition("-")
         path = os.path.join(self.round, "packed", group, "batch-" + name + ".vcode")
@@ -90,7 +90,7 @@ class Task:
         with open(os.path.join(folder, "result.json"), "w", encoding="utf-8") as file:
             json.dump(result, file)
 
-    def run(self):
+    def run(self) -> None:
         """Runs the batches of the lane that are neither published nor begun by an earlier process of the lane."""
         trying, done = os.path.join(self.round, "trying"), os.path.join(self.round, "done")
         begun = {tuple(name.split("+")[:2]) for name in os.listdir(trying)}
@@ -108,7 +108,7 @@ class Task:
                 shutil.rmtree(folder, ignore_errors=True)
 
 
-def main():
+def main() -> None:
     round_number, lane = int(sys.argv[1]), int(sys.argv[2])
     lane += int(os.environ.get("SLURM_ARRAY_TASK_ID", "0")) if "--array" in sys.argv[3:] else 0
     try:
