@@ -1,0 +1,83 @@
+#!/usr/bin/env python3
+"""Compiles a program, runs it, and shows its result and what each line of its source did: run.py PROGRAM [SIZE]
+
+PROGRAM is a name of programs/, which gets data of plain.py, SIZE times as much as the least; or the path of a file whose
+`main` has no parameters. The programs are bin/vjobs and bin/vjobs-why, or those of the folder VJOBS_PROGRAMS.
+"""
+from __future__ import annotations
+
+import json
+import os
+import random
+import re
+import subprocess
+import sys
+from collections import Counter
+from itertools import accumulate
+from pathlib import Path
+
+from compile import compiled
+from plain import DATA, PLAIN
+from source import KINDS, Type, parts_of, read_program
+
+HERE = Path(os.path.abspath(__file__)).parent
+PROGRAMS = Path(os.environ.get("VJOBS_PROGRAMS", HERE.parent.parent / "bin"))
+# How many lines of a profile are shown, and how much of a result.
+MOST_LINES, MOST_SHOWN = 12, 200
+NUMBERS = {"T": 1, "F": 0}
+
+
+def decode(of: Type, vectors: tuple[list[int], ...]) -> list[object]:
+    """The values of a type that these vectors are."""
+    if of.name in KINDS:
+        return [bool(number) if of.name == "bool" else number for number in vectors[0]]
+    if of.name == "list":
+        elements = decode(of.parts[0], vectors[:-1])
+        return [elements[end - length : end] for end, length in zip(accumulate(vectors[-1]), vectors[-1])]
+    return list(zip(*(decode(*part) for part in parts_of(of, vectors))))
+
+
+def reported(report: str) -> list[tuple[str, tuple[list[int], ...]]]:
+    """How each job of a report ended, and the vectors that it left."""
+    found = []
+    for job in re.split(r"^(?=JOB )", report, flags=re.M)[1:]:
+        head, *lines = job.splitlines()
+        words = [line.partition(" ")[2].strip("()").split() for line in lines if line.split()[0] in ("INT", "BOOL", "SEGDES")]
+        found.append((head.split(maxsplit=3)[3], tuple([NUMBERS.get(it) or int(NUMBERS.get(it, it)) for it in row] for row in words)))
+    return found
+
+
+def run(program: str, batch: str, *options: str) -> str:
+    return subprocess.run([PROGRAMS / program, *options, "-"], input=batch, capture_output=True, text=True).stdout
+
+
+def by_source_lines(batch: str) -> Counter[int]:
+    """How many instructions each line of the source executed, by the comments behind the code."""
+    lines, found = batch.splitlines(), Counter[int]()
+    for number, times in json.loads(run("vjobs-why", batch, "--json", "--no-least"))["lines"]:
+        place = re.search(r"\{@ .*:(\d+)\}", lines[number - 1])
+        found[int(place[1]) if place else 0] += times
+    return found
+
+
+def main(name: str, size: str = "1") -> None:
+    path = HERE / "programs" / f"{name}.py" if name in PLAIN else Path(name)
+    text, data = path.read_text(), DATA[name](random.Random(1), int(size)) if name in PLAIN else ()
+    batch = "BATCH 2\n" + compiled(text, list(data), path.stem, path.name)
+    report = run("vjobs", batch)
+    end, vectors = reported(report)[0]
+    print(f"{path.name}: {end}, {report.splitlines()[-2].lower()}")
+    if end == "RETURNED":
+        value = decode(read_program(text)["main"].result, vectors)[0]
+        print(str(value)[:MOST_SHOWN])
+        if name in PLAIN and value != PLAIN[name](*data):
+            sys.exit("plain Python gives another result")
+    executed = by_source_lines(batch)
+    print(f"\n{'instructions':>12} {'share':>6}  line")
+    for line, times in executed.most_common(MOST_LINES):
+        what = text.splitlines()[line - 1] if line else "MAIN, the RETs, and what functions begin with"
+        print(f"{times:12} {times / executed.total():6.1%} {line:5}  {what}")
+
+
+if __name__ == "__main__":
+    main(*sys.argv[1:])

@@ -1,0 +1,33 @@
+#!/usr/bin/env python3
+"""Compares the results of the compiler's example programs with those of plain Python: examples.py [SIZE]"""
+from __future__ import annotations
+
+import random
+import sys
+from pathlib import Path
+
+sys.dont_write_bytecode = True
+TOP = Path(__file__).resolve().parent.parent.parent
+sys.path.insert(0, str(TOP / "examples" / "compiler"))
+
+from compare import given, report_of  # noqa: E402
+from compile import compiled  # noqa: E402
+from plain import DATA, PLAIN  # noqa: E402
+from run import HERE, reported  # noqa: E402
+
+
+def difference(name: str, size: int) -> str:
+    text, data = (HERE / "programs" / f"{name}.py").read_text(), DATA[name](random.Random(size), size)
+    [(end, vectors)] = reported(report_of("BATCH 2\n" + compiled(text, list(data), name)))
+    found, wanted = given(text, end, vectors), PLAIN[name](*data)
+    return "" if found == wanted else f"{name}: {end}, {str(found)[:200]} in place of {str(wanted)[:200]}"
+
+
+def main(size: str = "1") -> None:
+    differing = list(filter(None, (difference(name, int(size)) for name in PLAIN)))
+    print(*differing, f"compiler: {len(PLAIN)} example programs, {len(differing)} differences", sep="\n")
+    sys.exit(bool(differing))
+
+
+if __name__ == "__main__":
+    main(*sys.argv[1:])
