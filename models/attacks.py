@@ -12,7 +12,6 @@ processor; if it is missing, seconds are compared, with a margin. `models/packin
 at each write, and `models/signatures.py` measures vjobs-kinds."""
 import os
 import re
-import resource
 import shutil
 import subprocess
 import sys
@@ -36,8 +35,15 @@ ODD = [b"\x1b[2J", b"\x07", b"a\nvjobs: out of memory", b"\r", "a\u202etxt.exe".
        "\u2028".encode(), b"\\x1b", b"\x7f", b"\xff", b"\xe2\x80", b"ok\xf0\x9f\x98"]
 # Sizes of dear texts, and what their check may take: as a multiple of plain code, and of memory for each byte.
 FEW, MANY, MOST_TIMES, MOST_MEMORY = 100_000, 1_000_000, 60, 100
-# The address space of vjobs before it reads.
+# The memory of vjobs beside that of its check.
 PROGRAM_BYTES = 4_000_000
+# Starts a program that prints nothing, and prints how many units of 1,024 bytes of memory it had at most.
+STARTER = """
+import os, sys
+null = [(os.POSIX_SPAWN_OPEN, stream, "/dev/null", os.O_WRONLY, 0) for stream in (1, 2)]
+child = os.posix_spawn(sys.argv[1], sys.argv[1:], os.environ, file_actions=null)
+print(os.wait4(child, 0)[2].ru_maxrss)
+"""
 # With seconds in place of counted instructions a run may take so many times as much again.
 MARGIN = 4
 # What a look may take, as a multiple of the run by vjobs; and, if vjobs ends the job early, the seconds of one.
@@ -248,11 +254,10 @@ def cost(words: Words) -> float:
     return int(re.search(rb"Collected : (\d+)", ran.stderr)[1])
 
 
-def has_memory(words: Words, size: int) -> bool:
-    """Whether a run has enough in so many bytes of address space beside those of the program."""
-    most = PROGRAM_BYTES + size
-    ran = run(words, preexec_fn=lambda: resource.setrlimit(resource.RLIMIT_AS, (most, most)))
-    return ran is None or ran.returncode != 3
+def memory_of(words: Words) -> int:
+    """The most bytes of memory that a run had. What starts it counts too, so that is a small program of its own."""
+    ran = subprocess.run([sys.executable, "-I", "-S", "-c", STARTER, *words], stdout=subprocess.PIPE, check=True)
+    return int(ran.stdout) * 1024
 
 
 def check_dear(texts: Iterable[tuple[str, bytes]], size: int) -> None:
@@ -269,7 +274,7 @@ def check_dear(texts: Iterable[tuple[str, bytes]], size: int) -> None:
         print(f"{what}, {len(text)} bytes: {times:.1f} times plain code", flush=True)
         if times > MOST_TIMES * margin:
             fault(f"{what}, {len(text)} bytes", f"{times:.1f} times plain code")
-        if not has_memory(words, MOST_MEMORY * len(text)):
+        if memory_of(words) > PROGRAM_BYTES + MOST_MEMORY * len(text):
             fault(f"{what}, {len(text)} bytes", f"more than {MOST_MEMORY} bytes of memory for each")
 
 
