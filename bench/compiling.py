@@ -69,7 +69,8 @@ def operand(name: str, n: int) -> tuple[list[str], str]:
         "S10": [*filled(n // tenth, tenth), "MAKE_SEGDES"],
         "inside10": [*numbers(n), *filled(n // tenth, n), "% INT"],
         # Every second number, in an order that no processor learns.
-        "flags": [*numbers(n), *filled(7_919, n), "* INT", *filled(1_009, n), "% INT", *filled(2, n), "% INT", "I_TO_B"],
+        "flags": [*numbers(n), *filled(7_919, n), "* INT", *filled(1_009, n), "% INT", *filled(2, n), "% INT",
+                  "I_TO_B"],
     }[name]
     return code, {"P": "SEGDES", "S10": "SEGDES", "rows": "SEGDES", "one10": "SEGDES", "flags": "BOOL"}.get(name, "INT")
 

@@ -27,7 +27,8 @@ def another(depth: int) -> list[str]:
 
 
 def job(name: str, words: int, cells: int, code: list[str]) -> str:
-    lines = [f"JOB {name} {words} {cells} 4 1000000", "SIGNATURES", "MAIN () -> ()", "CODE", "FUNC MAIN", *code, "RET", "END"]
+    head = [f"JOB {name} {words} {cells} 4 1000000", "SIGNATURES", "MAIN () -> ()", "CODE", "FUNC MAIN"]
+    lines = [*head, *code, "RET", "END"]
     return "".join(f"{line}\n" for line in lines)
 
 

@@ -1,5 +1,5 @@
 #!/usr/bin/env python3
-"""Puts bugs into the compiler, one at a time, and shows that random programs see each: slips.py [COUNT [PART]]
+"""Puts bugs into the compiler, one at a time, and says which random program sees each: slips.py [COUNT [PART]]
 
 A slip is a text of the compiler and another in its place. The table has the first of COUNT programs that differs. With
 PART it takes only the slips whose names have it.
