@@ -1,4 +1,5 @@
 pub mod ClaimLemmas
+pub mod DescriptorLemmas
 pub mod FoldLemmas
 pub mod MoveLemmas
 pub mod NameLemmas

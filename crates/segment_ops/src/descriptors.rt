@@ -1,11 +1,13 @@
 ghost use Rattle.std.specs.Prelude.{◌≡◌, ◌≤◌, ◌<◌, ◌+◌, ◌^◌, pos, length, drop, slice_index_or, unsigned_abs};
-ghost use Rattle.std.specs.Prelude.{◌∷◌, [], MatchResult, None, Some};
-ghost use Rattle.vcode_base.specs.Kinds.{AreLengths};
-ghost use Rattle.vcode_base.specs.declared.limits.TheConstants.{MOST_TOTAL};
+ghost use Rattle.std.specs.Prelude.{◌∷◌, [], ◌↔◌, MatchResult, None, Some, IsTrue};
+ghost use Rattle.vcode_base.specs.Kinds.{AreLengths, HasKind};
+ghost use Rattle.vcode_base.specs.declared.limits.TheConstants.{MOST_TOTAL, MOST_WORDS};
+ghost use Rattle.vcode_base.specs.declared.kind.Kind.TheVariants.{Segdes};
 ghost use Rattle.vcode_base.specs.Meaning.{segmented_fault, segmented_result};
 ghost use Rattle.vcode_base.specs.Segments.{total};
 ghost use Rattle.vcode_base.specs.declared.op.Segmented.TheVariants.{MakeSegdes, Lengths};
 
+use vcode_base::limits::{MOST_TOTAL, MOST_WORDS};
 use vcode_base::{DataFault, Kind};
 
 /// The total of a descriptor. That of one segment alone takes no loop.
@@ -59,11 +61,43 @@ pub(crate) fn make_descriptor(lengths: &[i64], out: &mut [i64]) -> Result<(), Da
         × (out.new ≡ segmented_result MakeSegdes operands))
         (λ fault. segmented_fault MakeSegdes operands ≡ Some fault) }
 {
-    if !Kind::Segdes.holds(lengths) {
-        return Err(DataFault::BadLength);
+    if copy_lengths(lengths, out) {
+        Ok(())
+    } else {
+        Err(DataFault::BadLength)
     }
-    out.copy_from_slice(lengths);
-    Ok(())
+}
+
+/// Copies the words, and answers whether they are a descriptor.
+fn copy_lengths(lengths: &[i64], out: &mut [i64]) -> bool
+    requires room { length out.old ≡ length lengths.now }
+    ensures copied { out.new ≡ lengths.now }
+    ensures kind { IsTrue result ↔ HasKind Segdes lengths.now }
+{
+    if lengths.len() > MOST_WORDS {
+        out.copy_from_slice(lengths);
+        return Kind::Segdes.holds(lengths);
+    }
+    copy_few_lengths(lengths, out)
+}
+
+/// The same in one pass, for so few words that their sum can't wrap if each is a length.
+fn copy_few_lengths(lengths: &[i64], out: &mut [i64]) -> bool
+    requires room { length out.old ≡ length lengths.now }
+    requires few { length lengths.now ≤ MOST_WORDS }
+    ensures copied { out.new ≡ lengths.now }
+    ensures kind { IsTrue result ↔ HasKind Segdes lengths.now }
+{
+    let mut any_large = false;
+    let mut sum: u64 = 0;
+    for i in 0..lengths.len() {
+        let size = lengths[i];
+        out[i] = size;
+        // A negative number without its sign is a large one.
+        any_large |= size.cast_unsigned() > MOST_TOTAL;
+        sum = sum.wrapping_add(size.cast_unsigned());
+    }
+    !any_large && sum <= MOST_TOTAL
 }
 
 /// `LENGTHS`: writes the segment lengths of a descriptor, which are its words.
