@@ -86,7 +86,7 @@ class Holes(Words):
 
 
 class Memory(Words):
-    """A word of a block is the number of the block, with its index in it."""
+    """A word of a block is the number of the block, with its index in it. A block of one word has no word here."""
 
     def __init__(self, size: int, most: int) -> None:
         super().__init__(size)
@@ -97,6 +97,10 @@ class Memory(Words):
         """Moves blocks until so many words lie together, as each kind of memory does."""
         raise NotImplementedError
 
+    def free(self) -> int:
+        """How many words fit beside those of all blocks."""
+        return len(self.words) - sum(len(words) for _, words in self.blocks.values())
+
     def told(self) -> str:
         return f"used {len(self.words) - self.free()}, blocks {len(self.blocks)}, moved {self.moved}"
 
@@ -106,10 +110,10 @@ class Memory(Words):
         if len(words) > self.free():
             return "full"
         before = list(self.words)
-        if words and self.lowest_fit(len(words)) is None:
+        if len(words) > 1 and self.lowest_fit(len(words)) is None:
             self.make_room(len(words))
-        self.moved = sum(word is not None and word != old for word, old in zip(before, self.words)) if words else 0
-        if words:
+        self.moved = sum(word is not None and word != old for word, old in zip(before, self.words))
+        if len(words) > 1:
             self.put(self.lowest_fit(len(words)), [(self.placed, index) for index in range(len(words))])
         self.blocks[self.placed] = owner, list(words)
         self.placed += 1
@@ -124,7 +128,7 @@ class Memory(Words):
 
     def pack(self) -> str:
         taken = [word for word in self.words if word is not None]
-        self.words = taken + [None] * self.free()
+        self.words = taken + [None] * (len(self.words) - len(taken))
         return "packed"
 
     def words_of(self, number: int) -> str:
@@ -332,12 +336,17 @@ FILLS = ["place 1 1 2 3", "place 2 4 5 6 7", "place 1 8 9", "free 0", "place 2 1
 WIDENS = [*(f"place {number}{7 * f' {number}'}" for number in range(10)),
           *(f"free {number}" for number in range(0, 10, 2)),
           f"place 10{35 * ' -1'}", *(f"words {number}" for number in [10, 1, 3, 5, 7, 9])]
-# Three times two blocks of a word slide for one of two, which are six words in a region of four. For the next block all
-# others move, and for the one after it one slides again.
-SLIDES = ["place 1 0", "place 1 1", "place 1 2", "free 0", "place 1 3 3", "free 1", "free 3", "place 1 4", "place 1 5",
-          "free 4", "place 1 6 6",
-          "free 2", "free 6", "place 1 7", "place 1 8", "free 7", "place 1 9 9", "free 9", "place 1 10", "place 1 11", "free 5", "free 10",
-          "place 1 12 12", "free 12", "place 1 13", "place 1 14", "free 8", "free 13", "place 1 15 15", "words 11", "words 14"]
+# Three times two blocks of two words slide for one of four, which are twelve words in a region of eight. For the next
+# block all others move, and for the one after it one slides again.
+SLIDES = ["place 1 0 0", "place 1 1 1", "place 1 2 2", "free 0", "place 1 3 3 3 3", "free 1", "free 3", "place 1 4 4",
+          "place 1 5 5", "free 4", "place 1 6 6 6 6", "free 2", "free 6", "place 1 7 7", "place 1 8 8", "free 7",
+          "place 1 9 9 9 9", "free 9", "place 1 10 10", "place 1 11 11", "free 5", "free 10", "place 1 12 12 12 12",
+          "free 12", "place 1 13 13", "place 1 14 14", "free 8", "free 13", "place 1 15 15 15 15", "words 11",
+          "words 14"]
+# Blocks of one word lie apart, so that no other moves round them, but they count in what fits.
+ONES = ["place 1 1", "place 2 2 2", "place 3 3", "place 4 4", "free 0", "place 5 5 5", "free 2", "place 6 6 6",
+        "words 1", "words 3", "free 1", "place 7 7", "place 8 8", "place 9 9", "words 4", "words 5", "free 4", "pack",
+        "words 3", "words 5"]
 # Blocks of no words in a memory of none.
 EMPTIES = ["place 3", "place 4", "words 0", "free 0", "place 5 0", "pack", "words 1"]
 
@@ -350,7 +359,8 @@ def chosen_rows() -> Iterator[str]:
         yield from ["", f"# {told}.", *rows]
     for told, sizes, rows in [("Blocks move or not", "12 6", MOVES), ("A gap is filled", "10 4", FILLS),
                               ("As wide as all holes together", "70 10", WIDENS),
-                              ("More slides than the region has words", "4 4", SLIDES),
+                              ("More slides than the region has words", "8 4", SLIDES),
+                              ("Blocks of one word", "4 4", ONES),
                               ("No words", "0 2", EMPTIES)]:
         for memory in MEMORIES:
             yield from ["", f"# {told}: {memory}.", f"{memory} {sizes}", *rows]

@@ -15,7 +15,7 @@ use Rattle.block_memory.proofs.FreeLemmas.{is_free-set_behind}
 abbrev ranges_of : List (Option PlacedBlock) → List Range
 ranges_of [] = []
 ranges_of (None ∷ slots) = ranges_of slots
-ranges_of (Some p ∷ slots) = record { place = p.place; len = length p.words } ∷ ranges_of slots
+ranges_of (Some p ∷ slots) = record { place = p.place; len = p.len } ∷ ranges_of slots
 
 length-ranges_of : (slots : List (Option PlacedBlock)) → length (ranges_of slots) ≤ length slots
 length-ranges_of [] = omega arith
@@ -32,8 +32,8 @@ length-free_beside size [] within = length-replicate size true
 length-free_beside size (None ∷ slots) within = length-free_beside size slots (later None slots size within)
 length-free_beside size (Some p ∷ slots) within =
     let long = length-free_beside size slots (later (Some p) slots size within) in
-    let fits = within zero p refl in
-    length-set_range (free_beside size (ranges_of slots)) p.place (length p.words) false (omega arith) ∙ long
+    let fits = (within zero p refl).0 in
+    length-set_range (free_beside size (ranges_of slots)) p.place p.len false (omega arith) ∙ long
 
 -- words that were not free stay so while others are taken
 pub is_free-still_taken : (free : List Bool) (place len word : ℕ) → place + len ≤ length free
@@ -69,16 +69,16 @@ beside-covered size (None ∷ slots) within (suc n) word c =
     (record { block = c.block; there = c.there; from = c.from; below = c.below })
 beside-covered size (Some p ∷ slots) within zero word c =
     let long = length-free_beside size slots (later (Some p) slots size within) in
-    let fits = within zero p refl in
+    let fits = (within zero p refl).0 in
     let is : c.block ≡ p = sym (same_some p c.block c.there) in
     let from : p.place ≤ word = rw is at c.from in
-    let below : word < p.place + length p.words = rw is at c.below in
-    is_free-set_inside (free_beside size (ranges_of slots)) p.place (length p.words) word false (omega arith) from
+    let below : word < p.place + p.len = rw is at c.below in
+    is_free-set_inside (free_beside size (ranges_of slots)) p.place p.len word false (omega arith) from
     below
 beside-covered size (Some p ∷ slots) within (suc n) word c =
     let long = length-free_beside size slots (later (Some p) slots size within) in
-    let fits = within zero p refl in
-    is_free-still_taken (free_beside size (ranges_of slots)) p.place (length p.words) word (omega arith)
+    let fits = (within zero p refl).0 in
+    is_free-still_taken (free_beside size (ranges_of slots)) p.place p.len word (omega arith)
     (beside-covered size slots (later (Some p) slots size within) n word
     (record { block = c.block; there = c.there; from = c.from; below = c.below }))
 
@@ -91,8 +91,8 @@ beside-bare size (None ∷ slots) within word below bare =
     (λ n c. bare (suc n) (record { block = c.block; there = c.there; from = c.from; below = c.below }))
 beside-bare size (Some p ∷ slots) within word below bare =
     let long = length-free_beside size slots (later (Some p) slots size within) in
-    let fits = within zero p refl in
-    is_free-outside (free_beside size (ranges_of slots)) p.place (length p.words) word false (omega arith)
+    let fits = (within zero p refl).0 in
+    is_free-outside (free_beside size (ranges_of slots)) p.place p.len word false (omega arith)
     (λ from to. bare zero (record { block = p; there = refl; from = from; below = to }))
     ∙ beside-bare size slots (later (Some p) slots size within) word below
     (λ n c. bare (suc n) (record { block = c.block; there = c.there; from = c.from; below = c.below }))

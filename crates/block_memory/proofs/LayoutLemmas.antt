@@ -45,7 +45,7 @@ module _ {X : Type 0} where
 -- a block that covers a word after what the number has was changed: the new one, or another as before
 pub Covers-set : (slots : List (Option PlacedBlock)) (n k word : ℕ) (p : PlacedBlock) → n < length slots
     → Covers (slice_set slots n (Some p)) k word
-    → ((k ≡ n) × ((p.place ≤ word) × (word < p.place + length p.words))) ⊎ ((k ≢ n) × Covers slots k word)
+    → ((k ≡ n) × ((p.place ≤ word) × (word < p.place + p.len))) ⊎ ((k ≢ n) × Covers slots k word)
 Covers-set slots n k word p within c =
     elim (cases_eq k n) [
       | inl same ↦
@@ -53,7 +53,7 @@ Covers-set slots n k word p within c =
           same_some c.block p (sym c.there
           ∙ (ap (value_at (slice_set slots n (Some p))) same ∙ value_at-set_same slots n (Some p) within)) in
           let from : p.place ≤ word = rw is at c.from in
-          let below : word < p.place + length p.words = rw is at c.below in
+          let below : word < p.place + p.len = rw is at c.below in
           inl (same, (from, below))
       | inr other ↦
           inr (
@@ -69,7 +69,7 @@ Covers-set slots n k word p within c =
     ]
 
 pub Covers-set_here : (slots : List (Option PlacedBlock)) (n word : ℕ) (p : PlacedBlock) → n < length slots
-    → p.place ≤ word → word < p.place + length p.words → Covers (slice_set slots n (Some p)) n word
+    → p.place ≤ word → word < p.place + p.len → Covers (slice_set slots n (Some p)) n word
 Covers-set_here slots n word p within from below =
     record { block = p; there = value_at-set_same slots n (Some p) within; from = from; below = below }
 
@@ -100,16 +100,16 @@ Covers-set_none slots n k word within c =
 
 -- a block covers no word but those from its place on
 pub Covers-by : (slots : List (Option PlacedBlock)) (n word : ℕ) (p : PlacedBlock) → value_at slots n ≡ Some p
-    → Covers slots n word → (p.place ≤ word) × (word < p.place + length p.words)
+    → Covers slots n word → (p.place ≤ word) × (word < p.place + p.len)
 Covers-by slots n word p there c =
     let is : c.block ≡ p = same_some c.block p (sym c.there ∙ there) in
     let from : p.place ≤ word = rw is at c.from in
-    let below : word < p.place + length p.words = rw is at c.below in
+    let below : word < p.place + p.len = rw is at c.below in
     (from, below)
 
 -- blocks that lie apart still do after one was put to a place at which it covers no word of another
 pub AreApart-set : (slots : List (Option PlacedBlock)) (n : ℕ) (p : PlacedBlock) → n < length slots → AreApart slots
-    → IsClear slots n p.place (length p.words) → AreApart (slice_set slots n (Some p))
+    → IsClear slots n p.place p.len → AreApart (slice_set slots n (Some p))
 AreApart-set slots n p within apart clear k m word a b =
     elim (Covers-set slots n k word p within a) [
       | inl here ↦ elim (Covers-set slots n m word p within b) [
@@ -124,7 +124,8 @@ AreApart-set slots n p within apart clear k m word a b =
 
 -- blocks that lie in the region, and one that is put into it
 pub AreWithin-set : (slots : List (Option PlacedBlock)) (size n : ℕ) (p : PlacedBlock) → n < length slots
-    → AreWithin slots size → p.place + length p.words ≤ size → AreWithin (slice_set slots n (Some p)) size
+    → AreWithin slots size → (p.place + p.len ≤ size) × (p.len ≤ length p.words)
+    → AreWithin (slice_set slots n (Some p)) size
 AreWithin-set slots size n p within all fits k q there =
     elim (cases_eq k n) [
       | inl same ↦ let is : q ≡ p =

@@ -5,10 +5,9 @@ use Rattle.std.specs.Prelude.{nat_le}
 use Rattle.std.proofs.lemmas.Bool.{cases_eq, cases_lt, le-leb, lt-leb}
 use Rattle.std.proofs.lemmas.List.Sums.{sum_by-cons, sum_by-set, get_or-le-sum_by}
 use Rattle.std.proofs.Math.Seq.{map-set_same}
-use Rattle.block_memory.specs.Content.{Block, words_of as content_words_of, used_words}
 use Rattle.block_memory.specs.Table.{value_at}
 use Rattle.block_memory.specs.Layout.{PlacedBlock, Layout, Covers, Begins, IsClear, block_of, content_of, with_slot}
-use Rattle.block_memory.specs.Layout.{words_of, words_at, block_at_place, layout_after_move}
+use Rattle.block_memory.specs.Layout.{covered_of, covered_at, covered_words, block_at_place, layout_after_move}
 use Rattle.block_memory.specs.Region.{AreApart, AreWithin, IsCovered, ArePacked}
 use Rattle.block_memory.proofs.Lists.{IsSome-in_range, same_some}
 use Rattle.block_memory.proofs.LayoutLemmas.{value_at-set_same, value_at-set_other, Covers-set_here, Covers-set_other}
@@ -17,7 +16,7 @@ use Rattle.block_memory.proofs.LayoutLemmas.{Covers-by, AreApart-set, AreWithin-
 -- how many words a block has, if it lies at the place or after it
 abbrev pub words_from : ℕ → Option PlacedBlock → ℕ
 words_from place None = 0
-words_from place (Some p) = cond (nat_le place p.place) (length p.words) 0
+words_from place (Some p) = cond (nat_le place p.place) p.len 0
 
 -- the words of all blocks there
 abbrev pub rest : ℕ → List (Option PlacedBlock) → ℕ
@@ -30,10 +29,11 @@ pub record IsPacking (before now : Layout) (packed place used : ℕ) : Type 0 wh
   pub apart : AreApart now.slots
   pub within : AreWithin now.slots now.size
   pub front : (word : ℕ) → word < packed → IsCovered now.slots word
-  pub sides : (n : ℕ) (p : PlacedBlock) → value_at now.slots n ≡ Some p → 0 < length p.words
-      → (p.place + length p.words ≤ packed) ⊎ (place ≤ p.place)
+  pub sides : (n : ℕ) (p : PlacedBlock) → value_at now.slots n ≡ Some p → 0 < p.len
+      → (p.place + p.len ≤ packed) ⊎ (place ≤ p.place)
   pub order : packed ≤ place
   pub all : packed + rest place now.slots ≡ used
+  pub total : covered_words now.slots ≡ used
 
 -- sums of what is alike at each number
 same_sums : {X : Type 0} (f g : Option X → ℕ) (xs : List (Option X))
@@ -53,14 +53,14 @@ no_sum f (x ∷ xs) h =
     let others = no_sum f xs (λ k below. h (suc k) (omega arith)) in
     omega (arith, sum_by-cons f x xs, first, others)
 
-words_from-behind : (place : ℕ) (p : PlacedBlock) → place ≤ p.place → words_from place (Some p) ≡ length p.words
-words_from-behind place p h = let pick : Bool → ℕ = λ b. cond b (length p.words) 0 in ap pick (le-leb place p.place h)
+words_from-behind : (place : ℕ) (p : PlacedBlock) → place ≤ p.place → words_from place (Some p) ≡ p.len
+words_from-behind place p h = let pick : Bool → ℕ = λ b. cond b p.len 0 in ap pick (le-leb place p.place h)
 
 words_from-before : (place : ℕ) (p : PlacedBlock) → p.place < place → words_from place (Some p) ≡ 0
-words_from-before place p h = let pick : Bool → ℕ = λ b. cond b (length p.words) 0 in ap pick (lt-leb place p.place h)
+words_from-before place p h = let pick : Bool → ℕ = λ b. cond b p.len 0 in ap pick (lt-leb place p.place h)
 
 words_from-none : (place : ℕ) (o : Option PlacedBlock)
-    → ((p : PlacedBlock) → o ≡ Some p → place ≤ p.place → length p.words ≡ 0) → words_from place o ≡ 0
+    → ((p : PlacedBlock) → o ≡ Some p → place ≤ p.place → p.len ≡ 0) → words_from place o ≡ 0
 words_from-none place None h = refl
 words_from-none place (Some p) h =
     elim (cases_lt p.place place) [
@@ -70,7 +70,7 @@ words_from-none place (Some p) h =
 
 -- a block counts from two places alike, if none with words lies between them
 words_from-same : (place next : ℕ) (o : Option PlacedBlock) → place ≤ next
-    → ((p : PlacedBlock) → o ≡ Some p → 0 < length p.words → place ≤ p.place → next ≤ p.place)
+    → ((p : PlacedBlock) → o ≡ Some p → 0 < p.len → place ≤ p.place → next ≤ p.place)
     → words_from place o ≡ words_from next o
 words_from-same place next None order h = refl
 words_from-same place next (Some p) order h =
@@ -78,16 +78,16 @@ words_from-same place next (Some p) order h =
       | inl before ↦ words_from-before place p before ∙ sym (words_from-before next p (omega arith))
       | inr behind ↦ elim (cases_lt p.place next) [
         | inr behind_next ↦ words_from-behind place p behind ∙ sym (words_from-behind next p behind_next)
-        | inl between ↦ words_from-behind place p behind ∙ (elim (cases_lt 0 (length p.words)) [
+        | inl between ↦ words_from-behind place p behind ∙ (elim (cases_lt 0 p.len) [
           | inl some ↦ absurd (let not_between = h p refl some behind in omega arith)
-          | inr nothing ↦ let none : length p.words ≡ 0 = omega arith in none
+          | inr nothing ↦ let none : p.len ≡ 0 = omega arith in none
         ] ∙ sym (words_from-before next p between))
       ]
     ]
 
 -- at first all blocks lie as before
 pub IsPacking-start : (layout : Layout) (used : ℕ) → AreApart layout.slots → AreWithin layout.slots layout.size
-    → used ≡ used_words (content_of layout.slots) → IsPacking layout layout 0 0 used
+    → used ≡ covered_words layout.slots → IsPacking layout layout 0 0 used
 IsPacking-start layout used apart within counted =
     record {
       size = refl;
@@ -98,30 +98,15 @@ IsPacking-start layout used apart within counted =
       sides = λ n p there some. inr (omega arith);
       order = omega arith;
       all = let same = all_words layout.slots in omega (arith, same, counted);
+      total = sym counted;
     }
   where
-    all_words : (slots : List (Option PlacedBlock)) → rest 0 slots ≡ used_words (content_of slots)
-    all_words [] = refl
-    all_words (None ∷ slots) =
-        let size : Option Block → ℕ = λ b. length (content_words_of b) in
-        omega (
-          arith,
-          all_words slots,
-          sum_by-cons (words_from 0) None slots,
-          sum_by-cons size None
-              (content_of slots),
-        )
-    all_words (Some p ∷ slots) =
-        let size : Option Block → ℕ = λ b. length (content_words_of b) in
-        let here = words_from-behind 0 p (omega arith) in
-        omega (
-          arith,
-          all_words slots,
-          here,
-          sum_by-cons (words_from 0) (Some p) slots,
-          sum_by-cons size
-              (block_of (Some p)) (content_of slots),
-        )
+    all_words : (slots : List (Option PlacedBlock)) → rest 0 slots ≡ covered_words slots
+    all_words slots = same_sums (words_from 0) covered_of slots (λ k h. from_start (value_at slots k))
+      where
+        from_start : (o : Option PlacedBlock) → words_from 0 o ≡ covered_of o
+        from_start None = refl
+        from_start (Some p) = words_from-behind 0 p (omega arith)
 
 -- while words are missing, the place is in the region
 pub IsPacking-inside : (before now : Layout) (packed place used : ℕ) → IsPacking before now packed place used
@@ -133,7 +118,7 @@ IsPacking-inside before now packed place used i missing =
           let none =
           no_sum (words_from place) now.slots
           (λ k h. words_from-none place (value_at now.slots k)
-          (λ p there behind. let fits = i.within k p there in omega arith)) in
+          (λ p there behind. let fits = (i.within k p there).0 in omega arith)) in
           let all = i.all in omega (arith, all, none))
     ]
 
@@ -156,9 +141,10 @@ IsPacking-skip before now packed place used i none =
           same_sums (words_from place) (words_from (place + 1)) now.slots
           (λ k h. words_from-same place (place + 1) (value_at now.slots k) (omega arith)
           (λ p there some behind. further k p there some behind)) in let all = i.all in omega (arith, all, same);
+      total = i.total;
     }
   where
-    further : (n : ℕ) (p : PlacedBlock) → value_at now.slots n ≡ Some p → 0 < length p.words → place ≤ p.place
+    further : (n : ℕ) (p : PlacedBlock) → value_at now.slots n ≡ Some p → 0 < p.len → place ≤ p.place
         → place + 1 ≤ p.place
     further n p there some behind =
         elim (cases_eq p.place place) [
@@ -169,12 +155,12 @@ IsPacking-skip before now packed place used i none =
 -- the block that begins at the place is to be moved
 module _ (before now : Layout) (packed place used n : ℕ) (p : PlacedBlock)
     (i : IsPacking before now packed place used) (there : value_at now.slots n ≡ Some p) (here : p.place ≡ place)
-    (some : 0 < length p.words) where
+    (some : 0 < p.len) where
   -- every other block after the place lies after this one
-  beyond : (k : ℕ) (q : PlacedBlock) → k ≢ n → value_at now.slots k ≡ Some q → 0 < length q.words → place ≤ q.place
-      → place + length p.words ≤ q.place
+  beyond : (k : ℕ) (q : PlacedBlock) → k ≢ n → value_at now.slots k ≡ Some q → 0 < q.len → place ≤ q.place
+      → place + p.len ≤ q.place
   beyond k q other found words behind =
-      elim (cases_lt q.place (place + length p.words)) [
+      elim (cases_lt q.place (place + p.len)) [
         | inr past ↦ past
         | inl between ↦ absurd (other (i.apart k n q.place
             (record { block = q; there = found; from = omega arith; below = omega arith })
@@ -182,7 +168,7 @@ module _ (before now : Layout) (packed place used n : ℕ) (p : PlacedBlock)
       ]
 
   -- no other block covers a word that it then covers
-  pub slide_clear : IsClear now.slots n packed (length p.words)
+  pub slide_clear : IsClear now.slots n packed p.len
   slide_clear k word from below c =
       elim (cases_eq k n) [
         | inl same ↦ same
@@ -195,7 +181,7 @@ module _ (before now : Layout) (packed place used n : ℕ) (p : PlacedBlock)
       ]
 
   abbrev slid_block : PlacedBlock
-  slid_block = record { owner = p.owner; place = packed; words = p.words }
+  slid_block = record { owner = p.owner; place = packed; len = p.len; words = p.words }
 
   in_range : n < length now.slots
   in_range = IsSome-in_range now.slots n (ap is_some there)
@@ -203,7 +189,7 @@ module _ (before now : Layout) (packed place used n : ℕ) (p : PlacedBlock)
   slid_content : content_of (slice_set now.slots n (Some slid_block)) ≡ content_of now.slots
   slid_content = map-set_same block_of now.slots n (Some slid_block) None (sym (ap block_of there))
 
-  slid_front : (word : ℕ) → word < packed + length p.words → IsCovered (slice_set now.slots n (Some slid_block)) word
+  slid_front : (word : ℕ) → word < packed + p.len → IsCovered (slice_set now.slots n (Some slid_block)) word
   slid_front word h =
       elim (cases_lt word packed) [
         | inr new ↦ record { number = n; covers = Covers-set_here now.slots n word slid_block in_range new h }
@@ -224,7 +210,7 @@ module _ (before now : Layout) (packed place used n : ℕ) (p : PlacedBlock)
               i.order in omega arith
 
   slid_sides : (k : ℕ) (q : PlacedBlock) → value_at (slice_set now.slots n (Some slid_block)) k ≡ Some q
-      → 0 < length q.words → (q.place + length q.words ≤ packed + length p.words) ⊎ (place + length p.words ≤ q.place)
+      → 0 < q.len → (q.place + q.len ≤ packed + p.len) ⊎ (place + p.len ≤ q.place)
   slid_sides k q found words =
       elim (cases_eq k n) [
         | inl same ↦ let is : q ≡ slid_block =
@@ -239,34 +225,34 @@ module _ (before now : Layout) (packed place used n : ℕ) (p : PlacedBlock)
       ]
 
   -- the other blocks count alike from the end of this one on
-  others_alike : sum_by (words_from place) (slice_set now.slots n None) ≡ sum_by (words_from (place + length p.words))
+  others_alike : sum_by (words_from place) (slice_set now.slots n None) ≡ sum_by (words_from (place + p.len))
       (slice_set now.slots n None)
   others_alike =
-      same_sums (words_from place) (words_from (place + length p.words)) (slice_set now.slots n None)
+      same_sums (words_from place) (words_from (place + p.len)) (slice_set now.slots n None)
       (λ k h. elim (cases_eq k n) [
         | inl same ↦ rw same (rw (value_at-set_same now.slots n None in_range) refl)
         | inr other ↦
             rw (value_at-set_other now.slots n k None other)
-            (words_from-same place (place + length p.words) (value_at now.slots k) (omega arith)
+            (words_from-same place (place + p.len) (value_at now.slots k) (omega arith)
             (λ q found words behind. beyond k q other found words behind))
       ])
 
-  slid_rest : rest (place + length p.words) (slice_set now.slots n (Some slid_block)) + length p.words ≡ rest place
+  slid_rest : rest (place + p.len) (slice_set now.slots n (Some slid_block)) + p.len ≡ rest place
       now.slots
   slid_rest =
-      let next : ℕ = place + length p.words in
+      let next : ℕ = place + p.len in
       let o = i.order in
       let old = sum_by-set (words_from place) now.slots n None None in_range in
       let gone = sum_by-set (words_from next) now.slots n None None in_range in
       let new = sum_by-set (words_from next) now.slots n (Some slid_block) None in_range in
-      let was : words_from place (value_at now.slots n) ≡ length p.words =
+      let was : words_from place (value_at now.slots n) ≡ p.len =
       ap (words_from place) there ∙ words_from-behind place p (omega arith) in
       let is : words_from next (Some slid_block) ≡ 0 = words_from-before next slid_block (omega arith) in
       let alike = others_alike in
       omega (arith, old, gone, new, was, is, alike)
 
-  pub IsPacking-slide : IsPacking before (with_slot now n (Some slid_block)) (packed + length p.words)
-      (place + length p.words) used
+  pub IsPacking-slide : IsPacking before (with_slot now n (Some slid_block)) (packed + p.len)
+      (place + p.len) used
   IsPacking-slide =
       record {
         size = i.size;
@@ -274,28 +260,36 @@ module _ (before now : Layout) (packed place used n : ℕ) (p : PlacedBlock)
         apart = AreApart-set now.slots n slid_block in_range i.apart slide_clear;
         within =
             AreWithin-set now.slots now.size n slid_block in_range i.within
-            (let o = i.order in let w = i.within n p there in omega arith);
+            (let o = i.order in let w = i.within n p there in (omega (arith, w.0), w.1));
         front = slid_front;
         sides = slid_sides;
         order = let o = i.order in omega arith;
         all = let all = i.all in let r = slid_rest in omega (arith, all, r);
+        total =
+            let change = sum_by-set covered_of now.slots n (Some slid_block) None in_range in
+            let was : covered_of (value_at now.slots n) ≡ p.len = ap covered_of there in
+            omega (arith, change, was, i.total);
       }
 
 -- the block that begins at the place has moved down to the packed ones
 pub IsPacking-moved : (before old new : Layout) (packed place used n len : ℕ) → IsPacking before old packed place used
-    → Begins old.slots n place → new ≡ layout_after_move old n packed → len ≡ length (words_at old.slots n)
+    → Begins old.slots n place → new ≡ layout_after_move old n packed → len ≡ covered_at old.slots n
     → IsPacking before new (packed + len) (place + len) used
 IsPacking-moved before old new packed place used n len i b moved long =
     let slid = moved ∙ ap (λ o. with_slot old n (block_at_place packed o)) b.there in
-    let words = long ∙ ap (λ o. length (words_of o)) b.there in
+    let words = long ∙ ap covered_of b.there in
     rw (slid, words) (IsPacking-slide before old packed place used n b.block i b.there b.here b.some)
+
+-- it covers a word at least
+pub begins-some : (slots : List (Option PlacedBlock)) (n place : ℕ) → Begins slots n place → 1 ≤ covered_at slots n
+begins-some slots n place b = omega (arith, ap covered_of b.there, b.some)
 
 -- its words and those that moved before are within the size
 pub moved_within : (before now : Layout) (packed place used n moved words : ℕ) → IsPacking before now packed place used
-    → Begins now.slots n place → moved ≤ packed → words ≤ length (words_at now.slots n) → moved + words ≤ now.size
+    → Begins now.slots n place → moved ≤ packed → words ≤ covered_at now.slots n → moved + words ≤ now.size
 moved_within before now packed place used n moved words i b few less =
-    let long = ap (λ o. length (words_of o)) b.there in
-    omega (arith, i.order, i.within n b.block b.there, b.here, long)
+    let long = ap covered_of b.there in
+    omega (arith, i.order, (i.within n b.block b.there).0, b.here, long)
 
 -- at the end all blocks are packed
 pub ArePacked-end : (before now : Layout) (packed place used : ℕ) → IsPacking before now packed place used
@@ -312,7 +306,7 @@ ArePacked-end before now packed place used i done =
             let part =
             get_or-le-sum_by (words_from place) now.slots n None
             (IsSome-in_range now.slots n (ap is_some c.there)) in
-            let here : words_from place (value_at now.slots n) ≡ length c.block.words =
+            let here : words_from place (value_at now.slots n) ≡ c.block.len =
             ap (words_from place) c.there ∙ words_from-behind place c.block behind in
             omega (arith, all, part, here))
       ];

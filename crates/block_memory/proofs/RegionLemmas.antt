@@ -1,10 +1,11 @@
 -- Lemmas on the blocks and the holes of a region: what a block that comes, goes or moves leaves.
-use Rattle.std.proofs.Common.{◌≡◌, ℕ, ℤ, zero, suc, ◌+◌, ◌-◌, ◌<◌, ◌≤◌, true, false, List, ◌∷◌, length, replicate}
+use Rattle.std.proofs.Common.{◌≡◌, ℕ, ℤ, zero, suc, ◌+◌, ◌-◌, ◌<◌, ◌≤◌, true, false, List, [], ◌∷◌, length, replicate}
 use Rattle.std.proofs.Common.{slice_set, Option, Some, None, is_some, IsSome, inl, inr, refl, sym, ap, subst, ◌∙◌}
 use Rattle.std.proofs.Common.{arith}
 use Rattle.std.proofs.lemmas.Bool.{cases_eq, cases_lt}
 use Rattle.std.proofs.lemmas.List.{map-set, length-map, length-set, length-replicate, get_or-replicate}
 use Rattle.std.proofs.lemmas.List.Folds.{sum_by-replicate}
+use Rattle.std.proofs.lemmas.List.Sums.{sum_by-cons, sum_by-set, get_or-le-sum_by}
 use Rattle.holes.specs.FreeWords.{Region, is_free, NoneFree, set_range, given_to, free_from, widest, hole_count}
 use Rattle.holes.specs.Laws.{OneHoleMoreThanRanges}
 use Rattle.block_memory.specs.Content.{Block, no_blocks, IsLive, used_words, with_block, without_block}
@@ -12,14 +13,14 @@ use Rattle.block_memory.specs.Content.{words_of as content_words_of, words_at as
 use Rattle.block_memory.specs.Content.{Content, owner_of as content_owner_of, owner_at as content_owner_at}
 use Rattle.block_memory.specs.Table.{value_at}
 use Rattle.block_memory.specs.Layout.{PlacedBlock, Layout, Covers, IsBare, block_of, content_of, place_of, words_of}
-use Rattle.block_memory.specs.Layout.{place_at, words_at, with_slot, IsClear, block_with_words, layout_after_rewrite}
-use Rattle.block_memory.specs.Region.{AreWithin, IsCovered, CoverRegion, IsRegion, ArePacked, HasRoom}
+use Rattle.block_memory.specs.Layout.{covered_of, covered_at, covered_words, place_at, words_at, with_slot, IsClear, block_with_words, layout_after_rewrite}
+use Rattle.block_memory.specs.Region.{AreWithin, IsCovered, CoverRegion, IsRegion, IsPackedRegion, ArePacked, HasRoom}
 use Rattle.block_memory.proofs.Lists.{IsSome-in_range, None≢Some, true-not_false}
 use Rattle.block_memory.proofs.ContentLemmas.{used_words-with_block, used_words-rewritten, used_words-without_block}
 use Rattle.block_memory.proofs.LayoutLemmas.{Covers-set, Covers-set_here, Covers-set_other, Covers-set_none}
 use Rattle.block_memory.proofs.LayoutLemmas.{Covers-by, AreApart-set, AreWithin-set, AreWithin-set_none}
 use Rattle.block_memory.proofs.LayoutLemmas.{block_at-content_of, words_at-content_of, is_some-content_of}
-use Rattle.block_memory.proofs.FreeLemmas.{length-set_range, is_free-set_inside, length-free_from}
+use Rattle.block_memory.proofs.FreeLemmas.{length-set_range, is_free-set_inside, length-free_from, set_range-nothing}
 use Rattle.block_memory.proofs.FreeLemmas.{is_free-from_before, is_free-from_behind, widest-free_from}
 use Rattle.block_memory.proofs.BesideLemmas.{is_free-still_taken, is_free-outside, room_for_hole}
 
@@ -48,21 +49,49 @@ IsRegion-empty size most =
       within = λ n p there. absurd (None≢Some p (sym (no_value most n) ∙ there));
       same_size = length-replicate size true;
       room = let long = length-replicate {A = Option PlacedBlock} most None in omega arith;
-      counted =
-          rw (content_of-empty most) (let size_of : Option Block → ℕ = λ b. length (content_words_of b) in let all =
-          sum_by-replicate size_of most None in omega (arith, all));
+      counted = let all = sum_by-replicate covered_of most None in omega (arith, all);
       fits = omega arith;
     }
   where
     none : (n word : ℕ) → Covers (replicate most None) n word → ⊥
     none n word c = None≢Some c.block (sym (no_value most n) ∙ c.there)
 
+-- a memory with no block
+pub IsPackedRegion-empty : (size most : ℕ) → IsPackedRegion (record { size = size; slots = replicate most None })
+    (record { free = replicate size true; most = most + 2 }) 0 0
+IsPackedRegion-empty size most =
+    record {
+      region = IsRegion-empty size most;
+      counted =
+          rw (content_of-empty most) (let size_of : Option Block → ℕ = λ b. length (content_words_of b) in let all =
+          sum_by-replicate size_of most None in omega (arith, all));
+      fits = omega arith;
+    }
+
+-- blocks cover no more words than they have
+pub covered-le_used : (slots : List (Option PlacedBlock)) (size : ℕ) → AreWithin slots size
+    → covered_words slots ≤ used_words (content_of slots)
+covered-le_used [] size within = omega arith
+covered-le_used (o ∷ slots) size within =
+    let size_of : Option Block → ℕ = λ b. length (content_words_of b) in
+    omega (
+      arith,
+      at_first o refl,
+      covered-le_used slots size (λ n p there. within (suc n) p there),
+      sum_by-cons covered_of o slots,
+      sum_by-cons size_of (block_of o) (content_of slots),
+    )
+  where
+    at_first : (first : Option PlacedBlock) → first ≡ o → covered_of first ≤ length (content_words_of (block_of first))
+    at_first None is = omega arith
+    at_first (Some p) is = (within zero p (sym is)).1
+
 -- after the blocks were moved together
 pub IsRegion-packed : (before now : Layout) (holes : Region) (used : ℕ) → IsRegion before holes used
     → now.size ≡ before.size → content_of now.slots ≡ content_of before.slots → AreWithin now.slots now.size
-    → ArePacked now.slots used → IsRegion now
+    → ArePacked now.slots used → used ≡ covered_words now.slots → IsRegion now
     (record { free = free_from used (length holes.free); most = holes.most }) used
-IsRegion-packed before now holes used r size content within packed =
+IsRegion-packed before now holes used r size content within packed counted =
     let fits : used ≤ length holes.free = let f = r.fits in let s = r.same_size in omega arith in
     let long = length-free_from used (length holes.free) fits in
     record {
@@ -81,7 +110,7 @@ IsRegion-packed before now holes used r size content within packed =
       room = let same : length now.slots ≡ length before.slots =
           sym (length-map now.slots block_of) ∙ (ap length content ∙ length-map before.slots block_of) in let room =
           r.room in omega arith;
-      counted = r.counted ∙ ap used_words (sym content);
+      counted = counted;
       fits = let f = r.fits in omega arith;
     }
 
@@ -100,13 +129,11 @@ HasRoom-bare layout holes used place len h other word from below c =
     true-not_false (is_free h.before.free word) (h.all_free word from below) (h.region.cover.covered other word c)
 
 -- a block comes
-module _ (layout : Layout) (holes : Region) (used place n owner : ℕ) (words : List ℤ)
-    (h : HasRoom layout holes used place (length words)) (within : n < length layout.slots)
-    (empty : value_at layout.slots n ≡ None) (fits : used + length words ≤ layout.size) where
-  abbrev new_block : PlacedBlock
-  new_block = record { owner = owner; place = place; words = words }
-
-  inside_free : place + length words ≤ length h.before.free
+module _ (layout : Layout) (holes : Region) (used n : ℕ) (new_block : PlacedBlock)
+    (h : HasRoom layout holes used new_block.place new_block.len) (within : n < length layout.slots)
+    (empty : value_at layout.slots n ≡ None) (fits : used + new_block.len ≤ layout.size)
+    (few : new_block.len ≤ length new_block.words) where
+  inside_free : new_block.place + new_block.len ≤ length h.before.free
   inside_free = let i = h.inside in let s = h.region.same_size in omega arith
 
   cover_with_new : CoverRegion (slice_set layout.slots n (Some new_block)) holes.free
@@ -115,14 +142,15 @@ module _ (layout : Layout) (holes : Region) (used place n owner : ℕ) (words : 
         apart =
             AreApart-set layout.slots n new_block within h.region.cover.apart
             (λ other word from below c. absurd
-            (HasRoom-bare layout holes used place (length words) h other word from below c));
+            (HasRoom-bare layout holes used new_block.place new_block.len h other word from below c));
         covered =
             λ k word c. subst (λ (r : Region). is_free r.free word ≡ false) (sym h.taken)
             (elim (Covers-set layout.slots n k word new_block within c) [
               | inl here ↦
-                  is_free-set_inside h.before.free place (length words) word false inside_free here.1.0 here.1.1
+                  is_free-set_inside h.before.free new_block.place new_block.len word false inside_free here.1.0
+                  here.1.1
               | inr other ↦
-                  is_free-still_taken h.before.free place (length words) word inside_free
+                  is_free-still_taken h.before.free new_block.place new_block.len word inside_free
                   (h.region.cover.covered k word other.1)
             ]);
         others = λ word below taken. covered_now word below taken;
@@ -131,22 +159,22 @@ module _ (layout : Layout) (holes : Region) (used place n owner : ℕ) (words : 
       covered_now : (word : ℕ) → word < length holes.free → is_free holes.free word ≡ false
           → IsCovered (slice_set layout.slots n (Some new_block)) word
       covered_now word below taken =
-          elim (cases_lt word place) [
+          elim (cases_lt word new_block.place) [
             | inl before ↦ by_other (λ from to. omega arith)
-            | inr from ↦ elim (cases_lt word (place + length words)) [
+            | inr from ↦ elim (cases_lt word (new_block.place + new_block.len)) [
               | inl to ↦ record { number = n; covers = Covers-set_here layout.slots n word new_block within from to }
               | inr behind ↦ by_other (λ from to. omega arith)
             ]
           ]
         where
-          by_other : (place ≤ word → word < place + length words → ⊥)
+          by_other : (new_block.place ≤ word → word < new_block.place + new_block.len → ⊥)
               → IsCovered (slice_set layout.slots n (Some new_block)) word
           by_other outside =
               let long : length holes.free ≡ length h.before.free =
               ap (λ (r : Region). length r.free) h.taken
-              ∙ length-set_range h.before.free place (length words) false inside_free in
+              ∙ length-set_range h.before.free new_block.place new_block.len false inside_free in
               let was : is_free h.before.free word ≡ false =
-              sym (is_free-outside h.before.free place (length words) word false inside_free outside)
+              sym (is_free-outside h.before.free new_block.place new_block.len word false inside_free outside)
               ∙ (ap (λ (r : Region). is_free r.free word) (sym h.taken) ∙ taken) in
               let c = h.region.cover.others word (omega arith) was in
               record {
@@ -157,28 +185,47 @@ module _ (layout : Layout) (holes : Region) (used place n owner : ℕ) (words : 
                     (sym empty ∙ (ap (value_at layout.slots) (sym same) ∙ c.covers.there))) c.covers;
               }
 
-  pub IsRegion-put : IsRegion (with_slot layout n (Some new_block)) holes (used + length words)
+  pub IsRegion-put : IsRegion (with_slot layout n (Some new_block)) holes (used + new_block.len)
   IsRegion-put =
       record {
         cover = cover_with_new;
-        within = AreWithin-set layout.slots layout.size n new_block within h.region.within h.inside;
+        within = AreWithin-set layout.slots layout.size n new_block within h.region.within
+            (h.inside, few);
         same_size =
             ap (λ (r : Region). length r.free) h.taken
-            ∙ (length-set_range h.before.free place (length words) false inside_free ∙ h.region.same_size);
+            ∙ (length-set_range h.before.free new_block.place new_block.len false inside_free
+            ∙ h.region.same_size);
         room = let same = length-set layout.slots n (Some new_block) in let most =
             ap (λ (r : Region). r.most) h.taken in let room = h.region.room in omega (arith, same, most, room);
         counted =
-            let content : content_of (slice_set layout.slots n (Some new_block)) ≡ with_block
-            (content_of layout.slots) n (record { owner = owner; words = words }) =
-            map-set block_of layout.slots n (Some new_block) in
-            let long = length-map layout.slots block_of in
-            let more =
-            used_words-with_block (content_of layout.slots) n (record { owner = owner; words = words })
-            (omega arith) (block_at-content_of layout.slots n ∙ ap block_of empty) in
-            let counted = h.region.counted in
-            rw content (omega (arith, more, counted));
+            let change = sum_by-set covered_of layout.slots n (Some new_block) None within in
+            let was : covered_of (value_at layout.slots n) ≡ 0 = ap covered_of empty in
+            omega (arith, change, was, h.region.counted);
         fits = fits;
       }
+
+  -- as many words more are in use
+  pub used-put : used_words (content_of (slice_set layout.slots n (Some new_block)))
+      ≡ used_words (content_of layout.slots) + length new_block.words
+  used-put =
+      let long = length-map layout.slots block_of in
+      ap used_words (map-set block_of layout.slots n (Some new_block))
+      ∙ used_words-with_block (content_of layout.slots) n
+      (record { owner = new_block.owner; words = new_block.words }) (omega (arith, within, long))
+      (block_at-content_of layout.slots n ∙ ap block_of empty)
+
+-- a block that covers no word needs none
+pub HasRoom-nothing : (layout : Layout) (holes : Region) (used : ℕ) → IsRegion layout holes used
+    → HasRoom layout holes used 0 0
+HasRoom-nothing layout holes used r =
+    record {
+      before = holes;
+      region = r;
+      all_free = λ word from below. absurd (omega arith);
+      taken = ap (λ free. let region : Region = record { free = free; most = holes.most } in region)
+          (sym (set_range-nothing holes.free 0 false));
+      inside = omega arith;
+    }
 
 -- a block goes
 module _ (layout : Layout) (holes : Region) (used n : ℕ) (p : PlacedBlock) (r : IsRegion layout holes used)
@@ -186,39 +233,39 @@ module _ (layout : Layout) (holes : Region) (used n : ℕ) (p : PlacedBlock) (r 
   pub in_range : n < length layout.slots
   in_range = IsSome-in_range layout.slots n (ap is_some there)
 
-  pub inside : p.place + length p.words ≤ length holes.free
-  inside = let w = r.within n p there in let s = r.same_size in omega arith
+  pub inside : p.place + p.len ≤ length holes.free
+  inside = let w = (r.within n p there).0 in let s = r.same_size in omega arith
 
-  gone_covers : (word : ℕ) → p.place ≤ word → word < p.place + length p.words → Covers layout.slots n word
+  gone_covers : (word : ℕ) → p.place ≤ word → word < p.place + p.len → Covers layout.slots n word
   gone_covers word from below = record { block = p; there = there; from = from; below = below }
 
   -- none of its words is free
-  pub none_free : NoneFree holes.free p.place (length p.words)
+  pub none_free : NoneFree holes.free p.place p.len
   none_free word from below = r.cover.covered n word (gone_covers word from below)
 
-  cover_without : CoverRegion (slice_set layout.slots n None) (set_range holes.free p.place (length p.words) true)
+  cover_without : CoverRegion (slice_set layout.slots n None) (set_range holes.free p.place p.len true)
   cover_without =
       record {
         apart =
             λ k m word a b. r.cover.apart k m word (Covers-set_none layout.slots n k word in_range a).1
             (Covers-set_none layout.slots n m word in_range b).1;
         covered = λ k word c. let other = Covers-set_none layout.slots n k word in_range c in
-            is_free-outside holes.free p.place (length p.words) word true inside
+            is_free-outside holes.free p.place p.len word true inside
             (λ from below. other.0 (r.cover.apart k n word other.1 (gone_covers word from below)))
             ∙ r.cover.covered k word other.1;
         others = λ word below taken. covered_still word below taken;
       }
     where
-      covered_still : (word : ℕ) → word < length (set_range holes.free p.place (length p.words) true)
-          → is_free (set_range holes.free p.place (length p.words) true) word ≡ false
+      covered_still : (word : ℕ) → word < length (set_range holes.free p.place p.len true)
+          → is_free (set_range holes.free p.place p.len true) word ≡ false
           → IsCovered (slice_set layout.slots n None) word
       covered_still word below taken =
-          let long = length-set_range holes.free p.place (length p.words) true inside in
-          let outside : p.place ≤ word → word < p.place + length p.words → ⊥ =
-          λ from to. true-not_false (is_free (set_range holes.free p.place (length p.words) true) word)
-          (is_free-set_inside holes.free p.place (length p.words) word true inside from to) taken in
+          let long = length-set_range holes.free p.place p.len true inside in
+          let outside : p.place ≤ word → word < p.place + p.len → ⊥ =
+          λ from to. true-not_false (is_free (set_range holes.free p.place p.len true) word)
+          (is_free-set_inside holes.free p.place p.len word true inside from to) taken in
           let was : is_free holes.free word ≡ false =
-          sym (is_free-outside holes.free p.place (length p.words) word true inside outside) ∙ taken in
+          sym (is_free-outside holes.free p.place p.len word true inside outside) ∙ taken in
           let c = r.cover.others word (omega arith) was in
           record {
             number = c.number;
@@ -234,27 +281,32 @@ module _ (layout : Layout) (holes : Region) (used n : ℕ) (p : PlacedBlock) (r 
   words_there : length (content_words_at (content_of layout.slots) n) ≡ length p.words
   words_there = ap length (words_at-content_of layout.slots n ∙ ap words_of there)
 
-  -- its words are among those in use
-  pub less_used : length p.words ≤ used
-  less_used =
-      let less = used_words-without_block (content_of layout.slots) n live in
-      let counted = r.counted in
-      omega (arith, less, words_there, counted)
+  -- the words that it covers are among those that are covered
+  pub less_covered : p.len ≤ used
+  less_covered =
+      let part = get_or-le-sum_by covered_of layout.slots n None in_range in
+      let here : covered_of (value_at layout.slots n) ≡ p.len = ap covered_of there in
+      omega (arith, part, here, r.counted)
 
-  pub IsRegion-remove : IsRegion (with_slot layout n None) (given_to holes p.place (length p.words))
-      (used - length p.words)
+  -- its words are no longer in use
+  pub used-remove : used_words (content_of (slice_set layout.slots n None)) + length p.words
+      ≡ used_words (content_of layout.slots)
+  used-remove =
+      let same = ap used_words (map-set block_of layout.slots n None) in
+      omega (arith, same, used_words-without_block (content_of layout.slots) n live, words_there)
+
+  pub IsRegion-remove : IsRegion (with_slot layout n None) (given_to holes p.place p.len)
+      (used - p.len)
   IsRegion-remove =
       record {
         cover = cover_without;
         within = AreWithin-set_none layout.slots layout.size n in_range r.within;
-        same_size = length-set_range holes.free p.place (length p.words) true inside ∙ r.same_size;
+        same_size = length-set_range holes.free p.place p.len true inside ∙ r.same_size;
         room = let same = length-set layout.slots n None in let room = r.room in omega (arith, same, room);
         counted =
-            let content : content_of (slice_set layout.slots n None) ≡ without_block (content_of layout.slots) n =
-            map-set block_of layout.slots n None in
-            let less = used_words-without_block (content_of layout.slots) n live in
-            let counted = r.counted in
-            rw content (omega (arith, less, words_there, counted));
+            let change = sum_by-set covered_of layout.slots n None None in_range in
+            let was : covered_of (value_at layout.slots n) ≡ p.len = ap covered_of there in
+            omega (arith, change, was, r.counted);
         fits = let f = r.fits in omega arith;
       }
 
@@ -272,7 +324,7 @@ the_block slots n some = by_value (value_at slots n) refl some
     by_value None e s = absurd (true-not_false false s refl)
     by_value (Some p) e s = (p, e)
 
--- what is known of a block that is taken away, and of its words
+-- what is known of a block that is taken away, and of the words that it covers
 pub record IsLeaving (layout : Layout) (holes : Region) (used n place len : ℕ) : Type 0 where
   pub within : place + len ≤ length holes.free
   pub less : len ≤ used
@@ -282,18 +334,89 @@ pub record IsLeaving (layout : Layout) (holes : Region) (used n place len : ℕ)
 
 pub is_leaving : OneHoleMoreThanRanges → (layout : Layout) (holes : Region) (used n place len : ℕ)
     → IsRegion layout holes used
-    → IsLive (content_of layout.slots) n → place ≡ place_at layout.slots n → len ≡ length (words_at layout.slots n)
+    → IsLive (content_of layout.slots) n → place ≡ place_at layout.slots n → len ≡ covered_at layout.slots n
     → IsLeaving layout holes used n place len
 is_leaving law layout holes used n place len r live here long =
     let p = the_block layout.slots n (slot_there layout.slots n live) in
-    rw (here ∙ ap place_of p.1, long ∙ ap (λ o. length (words_of o)) p.1)
+    rw (here ∙ ap place_of p.1, long ∙ ap covered_of p.1)
     (record {
       within = inside layout holes used n p.0 r p.1;
-      less = less_used layout holes used n p.0 r p.1;
+      less = less_covered layout holes used n p.0 r p.1;
       none_free = none_free layout holes used n p.0 r p.1;
       room = room_for_hole law layout.size holes.most layout.slots holes.free r.same_size r.within r.cover r.room;
       region = IsRegion-remove layout holes used n p.0 r p.1;
     })
+
+-- blocks cover no more words than are in use
+pub covered_fits : (layout : Layout) (holes : Region) (covered used : ℕ) → IsRegion layout holes covered
+    → used ≡ used_words (content_of layout.slots) → covered ≤ used
+covered_fits layout holes covered used r counted =
+    omega (arith, r.counted, counted, covered-le_used layout.slots layout.size r.within)
+
+-- a memory that gets a block in the region
+pub IsPackedRegion-put : (layout : Layout) (holes : Region) (covered used n : ℕ) (b : PlacedBlock)
+    → HasRoom layout holes covered b.place b.len → used ≡ used_words (content_of layout.slots)
+    → n < length layout.slots → value_at layout.slots n ≡ None → used + length b.words ≤ layout.size
+    → b.len ≤ length b.words
+    → IsPackedRegion (with_slot layout n (Some b)) holes (covered + b.len) (used + length b.words)
+IsPackedRegion-put layout holes covered used n b h counted within empty fits few =
+    let less = covered_fits layout h.before covered used h.region counted in
+    let room : covered + b.len ≤ layout.size = omega (arith, less, fits, few) in
+    record {
+      region = IsRegion-put layout holes covered n b h within empty room few;
+      counted = omega (arith, counted, used-put layout holes covered n b h within empty room few);
+      fits = fits;
+    }
+
+-- a memory that gets a block of one word, which covers none
+pub IsPackedRegion-word : (layout : Layout) (holes : Region) (covered used n owner : ℕ) (words : List ℤ)
+    → IsPackedRegion layout holes covered used → length words ≡ 1 → n < length layout.slots
+    → value_at layout.slots n ≡ None → used + 1 ≤ layout.size
+    → IsPackedRegion (with_slot layout n (Some (record { owner = owner; place = 0; len = 0; words = words }))) holes
+    covered (used + 1)
+IsPackedRegion-word layout holes covered used n owner words r one within empty fits =
+    let b : PlacedBlock = record { owner = owner; place = 0; len = 0; words = words } in
+    let same : covered + 0 ≡ covered = omega arith in
+    let put =
+    IsPackedRegion-put layout holes covered used n b (HasRoom-nothing layout holes covered r.region) r.counted within
+    empty (omega (arith, fits, one)) (omega arith) in
+    rw (same, one) at put
+
+-- what is known of a block that is freed
+pub record IsFreed (layout : Layout) (holes : Region) (covered used n place len words : ℕ) : Type 0 where
+  pub leaving : IsLeaving layout holes covered n place len
+  pub less : words ≤ used
+  pub memory : IsPackedRegion (with_slot layout n None) (given_to holes place len) (covered - len) (used - words)
+  pub without_room : len ≡ 0 → IsPackedRegion (with_slot layout n None) holes covered (used - words)
+
+pub is_freed : OneHoleMoreThanRanges → (layout : Layout) (holes : Region) (covered used n place len words : ℕ)
+    → IsPackedRegion layout holes covered used → IsLive (content_of layout.slots) n → place ≡ place_at layout.slots n
+    → len ≡ covered_at layout.slots n → words ≡ length (words_at layout.slots n)
+    → IsFreed layout holes covered used n place len words
+is_freed law layout holes covered used n place len words r live here covers long =
+    let p = the_block layout.slots n (slot_there layout.slots n live) in
+    let gone = used-remove layout holes covered n p.0 r.region p.1 in
+    let size : words ≡ length p.0.words = long ∙ ap (λ o. length (words_of o)) p.1 in
+    let leaving = is_leaving law layout holes covered n place len r.region live here covers in
+    let counted : used - words ≡ used_words (content_of (slice_set layout.slots n None)) =
+    omega (arith, gone, size, r.counted) in
+    let fits = r.fits in
+    record {
+      leaving = leaving;
+      less = omega (arith, gone, size, r.counted);
+      memory = record { region = leaving.region; counted = counted; fits = omega arith };
+      without_room = λ nothing. record {
+        region =
+            let same : given_to holes place len ≡ holes =
+            ap (λ k. given_to holes place k) nothing
+            ∙ ap (λ free. let region : Region = record { free = free; most = holes.most } in region)
+            (set_range-nothing holes.free place true) in
+            let whole : covered - len ≡ covered = omega arith in
+            rw (same, whole) at leaving.region;
+        counted = counted;
+        fits = omega arith;
+      };
+    }
 
 -- what the region contains after a block came or went
 pub content_of-put : (slots : List (Option PlacedBlock)) (n : ℕ) (p : PlacedBlock)
@@ -310,16 +433,16 @@ module _ (layout : Layout) (holes : Region) (used n : ℕ) (p : PlacedBlock) (ne
     (r : IsRegion layout holes used) (there : value_at layout.slots n ≡ Some p)
     (long : length new ≡ length p.words) where
   abbrev rewritten : PlacedBlock
-  rewritten = record { owner = p.owner; place = p.place; words = new }
+  rewritten = record { owner = p.owner; place = p.place; len = p.len; words = new }
 
   its_number : n < length layout.slots
   its_number = IsSome-in_range layout.slots n (ap is_some there)
 
-  its_words : (word : ℕ) → p.place ≤ word → word < p.place + length new → Covers layout.slots n word
-  its_words word from below = record { block = p; there = there; from = from; below = omega (arith, below, long) }
+  its_words : (word : ℕ) → p.place ≤ word → word < p.place + p.len → Covers layout.slots n word
+  its_words word from below = record { block = p; there = there; from = from; below = below }
 
   -- no other block covers one of its words
-  its_own : IsClear layout.slots n p.place (length new)
+  its_own : IsClear layout.slots n p.place p.len
   its_own other word from below c = r.cover.apart other n word c (its_words word from below)
 
   cover_rewritten : CoverRegion (slice_set layout.slots n (Some rewritten)) holes.free
@@ -341,7 +464,7 @@ module _ (layout : Layout) (holes : Region) (used n : ℕ) (p : PlacedBlock) (ne
                 (subst (λ (k : ℕ). Covers layout.slots k word) same c.covers) in
                 record {
                   number = n;
-                  covers = Covers-set_here layout.slots n word rewritten its_number by.0 (omega (arith, by.1, long));
+                  covers = Covers-set_here layout.slots n word rewritten its_number by.0 by.1;
                 }
             | inr other ↦
                 record {
@@ -362,24 +485,33 @@ module _ (layout : Layout) (holes : Region) (used n : ℕ) (p : PlacedBlock) (ne
       record {
         cover = cover_rewritten;
         within = AreWithin-set layout.slots layout.size n rewritten its_number r.within
-            (let w = r.within n p there in omega (arith, w, long));
+            (let w = r.within n p there in (w.0, omega (arith, w.1, long)));
         same_size = r.same_size;
         room = let same = length-set layout.slots n (Some rewritten) in let room = r.room in omega (arith, same, room);
         counted =
-            let size : length new ≡ length (content_words_at (content_of layout.slots) n) =
-            long ∙ sym (ap length (words_at-content_of layout.slots n ∙ ap words_of there)) in
-            let kept = used_words-rewritten (content_of layout.slots) n (record { owner = p.owner; words = new })
-            there_still size in
-            r.counted ∙ (sym kept ∙ ap used_words (sym content_rewritten));
+            let change = sum_by-set covered_of layout.slots n (Some rewritten) None its_number in
+            let was : covered_of (value_at layout.slots n) ≡ p.len = ap covered_of there in
+            omega (arith, change, was, r.counted);
         fits = r.fits;
       }
+
+  -- as many words are in use
+  used_rewritten : used_words (content_of (slice_set layout.slots n (Some rewritten)))
+      ≡ used_words (content_of layout.slots)
+  used_rewritten =
+      let size : length new ≡ length (content_words_at (content_of layout.slots) n) =
+      long ∙ sym (ap length (words_at-content_of layout.slots n ∙ ap words_of there)) in
+      ap used_words content_rewritten
+      ∙ used_words-rewritten (content_of layout.slots) n (record { owner = p.owner; words = new }) there_still size
 
 -- what is known of a block that is written over
 pub record CanRewrite (layout : Layout) (holes : Region) (used n : ℕ) (new : List ℤ) : Type 0 where
   pub there : IsSome (value_at layout.slots n)
   pub same_length : length new ≡ length (words_at layout.slots n)
-  pub clear : IsClear layout.slots n (place_at layout.slots n) (length new)
+  pub clear : IsClear layout.slots n (place_at layout.slots n) (covered_at layout.slots n)
   pub region : IsRegion (layout_after_rewrite layout n new) holes used
+  pub same_used : used_words (content_of (layout_after_rewrite layout n new).slots)
+      ≡ used_words (content_of layout.slots)
   pub content : content_of (layout_after_rewrite layout n new).slots ≡ with_block (content_of layout.slots) n
       (record { owner = content_owner_at (content_of layout.slots) n; words = new })
 
@@ -398,11 +530,14 @@ can_rewrite layout holes used n new r live same =
       there = some;
       same_length = size;
       clear =
-          subst (λ (place : ℕ). IsClear layout.slots n place (length new)) (sym (ap place_of p.1))
+          subst (λ (o : Option PlacedBlock). IsClear layout.slots n (place_of o) (covered_of o)) (sym p.1)
           (its_own layout holes used n p.0 new r p.1 long);
       region =
           subst (λ (o : Option PlacedBlock). IsRegion (with_slot layout n (block_with_words new o)) holes used)
           (sym p.1) (region_rewritten layout holes used n p.0 new r p.1 long);
+      same_used =
+          ap (λ (o : Option PlacedBlock). used_words (content_of (slice_set layout.slots n (block_with_words new o))))
+          p.1 ∙ used_rewritten layout holes used n p.0 new r p.1 long;
       content =
           ap (λ (o : Option PlacedBlock). content_of (slice_set layout.slots n (block_with_words new o))) p.1
           ∙ (content_rewritten layout holes used n p.0 new r p.1 long

@@ -7,8 +7,8 @@ use Rattle.holes.specs.FreeWords.{Region, is_free, AllFree, NoneFree, taken_from
 use Rattle.holes.specs.FreeWords.{front_run, widest}
 use Rattle.holes.specs.Laws.{OneHoleMoreThanRanges}
 use Rattle.block_memory.specs.Table.{value_at}
-use Rattle.block_memory.specs.Layout.{PlacedBlock, Layout, IsClear, place_of, words_of}
-use Rattle.block_memory.specs.Layout.{place_at, words_at, with_slot, block_at_place, layout_after_move}
+use Rattle.block_memory.specs.Layout.{PlacedBlock, Layout, IsClear, place_of, covered_of}
+use Rattle.block_memory.specs.Layout.{place_at, covered_at, with_slot, block_at_place, layout_after_move}
 use Rattle.block_memory.specs.Region.{IsRegion, IsCovered, HasRoom}
 use Rattle.block_memory.proofs.Lists.{true-not_false}
 use Rattle.block_memory.proofs.LayoutLemmas.{value_at-set_same, Covers-set_other, is_some-content_of}
@@ -95,7 +95,7 @@ after_no_move layout n to some here =
     let p = the_block layout.slots n some in
     let is_to : p.0.place ≡ to = ap place_of (sym p.1) ∙ here in
     let stays : block_at_place to (value_at layout.slots n) ≡ value_at layout.slots n = ap (block_at_place to) p.1
-    ∙ (ap (λ k. let b : Option PlacedBlock = Some (record { owner = p.0.owner; place = k; words = p.0.words }) in b)
+    ∙ (ap (λ k. let b : Option PlacedBlock = Some (record { owner = p.0.owner; place = k; len = p.0.len; words = p.0.words }) in b)
     (sym is_to) ∙ sym p.1) in
     sym (ap (with_slot layout n) stays
     ∙ ap (λ (slots : List (Option PlacedBlock)). let l : Layout = record { size = layout.size; slots = slots } in l)
@@ -103,25 +103,25 @@ after_no_move layout n to some here =
 
 -- what is known of a block that moves to another place
 pub record IsSlid (layout : Layout) (holes : Region) (used n place len to : ℕ) : Type 0 where
-  pub fits : to + length (words_at layout.slots n) ≤ layout.size
-  pub clear : IsClear layout.slots n to (length (words_at layout.slots n))
+  pub fits : to + covered_at layout.slots n ≤ layout.size
+  pub clear : IsClear layout.slots n to (covered_at layout.slots n)
   pub region : IsRegion (layout_after_move layout n to) (taken_from (given_to holes place len) to len) used
 
 -- the block of a number goes, and comes again at another place
 module _ (layout : Layout) (holes : Region) (used n : ℕ) (p : PlacedBlock) (r : IsRegion layout holes used)
-    (there : value_at layout.slots n ≡ Some p) (less : length p.words ≤ used) (to : ℕ)
-    (fit : IsLowestFit (given_to holes p.place (length p.words)).free (length p.words) to)
-    (within : to + length p.words ≤ length (given_to holes p.place (length p.words)).free) where
+    (there : value_at layout.slots n ≡ Some p) (less : p.len ≤ used) (to : ℕ)
+    (fit : IsLowestFit (given_to holes p.place p.len).free p.len to)
+    (within : to + p.len ≤ length (given_to holes p.place p.len).free) where
   abbrev moved_to : PlacedBlock
-  moved_to = record { owner = p.owner; place = to; words = p.words }
+  moved_to = record { owner = p.owner; place = to; len = p.len; words = p.words }
 
   abbrev given : Region
-  given = given_to holes p.place (length p.words)
+  given = given_to holes p.place p.len
 
-  room : HasRoom (with_slot layout n None) (taken_from given to (length p.words)) (used - length p.words) to
-      (length p.words)
+  room : HasRoom (with_slot layout n None) (taken_from given to p.len) (used - p.len) to
+      p.len
   room =
-      let long = length-set_range holes.free p.place (length p.words) true (inside layout holes used n p r there) in
+      let long = length-set_range holes.free p.place p.len true (inside layout holes used n p r there) in
       let size = r.same_size in
       record {
         before = given;
@@ -137,30 +137,30 @@ module _ (layout : Layout) (holes : Region) (used n : ℕ) (p : PlacedBlock) (r 
   empty : value_at (slice_set layout.slots n None) n ≡ None
   empty = value_at-set_same layout.slots n None in_slots
 
-  clear_there : IsClear layout.slots n to (length p.words)
+  clear_there : IsClear layout.slots n to p.len
   clear_there other word from below c =
       elim (cases_eq other n) [
         | inl same ↦ same
         | inr differs ↦
-            absurd (HasRoom-bare (with_slot layout n None) (taken_from given to (length p.words))
-            (used - length p.words) to (length p.words) room other word from below
+            absurd (HasRoom-bare (with_slot layout n None) (taken_from given to p.len)
+            (used - p.len) to p.len room other word from below
             (Covers-set_other layout.slots n other word None differs c))
       ]
 
-  region_then : IsRegion (with_slot layout n (Some moved_to)) (taken_from given to (length p.words)) used
+  region_then : IsRegion (with_slot layout n (Some moved_to)) (taken_from given to p.len) used
   region_then =
       let there_still : n < length (slice_set layout.slots n None) = rw (length-set layout.slots n None) in_slots in
-      let back : used - length p.words + length p.words ≡ used = omega arith in
+      let back : used - p.len + p.len ≡ used = omega arith in
       let fits = r.fits in
       let put =
-      IsRegion-put (with_slot layout n None) (taken_from given to (length p.words)) (used - length p.words) to n
-      p.owner p.words room there_still empty (omega arith) in
+      IsRegion-put (with_slot layout n None) (taken_from given to p.len) (used - p.len) n
+      moved_to room there_still empty (omega arith) (r.within n p there).1 in
       rw (set-set layout.slots n None (Some moved_to), back) at put
 
-  slid : IsSlid layout holes used n p.place (length p.words) to
+  slid : IsSlid layout holes used n p.place p.len to
   slid = record {
-    fits = rw (ap words_of there) room.inside;
-    clear = rw (ap words_of there) clear_there;
+    fits = rw (ap covered_of there) room.inside;
+    clear = rw (ap covered_of there) clear_there;
     region = rw there region_then;
   }
 
@@ -172,7 +172,7 @@ pub record IsSliding (layout : Layout) (holes : Region) (used n place len : ℕ)
 module _ (law : OneHoleMoreThanRanges) (layout : Layout) (holes : Region) (used n place len : ℕ)
     (r : IsRegion layout holes used) (some : IsSome (value_at layout.slots n))
     (here : place ≡ place_at layout.slots n)
-    (long : len ≡ length (words_at layout.slots n)) where
+    (long : len ≡ covered_at layout.slots n) where
   pub is_sliding : IsSliding layout holes used n place len
   is_sliding =
       let leaving =
@@ -189,8 +189,8 @@ module _ (law : OneHoleMoreThanRanges) (layout : Layout) (holes : Region) (used 
   is_slid given to same fit within =
       let p = the_block layout.slots n some in
       let is_place : place ≡ p.0.place = here ∙ ap place_of p.1 in
-      let is_len : len ≡ length p.0.words = long ∙ ap (λ o. length (words_of o)) p.1 in
-      let less : length p.0.words ≤ used = rw is_len at is_sliding.leaving.less in
+      let is_len : len ≡ p.0.len = long ∙ ap covered_of p.1 in
+      let less : p.0.len ≤ used = rw is_len at is_sliding.leaving.less in
       let fit_there = rw (same, is_place, is_len) at fit in
       let within_there = rw (same, is_place, is_len) at within in
       rw (is_place, is_len) (slid layout holes used n p.0 r p.1 less to fit_there within_there)

@@ -31,9 +31,9 @@ span_of (Some s) = s
 abbrev pub span_at : List (Option Span) → ℕ → Span
 span_at spans id = span_of (value_at spans id)
 
--- one block of this length more, whose words have this property
-abbrev pub IsPutWith : Layout → Layout → (number owner place len : ℕ) → (List ℤ → Type 0) → Type 0
-IsPutWith old new number owner place len is =
+-- one block of `len` words more, which covers this many words of the region. Its words have this property
+abbrev pub IsPutWith : Layout → Layout → (number owner place covered len : ℕ) → (List ℤ → Type 0) → Type 0
+IsPutWith old new number owner place covered len is =
     (words : List ℤ)
     × ((length words ≡ len) × is words
-    × (new ≡ with_slot old number (Some (record { owner = owner; place = place; words = words }))))
+    × (new ≡ with_slot old number (Some (record { owner = owner; place = place; len = covered; words = words }))))

@@ -1,29 +1,33 @@
-//! Blocks that lie in one region of words, each at a place of its own.
+//! Numbered blocks of words: a block of one word lies in the word of its number, others in one region, each at a place
+//! of its own.
 ghost use Rattle.std.specs.Prelude.{◌≡◌, ◌+◌, ◌^◌, ◌<◌, ◌≤◌, ℕ, length, take, drop, replicate, None, Some};
 ghost use Rattle.std.specs.Prelude.{IsSome, is_some, IfOk, IfSome, IfNone, All, MatchResult, map, slice_index_or};
-ghost use Rattle.std.specs.Prelude.{vec_capacity};
+ghost use Rattle.std.specs.Prelude.{vec_capacity, [], ◌-◌, ◌⊎◌};
+ghost use Rattle.block_memory.specs.BlocksInside.{covered_in};
 ghost use Rattle.block_memory.specs.Table.{value_at, value_count};
-ghost use Rattle.block_memory.specs.Layout.{IsBare, IsClear, Begins, owner_at, place_at, words_at, with_slot};
-ghost use Rattle.block_memory.specs.Layout.{layout_after_move, layout_after_rewrite};
+ghost use Rattle.block_memory.specs.Layout.{IsBare, IsClear, Begins, owner_at, place_at, covered_at, words_at};
+ghost use Rattle.block_memory.specs.Layout.{with_slot, layout_after_move, layout_after_rewrite};
 ghost use Rattle.block_memory.specs.BlocksWritten.{IsWritten, IsMarked, IsLengthened};
 ghost use Rattle.block_memory.specs.Writing.{IsPutWith, IsApart, span_at, span_of, words_in};
 
-use crate::memory::BlockId;
-use crate::span::Span;
+use crate::memory::{BlockId, MOST_BLOCKS};
+use crate::span::{Freed, Span};
 use crate::table::Table;
 use crate::writer::{MOST_LENT, Writer, write_block};
+use holes::LONGEST_REGION;
 use std::alloc::{AllocError, Allocator};
 use std::marker::Model;
 
-/// Numbered blocks in one region of words. All memory is taken when it is made, and written when it is used: the list
-/// of words is as long as the words that were in use so far, and the list of starts ends at the highest word at which a
-/// block began so far.
+/// Numbered blocks. All memory is taken when it is made, and written when it is used: the list of words is as long as
+/// the words that were in use so far, and the list of starts ends at the highest word of the region at which a block
+/// began so far.
 #[derive(Drop)]
 pub struct Blocks<A: Allocator> {
     size: usize,
+    // One word of each number, and behind them the words of the region.
     words: Vec<i64, A>,
-    // At the first word of each block that has words, the block's number. Elsewhere any number, which says nothing:
-    // whether a block begins at a word is seen by its span.
+    // At the first word of each block that has words in the region, the block's number. Elsewhere any number, which
+    // says nothing: whether a block begins at a word is seen by its span.
     starts: Vec<usize, A>,
     spans: Table<Span, A>,
 }
@@ -36,10 +40,10 @@ impl<A: Allocator> Model for Blocks<A> {
 
     ghost use Rattle.block_memory.specs.BlocksInside.{slots_from, AreBlocks};
 
-    ghost view = { λ b. record { size = b.size; slots = slots_from b.words.items b.spans } };
+    ghost view = { λ b. record { size = b.size; slots = slots_from (length b.spans) b.words.items b.spans } };
 
-    ghost invariant = { λ b. AreBlocks b.words.items b.starts.items b.spans b.size (vec_capacity b.words)
-        (vec_capacity b.starts) };
+    ghost invariant = { λ b. AreBlocks (length b.spans) b.words.items b.starts.items b.spans b.size
+        (vec_capacity b.words) (vec_capacity b.starts) };
 }
 
 // Makes a list at least so long, within what is reserved for it. Only items that it did not have are written.
@@ -158,16 +162,40 @@ fn write_lent<A: Allocator, W: Writer>(
     }
 }
 
+// What the block of a span had: its word before the words of the region, or words of the region.
+#[inline(always)]
+fn freed(span: Span, front: usize) -> Freed
+    requires { (span.place + span.len ≤ front) ⊎ (front ≤ span.place) }
+    ensures words { result.words ≡ span.len }
+    ensures place { result.place ≡ span.place - front }
+    ensures covered { result.covered ≡ covered_in front span }
+{
+    if span.place < front {
+        return Freed {
+            words: span.len,
+            place: 0,
+            covered: 0,
+        };
+    }
+    Freed {
+        words: span.len,
+        place: span.place - front,
+        covered: span.len,
+    }
+}
+
 impl<A: Allocator> Blocks<A> {
     /// A region of `size` words with numbers for `most` blocks, and no block.
     pub(crate) fn new(alloc: A, size: usize, most: usize) -> Result<Self, AllocError>
     where
         A: Clone,
+        requires region { size ≤ LONGEST_REGION }
+        requires blocks { most ≤ MOST_BLOCKS }
         ensures { IfOk result (λ blocks. blocks ≡ record { size = size; slots = replicate most None }) }
     {
         let spans = Table::new(alloc.clone()?, most)?;
         let starts = Vec::with_capacity(alloc.clone()?, size)?;
-        let words = Vec::with_capacity(alloc, size)?;
+        let words = Vec::with_capacity(alloc, most + size)?;
         Ok(Blocks {
             size,
             words,
@@ -217,13 +245,17 @@ impl<A: Allocator> Blocks<A> {
         self.spans.value(number).owner
     }
 
-    /// The place of the block of a number.
+    /// The place of the block of a number in the region, in which it has words, and how many these are.
     #[inline(always)]
-    pub(crate) fn place(&self, number: usize) -> usize
-        requires { IsSome (value_at self.now.slots number) }
-        ensures { result ≡ place_at self.now.slots number }
+    pub(crate) fn range(&self, number: usize) -> (usize, usize)
+        requires there { IsSome (value_at self.now.slots number) }
+        requires some { 1 ≤ covered_at self.now.slots number }
+        ensures place { result.0 ≡ place_at self.now.slots number }
+        ensures len { result.1 ≡ covered_at self.now.slots number }
     {
-        self.spans.value(number).place
+        let front = self.spans.len();
+        let span = self.spans.value(number);
+        (span.place - front, span.len)
     }
 
     /// The words of the block of a number.
@@ -236,7 +268,43 @@ impl<A: Allocator> Blocks<A> {
         &self.words[span.place..span.place + span.len]
     }
 
-    /// The number of the block that has words and begins at a place, if one does.
+    // The words of the block at this place of a list. After the last there are none.
+    fn lent_words(&self, lent: &[BlockId], index: usize) -> &[i64]
+        requires { All (λ id. IsSome (value_at self.now.slots id)) lent.now }
+        ensures { result.now ≡ slice_index_or (map (words_at self.now.slots) lent.now) index [] }
+    {
+        match lent.get(index) {
+            Some(id) => self.words(id.number()),
+            None => &[],
+        }
+    }
+
+    // The word of a new block that a writer writes from the words of others, and what it answers.
+    fn written_word<W: Writer>(
+        &self,
+        lent: &[BlockId],
+        writer: &W,
+    ) -> ([i64; 1], Result<(), W::Fault>)
+        requires few { length lent.now ≤ MOST_LENT }
+        requires there { All (λ id. IsSome (value_at self.now.slots id)) lent.now }
+        requires can { W.can_write writer.now (map (words_at self.now.slots) lent.now) 1 }
+        ensures { MatchResult result.1
+            (λ _. W.writes writer.now (map (words_at self.now.slots) lent.now) result.0)
+            (λ fault. W.faults writer.now (map (words_at self.now.slots) lent.now) fault) }
+    {
+        let words = [
+            self.lent_words(lent, 0),
+            self.lent_words(lent, 1),
+            self.lent_words(lent, 2),
+            self.lent_words(lent, 3),
+            self.lent_words(lent, 4),
+        ];
+        let mut word = [0];
+        let written = writer.write(&words[..lent.len()], &mut word);
+        (word, written)
+    }
+
+    /// The number of the block that has words in the region and begins at a place, if one does.
     pub(crate) fn beginning_at(&self, place: usize) -> Option<usize>
         requires { place < self.now.size }
         ensures found { IfSome result (λ number. Begins self.now.slots number place) }
@@ -248,14 +316,58 @@ impl<A: Allocator> Blocks<A> {
             return None;
         }
         let number = self.starts[place];
+        let front = self.spans.len();
         let span = self.spans.find(number)?;
-        if span.place != place {
+        if span.place != front + place {
             return None;
         }
         if span.len == 0 {
             return None;
         }
         Some(number)
+    }
+
+    /// Puts a block of one word into the word of its number, which had no block, and answers the number.
+    #[inline(always)]
+    pub(crate) fn put_word(&mut self, owner: usize, word: &[i64]) -> usize
+        requires number { value_count self.old.slots < length self.old.slots }
+        requires one { length word.now ≡ 1 }
+        ensures in_range { result < length self.old.slots }
+        ensures vacant { value_at self.old.slots result ≡ None }
+        ensures put { self.new ≡ with_slot self.old result
+            (Some (record { owner = owner; place = 0; len = 0; words = word.now })) }
+    {
+        let number = self.spans.insert_with(|place| Span {
+            owner,
+            place,
+            len: 1,
+        });
+        lengthen(&mut self.words, number + 1, 0);
+        write_words(&mut self.words, number, word);
+        number
+    }
+
+    /// Puts a block of one word as `put_word` does. A writer writes the word, and is lent the words of other blocks for
+    /// that. Answers its number and what the writer answers. If that is a fault, nothing is said of the word.
+    pub(crate) fn put_word_with<W: Writer>(
+        &mut self,
+        owner: usize,
+        lent: &[BlockId],
+        writer: &W,
+    ) -> (usize, Result<(), W::Fault>)
+        requires number { value_count self.old.slots < length self.old.slots }
+        requires few { length lent.now ≤ MOST_LENT }
+        requires there { All (λ id. IsSome (value_at self.old.slots id)) lent.now }
+        requires can { W.can_write writer.now (map (words_at self.old.slots) lent.now) 1 }
+        ensures in_range { result.0 < length self.old.slots }
+        ensures vacant { value_at self.old.slots result.0 ≡ None }
+        ensures put { IsPutWith self.old self.new result.0 owner 0 0 1 (λ words. MatchResult result.1
+            (λ _. W.writes writer.now (map (words_at self.old.slots) lent.now) words)
+            (λ fault. W.faults writer.now (map (words_at self.old.slots) lent.now) fault)) }
+    {
+        let (word, written) = self.written_word(lent, writer);
+        let number = self.put_word(owner, &word);
+        (number, written)
     }
 
     /// Puts a block of the words at a place at which no block covers a word, and answers its number, which had none.
@@ -267,12 +379,19 @@ impl<A: Allocator> Blocks<A> {
         ensures in_range { result < length self.old.slots }
         ensures vacant { value_at self.old.slots result ≡ None }
         ensures put { self.new ≡ with_slot self.old result
-            (Some (record { owner = owner; place = place; words = words.now })) }
+            (Some (record { owner = owner; place = place; len = length words.now; words = words.now })) }
     {
         let len = words.len();
-        lengthen(&mut self.words, place + len, 0);
-        write_words(&mut self.words, place, words);
-        let number = self.spans.insert(Span { owner, place, len });
+        let front = self.spans.len();
+        let at = front + place;
+        lengthen(&mut self.words, at + len, 0);
+        write_words(&mut self.words, at, words);
+        let span = Span {
+            owner,
+            place: at,
+            len,
+        };
+        let number = self.spans.insert(span);
         mark_start(&mut self.starts, place, len, number);
         number
     }
@@ -296,13 +415,20 @@ impl<A: Allocator> Blocks<A> {
         requires can { W.can_write writer.now (map (words_at self.old.slots) lent.now) len }
         ensures in_range { result.0 < length self.old.slots }
         ensures vacant { value_at self.old.slots result.0 ≡ None }
-        ensures put { IsPutWith self.old self.new result.0 owner place len (λ words. MatchResult result.1
+        ensures put { IsPutWith self.old self.new result.0 owner place len len (λ words. MatchResult result.1
             (λ _. W.writes writer.now (map (words_at self.old.slots) lent.now) words)
             (λ fault. W.faults writer.now (map (words_at self.old.slots) lent.now) fault)) }
     {
-        lengthen(&mut self.words, place + len, 0);
-        let written = write_lent(&mut self.words, &self.spans, place, len, lent, writer);
-        let number = self.spans.insert(Span { owner, place, len });
+        let front = self.spans.len();
+        let at = front + place;
+        lengthen(&mut self.words, at + len, 0);
+        let written = write_lent(&mut self.words, &self.spans, at, len, lent, writer);
+        let span = Span {
+            owner,
+            place: at,
+            len,
+        };
+        let number = self.spans.insert(span);
         mark_start(&mut self.starts, place, len, number);
         (number, written)
     }
@@ -312,40 +438,47 @@ impl<A: Allocator> Blocks<A> {
     pub(crate) fn rewrite(&mut self, number: usize, words: &[i64])
         requires there { IsSome (value_at self.old.slots number) }
         requires same_length { length words.now ≡ length (words_at self.old.slots number) }
-        requires clear { IsClear self.old.slots number (place_at self.old.slots number) (length words.now) }
+        requires clear { IsClear self.old.slots number (place_at self.old.slots number)
+            (covered_at self.old.slots number) }
         ensures { self.new ≡ layout_after_rewrite self.old number words.now }
     {
         let span = *self.spans.value(number);
         write_words(&mut self.words, span.place, words);
     }
 
-    /// Takes the block of a number away, and answers where it was.
+    /// Takes the block of a number away, and answers what it had.
     #[inline(always)]
-    pub(crate) fn remove(&mut self, number: usize) -> Span
+    pub(crate) fn remove(&mut self, number: usize) -> Freed
         requires { IsSome (value_at self.old.slots number) }
+        ensures words { result.words ≡ length (words_at self.old.slots number) }
         ensures place { result.place ≡ place_at self.old.slots number }
-        ensures len { result.len ≡ length (words_at self.old.slots number) }
+        ensures covered { result.covered ≡ covered_at self.old.slots number }
         ensures removed { self.new ≡ with_slot self.old number None }
     {
-        self.spans.remove(number)
+        let front = self.spans.len();
+        let span = self.spans.remove(number);
+        freed(span, front)
     }
 
-    /// Moves the block of a number to a place from which on no other block covers one of its words. Answers how many
-    /// words moved.
+    /// Moves the block of a number, which has words in the region, to a place from which on no other block covers one
+    /// of its words. Answers how many words moved.
     pub(crate) fn slide(&mut self, number: usize, to: usize) -> usize
         requires there { IsSome (value_at self.old.slots number) }
-        requires within { to + length (words_at self.old.slots number) ≤ self.old.size }
-        requires clear { IsClear self.old.slots number to (length (words_at self.old.slots number)) }
+        requires some { 1 ≤ covered_at self.old.slots number }
+        requires within { to + covered_at self.old.slots number ≤ self.old.size }
+        requires clear { IsClear self.old.slots number to (covered_at self.old.slots number) }
         ensures moved { self.new ≡ layout_after_move self.old number to }
-        ensures few { result ≤ length (words_at self.old.slots number) }
+        ensures few { result ≤ covered_at self.old.slots number }
     {
         let Span { owner, place, len } = *self.spans.value(number);
-        lengthen(&mut self.words, to + len, 0);
-        let moved = move_words(&mut self.words, place, len, to);
+        let front = self.spans.len();
+        let at = front + to;
+        lengthen(&mut self.words, at + len, 0);
+        let moved = move_words(&mut self.words, place, len, at);
         mark_start(&mut self.starts, to, len, number);
         let span = Span {
             owner,
-            place: to,
+            place: at,
             len,
         };
         self.spans.set(number, span);

@@ -1,8 +1,7 @@
 //! Moving the blocks of a region together.
-ghost use Rattle.std.specs.Prelude.{◌≡◌, ◌+◌, ◌<◌, ◌≤◌, length};
+ghost use Rattle.std.specs.Prelude.{◌≡◌, ◌+◌, ◌-◌, ◌<◌, ◌≤◌, length};
 ghost use Rattle.holes.specs.FreeWords.{free_from, NoneFree, hole_count, given_to};
-ghost use Rattle.block_memory.specs.Content.{used_words};
-ghost use Rattle.block_memory.specs.Layout.{content_of};
+ghost use Rattle.block_memory.specs.Layout.{content_of, covered_words};
 ghost use Rattle.block_memory.specs.Region.{AreApart, AreWithin, ArePacked, IsRegion, HasRoom};
 
 use crate::blocks::Blocks;
@@ -12,22 +11,23 @@ use std::alloc::Allocator;
 
 // Moves the blocks to the front of the region, in the order in which they lie, each word at most once. Answers how many
 // words moved.
-fn pack_blocks<A: Allocator>(blocks: &mut Blocks<A>, used: usize) -> usize
+fn pack_blocks<A: Allocator>(blocks: &mut Blocks<A>, covered: usize) -> usize
     requires apart { AreApart blocks.old.slots }
     requires within { AreWithin blocks.old.slots blocks.old.size }
-    requires counted { used ≡ used_words (content_of blocks.old.slots) }
+    requires counted { covered ≡ covered_words blocks.old.slots }
     ensures size { blocks.new.size ≡ blocks.old.size }
     ensures content { content_of blocks.new.slots ≡ content_of blocks.old.slots }
     ensures within { AreWithin blocks.new.slots blocks.new.size }
-    ensures packed { ArePacked blocks.new.slots used }
+    ensures packed { ArePacked blocks.new.slots covered }
+    ensures counted { covered ≡ covered_words blocks.new.slots }
 {
     let mut packed = 0;
     let mut place = 0;
     let mut moved = 0;
-    while packed < used {
+    while packed < covered {
         match blocks.beginning_at(place) {
             Some(number) => {
-                let len = blocks.words(number).len();
+                let (_, len) = blocks.range(number);
                 moved += blocks.slide(number, packed);
                 packed += len;
                 place += len;
@@ -43,16 +43,16 @@ fn pack_blocks<A: Allocator>(blocks: &mut Blocks<A>, used: usize) -> usize
 pub(crate) fn pack_region<A: Allocator>(
     blocks: &mut Blocks<A>,
     holes: &mut Holes<A>,
-    used: usize,
+    covered: usize,
 ) -> usize
-    requires { IsRegion blocks.old holes.old used }
+    requires { IsRegion blocks.old holes.old covered }
     ensures size { blocks.new.size ≡ blocks.old.size }
     ensures content { content_of blocks.new.slots ≡ content_of blocks.old.slots }
-    ensures region { IsRegion blocks.new holes.new used }
-    ensures packed { holes.new.free ≡ free_from used blocks.new.size }
+    ensures region { IsRegion blocks.new holes.new covered }
+    ensures packed { holes.new.free ≡ free_from covered blocks.new.size }
 {
-    let moved = pack_blocks(blocks, used);
-    holes.reset(used);
+    let moved = pack_blocks(blocks, covered);
+    holes.reset(covered);
     moved
 }
 
@@ -65,11 +65,11 @@ impl Packing for WholePacking {
     fn make_room<A: Allocator>(
         blocks: &mut Blocks<A>,
         holes: &mut Holes<A>,
-        used: usize,
+        covered: usize,
         len: usize,
         counts: &mut MoveCounts,
     ) -> usize {
-        counts.last = pack_region(blocks, holes, used);
+        counts.last = pack_region(blocks, holes, covered);
         counts.slid = 0;
         match holes.take(len) {
             Some(place) => place,
@@ -84,15 +84,15 @@ impl Packing for WholePacking {
 pub(crate) fn take_room<P: Packing, A: Allocator>(
     blocks: &mut Blocks<A>,
     holes: &mut Holes<A>,
-    used: usize,
+    covered: usize,
     len: usize,
     counts: &mut MoveCounts,
 ) -> usize
-    requires region { IsRegion blocks.old holes.old used }
-    requires fits { used + len ≤ blocks.old.size }
+    requires region { IsRegion blocks.old holes.old covered }
+    requires fits { covered + len ≤ blocks.old.size }
     ensures size { blocks.new.size ≡ blocks.old.size }
     ensures content { content_of blocks.new.slots ≡ content_of blocks.old.slots }
-    ensures room { HasRoom blocks.new holes.new used result len }
+    ensures room { HasRoom blocks.new holes.new covered result len }
 {
     counts.last = 0;
     if len == 0 {
@@ -100,19 +100,26 @@ pub(crate) fn take_room<P: Packing, A: Allocator>(
     }
     match holes.take(len) {
         Some(place) => place,
-        None => P::make_room(blocks, holes, used, len, counts),
+        None => P::make_room(blocks, holes, covered, len, counts),
     }
 }
 
-/// Gives the words of a block that is gone back to the holes.
-#[inline(always)]
-pub(crate) fn give_room<A: Allocator>(holes: &mut Holes<A>, place: usize, len: usize)
+/// Gives the words of the region that a block covered back to the holes, and counts them off.
+#[inline(never)]
+pub(crate) fn give_room<A: Allocator>(
+    holes: &mut Holes<A>,
+    covered: &mut usize,
+    place: usize,
+    len: usize,
+)
+    requires less { len ≤ covered.old }
+    requires some { 1 ≤ len }
     requires within { place + len ≤ length holes.old.free }
     requires none_free { NoneFree holes.old.free place len }
     requires room { hole_count holes.old.free < holes.old.most }
-    ensures { holes.new ≡ given_to holes.old place len }
+    ensures given { holes.new ≡ given_to holes.old place len }
+    ensures counted { covered.new ≡ covered.old - len }
 {
-    if len > 0 {
-        holes.give(place, len);
-    }
+    holes.give(place, len);
+    *covered -= len;
 }

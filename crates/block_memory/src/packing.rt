@@ -23,14 +23,14 @@ pub trait Packing {
     fn make_room<A: Allocator>(
         blocks: &mut Blocks<A>,
         holes: &mut Holes<A>,
-        used: usize,
+        covered: usize,
         len: usize,
         counts: &mut MoveCounts,
     ) -> usize
-        requires region { IsRegion blocks.old holes.old used }
+        requires region { IsRegion blocks.old holes.old covered }
         requires some { 1 ≤ len }
-        requires fits { used + len ≤ blocks.old.size }
+        requires fits { covered + len ≤ blocks.old.size }
         ensures size { blocks.new.size ≡ blocks.old.size }
         ensures content { content_of blocks.new.slots ≡ content_of blocks.old.slots }
-        ensures room { HasRoom blocks.new holes.new used result len };
+        ensures room { HasRoom blocks.new holes.new covered result len };
 }

@@ -1,7 +1,9 @@
 //! A vector memory whose blocks lie in one region.
-ghost use Rattle.std.specs.Prelude.{◌≡◌, ◌+◌, ◌<◌, ◌≤◌, All, map, length, replicate, true, IfOk, IfErr};
+ghost use Rattle.std.specs.Prelude.{◌≡◌, ◌+◌, ◌<◌, ◌≤◌, All, map, length, replicate, true, None, IfOk};
+ghost use Rattle.std.specs.Prelude.{IfErr};
 ghost use Rattle.holes.specs.FreeWords.{hole_count};
-ghost use Rattle.block_memory.specs.Content.{IsLive, no_blocks, block_count, used_words, words_at};
+ghost use Rattle.block_memory.specs.Content.{IsLive, no_blocks, block_count, used_words, words_at, block_at};
+ghost use Rattle.block_memory.specs.Content.{with_block};
 ghost use Rattle.block_memory.specs.Placing.{IsPlacedWith};
 
 use crate::blocks::Blocks;
@@ -22,11 +24,17 @@ use std::marker::{Model, PhantomData};
 /// A block lies in a row of words, and a block of no words covers none. If a hole is wide enough, `place` costs the
 /// words of the block and a look for the hole. `free` costs giving the words back to the holes, however many blocks
 /// there are. [`RegionMemory`] and [`SlidingMemory`] say what `place` does else.
+///
+/// A block of one word lies in the word of its number, and covers no word of the region. It counts as every other in
+/// what is used and in what fits: as many words of the region stay free for it.
 #[derive(Drop)]
 pub struct PackedRegion<P, A: Allocator> {
     blocks: Blocks<A>,
     holes: Holes<A>,
+    // The words of all blocks.
     used: usize,
+    // Those of them that lie in the region.
+    covered: usize,
     counts: MoveCounts,
     packing: PhantomData<P>,
 }
@@ -47,7 +55,7 @@ pub type RegionMemory<A> = PackedRegion<WholePacking, A>;
 pub type SlidingMemory<A> = PackedRegion<SlidingPacking, A>;
 
 impl<P, A: Allocator> Model for PackedRegion<P, A> {
-    ghost use Rattle.block_memory.specs.Region.{RegionState, IsRegion};
+    ghost use Rattle.block_memory.specs.Region.{RegionState, IsPackedRegion};
     ghost use Rattle.block_memory.specs.Layout.{content_of};
 
     ghost Value = { RegionState };
@@ -55,7 +63,7 @@ impl<P, A: Allocator> Model for PackedRegion<P, A> {
     ghost view = { λ m. record
         { room = m.blocks.size; content = content_of m.blocks.slots; free = m.holes.free; moved = m.counts.last } };
 
-    ghost invariant = { λ m. IsRegion m.blocks m.holes m.used };
+    ghost invariant = { λ m. IsPackedRegion m.blocks m.holes m.covered m.used };
 }
 
 impl<P: Packing, A: Allocator> PackedRegion<P, A> {
@@ -79,14 +87,115 @@ impl<P: Packing, A: Allocator> PackedRegion<P, A> {
             blocks,
             holes,
             used: 0,
+            covered: 0,
             counts: MoveCounts { last: 0, slid: 0 },
             packing: PhantomData,
         })
     }
 
+    // Places a block of one word, which fits.
+    #[inline(always)]
+    fn put_word(&mut self, owner: usize, word: &[i64]) -> BlockId
+        requires one { length word.now ≡ 1 }
+        requires numbers { block_count self.old.content < length self.old.content }
+        requires room { used_words self.old.content + 1 ≤ self.old.room }
+        ensures in_range { result < length self.old.content }
+        ensures vacant { block_at self.old.content result ≡ None }
+        ensures placed { self.new.content ≡ with_block self.old.content result
+            (record { owner = owner; words = word.now }) }
+        ensures same_room { self.new.room ≡ self.old.room }
+    {
+        let _size = self.blocks.size();
+        self.counts.last = 0;
+        let number = self.blocks.put_word(owner, word);
+        self.used += 1;
+        BlockId::new(number)
+    }
+
+    // Places a block in the region, which fits.
+    #[inline(never)]
+    fn put(&mut self, owner: usize, words: &[i64]) -> BlockId
+        requires numbers { block_count self.old.content < length self.old.content }
+        requires room { used_words self.old.content + length words.now ≤ self.old.room }
+        ensures in_range { result < length self.old.content }
+        ensures vacant { block_at self.old.content result ≡ None }
+        ensures placed { self.new.content ≡ with_block self.old.content result
+            (record { owner = owner; words = words.now }) }
+        ensures same_room { self.new.room ≡ self.old.room }
+    {
+        let _size = self.blocks.size();
+        let len = words.len();
+        let place = take_room::<P, A>(
+            &mut self.blocks,
+            &mut self.holes,
+            self.covered,
+            len,
+            &mut self.counts,
+        );
+        let number = self.blocks.put(owner, place, words);
+        self.used += len;
+        self.covered += len;
+        BlockId::new(number)
+    }
+
+    // As `put_with`, in the word of the number.
+    fn put_word_with<W: Writer>(
+        &mut self,
+        owner: usize,
+        lent: &[BlockId],
+        writer: &W,
+    ) -> Result<BlockId, Unwritten<W::Fault>>
+        requires numbers { block_count self.old.content < length self.old.content }
+        requires room { used_words self.old.content + 1 ≤ self.old.room }
+        requires few { length lent.now ≤ MOST_LENT }
+        requires live { All (IsLive self.old.content) lent.now }
+        requires can { W.can_write writer.now (map (words_at self.old.content) lent.now) 1 }
+        ensures placed { IfOk result (λ id. IsPlacedWith self.old.content self.new.content id owner 1
+            (W.writes writer.now (map (words_at self.old.content) lent.now))) }
+        ensures fault { IfErr result (λ u. IsPlacedWith self.old.content self.new.content u.id owner 1
+            (λ words. W.faults writer.now (map (words_at self.old.content) lent.now) u.fault)) }
+        ensures same_room { self.new.room ≡ self.old.room }
+    {
+        let _size = self.blocks.size();
+        self.counts.last = 0;
+        let (number, written) = self.blocks.put_word_with(owner, lent, writer);
+        self.used += 1;
+        let id = BlockId::new(number);
+        match written {
+            Ok(()) => Ok(id),
+            Err(fault) => Err(Unwritten { id, fault }),
+        }
+    }
+
     // Places a block that a writer writes, as `place_with`. If the writer finds a fault, the block stays, with any
     // words.
+    #[inline(always)]
     fn put_with<W: Writer>(
+        &mut self,
+        owner: usize,
+        len: usize,
+        lent: &[BlockId],
+        writer: &W,
+    ) -> Result<BlockId, Unwritten<W::Fault>>
+        requires numbers { block_count self.old.content < length self.old.content }
+        requires room { used_words self.old.content + len ≤ self.old.room }
+        requires few { length lent.now ≤ MOST_LENT }
+        requires live { All (IsLive self.old.content) lent.now }
+        requires can { W.can_write writer.now (map (words_at self.old.content) lent.now) len }
+        ensures placed { IfOk result (λ id. IsPlacedWith self.old.content self.new.content id owner len
+            (W.writes writer.now (map (words_at self.old.content) lent.now))) }
+        ensures fault { IfErr result (λ u. IsPlacedWith self.old.content self.new.content u.id owner len
+            (λ words. W.faults writer.now (map (words_at self.old.content) lent.now) u.fault)) }
+        ensures same_room { self.new.room ≡ self.old.room }
+    {
+        if len == 1 {
+            return self.put_word_with(owner, lent, writer);
+        }
+        self.put_words_with(owner, len, lent, writer)
+    }
+
+    // As `put_with`, in the region.
+    fn put_words_with<W: Writer>(
         &mut self,
         owner: usize,
         len: usize,
@@ -108,12 +217,13 @@ impl<P: Packing, A: Allocator> PackedRegion<P, A> {
         let place = take_room::<P, A>(
             &mut self.blocks,
             &mut self.holes,
-            self.used,
+            self.covered,
             len,
             &mut self.counts,
         );
         let (number, written) = self.blocks.put_with(owner, place, len, lent, writer);
         self.used += len;
+        self.covered += len;
         let id = BlockId::new(number);
         match written {
             Ok(()) => Ok(id),
@@ -142,28 +252,29 @@ impl<P: Packing, A: Allocator> VectorMemory for PackedRegion<P, A> {
 
     #[inline(always)]
     fn place(&mut self, owner: usize, words: &[i64]) -> Result<BlockId, NoRoom> {
-        let len = words.len();
-        if len > self.blocks.size() - self.used {
+        if words.len() > self.blocks.size() - self.used {
             return Err(NoRoom::Full);
         }
-        let place = take_room::<P, A>(
-            &mut self.blocks,
-            &mut self.holes,
-            self.used,
-            len,
-            &mut self.counts,
-        );
-        let number = self.blocks.put(owner, place, words);
-        self.used += len;
-        Ok(BlockId::new(number))
+        match words {
+            [_] => Ok(self.put_word(owner, words)),
+            _ => Ok(self.put(owner, words)),
+        }
     }
 
     #[inline(always)]
     fn free(&mut self, id: BlockId) {
         one_hole_more_than_ranges();
-        let span = self.blocks.remove(id.number());
-        give_room(&mut self.holes, span.place, span.len);
-        self.used -= span.len;
+        let freed = self.blocks.remove(id.number());
+        self.used -= freed.words;
+        if freed.covered == 0 {
+            return;
+        }
+        give_room(
+            &mut self.holes,
+            &mut self.covered,
+            freed.place,
+            freed.covered,
+        );
     }
 
     #[inline(always)]
@@ -187,7 +298,7 @@ impl<P: Packing, A: Allocator> VectorMemory for PackedRegion<P, A> {
         ensures same_room { self.new.room ≡ self.old.room }
         ensures one_hole { hole_count self.new.free ≤ 1 }
     {
-        pack_region(&mut self.blocks, &mut self.holes, self.used);
+        pack_region(&mut self.blocks, &mut self.holes, self.covered);
         self.counts.slid = 0;
     }
 

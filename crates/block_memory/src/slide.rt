@@ -2,7 +2,7 @@
 ghost use Rattle.std.specs.Prelude.{◌≡◌, ◌-◌, ◌≤◌, length, IsSome};
 ghost use Rattle.holes.specs.FreeWords.{AllFree, NoneFree};
 ghost use Rattle.block_memory.specs.Table.{value_at};
-ghost use Rattle.block_memory.specs.Layout.{place_at, words_at, layout_after_move};
+ghost use Rattle.block_memory.specs.Layout.{place_at, covered_at, layout_after_move};
 ghost use Rattle.block_memory.specs.Region.{IsRegion};
 
 use crate::blocks::Blocks;
@@ -16,26 +16,25 @@ use std::alloc::Allocator;
 fn slide_down<A: Allocator>(
     blocks: &mut Blocks<A>,
     holes: &mut Holes<A>,
-    used: usize,
+    covered: usize,
     number: usize,
     front: usize,
 ) -> usize
-    requires region { IsRegion blocks.old holes.old used }
+    requires region { IsRegion blocks.old holes.old covered }
     requires there { IsSome (value_at blocks.old.slots number) }
-    requires some { 1 ≤ length (words_at blocks.old.slots number) }
+    requires some { 1 ≤ covered_at blocks.old.slots number }
     requires down { front ≤ place_at blocks.old.slots number }
     requires none_below { NoneFree holes.old.free 0 front }
     requires hole { AllFree holes.old.free front (place_at blocks.old.slots number - front) }
     ensures moved { blocks.new ≡ layout_after_move blocks.old number front }
-    ensures region { IsRegion blocks.new holes.new used }
-    ensures few { result ≤ length (words_at blocks.old.slots number) }
+    ensures region { IsRegion blocks.new holes.new covered }
+    ensures few { result ≤ covered_at blocks.old.slots number }
 {
-    let place = blocks.place(number);
+    let (place, len) = blocks.range(number);
     if place == front {
         return 0;
     }
     one_hole_more_than_ranges();
-    let len = blocks.words(number).len();
     holes.give(place, len);
     match holes.take(len) {
         Some(to) => blocks.slide(number, to),
@@ -54,12 +53,12 @@ impl Packing for SlidingPacking {
     fn make_room<A: Allocator>(
         blocks: &mut Blocks<A>,
         holes: &mut Holes<A>,
-        used: usize,
+        covered: usize,
         len: usize,
         counts: &mut MoveCounts,
     ) -> usize {
         if counts.slid > blocks.size() {
-            return WholePacking::make_room(blocks, holes, used, len, counts);
+            return WholePacking::make_room(blocks, holes, covered, len, counts);
         }
         let mut moved = 0;
         // The blocks before `place` lie together up to `packed`, and the words from there on to `place` are free.
@@ -68,8 +67,8 @@ impl Packing for SlidingPacking {
         while place - packed < len {
             match blocks.beginning_at(place) {
                 Some(number) => {
-                    let words = blocks.words(number).len();
-                    moved += slide_down(blocks, holes, used, number, packed);
+                    let (_, words) = blocks.range(number);
+                    moved += slide_down(blocks, holes, covered, number, packed);
                     packed += words;
                     place += words;
                 }

@@ -100,6 +100,24 @@ impl<T, A: Allocator> Table<T, A> {
         self.entries[self.keys[number]] = Some(value);
     }
 
+    /// Puts the value that a number is to have at an empty one, of which there is one, and answers the number.
+    #[inline(always)]
+    pub(crate) fn insert_with<F: FnOnce(usize) -> T>(&mut self, value: F) -> usize
+    where
+        T: Drop,
+        requires room { value_count self.old < length self.old }
+        requires callable { F.IsAlwaysCallable value }
+        ensures in_range { result < length self.old }
+        ensures vacant { value_at self.old result ≡ None }
+        ensures inserted { (v : T) × F.post value result v × (self.new ≡ slice_set self.old result (Some v)) }
+    {
+        let Some(number) = self.vacant.pop() else {
+            unreachable!()
+        };
+        self.entries[self.keys[number]] = Some(value(number));
+        number
+    }
+
     /// Puts a value at an empty number, of which there is one, and answers the number.
     #[inline(always)]
     pub(crate) fn insert(&mut self, value: T) -> usize

@@ -4,7 +4,7 @@ use Rattle.block_memory.proofs.pack.pack_blocks.Given as goal
 
 abbrev pub invariant-loop-packed : goal.invariant-loop-packed
 invariant-loop-packed g l = record {
-  packing : IsPacking l.initial.blocks l.blocks l.packed l.place l.used;
+  packing : IsPacking l.initial.blocks l.blocks l.packed l.place l.covered;
   few : l.moved ≤ l.packed;
 }
 

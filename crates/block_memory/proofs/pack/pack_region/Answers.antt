@@ -6,4 +6,5 @@ returns-clause-region g c =
     let now = c.pack_blocks-moved.new.blocks in
     let e = c.pack_blocks-moved.ensures in
     rw c.reset.ensures
-    (IsRegion-packed c.args.blocks.now now c.args.holes.now c.args.used c.requires e.size e.content e.within e.packed)
+    (IsRegion-packed c.args.blocks.now now c.args.holes.now c.args.covered c.requires e.size e.content e.within e.packed
+    e.counted)

@@ -1,6 +1,7 @@
 use Rattle.std.proofs.Common.{◌≡◌, ℤ, ◌+◌, ◌≤◌, vec_capacity, List, length, take, drop, map, Some, refl, sym, ap, ◌∙◌}
 use Rattle.std.proofs.Common.{subst, arith}
 use Rattle.std.proofs.Math.Nat.{le-max_right}
+use Rattle.std.proofs.lemmas.List.{length-set}
 use Rattle.std.specs.Prelude.{All, MatchResult, Option}
 use Rattle.block_memory.specs.Layout.{Layout, PlacedBlock, IsBare, words_at, with_slot}
 use Rattle.block_memory.specs.Writing.{IsApart, span_at, words_in}
@@ -14,6 +15,7 @@ use Rattle.block_memory.proofs.BlocksLemmas.{
   longer,
   after_put,
   same_layout,
+  slots-set,
 }
 use Rattle.block_memory.proofs.BlocksLemmas.{span_apart, all_by_span}
 use Rattle.block_memory.proofs.blocks.Blocks.put_with.Given.{Over}
@@ -26,21 +28,23 @@ use Rattle.block_memory.proofs.blocks.Blocks.put_with.Goals.{
 
 -- what lies in the words that were made longer
 now : (g : Over) (c : goal.After-lengthen g) →
-    IsLonger c.self.inside.words.items c.lengthen.new.list.items c.self.inside.starts.items c.self.inside.spans
+    IsLonger (length c.self.inside.spans) c.self.inside.words.items c.lengthen.new.list.items c.self.inside.starts.items c.self.inside.spans
 now g c =
     let here = c.self.inside in
-    longer here.words.items c.lengthen.new.list.items here.starts.items here.spans
-    (c.args.place + c.args.len) (spans_of _ _ _ _ _ _ c.self.invariant) c.lengthen.ensures.lengthened
+    longer (length here.spans) here.words.items c.lengthen.new.list.items here.starts.items here.spans
+    (length here.spans + c.args.place + c.args.len) (spans_of _ _ _ _ _ _ _ c.self.invariant)
+    (rw c.len-front.ensures at c.lengthen.ensures.lengthened)
 
 pub write_lent-written-requires-clause-apart : goal.write_lent-written-requires-clause-apart
 write_lent-written-requires-clause-apart g c =
     let here = c.self.inside in
     let after = now g (goal.at.write_lent-written-requires-clause-apart g c).After-lengthen in
     let bare : IsBare c.args.self.now.slots c.args.place c.args.len = c.requires.bare in
-    subst (λ (ws : List ℤ). All (λ id. IsApart (length ws) c.args.place c.args.len (span_at here.spans id))
+    rw c.len-front.ensures (subst (λ (ws : List ℤ).
+    All (λ id. IsApart (length ws) (length here.spans + c.args.place) c.args.len (span_at here.spans id))
     c.args.lent.now) (sym c.deref_mut.ensures.value)
-    (λ k d within. span_apart c.lengthen.new.list.items here.starts.items here.spans _ c.args.place c.args.len
-    after.are_spans (rw after.slots (rw (← c.self.view_is) at bare)))
+    (λ k d within. span_apart (length here.spans) c.lengthen.new.list.items here.starts.items here.spans _ c.args.place c.args.len
+    after.are_spans (rw after.slots (rw (← c.self.view_is) at bare))))
 
 pub write_lent-written-requires-clause-can : goal.write_lent-written-requires-clause-can
 write_lent-written-requires-clause-can g c =
@@ -49,7 +53,7 @@ write_lent-written-requires-clause-can g c =
     let lists : map (λ id. words_in c.deref_mut.result.now (span_at here.spans id)) c.args.lent.now
     ≡ map (words_at c.args.self.now.slots) c.args.lent.now =
     ap (λ (ws : List ℤ). map (λ id. words_in ws (span_at here.spans id)) c.args.lent.now) c.deref_mut.ensures.value
-    ∙ (all_by_span c.lengthen.new.list.items here.spans c.args.lent.now
+    ∙ (all_by_span (length here.spans) c.lengthen.new.list.items here.spans c.args.lent.now
     ∙ (ap (λ (slots : List (Option PlacedBlock)). map (words_at slots) c.args.lent.now)
     (now g at.After-lengthen).slots
     ∙ ap (λ (l : Layout). map (words_at l.slots) c.args.lent.now) c.self.view_is)) in
@@ -57,26 +61,33 @@ write_lent-written-requires-clause-can g c =
 
 -- the words that were written are as many as were asked for
 long : (g : Over) (c : goal.After-write_lent-written g) →
-    length (take c.args.len (drop c.args.place c.write_lent-written.new.words)) ≡ c.args.len
+    length (take c.args.len (drop (length c.self.inside.spans + c.args.place) c.write_lent-written.new.words))
+    ≡ c.args.len
 long g c =
     let size = c.write_lent-written.ensures.written.same_size ∙ ap length c.deref_mut.ensures.value in
-    let reached = le-max_right (length c.self.inside.words.items) (c.args.place + c.args.len) in
-    length-part c.write_lent-written.new.words c.args.place c.args.len
-    (omega (arith, size, reached, c.lengthen.ensures.lengthened.long))
+    let front = length c.self.inside.spans in
+    let reached = le-max_right (length c.self.inside.words.items) (front + c.args.place + c.args.len) in
+    let lengthened = rw c.len-front.ensures at c.lengthen.ensures.lengthened in
+    length-part c.write_lent-written.new.words (front + c.args.place) c.args.len
+    (omega (arith, size, reached, lengthened.long))
 
 after : (g : Over) (c : goal.After-mark_start g) →
-    length (take c.args.len (drop c.args.place c.write_lent-written.new.words)) ≡ c.args.len →
-    IsAfterWrite c.self.inside.words.items c.write_lent-written.new.words c.mark_start.new.starts.items
+    length (take c.args.len (drop (length c.self.inside.spans + c.args.place) c.write_lent-written.new.words))
+    ≡ c.args.len →
+    IsAfterWrite (length c.self.inside.spans) c.self.inside.words.items c.write_lent-written.new.words c.mark_start.new.starts.items
     c.self.inside.spans
-    c.insert-number.result (record { owner = c.args.owner; place = c.args.place; len = c.args.len })
-    (take c.args.len (drop c.args.place c.write_lent-written.new.words))
+    c.insert-number.result
+    (record { owner = c.args.owner; place = length c.self.inside.spans + c.args.place; len = c.args.len })
+    c.args.place c.args.len
+    (take c.args.len (drop (length c.self.inside.spans + c.args.place) c.write_lent-written.new.words))
 after g c size =
     let here = c.self.inside in
-    after_put here.words.items c.lengthen.new.list.items c.write_lent-written.new.words here.starts.items
-    c.mark_start.new.starts.items here.spans c.insert-number.result c.args.owner c.args.place
-    c.args.len (spans_of _ _ _ _ _ _ c.self.invariant) c.lengthen.ensures.lengthened
-    (rw (← c.self.view_is) at c.requires.bare) size (rw c.deref_mut.ensures.value at
-    c.write_lent-written.ensures.written)
+    after_put (length here.spans) here.words.items c.lengthen.new.list.items c.write_lent-written.new.words
+    here.starts.items c.mark_start.new.starts.items here.spans c.insert-number.result c.args.owner c.args.place
+    c.args.len (take c.args.len (drop (length here.spans + c.args.place) c.write_lent-written.new.words))
+    (spans_of _ _ _ _ _ _ _ c.self.invariant) (rw c.len-front.ensures at c.lengthen.ensures.lengthened)
+    (rw (← c.self.view_is) at c.requires.bare) (sym size)
+    (rw (c.deref_mut.ensures.value, c.len-front.ensures) at c.write_lent-written.ensures.written)
     c.mark_start.ensures.marked c.insert-number.ensures.in_range
 
 pub invariant_of-self : goal.invariant_of-self
@@ -89,20 +100,22 @@ invariant_of-self g c =
     let at = goal.at.invariant_of-self g c in
     let fits = rw (← c.self.view_is) at c.requires.within in
     let size = c.write_lent-written.ensures.written.same_size ∙ ap length c.deref_mut.ensures.value in
-    let room : here.size ≤ vec_capacity c.lengthen.new.list =
+    let room : length here.spans + here.size ≤ vec_capacity c.lengthen.new.list =
     omega (arith, c.lengthen.ensures.capacity, c.self.invariant.words_room) in
     let starts_room : here.size ≤ vec_capacity c.mark_start.new.starts =
     omega (arith, c.mark_start.ensures.capacity, c.self.invariant.starts_room) in
-    rw (words, c.insert-number.ensures.inserted) (are_blocks here.words.items c.lengthen.new.list.items
-    c.write_lent-written.new.words c.mark_start.new.starts.items _ here.size (c.args.place + c.args.len) _ _
-    (after g at.After-mark_start (long g at.After-write_lent-written)).are_spans c.lengthen.ensures.lengthened size
-    c.self.invariant.few fits room starts_room)
+    rw (words, c.insert-number.ensures.inserted, c.len-front.ensures) (are_blocks (length here.spans)
+    here.words.items c.lengthen.new.list.items c.write_lent-written.new.words c.mark_start.new.starts.items _ here.size
+    (length here.spans + c.args.place + c.args.len) _ _ (length-set here.spans c.insert-number.result _)
+    (after g at.After-mark_start (long g at.After-write_lent-written)).are_spans
+    (rw c.len-front.ensures at c.lengthen.ensures.lengthened) size c.self.invariant.few (omega (arith, fits)) room
+    starts_room)
 
 pub returns-clause-put : goal.returns-clause-put
 returns-clause-put g c =
     let here = c.self.inside in
     let at = goal.at.returns-clause-put g c in
-    let new = take c.args.len (drop c.args.place c.write_lent-written.new.words) in
+    let new = take c.args.len (drop (length here.spans + c.args.place) c.write_lent-written.new.words) in
     let words =
     items_after_write c.lengthen.new.list c.deref_mut.result.now c.write_lent-written.new.words
     c.deref_mut.ensures.value
@@ -110,17 +123,19 @@ returns-clause-put g c =
     let lists : map (λ id. words_in c.deref_mut.result.now (span_at here.spans id)) c.args.lent.now
     ≡ map (words_at c.args.self.now.slots) c.args.lent.now =
     ap (λ (ws : List ℤ). map (λ id. words_in ws (span_at here.spans id)) c.args.lent.now) c.deref_mut.ensures.value
-    ∙ (all_by_span c.lengthen.new.list.items here.spans c.args.lent.now
+    ∙ (all_by_span (length here.spans) c.lengthen.new.list.items here.spans c.args.lent.now
     ∙ (ap (λ (slots : List (Option PlacedBlock)). map (words_at slots) c.args.lent.now)
     (now g at.After-lengthen).slots
     ∙ ap (λ (l : Layout). map (words_at l.slots) c.args.lent.now) c.self.view_is)) in
     let written =
     subst (λ ws. MatchResult c.write_lent-written.result (λ _. g.W.Writer.writes c.args.writer.now ws new)
-    (λ fault. g.W.Writer.faults c.args.writer.now ws fault)) lists c.write_lent-written.ensures.by_writer in
+    (λ fault. g.W.Writer.faults c.args.writer.now ws fault)) lists
+    (rw c.len-front.ensures at c.write_lent-written.ensures.by_writer) in
     let placed =
-    rw (words, c.insert-number.ensures.inserted)
+    rw (words, c.insert-number.ensures.inserted, c.len-front.ensures)
     (same_layout here.size here.size _ _ refl
-    (after g at.After-mark_start (long g at.After-write_lent-written)).slots)
+    (slots-set c.write_lent-written.new.words here.spans c.insert-number.result _ _
+    (after g at.After-mark_start (long g at.After-write_lent-written)).slots))
     ∙ ap (λ layout. with_slot layout c.insert-number.result
-    (Some (record { owner = c.args.owner; place = c.args.place; words = new }))) c.self.view_is in
+    (Some (record { owner = c.args.owner; place = c.args.place; len = c.args.len; words = new }))) c.self.view_is in
     (new, (long g at.After-write_lent-written, written, placed))

@@ -1,9 +1,8 @@
-use Rattle.std.proofs.Common.{◌≡◌, ◌+◌, ◌≤◌, length, sym, ap, ◌∙◌, refl, arith}
-use Rattle.block_memory.specs.Layout.{IsClear, layout_after_rewrite}
-use Rattle.block_memory.specs.BlocksInside.{slots_from}
+use Rattle.std.proofs.Common.{◌≡◌, length, ap, ◌∙◌, refl, arith}
+use Rattle.block_memory.specs.Layout.{layout_after_rewrite}
 use Rattle.block_memory.proofs.Lists.{items_after_write}
 use Rattle.block_memory.proofs.BlocksLemmas.{IsAfterRewrite, spans_of, after_rewrite, same_layout, place_by_span}
-use Rattle.block_memory.proofs.BlocksLemmas.{length-words_of-span}
+use Rattle.block_memory.proofs.BlocksLemmas.{length-words_of-span, covered_by_span}
 use Rattle.block_memory.proofs.blocks.Blocks.rewrite.Given.{Over}
 use Rattle.block_memory.proofs.blocks.Blocks.rewrite.Goals as goal
 use Rattle.block_memory.proofs.blocks.Blocks.rewrite.Goals.{After-value-span, After-write_words}
@@ -14,8 +13,8 @@ long g c =
     let here = c.self.inside in
     let same = rw (← c.self.view_is) at c.requires.same_length in
     let size =
-    length-words_of-span here.words.items here.starts.items here.spans c.args.number c.value-span.result.now
-    (spans_of _ _ _ _ _ _ c.self.invariant) c.value-span.ensures in
+    length-words_of-span (length here.spans) here.words.items here.starts.items here.spans c.args.number c.value-span.result.now
+    (spans_of _ _ _ _ _ _ _ c.self.invariant) c.value-span.ensures in
     omega (arith, same, size)
 
 pub write_words-requires : goal.write_words-requires
@@ -27,16 +26,19 @@ write_words-requires g c =
     omega (arith, inside, size, whole)
 
 after : (g : Over) (c : After-write_words g) → c.value-span.result.now.len ≡ length c.args.words.now →
-    IsAfterRewrite c.self.inside.words.items c.write_words.new.region c.self.inside.starts.items c.self.inside.spans
+    IsAfterRewrite (length c.self.inside.spans) c.self.inside.words.items c.write_words.new.region c.self.inside.starts.items c.self.inside.spans
     c.args.number c.args.words.now
 after g c size =
     let here = c.self.inside in
     let s = c.value-span.result.now in
     let clear = rw (← c.self.view_is) at c.requires.clear in
-    after_rewrite here.words.items c.write_words.new.region here.starts.items here.spans c.args.number s
-    c.args.words.now (spans_of _ _ _ _ _ _ c.self.invariant) c.value-span.ensures
+    after_rewrite (length here.spans) here.words.items c.write_words.new.region here.starts.items here.spans c.args.number s
+    c.args.words.now (spans_of _ _ _ _ _ _ _ c.self.invariant) c.value-span.ensures
     (rw c.deref_mut.ensures.value at c.write_words.ensures) size
-    (rw (size, ← place_by_span here.words.items here.spans c.args.number s c.value-span.ensures) clear)
+    (rw (
+      ← place_by_span (length here.spans) here.words.items here.spans c.args.number s c.value-span.ensures,
+      ← covered_by_span (length here.spans) here.words.items here.spans c.args.number s c.value-span.ensures,
+    ) clear)
 
 pub invariant_of-self : goal.invariant_of-self
 invariant_of-self g c =
@@ -48,6 +50,7 @@ invariant_of-self g c =
     let spans = (after g at.After-write_words (long g at.After-value-span)).are_spans in
     let same = c.write_words.ensures.same_size ∙ ap length c.deref_mut.ensures.value in
     rw words (record {
+      home = spans.home;
       within = spans.within;
       reached = spans.reached;
       started = spans.started;

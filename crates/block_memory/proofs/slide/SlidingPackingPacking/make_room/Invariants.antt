@@ -5,8 +5,8 @@ use Rattle.block_memory.proofs.slide.SlidingPackingPacking.make_room.Given as go
 
 abbrev pub invariant-loop-place : goal.invariant-loop-place
 invariant-loop-place g l = record {
-  packing : IsPacking l.initial.blocks l.blocks l.packed l.place l.used;
-  region : IsRegion l.blocks l.holes l.used;
+  packing : IsPacking l.initial.blocks l.blocks l.packed l.place l.covered;
+  region : IsRegion l.blocks l.holes l.covered;
   within : l.place ≤ l.blocks.size;
   few : l.moved ≤ l.packed;
 }

@@ -1,15 +1,15 @@
-use Rattle.std.proofs.Common.{◌≡◌, ℕ, ℤ, ◌+◌, ◌≤◌, List, length, map, sym, ap, ◌∙◌, subst, arith}
+use Rattle.std.proofs.Common.{rules, w64, Fits, ◌≡◌, ℕ, ℤ, ◌+◌, ◌≤◌, List, length, map, sym, ap, ◌∙◌, subst, arith}
 use Rattle.std.specs.Prelude.{MatchResult}
 use Rattle.std.proofs.lemmas.List.{length-map}
-use Rattle.block_memory.specs.Content.{Content, block_at, words_at}
-use Rattle.block_memory.specs.Layout.{block_of, content_of, words_at as layout_words_at}
-use Rattle.block_memory.specs.Region.{RegionState, HasRoom, IsRegion}
+use Rattle.block_memory.specs.Content.{Content, block_at, words_at, used_words}
+use Rattle.block_memory.specs.Layout.{PlacedBlock, block_of, content_of, words_at as layout_words_at}
+use Rattle.block_memory.specs.Region.{RegionState, IsPackedRegion}
 use Rattle.block_memory.specs.Placing.{IsPlacedWith}
 use Rattle.block_memory.proofs.LayoutLemmas.{block_at-content_of, words_at-content_of}
-use Rattle.block_memory.proofs.RegionLemmas.{HasRoom-bare, IsRegion-put, content_of-put}
-use Rattle.block_memory.proofs.region.PackedRegion.put_with.Given.{Over}
-use Rattle.block_memory.proofs.region.PackedRegion.put_with.Goals as goal
-use Rattle.block_memory.proofs.region.PackedRegion.put_with.Goals.{After-take_room-place, After-new-id, in-Ok, in-Err}
+use Rattle.block_memory.proofs.RegionLemmas.{HasRoom-bare, IsPackedRegion-put, content_of-put, covered_fits}
+use Rattle.block_memory.proofs.region.PackedRegion.put_words_with.Given.{Over}
+use Rattle.block_memory.proofs.region.PackedRegion.put_words_with.Goals as goal
+use Rattle.block_memory.proofs.region.PackedRegion.put_words_with.Goals.{After-take_room-place, After-new-id, in-Ok, in-Err}
 
 -- the blocks have moved, and are those of the memory
 same : (g : Over) (c : goal.After-take_room-place g) →
@@ -30,28 +30,55 @@ fits g c =
     let inside = rw (← c.self.view_is) at room in
     omega (arith, inside, c.self.invariant.counted, c.take_room-place.ensures.size)
 
+pub take_room-place-requires-clause-fits : goal.take_room-place-requires-clause-fits
+take_room-place-requires-clause-fits g c =
+    let here = c.self.inside in
+    let room = rw (← c.self.view_is) at c.requires.room in
+    omega (
+      arith,
+      room,
+      c.self.invariant.counted,
+      covered_fits here.blocks here.holes here.covered here.used c.self.invariant.region c.self.invariant.counted,
+    )
+
 pub put_with-number-requires-clause-bare : goal.put_with-number-requires-clause-bare
 put_with-number-requires-clause-bare g c =
     let room = c.take_room-place in
-    HasRoom-bare room.new.blocks room.new.holes c.self.inside.used room.result c.args.len room.ensures.room
+    HasRoom-bare room.new.blocks room.new.holes c.self.inside.covered room.result c.args.len room.ensures.room
 
 pub put_with-number-requires-clause-can : goal.put_with-number-requires-clause-can
 put_with-number-requires-clause-can g c =
     subst (λ ws. g.W.Writer.can_write c.args.writer.now ws c.args.len)
     (sym (lists g (goal.at.put_with-number-requires-clause-can g c).After-take_room-place)) c.requires.can
 
+pub overflow_add-self-2 : goal.overflow_add-self-2
+overflow_add-self-2 g c =
+    let here = c.self.inside in
+    let room = rw (← c.self.view_is) at c.requires.room in
+    let fits : Fits w64 c.size-size.result = search rules in
+    omega (
+      arith,
+      fits,
+      room,
+      c.self.invariant.counted,
+      c.size-size.ensures,
+      covered_fits here.blocks here.holes here.covered here.used c.self.invariant.region c.self.invariant.counted,
+    )
+
 pub invariant_of-self : goal.invariant_of-self
 invariant_of-self g c =
+    let here = c.self.inside in
     let room = c.take_room-place in
     let put = c.put_with-number.ensures.put in
     let within = fits g (goal.at.invariant_of-self g c).After-take_room-place in
-    let roomy : HasRoom room.new.blocks room.new.holes c.self.inside.used room.result (length put.0) =
-    subst (λ (k : ℕ). HasRoom room.new.blocks room.new.holes c.self.inside.used room.result k) (sym put.1.0)
-    room.ensures.room in
-    subst (λ (k : ℕ). IsRegion c.put_with-number.new.self room.new.holes (c.self.inside.used + k)) put.1.0
-    (rw put.1.2 (IsRegion-put room.new.blocks room.new.holes c.self.inside.used room.result
-    c.put_with-number.result.0 c.args.owner put.0 roomy c.put_with-number.ensures.in_range
-    c.put_with-number.ensures.vacant (omega (arith, within, put.1.0))))
+    let block : PlacedBlock =
+    record { owner = c.args.owner; place = room.result; len = c.args.len; words = put.0 } in
+    subst (λ (k : ℕ). IsPackedRegion c.put_with-number.new.self room.new.holes (here.covered + c.args.len)
+    (here.used + k)) put.1.0
+    (rw put.1.2 (IsPackedRegion-put room.new.blocks room.new.holes here.covered here.used c.put_with-number.result.0
+    block room.ensures.room (c.self.invariant.counted ∙ ap used_words (sym room.ensures.content))
+    c.put_with-number.ensures.in_range c.put_with-number.ensures.vacant (omega (arith, within, put.1.0))
+    (omega (arith, put.1.0))))
 
 -- the block with its words, of which this is so
 with_words : (g : Over) (c : goal.After-new-id g) (is : List ℤ → Type 0) → is c.put_with-number.ensures.put.0 →
@@ -73,7 +100,7 @@ with_words g c is so =
       placed =
           rw (put.1.2, ← content)
           (content_of-put slots c.put_with-number.result.0
-          (record { owner = c.args.owner; place = c.take_room-place.result; words = put.0 }));
+          (record { owner = c.args.owner; place = c.take_room-place.result; len = c.args.len; words = put.0 }));
     })
 
 -- what the writer answered
