@@ -5,7 +5,7 @@ ghost use Rattle.vcode_base.specs.Meaning.{shape, need};
 ghost use Rattle.vcode_base.specs.Operands.{contents};
 
 use crate::loads::{Order, Random, Segments, descriptor, flags, indices, numbers, shifts};
-use job_steps::{fill, need, shape};
+use job_steps::{fill, lengths};
 use std::io;
 use std::rt::Runtime;
 use std::time::Instant;
@@ -71,8 +71,7 @@ fn time_of(
 {
     let start = Instant::now(rt)?;
     for _ in 0..repeats(load) {
-        let (first_len, _) = need(op, ops);
-        if first_len == first.len() as u64 {
+        if lengths(op, ops).is_ok() {
             let _ = fill(op, ops, first, second);
         }
     }
@@ -83,10 +82,9 @@ fn time_of(
 fn row(rt: &impl Runtime, load: Load, name: &str, op: Op, ops: &[&[i64]]) -> io::Result<()>
     requires kinds { HaveKinds (source_kinds op) (contents ops.now) }
 {
-    if shape(op, ops).is_err() {
+    let Ok((first_len, second_len)) = lengths(op, ops) else {
         return println!(rt; "{name}\tdoes not fit");
-    }
-    let (first_len, second_len) = need(op, ops);
+    };
     let mut first = vec![in rt.alloc(); 0i64; first_len as usize]?;
     let mut second = vec![in rt.alloc(); 0i64; second_len as usize]?;
     let nanoseconds = time_of(rt, load, op, ops, &mut first, &mut second)?;

@@ -7,23 +7,22 @@ use Rattle.job_steps.specs.declared.event.Event.{Event}
 use Rattle.job_steps.specs.declared.event.Event.TheVariants.{Begin, Finish}
 use Rattle.job_steps.specs.EventLaws.{EventsKeep, EventsUseUp, LeadsJoin, IsVerified, AreKept}
 use Rattle.job_steps.specs.Events.{next_standing, job_of, next_standing_in, next_standing_of, is_open, with_next}
-use Rattle.job_steps.specs.Events.{after_event, recalled_standing, recalled_standings, all_events_left}
+use Rattle.job_steps.specs.Events.{after_event, recalled_standing, recalled_standings, standing_after}
 use Rattle.job_steps.specs.Standings.{Standing, Waiting, Live, InFlight, Ended, Collected, Queue, of_job}
 use Rattle.job_steps.specs.Standings.{with_standing}
+use Rattle.job_steps.specs.Runs.{state_after}
 use Rattle.job_steps.specs.States.{Task}
+use Rattle.job_steps.specs.Steps.{Progress, Running, Over, Stuck}
 use Rattle.job_steps.specs.Tickets.{Asked}
 use Rattle.job_slots.specs.declared.answer.Finished.{Finished}
 use Rattle.job_slots.specs.declared.answer.Finished.TheVariants as finished
-use Rattle.job_slots.specs.declared.answer.Stepped.{Stepped}
-use Rattle.job_slots.specs.declared.answer.Stepped.TheVariants as stepped
-use Rattle.job_slots.specs.Answers.{question_at, is_live, or_same, standing_after_step, after_stepped}
-use Rattle.job_machine.specs.Machines.{MachineState, queue_of, machine_after, after_step, HasNoStep, GoesOn, is_running}
-use Rattle.job_machine.specs.Machines.{StepsIn}
-use Rattle.job_machine.specs.Machines.{FinishesIn, after_finished}
+use Rattle.job_slots.specs.Answers.{question_at, is_live, or_same, standing_after_step}
+use Rattle.job_machine.specs.Machines.{MachineState, queue_of, machine_after, after_step, HasNoStep, is_running}
+use Rattle.job_machine.specs.Machines.{FinishesIn, StepsLeadIn, after_finished}
 use Rattle.job_machine.proofs.Places.{set_back}
 use Rattle.job_machine.proofs.RunningOut.{of_with, of_with_other, with_twice, no_step_with, beside, happens}
-use Rattle.job_machine.proofs.RunningOut.{fewer_after}
-use Rattle.job_machine.proofs.Turns.{Runs, runs_on, runs_still, kept_on}
+use Rattle.job_machine.proofs.RunningOut.{fewer_after, goes_on_on}
+use Rattle.job_machine.proofs.Turns.{Runs, runs_first}
 
 -- ---- a finish
 
@@ -86,31 +85,12 @@ after_both m job task old task_is old_is =
 
 -- ---- a step
 
--- from one machine to another by a step of a job, which leaves fewer events
-pub record HasStepped (job : ℕ) (old new : MachineState) : Type 0 where
-  pub goes_on : GoesOn job old new
-  pub fewer : all_events_left new.tasks new.standings < all_events_left old.tasks old.standings
-
--- what a step may take for granted
-pub record CanStep (use_up : EventsUseUp) (keep : EventsKeep) (m : MachineState) : Type 0 where
-  pub verified : All IsVerified m.tasks
-  pub kept : AreKept m.region m.tasks (queue_of m)
-  pub none : HasNoStep m
-
--- machines that run a job let it step on
-pub can_step : (use_up : EventsUseUp) (keep : EventsKeep) (job : ℕ) (old m : MachineState) → All IsVerified old.tasks →
-    AreKept old.region old.tasks (queue_of old) → Runs job old m → CanStep use_up keep m
-can_step use_up keep job old m verified kept r =
-    let now = kept_on keep old m verified kept r.goes_on.leads in
-    record { verified = now.1; kept = now.0; none = r.goes_on.no_step }
-
--- the job was live, and after this no step of it has begun
-record HasTaken (m : MachineState) (job : ℕ) (after : Standing) : Type 0 where
+-- the job was live
+record IsLiveAt (m : MachineState) (job : ℕ) : Type 0 where
   task : Task
   step : ℕ
   task_is : of_job job m.tasks ≡ Some task
   live_is : of_job job m.standings ≡ Some (Live step)
-  after_is : standing_after_step job task (Live step) ≡ after
 
 lives : (s : Standing) → is_live s ≡ true → (n : ℕ) × (s ≡ Live n)
 lives Waiting e = absurd (false≢true e)
@@ -119,16 +99,18 @@ lives (InFlight n) e = absurd (false≢true e)
 lives Ended e = absurd (false≢true e)
 lives Collected e = absurd (false≢true e)
 
-taken_from : (m : MachineState) (job : ℕ) (task : Task) (old after : Standing) (n : ℕ) →
-    of_job job m.tasks ≡ Some task → of_job job m.standings ≡ Some old → old ≡ Live n →
-    standing_after_step job task old ≡ after → HasTaken m job after
-taken_from m job task old after n task_is old_is live next = record {
-  task = task;
-  step = n;
-  task_is = task_is;
-  live_is = old_is ∙ ap (λ (s : Standing). Some s) live;
-  after_is = ap (standing_after_step job task) (sym live) ∙ next;
-}
+live_at : (m : MachineState) (job : ℕ) → length m.standings ≡ length m.tasks → (s : Option Standing) →
+    of_job job m.standings ≡ s → is_running s ≡ true → IsLiveAt m job
+live_at m job same None s_is live = absurd (false≢true live)
+live_at m job same (Some s) s_is live =
+    let task = beside m same job s s_is in
+    let n = lives s live in
+    record {
+      task = task.0;
+      step = n.0;
+      task_is = task.1;
+      live_is = s_is ∙ ap (λ (k : Standing). Some k) n.1;
+    }
 
 open_first : (m : MachineState) (job : ℕ) (task : Task) (n : ℕ) → of_job job m.tasks ≡ Some task →
     of_job job m.standings ≡ Some (Live n) → is_open m.region m.tasks (Begin job) (queue_of m) ≡ true
@@ -136,115 +118,69 @@ unfolding is_open
 open_first m job task n task_is live_is =
     λ i. is_some (next_standing_in (Begin job) (task_is i) (live_is i))
 
-has_stepped : (use_up : EventsUseUp) (keep : EventsKeep) (m : MachineState) (job : ℕ) (after : Standing) →
-    CanStep use_up keep m → recalled_standing after ≡ after → HasTaken m job after →
-    HasStepped job m (after_step job m)
-has_stepped use_up keep m job after can idle h =
+-- after a finish no step of the job has begun
+landed : (n : ℕ) (p : Progress) → recalled_standing (standing_after n p) ≡ standing_after n p
+landed n (Running s) = refl
+landed n (Over ending executed peak) = refl
+landed n Stuck = refl
+
+idle_after : (job : ℕ) (task : Task) (begun : Standing) →
+    recalled_standing (or_same begun (next_standing (Finish job) task begun))
+    ≡ or_same begun (next_standing (Finish job) task begun)
+idle_after job task Waiting = refl
+idle_after job task (Live n) = refl
+idle_after job task (InFlight n) = landed (n + 1) (state_after task (n + 1))
+idle_after job task Ended = refl
+idle_after job task Collected = refl
+
+-- a step of a job leaves fewer events
+stepped : EventsUseUp → EventsKeep → LeadsJoin → (m new : MachineState) (job : ℕ) → All IsVerified m.tasks →
+    AreKept m.region m.tasks (queue_of m) → HasNoStep m → IsLiveAt m job → Runs job (after_step job m) new →
+    Runs job m new
+stepped use_up keep join m new job verified kept none h runs =
     let between : MachineState = machine_after (Begin job) m in
+    let after : Standing = standing_after_step job h.task (Live h.step) in
     let is : (after_step job m).standings ≡ with_standing job after m.standings =
-    after_both m job h.task (Live h.step) h.task_is h.live_is
-    ∙ ap (λ (s : Standing). with_standing job s m.standings) h.after_is in
+    after_both m job h.task (Live h.step) h.task_is h.live_is in
     let first =
-    use_up m.region m.tasks can.verified (Begin job) (queue_of m) can.kept refl
+    use_up m.region m.tasks verified (Begin job) (queue_of m) kept refl
     (open_first m job h.task h.step h.task_is h.live_is) in
-    let kept = keep m.region m.tasks can.verified (Begin job ∷ []) (queue_of m) can.kept in
+    let then = keep m.region m.tasks verified (Begin job ∷ []) (queue_of m) kept in
     let second =
-    fewer_after use_up (Finish job) job between can.verified kept refl
+    fewer_after use_up (Finish job) job between verified then refl
     (happens m.region m.tasks (Finish job) (queue_of between) job refl) in
+    let before = runs.no_more in
     record {
-      goes_on = record {
-        leads = (refl, refl, (Begin job ∷ Finish job ∷ [], refl), refl);
-        no_step =
-            subst (λ (ss : List Standing). recalled_standings ss ≡ ss) (sym is)
-            (no_step_with job m.standings after can.none idle);
-        others = λ other ne. ap (of_job other) is ∙ of_with_other job other m.standings after ne;
-      };
-      fewer = omega (arith, first, second);
+      goes_on =
+          goes_on_on join job m (after_step job m) new
+          (record {
+            leads = (refl, refl, (Begin job ∷ Finish job ∷ [], refl), refl);
+            no_step =
+                subst (λ (ss : List Standing). recalled_standings ss ≡ ss) (sym is)
+                (no_step_with job m.standings after none
+                (idle_after job h.task (or_same (Live h.step) (next_standing (Begin job) h.task (Live h.step)))));
+            others = λ other ne. ap (of_job other) is ∙ of_with_other job other m.standings after ne;
+          }) runs.goes_on;
+      no_more = omega (arith, first, second, before);
     }
 
--- ---- the answers
+-- ---- steps
 
-done_in : (m : MachineState) (job words : ℕ) (t : Option Task) (s : Option Standing) → of_job job m.tasks ≡ t →
-    of_job job m.standings ≡ s → StepsIn job words t s stepped.Done → (n : ℕ) × HasTaken m job (Live n)
-done_in m job words None s t_is s_is answer = absurd answer
-done_in m job words (Some task) None t_is s_is answer = absurd answer
-done_in m job words (Some task) (Some old) t_is s_is answer =
-    let on = answer.1 in
-    (on.step + 1, taken_from m job task old (Live (on.step + 1)) on.step t_is s_is on.live on.next)
-
-ended_in : (m : MachineState) (job words : ℕ) (t : Option Task) (s : Option Standing) → of_job job m.tasks ≡ t →
-    of_job job m.standings ≡ s → StepsIn job words t s stepped.Ended → HasTaken m job Ended
-ended_in m job words None s t_is s_is answer = absurd answer
-ended_in m job words (Some task) None t_is s_is answer = absurd answer
-ended_in m job words (Some task) (Some old) t_is s_is answer =
-    let n = lives old answer.0.0 in
-    taken_from m job task old Ended n.0 t_is s_is n.1 answer.1
-
-not_ready_in : (m : MachineState) (job words : ℕ) (t : Option Task) (s : Option Standing) →
-    length m.standings ≡ length m.tasks → of_job job m.tasks ≡ t → of_job job m.standings ≡ s →
-    StepsIn job words t s stepped.NotReady → is_running s ≡ false
-not_ready_in m job words t None same t_is s_is answer = refl
-not_ready_in m job words None (Some old) same t_is s_is answer =
-    let task = beside m same job old s_is in absurd (none-some task.0 (sym t_is ∙ task.1))
-not_ready_in m job words (Some task) (Some old) same t_is s_is answer = answer
-
-small_in : (m : MachineState) (job words : ℕ) (t : Option Task) (s : Option Standing) →
-    All (λ task. task.limits.words ≤ words) m.tasks → of_job job m.tasks ≡ t →
-    StepsIn job words t s stepped.SmallDesk → ⊥
-small_in m job words None s fits t_is answer = answer
-small_in m job words (Some task) None fits t_is answer = answer
-small_in m zero words (Some task) (Some old) fits t_is answer = none-some task t_is
-small_in m (suc i) words (Some task) (Some old) fits t_is answer =
-    let fit : task.limits.words ≤ words = subst (λ (k : Task). k.limits.words ≤ words)
-    (get_or_from_slice_get m.tasks i task task t_is) (fits i task (slice_get_within m.tasks i task t_is)) in
-    let small = answer.1 in
-    omega (arith, fit, small)
-
--- a step that answers Done
-pub done : (use_up : EventsUseUp) (keep : EventsKeep) (m new : MachineState) (job words : ℕ) (answer : Stepped) →
-    CanStep use_up keep m → answer ≡ stepped.Done →
-    StepsIn job words (of_job job m.tasks) (of_job job m.standings) answer →
-    new ≡ after_stepped answer m (after_step job m) → HasStepped job m new
-done use_up keep m new job words answer can is steps new_is =
-    let own : StepsIn job words (of_job job m.tasks) (of_job job m.standings) stepped.Done =
-    subst (StepsIn job words (of_job job m.tasks) (of_job job m.standings)) is steps in
-    let taken = done_in m job words (of_job job m.tasks) (of_job job m.standings) refl refl own in
-    subst (HasStepped job m) (sym (new_is ∙ ap (λ (a : Stepped). after_stepped a m (after_step job m)) is))
-    (has_stepped use_up keep m job (Live taken.0) can refl taken.1)
-
--- the job takes no further step
-pub record HasRun (job : ℕ) (old new : MachineState) : Type 0 where
-  pub runs : Runs job old new
-  pub idle : is_running (of_job job new.standings) ≡ false
-
-stands : (m : MachineState) (job : ℕ) (after : Standing) → HasTaken m job after →
-    of_job job (after_step job m).standings ≡ Some after
-stands m job after h =
-    ap (of_job job) (after_both m job h.task (Live h.step) h.task_is h.live_is)
-    ∙ of_with job m.standings (Live h.step) (standing_after_step job h.task (Live h.step)) h.live_is
-    ∙ ap (λ (s : Standing). Some s) h.after_is
-
--- a step that answers otherwise
-pub not_done : LeadsJoin → (use_up : EventsUseUp) (keep : EventsKeep) (old m new : MachineState) (job words : ℕ)
-    (answer : Stepped) → CanStep use_up keep m → All (λ task. task.limits.words ≤ words) m.tasks →
-    (answer ≡ stepped.Done → ⊥) → StepsIn job words (of_job job m.tasks) (of_job job m.standings) answer →
-    new ≡ after_stepped answer m (after_step job m) → Runs job old m → HasRun job old new
-not_done join use_up keep old m new job words stepped.Done can fits not steps new_is r = absurd (not refl)
-not_done join use_up keep old m new job words stepped.Ended can fits not steps new_is r =
-    let taken = ended_in m job words (of_job job m.tasks) (of_job job m.standings) refl refl steps in
-    let here : HasStepped job m new =
-    subst (HasStepped job m) (sym new_is) (has_stepped use_up keep m job Ended can refl taken) in
-    record {
-      runs = runs_on join job old m new r here.goes_on here.fewer;
-      idle =
-          ap (λ (n : MachineState). is_running (of_job job n.standings)) new_is
-          ∙ ap is_running (stands m job Ended taken);
-    }
-not_done join use_up keep old m new job words stepped.NotReady can fits not steps new_is r = record {
-  runs = runs_still job old m new r new_is;
-  idle =
-      ap (λ (n : MachineState). is_running (of_job job n.standings)) new_is
-      ∙ not_ready_in m job words (of_job job m.tasks) (of_job job m.standings) can.kept.same_length refl refl steps;
-}
-not_done join use_up keep old m new job words stepped.SmallDesk can fits not steps new_is r =
-    absurd (small_in m job words (of_job job m.tasks) (of_job job m.standings) fits refl steps)
+pub all_run : EventsUseUp → EventsKeep → LeadsJoin → (count job : ℕ) (m new : MachineState) →
+    All IsVerified m.tasks → AreKept m.region m.tasks (queue_of m) → HasNoStep m → StepsLeadIn count job m new →
+    Runs job m new
+all_run use_up keep join zero job m new verified kept none lead =
+    subst (Runs job m) (sym lead) (runs_first job m none)
+all_run use_up keep join (suc count) job m new verified kept none lead =
+    let h = live_at m job kept.same_length (of_job job m.standings) refl lead.0 in
+    let is : (after_step job m).standings
+    ≡ with_standing job (standing_after_step job h.task (Live h.step)) m.standings =
+    after_both m job h.task (Live h.step) h.task_is h.live_is in
+    let none_then : HasNoStep (after_step job m) =
+    subst (λ (ss : List Standing). recalled_standings ss ≡ ss) (sym is)
+    (no_step_with job m.standings (standing_after_step job h.task (Live h.step)) none
+    (idle_after job h.task (or_same (Live h.step) (next_standing (Begin job) h.task (Live h.step))))) in
+    let kept_then =
+    keep m.region m.tasks verified (Begin job ∷ Finish job ∷ []) (queue_of m) kept in
+    stepped use_up keep join m new job verified kept none h
+    (all_run use_up keep join count job (after_step job m) new verified kept_then none_then lead.1)

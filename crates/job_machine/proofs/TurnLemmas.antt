@@ -3,8 +3,9 @@ use Rattle.std.proofs.Common.{◌≡◌, ℕ, zero, suc, ◌+◌, ◌<◌, ◌�
 use Rattle.std.proofs.Common.{All, Option, Some, None, refl, sym, ◌∙◌, ap, subst, arith}
 use Rattle.std.specs.Prelude.{option_map}
 use Rattle.std.proofs.Math.ListN.{get_or-map}
-use Rattle.std.proofs.lemmas.List.{length-map}
-use Rattle.std.proofs.lemmas.Option.{none-some, same_Some, slice_get-get_or, slice_get_read}
+use Rattle.std.proofs.lemmas.List.{length-map, set-set}
+use Rattle.std.proofs.lemmas.Option.{none-some, same_Some, slice_get-get_or, slice_get_read, get_or_from_slice_get}
+use Rattle.std.proofs.lemmas.Option.{slice_get_within}
 use Rattle.vcode_base.specs.declared.rule.Rule.{Rule}
 use Rattle.refcounts.specs.SharedState.{block_count, blocks_in, IsTidy}
 use Rattle.refcounts.specs.SharedState as shared
@@ -15,7 +16,8 @@ use Rattle.job_steps.specs.declared.event.Event.TheVariants.{Admit, Begin, Finis
 use Rattle.job_steps.specs.EventLaws.{EventsChangeTheirJob, OthersPassNobody, ClosedChangeNothing, MissingAreClosed}
 use Rattle.job_steps.specs.EventLaws.{StandsOnRun, IsVerified, AreKept}
 use Rattle.job_steps.specs.Events.{job_of, named_job, after_event, next_standing}
-use Rattle.job_steps.specs.Standings.{Standing, of_job, held_by, used_words}
+use Rattle.job_steps.specs.Standings.{Standing, Waiting, Live, InFlight, Ended, Collected, of_job, held_by}
+use Rattle.job_steps.specs.Standings.{used_words}
 use Rattle.job_steps.specs.States.{JobValue, Task, ruled}
 use Rattle.job_steps.specs.Tickets.{Asked}
 use Rattle.job_slots.specs.declared.status.Status.{Status}
@@ -28,15 +30,17 @@ use Rattle.job_slots.specs.declared.answer.Stepped.{Stepped}
 use Rattle.job_slots.specs.declared.answer.Stepped.TheVariants as stepped
 use Rattle.job_slots.specs.Answers.{question_at}
 use Rattle.job_slots.specs.Answers.{Begins, Finishes, or_same, standing_after_begun, standing_after_finished}
-use Rattle.job_slots.specs.Answers.{Steps, standing_after_step, after_stepped}
+use Rattle.job_slots.specs.Answers.{Steps, StepsLead, standing_after_step, after_stepped}
 use Rattle.job_slots.specs.Laws.{OthersAreShown, ShownIsAlone}
 use Rattle.job_machine.specs.Machines.{MachineState, with_queue, place_of, machine_after, told, told_by, BeginsIn}
-use Rattle.job_machine.specs.Machines.{asked_in, asked_of}
+use Rattle.job_machine.specs.Machines.{StepsLeadIn, asked_in, asked_of, is_running}
 use Rattle.job_machine.specs.Machines.{FinishesIn, StepsIn, after_begun, after_finished, after_step, outcome_in}
 use Rattle.job_machine.specs.Machines.{outcome_by}
 use Rattle.job_machine.specs.SlotOf.{IsMissing, IsSlotOf}
-use Rattle.job_slots.specs.Slots.{SlotState, Shows, standing_of, standing_by, recalled_status, told_outcome, status_of}
+use Rattle.job_slots.specs.Slots.{HasNumbersOnRun, SlotState, Shows, standing_of, standing_by, recalled_status}
+use Rattle.job_slots.specs.Slots.{told_outcome, status_of}
 use Rattle.job_machine.specs.Sound.{IsSound, standings_of}
+use Rattle.job_machine.proofs.Places.{get-set_same}
 use Rattle.job_machine.proofs.SoundLemmas.{queue_by, place_is, no_place, beside_at, standing_at, stands_after}
 use Rattle.job_machine.proofs.SoundLemmas.{stands_after_step, stands_still, missing_after, sound_with, sum_is}
 use Rattle.job_machine.proofs.SoundLemmas.{sum_within, granted_is}
@@ -347,6 +351,72 @@ stepped_state {rule} laws pass old new after view h room stepped.NotReady stands
 stepped_state {rule} laws pass old new after view h room stepped.SmallDesk stands =
     turn_still old new after view h room stands
 
+-- ---- a run
+
+-- the slot of a job as it would be in another standing
+stands_as : Standing → SlotState → SlotState
+stands_as standing slot = record {
+  status = status_of standing;
+  trace = record slot.trace { executed = count_of standing };
+  outcome = slot.outcome;
+}
+  where
+    count_of : Standing → ℕ
+    count_of (Live n) = n
+    count_of (InFlight n) = n
+    count_of standing = 0
+
+stands_so : (standing : Standing) (slot : SlotState) → standing_of (stands_as standing slot) ≡ standing
+unfolding stands_as
+stands_so Waiting slot = refl
+stands_so (Live n) slot = refl
+stands_so (InFlight n) slot = refl
+stands_so Ended slot = refl
+stands_so Collected slot = refl
+
+-- the turn is that of the slot that came in its place
+pub turn_with : {rule : Rule} {passes : List ℕ} (blocks : JobBlocks) {tasks : List Task} {slots : List SlotState}
+    {old new : MachineState} {job place : ℕ} {task : Task} {before : SlotState} (after : SlotState) →
+    HasTurn tasks slots old job place task before →
+    shown_machine rule blocks tasks (set slots place after) passes ≡ new →
+    HasTurn tasks (set slots place after) new job place task after
+turn_with {rule} {passes} blocks {tasks} {slots} {old} {new} {job} {place} {task} {before} after h view =
+    subst (λ (m : MachineState). HasTurn tasks (set slots place after) m job place task after) view
+    (turn_at rule passes tasks (set slots place after) blocks.memory.room job place task after h.job_is h.task_at
+    (get-set_same slots place before after h.slot_at))
+
+-- the steps of a job lead the machine to where they lead the job
+pub run_state : (count : ℕ) {rule : Rule} {passes : List ℕ} → EventsChangeTheirJob → OthersPassNobody →
+    (old new : JobBlocks) {tasks : List Task} {slots : List SlotState} {m : MachineState} {job place : ℕ} {task : Task}
+    {before : SlotState} (after : SlotState) → shown_machine rule old tasks slots passes ≡ m →
+    HasTurn tasks slots m job place task before → new.memory.room ≡ old.memory.room →
+    StepsLead count job task (standing_of before) (standing_of after) →
+    StepsLeadIn count job m (shown_machine rule new tasks (set slots place after) passes)
+run_state zero laws pass old new after view h room lead = turn_still old new after view h room lead
+run_state (suc count) {rule} {passes} laws pass old new {tasks} {slots} {m} {job} {place} {task} {before} after view h
+    room lead =
+    let next : Standing = standing_after_step job task (standing_of before) in
+    let mid : SlotState = stands_as next before in
+    let so : standing_of mid ≡ next = stands_so next before in
+    let there : shown_machine rule old tasks (set slots place mid) passes ≡ after_step job m =
+    step_state laws pass old old mid view h refl so in
+    let rest : StepsLeadIn count job (after_step job m)
+    (shown_machine rule new tasks (set (set slots place mid) place after) passes) =
+    run_state count laws pass old new after there (turn_with old mid h there) room
+    (subst (λ (s : Standing). StepsLead count job task s (standing_of after)) (sym so) lead.1) in (
+      ap is_running h.shown_standing ∙ lead.0,
+      subst (λ (ss : List SlotState). StepsLeadIn count job (after_step job m)
+          (shown_machine rule new tasks ss passes)) (set-set slots place mid after) rest,
+    )
+
+-- the desk has the words of the job
+pub turn_fits : {tasks : List Task} {slots : List SlotState} {m : MachineState} {job place : ℕ} {task : Task}
+    {slot : SlotState} (words : ℕ) → HasTurn tasks slots m job place task slot →
+    All (λ task. task.limits.words ≤ words) tasks → task.limits.words ≤ words
+turn_fits {tasks} {slots} {m} {job} {place} {task} {slot} words h fits =
+    subst (λ (k : Task). k.limits.words ≤ words) (get_or_from_slice_get tasks place task task h.task_at)
+    (fits place task (slice_get_within tasks place task h.task_at))
+
 -- there are numbers for two blocks more
 pub numbers_left : {passes : List ℕ} → ShownIsAlone →
     (blocks : JobBlocks) (tasks : List Task) (slots : List SlotState) →
@@ -357,6 +427,15 @@ numbers_left alone blocks tasks slots sound tidy =
     sum_within tasks slots (λ job. blocks_in (own_slots job blocks)) sound.slots_are
     (λ place task slot t s. (alone (suc place) blocks task slot tidy (sound.each place task slot t s)).few) in
     omega (arith, within, sound.counted, sound.numbers)
+
+-- wherever a job leads
+pub numbers_on_run : {passes : List ℕ} → ShownIsAlone → OthersAreShown → {blocks : JobBlocks} {tasks : List Task}
+    {slots : List SlotState} {m : MachineState} {job place : ℕ} {task : Task} {before : SlotState} →
+    IsSound blocks tasks slots passes → HasTurn tasks slots m job place task before →
+    HasNumbersOnRun job task blocks
+numbers_on_run {passes} alone others {blocks} {tasks} {slots} {m} {job} {place} {task} {before} sound h =
+    λ new slot changes shows tidy.
+    numbers_left alone new tasks (set slots place slot) (turn_sound others sound h changes shows) tidy
 
 -- ---- what a machine keeps
 

@@ -37,13 +37,6 @@ runs_first job m none = record {
   no_more = omega arith;
 }
 
-pub runs_on : LeadsJoin → (job : ℕ) (old between new : MachineState) → Runs job old between →
-    GoesOn job between new → left_in new < left_in between → Runs job old new
-runs_on join job old between new r goes fewer = record {
-  goes_on = goes_on_on join job old between new r.goes_on goes;
-  no_more = let before = r.no_more in omega (arith, before, fewer);
-}
-
 -- what collects a job and leaves it collected, if it doesn't wait
 pub record RunsOut (job : ℕ) (old new : MachineState) : Type 0 where
   pub runs : Runs job old new

@@ -159,12 +159,6 @@ StepsIn job words None standing answer = ⊥
 StepsIn job words (Some task) None stepped.NotReady = Unit {0}
 StepsIn job words (Some task) None answer = ⊥
 
--- a step of a job was taken in one go, on a desk of `words` words
-abbrev pub IsStepped : (job words : ℕ) → MachineState → MachineState → Type 0
-IsStepped job words old new =
-    (answer : Stepped) × StepsIn job words (of_job job old.tasks) (of_job job old.standings) answer
-    × (new ≡ after_stepped answer old (after_step job old))
-
 -- ---- what is reported of a job, if there is one of that number
 
 abbrev pub is_flying : Option Standing → Bool
@@ -213,6 +207,16 @@ place_of count (suc place) = if nat_lt place count then Some place else None
 abbrev pub is_running : Option Standing → Bool
 is_running None = false
 is_running (Some standing) = is_live standing
+
+-- so many steps of a job lead from one machine to another, and it was live at each
+abbrev pub StepsLeadIn : (count job : ℕ) → MachineState → MachineState → Type 0
+StepsLeadIn zero job old new = new ≡ old
+StepsLeadIn (suc count) job old new =
+    (is_running (of_job job old.standings) ≡ true) × StepsLeadIn count job (after_step job old) new
+
+-- some steps of it lead there
+abbrev pub HasRunIn : ℕ → MachineState → MachineState → Type 0
+HasRunIn job old new = (count : ℕ) × StepsLeadIn count job old new
 
 abbrev pub IsWaitingOrCollected : Standing → Type 0
 IsWaitingOrCollected Waiting = Unit {0}

@@ -1,6 +1,6 @@
 //! Jobs over one region of words.
 
-ghost use Rattle.std.specs.Prelude.{◌≡◌, ◌≤◌, ◌↔◌, ℕ, length, All, IfOk, IfSome, OnOk, OnErr, IsTrue, option_map};
+ghost use Rattle.std.specs.Prelude.{◌≡◌, ◌≤◌, ◌↔◌, ℕ, false, length, All, IfOk, IfSome, OnOk, OnErr, IsTrue, option_map};
 ghost use Rattle.std.specs.Prelude.{Some, map, option_copied};
 ghost use Rattle.std.specs.Arc.{arc_value};
 ghost use Rattle.vcode_base.specs.declared.limits.TheConstants.{MOST_JOBS, MOST_PASSES, MOST_WORDS};
@@ -18,7 +18,7 @@ ghost use Rattle.job_slots.specs.Slots.{status_of};
 ghost use Rattle.job_machine.specs.Machines.{queue_of, machine_after, Leads, admission_in, BeginsIn, after_begun};
 ghost use Rattle.job_machine.specs.Machines.{FinishesIn, after_finished, is_flying, is_over, told};
 ghost use Rattle.job_machine.specs.Machines.{outcome_in, HasReturnedIn, HasNoStep, most_words, place_of};
-ghost use Rattle.job_machine.specs.Machines.{StepsIn, after_step, asked_in};
+ghost use Rattle.job_machine.specs.Machines.{HasRunIn, StepsIn, after_step, asked_in, is_running};
 ghost use Rattle.job_machine.specs.SlotOf.{IsSlotIn};
 
 use crate::setting::{all_cells, most_words, new_slots, next_admission, pass_before, same_jobs};
@@ -282,6 +282,26 @@ impl<A: Allocator> Machine<A> {
         let jobs = self.jobs.as_slice();
         let slot = &mut self.slots[place];
         slot.step(rule, &jobs[place], job, &mut self.blocks, desk)
+    }
+
+    /// Carries out the instructions of a job, if it is live, until it is over, on a desk of at least its words.
+    ///
+    /// No other function of the machine runs a job, so all that a step does is inlined here.
+    pub(crate) fn take_steps(&mut self, job: usize, desk: &mut Desk<A>)
+        requires { All (λ task. task.limits.words ≤ desk.old) self.old.tasks }
+        ensures ran { HasRunIn job self.old self.new }
+        ensures over { is_running (of_job job self.new.standings) ≡ false }
+        ensures desk { desk.new ≡ desk.old }
+    {
+        turn_laws();
+        shown_is_alone();
+        let Some(place) = self.place(job) else {
+            return;
+        };
+        let rule = self.rule;
+        let jobs = self.jobs.as_slice();
+        let slot = &mut self.slots[place];
+        slot.run(rule, &jobs[place], job, &mut self.blocks, desk)
     }
 
     /// Gives up the step of a job that has begun; true if there was one. The job is as before the step's begin.

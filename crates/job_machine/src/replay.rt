@@ -96,19 +96,15 @@ impl<A: Allocator + Clone> Machine<A> {
 impl<A: Allocator> Machine<A> {
     /// Does a begin of a job and then a finish, each of which is passed over if it isn't open.
     ///
-    /// The step is taken in one go, on the desk in the job's workplace. If a step of the job has begun already, it is
-    /// finished. Takes no memory. The workbench has to fit the machine, and still does afterwards.
+    /// If a step of the job has begun already, it is finished. Takes no memory. The workbench has to fit the machine, and
+    /// still does afterwards.
     pub fn play_step(&mut self, job: usize, workbench: &mut Workbench<A>)
         requires { WorkbenchFits self.old workbench.old }
         ensures state { self.new ≡ after_step job self.old }
         ensures fit { WorkbenchFits self.new workbench.new }
     {
-        others_stay();
-        let Some(mut desk) = workbench.take_desk(job) else {
-            return self.play_finish(job, workbench);
-        };
-        self.take_steps(job, &mut desk, true);
-        workbench.exchange(job, Workplace::Free(desk));
+        self.play_begin(job, workbench);
+        self.play_finish(job, workbench)
     }
 
     /// Begins the next step of a job on the desk in its workplace, and computes it if it began.

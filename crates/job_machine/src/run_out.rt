@@ -1,13 +1,12 @@
 //! A machine's jobs, run to their ends on the calling thread.
 
-ghost use Rattle.std.specs.Prelude.{◌≡◌, ◌≤◌, ℕ, false, true, All, OnOk, OnErr};
+ghost use Rattle.std.specs.Prelude.{◌≡◌, ◌≤◌, ℕ, All, OnOk, OnErr};
 ghost use Rattle.job_steps.specs.Events.{all_events_left};
 ghost use Rattle.job_steps.specs.Standings.{Collected, of_job};
-ghost use Rattle.job_machine.specs.Machines.{recalled, Leads, GoesOn, HasNoStep, HasReturnedIn, IsDone, IsStepped};
-ghost use Rattle.job_machine.specs.Machines.{IsWaitingOrCollected, is_running};
+ghost use Rattle.job_machine.specs.Machines.{recalled, Leads, GoesOn, HasNoStep, HasReturnedIn, IsDone};
+ghost use Rattle.job_machine.specs.Machines.{IsWaitingOrCollected};
 
 use crate::machine::{Admission, Machine};
-use job_slots::Stepped;
 use job_steps::Desk;
 use job_steps::laws::{
     admitted_have_room, events_go_on, events_keep, events_use_up, leads_join, recalls_are_events,
@@ -25,29 +24,6 @@ impl<A: Allocator> Machine<A> {
         let jobs = self.jobs();
         for place in 0..jobs {
             self.recall(place + 1);
-        }
-    }
-
-    /// Takes one step of a job, or its steps as long as it goes on. No other function of the machine takes steps in one
-    /// go, so all that a step does is inlined here.
-    pub(crate) fn take_steps(&mut self, job: usize, desk: &mut Desk<A>, once: bool)
-        requires words { once ≡ false → All (λ task. task.limits.words ≤ desk.old) self.old.tasks }
-        requires no_step { once ≡ false → HasNoStep self.old }
-        ensures one { once ≡ true → IsStepped job desk.old self.old self.new }
-        ensures goes_on { once ≡ false → GoesOn job self.old self.new }
-        ensures no_more { once ≡ false → all_events_left self.new.tasks self.new.standings
-            ≤ all_events_left self.old.tasks self.old.standings }
-        ensures idle { once ≡ false → is_running (of_job job self.new.standings) ≡ false }
-        ensures desk { desk.new ≡ desk.old }
-    {
-        let _jobs = self.jobs();
-        events_keep();
-        events_use_up();
-        leads_join();
-        while let Stepped::Done = self.step(job, desk) {
-            if once {
-                return;
-            }
         }
     }
 }
@@ -72,7 +48,7 @@ impl<A: Allocator + Clone> Machine<A> {
         events_keep();
         events_use_up();
         leads_join();
-        self.take_steps(job, desk, false);
+        self.take_steps(job, desk);
         match self.collect(job) {
             Ok(_) => Ok(()),
             Err(fault) => Err(fault),

@@ -1,5 +1,5 @@
 -- A job that runs: its next instruction, and what ends the job before it.
-use Rattle.std.proofs.Common.{◌≡◌, ℕ, ℤ, ◌≤◌, List, ◌∷◌, length, Some, ◌∙◌, ap, subst, sym}
+use Rattle.std.proofs.Common.{◌≡◌, ℕ, ℤ, ◌≤◌, List, ◌∷◌, length, Some, ◌∙◌, ap, subst}
 use Rattle.vcode_base.specs.declared.op.Op.{Op}
 use Rattle.vcode_base.specs.Instructions.{op_of}
 use Rattle.vcode_base.specs.Kinds.{HaveKinds, source_kinds}
@@ -65,14 +65,6 @@ deep_line task t s line can is_line =
     let next : next_item can.call ≡ instruction_of line = is_line can.call can.outer can.stands in
     subst (λ (x : Numbered Item). operand_count (op_of x.item) ≤ length t.cells) next
     (deep_enough (op_of (next_item can.call).item) (length t.cells) can.deep)
-
--- two lines of the next instruction have the same
-pub same_instruction : (task : Task) (t : TrackState ℕ) (s : State) (line own : CodeLine) →
-    CanBegin task t.executed s t →
-    IsLineOf task t line → IsLineOf task t own → instruction_in own.item ≡ instruction_in line.item
-same_instruction task t s line own can is_line is_own =
-    ap (λ (x : Numbered Item). x.item) (sym (is_own can.call can.outer can.stands)
-    ∙ is_line can.call can.outer can.stands)
 
 -- the instruction that is the next is that of the line of the next one
 pub op_of_line : (task : Task) (t : TrackState ℕ) (s : State) (line : CodeLine) (op : Op) →

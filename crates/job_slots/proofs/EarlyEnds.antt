@@ -1,8 +1,8 @@
 -- What ends a job that runs before its next instruction.
-use Rattle.std.proofs.Common.{◌≡◌, ℕ, ℤ, ◌+◌, ◌≤◌, Bool, true, false, cond, eqb, ltb, min, List, [], ◌∷◌, length}
+use Rattle.std.proofs.Common.{◌≡◌, ℕ, ℤ, ◌+◌, ◌≤◌, Bool, true, false, cond, eqb, ltb, min, max, List, [], ◌∷◌, length}
 use Rattle.std.proofs.Common.{Option, Some, None}
 use Rattle.std.proofs.Common.{refl, sym, ◌∙◌, ap, subst, arith}
-use Rattle.std.specs.Prelude.{◌&&◌, IfNone, MatchOption}
+use Rattle.std.specs.Prelude.{◌&&◌, MatchOption, MatchResult, Result, Ok, Err}
 use Rattle.std.proofs.lemmas.Bool.{eq-eqb}
 use Rattle.std.proofs.lemmas.Bool.Decides.{nat_tests}
 use Rattle.std.proofs.lemmas.Option.{none-some}
@@ -11,9 +11,10 @@ use Rattle.vcode_base.specs.declared.fault.MemoryFault.{MemoryFault}
 use Rattle.vcode_base.specs.declared.fault.MemoryFault.TheVariants as memory
 use Rattle.vcode_base.specs.declared.limits.Limits.{Limits}
 use Rattle.vcode_base.specs.declared.op.Op.{Op}
-use Rattle.vcode_base.specs.declared.outcome.Outcome.TheVariants.{Budget}
+use Rattle.vcode_base.specs.declared.outcome.Outcome.TheVariants.{Budget, Memory}
 use Rattle.vcode_base.specs.Instructions.{op_of}
-use Rattle.vcode_base.specs.Meaning.{shape, need}
+use Rattle.vcode_base.specs.Laws.{ResultsHaveNeededLengths}
+use Rattle.vcode_base.specs.Meaning.{shape, need, result_of, second_result_of}
 use Rattle.vcode_reader.specs.Trees.{Function}
 use Rattle.refcounts.specs.SharedState.{Slot, IsTidy}
 use Rattle.job_memory.specs.JobBlocks.{JobBlocks, AreOwn, own_slots}
@@ -29,19 +30,22 @@ use Rattle.job_steps.specs.States.{Task, Active, State}
 use Rattle.job_steps.specs.Steps.{Ending, Running, next_item, question_of, ending_by, memory_fault}
 use Rattle.job_steps.specs.Steps.{held_at, is_call}
 use Rattle.job_steps.specs.StepLaws.{CanBegin, StepsCanBegin, StepsCanAdvance}
-use Rattle.job_steps.specs.Tickets.{CanAnswer, question_by}
+use Rattle.job_steps.specs.Tickets.{AreResults, CanAnswer, question_by}
 use Rattle.job_steps.specs.Tracks.{TrackState, IsAt, functions_of}
 use Rattle.job_slots.specs.Answers.{demand_before, demand_in, early_end_at, IsNext, IsEnding, CanAsk, told_demand}
 use Rattle.job_slots.specs.Answers.{told_demand_before, told_demand_in}
-use Rattle.job_slots.specs.Commits.{held_under, taken_ids}
+use Rattle.job_slots.specs.Commits.{CountsAs, held_under, taken_ids}
 use Rattle.job_slots.specs.Executions.{IsCounted, HeldIsCounted}
+use Rattle.job_slots.specs.declared.ticket.Needs.{Needs}
+use Rattle.job_slots.specs.Needs.{AreFoundNeeds, IsReady}
 use Rattle.job_slots.specs.Slots.{IsRunningSlot, IsReturned}
 use Rattle.job_slots.proofs.Begins.{can_begin, question_when, line_when, early_end_when}
+use Rattle.job_slots.proofs.Instructions.{length_by_kinds}
 use Rattle.job_slots.proofs.Operands.{deep_enough}
 
 -- ---- a limit, with words that are counted up to the greatest number
 
-same_by : (limits : Limits) (op : Op) (many few : ℕ) (depth calls : ℕ) → ltb limits.words many ≡ ltb limits.words few →
+pub same_by : (limits : Limits) (op : Op) (many few : ℕ) (depth calls : ℕ) → ltb limits.words many ≡ ltb limits.words few →
     memory_fault limits op many depth calls ≡ memory_fault limits op few depth calls
 unfolding memory_fault
 same_by limits op many few depth calls same =
@@ -73,6 +77,21 @@ limit_fault limits op sources held depth calls sum words most lengths are first 
     ∙ ap (λ (p : ℕ × ℕ). min (min (held + p.0) most + p.1) most) are) in
     ap (λ (n : ℕ). memory_fault limits op n depth calls) counted
     ∙ capped_words limits op held (need op sources).0 (need op sources).1 most depth calls within
+
+-- the words that are counted, which pass no limit, are those that are held and needed
+pub all_counted : (limit held first second most sum words : ℕ) → sum ≡ min (held + first) most →
+    words ≡ min (sum + second) most → limit + 1 ≤ most → words ≤ limit → words ≡ held + first + second
+all_counted limit held first second most sum words sum_is words_is within few = omega arith
+
+pub ends_by_memory : (line : ℕ) (shaped : Option DataFault) (refusal : Option MemoryFault) (fault : MemoryFault) →
+    shaped ≡ None → refusal ≡ Some fault → ending_by line shaped refusal ≡ Some (Memory fault line)
+ends_by_memory line shaped refusal fault fits is =
+    ap (λ (o : Option DataFault). ending_by line o refusal) fits ∙ ap (ending_by line None) is
+
+pub ends_by_nothing : (line : ℕ) (shaped : Option DataFault) (refusal : Option MemoryFault) → shaped ≡ None →
+    refusal ≡ None → ending_by line shaped refusal ≡ None
+ends_by_nothing line shaped refusal fits is =
+    ap (λ (o : Option DataFault). ending_by line o refusal) fits ∙ ap (ending_by line None) is
 
 -- ---- the end before an instruction, as the track and the blocks tell it
 
@@ -191,7 +210,7 @@ no_ending line (Some fault) refusal e = absurd (none-some _ (sym e))
 no_ending line None (Some refusal) e = absurd (none-some _ (sym e))
 no_ending line None None e = (refl, refl)
 
-within_words : (limits : Limits) (op : Op) (words depth calls : ℕ) → memory_fault limits op words depth calls ≡ None →
+pub within_words : (limits : Limits) (op : Op) (words depth calls : ℕ) → memory_fault limits op words depth calls ≡ None →
     words ≤ limits.words
 unfolding memory_fault
 within_words limits op words depth calls e = by (ltb limits.words words) refl e
@@ -264,15 +283,48 @@ can_ask law task t s op line sources words verified runs at can next goes_on eno
     }
 
 -- what is read is the next instruction, which can be asked if nothing ends the job before
-pub asks_unless : StepsCanBegin ℕ → StepsCanAdvance ℕ → (slots : List Slot) (task : Task) (t : TrackState ℕ)
+pub asks_on : StepsCanBegin ℕ → StepsCanAdvance ℕ → (slots : List Slot) (task : Task) (t : TrackState ℕ)
     (run : IsRunningSlot slots task t) (op : Op) (line : ℕ) (sources : List (List ℤ)) → IsVerified task →
-    IsNext task t.executed op line sources → (early : Option Ending) → early_end_at task t.executed ≡ early →
-    IfNone early ((words : ℕ) → task.limits.words ≤ words → CanAsk words op sources)
-asks_unless begins advances slots task t run op line sources verified next (Some ending) is = tt
-asks_unless begins advances slots task t run op line sources verified next None is =
-    λ words enough.
+    IsNext task t.executed op line sources → early_end_at task t.executed ≡ None →
+    (words : ℕ) → task.limits.words ≤ words → CanAsk words op sources
+asks_on begins advances slots task t run op line sources verified next goes_on words enough =
     can_ask advances task t run.state op line sources words verified run.running run.at
-    (can_begin begins slots task t run verified) next is enough
+    (can_begin begins slots task t run verified) next goes_on enough
+
+-- what was found of its needs is that of the job
+pub found_of : (task : Task) (job : ℕ) (blocks : JobBlocks) (t : TrackState ℕ) (op : Op) (sources : List (List ℤ))
+    (held : ℕ) (early : Option Ending) (found : Result Needs Ending) → held ≡ held_under task.rule job op t.cells blocks →
+    early_end_at task t.executed ≡ early → (early_end_at task t.executed ≡ None → (words : ℕ) →
+    task.limits.words ≤ words → CanAsk words op sources) →
+    AreFoundNeeds held (question_by op sources) early found →
+    MatchResult found (IsReady task job blocks t op sources) (λ ending. early_end_at task t.executed ≡ Some ending)
+found_of task job blocks t op sources held early (Ok needs) held_is is asks are = record {
+  goes_on = is ∙ are.1;
+  can_ask = asks (is ∙ are.1);
+  lengths = are.0.lengths;
+  words_are = are.0.words_are ∙ ap (λ (h : ℕ). h + needs.first + needs.second) held_is;
+}
+found_of task job blocks t op sources held early (Err ending) held_is is asks ends = is ∙ ends
+
+-- the words of its needs are those that are held and those of its results
+pub needs_count : ResultsHaveNeededLengths → (op : Op) (sources : List (List ℤ)) (first second : List ℤ)
+    (held peak most : ℕ) (needs : Needs) → CanAnswer most (question_by op sources) →
+    AreResults (question_by op sources) first second → ◌≡◌ {A = ℕ × ℕ} (needs.first, needs.second) (need op sources) →
+    needs.words ≡ held + needs.first + needs.second → CountsAs (held + length first + length second) peak needs.words
+needs_count law op sources first second held peak most needs can results lengths words_are =
+    let both : ◌≡◌ {A = ℕ × ℕ} (needs.first, needs.second)
+    (length (result_of op sources), length (second_result_of op sources)) =
+    lengths ∙ law op sources (length_by_kinds _ sources can.kinds) can.shaped results.no_fault in
+    let same : needs.words ≡ held + length first + length second =
+    omega (
+      arith,
+      ap (λ (p : ℕ × ℕ). p.0) both,
+      ap (λ (p : ℕ × ℕ). p.1) both,
+      ap length results.first_result,
+      ap length results.second_result,
+      words_are,
+    ) in
+    ap (max peak) same
 
 -- ---- if something does
 

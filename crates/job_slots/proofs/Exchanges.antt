@@ -1,10 +1,12 @@
 -- A new block in the place of an instruction's operands.
 use Rattle.std.proofs.Common.{◌≡◌, ◌≢◌, ◌∙◌, ◌+◌, ◌<◌, ◌≤◌, ℕ, ℤ, List, [], ◌∷◌, length, refl, sym, ap, subst, inl, inr}
-use Rattle.std.proofs.Common.{arith, zero, suc, get_or}
-use Rattle.std.specs.Prelude.{All}
+use Rattle.std.proofs.Common.{arith, true, zero, suc, get_or}
+use Rattle.std.specs.Prelude.{All, ◌==◌}
 use Rattle.std.proofs.lemmas.List.Elements.{All-nil, All-cons, All-weaker}
 use Rattle.std.proofs.lemmas.Bool.{cases_eq}
+use Rattle.std.proofs.lemmas.Bool.Decides.{nat_tests}
 use Rattle.std.proofs.lemmas.List.{get_or-set_other, set_comm}
+use Rattle.vcode_base.specs.declared.op.Op.{Op}
 use Rattle.vcode_base.specs.declared.rule.Rule.{Rule}
 use Rattle.vcode_base.specs.declared.rule.Rule.TheVariants.{First, Second}
 use Rattle.refcounts.specs.Laws.{ReleasesOnlyFree}
@@ -13,7 +15,7 @@ use Rattle.refcounts.specs.SharedState.{IsLive, AreLive, new_slot, occurrences, 
 use Rattle.refcounts.specs.SharedState.{state_after_releases}
 use Rattle.job_memory.specs.JobBlocks.{JobBlocks, AreOwn, held_words, with_block, with_memory}
 use Rattle.job_memory.specs.Laws.{ReleasesChangeOnlyTheirJob}
-use Rattle.job_slots.specs.Commits.{IsExchanged, blocks_beside, with_releases}
+use Rattle.job_slots.specs.Commits.{IsExchanged, blocks_beside, held_under, taken_ids, with_releases}
 use Rattle.job_slots.specs.InPlace.{words_by}
 use Rattle.job_slots.proofs.Holding.{named_here, named_more}
 use Rattle.job_slots.proofs.LettingGo.{own_named}
@@ -246,3 +248,14 @@ placed_then_released laws rule job taken ids id words old placed new within empt
     ∙ ap (λ (b : JobBlocks). with_releases taken b) placed_is) in
     subst (HasReplaced rule job taken id words old) (sym is) (replaced laws rule job taken id words old within empty
     own)
+
+-- ---- without operands
+
+pub nothing_in : {E : Type 0} (xs : List E) → (length xs == 0) ≡ true → xs ≡ []
+nothing_in [] none = refl
+nothing_in (x ∷ xs) none = absurd (grind (arith, nat_tests))
+
+pub held_beside_none : (rule : Rule) (job : ℕ) (op : Op) (ids : List ℕ) (blocks : JobBlocks) → taken_ids op ids ≡ [] →
+    held_under rule job op ids blocks ≡ held_words job blocks
+held_beside_none First job op ids blocks none = refl
+held_beside_none Second job op ids blocks none = ap (λ (xs : List ℕ). held_words job (with_releases xs blocks)) none

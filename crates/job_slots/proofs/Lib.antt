@@ -3,7 +3,6 @@ mod Begins
 mod Collecting
 mod Commits
 mod Committed
-mod Constants
 mod Copied
 mod Counts
 mod EarlyEnds
@@ -16,12 +15,14 @@ mod InPlace
 mod Instructions
 mod LettingGo
 mod Moves
+mod NoOperands
 mod OneGo
 mod Operands
 mod Pictures
 mod Placed
 mod Results
 mod Reversed
+mod Running
 mod Seen
 mod SeenSlots
 mod Slots

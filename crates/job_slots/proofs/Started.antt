@@ -17,7 +17,7 @@ use Rattle.job_steps.specs.Steps.{Ending, Progress, Running}
 use Rattle.job_steps.specs.Tickets.{Asked}
 use Rattle.job_slots.specs.declared.status.Status.{Status}
 use Rattle.job_slots.specs.declared.status.Status.TheVariants as status
-use Rattle.job_slots.specs.Slots.{SlotState, Shows, ShowsAs, IsRunningSlot, IsActive, standing_of, standing_by}
+use Rattle.job_slots.specs.Slots.{SlotState, Shows, ShowsAs, IsRunningSlot, standing_of, standing_by}
 use Rattle.job_slots.specs.Slots.{grant_by}
 use Rattle.job_slots.specs.Answers.{IsTicketOf, IsAskedOf, IsEnding, question_at, early_end_at, or_same}
 use Rattle.job_slots.specs.Lines.{IsLineOf, IsOpOfNext}
@@ -55,9 +55,6 @@ pub has_grant : (number : ℕ) (blocks : JobBlocks) (task : Task) (slot : SlotSt
     slot.status ≡ status.Live → HasGrant blocks number
 has_grant number blocks task slot shows live =
     (shows.is_job, (task.limits.words, shows.grant ∙ ap (grant_by task) live))
-
-pub is_active : (slot : SlotState) → slot.status ≡ status.Live → IsActive slot.status
-is_active slot live = subst IsActive (sym live) tt
 
 abbrev pub after_begin : ℕ → Option Ending → Standing
 after_begin n early = cond (is_some early) Ended (InFlight n)

@@ -1,5 +1,5 @@
 -- What a begin and a finish answer, and in which standing they leave the job.
-use Rattle.std.specs.Prelude.{◌≡◌, ℕ, ℤ, ◌+◌, ◌-◌, ◌^◌, ◌<◌, ◌≤◌, min, Bool, true, false, ⊤, List, [], ◌∷◌, Option}
+use Rattle.std.specs.Prelude.{◌≡◌, ℕ, zero, suc, ℤ, ◌+◌, ◌-◌, ◌^◌, ◌<◌, ◌≤◌, min, Bool, true, false, ⊤, List, [], ◌∷◌, Option}
 use Rattle.std.specs.Prelude.{Some, None}
 use Rattle.vcode_base.specs.declared.fault.DataFault.{DataFault}
 use Rattle.vcode_base.specs.declared.op.Op.{Op}
@@ -225,6 +225,18 @@ after_stepped stepped.Done old new = new
 after_stepped stepped.Ended old new = new
 after_stepped stepped.NotReady old new = old
 after_stepped stepped.SmallDesk old new = old
+
+-- ---- a run
+
+-- so many steps lead a job from one standing to another, and it was live at each
+abbrev pub StepsLead : (count job : ℕ) → Task → (old new : Standing) → Type 0
+StepsLead zero job task old new = new ≡ old
+StepsLead (suc count) job task old new =
+    (is_live old ≡ true) × StepsLead count job task (standing_after_step job task old) new
+
+-- some steps lead it there
+abbrev pub HasRun : ℕ → Task → (old new : Standing) → Type 0
+HasRun job task old new = (count : ℕ) × StepsLead count job task old new
 
 -- ---- results
 

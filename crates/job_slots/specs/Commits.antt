@@ -1,5 +1,5 @@
 -- What an instruction that is executed does to a job's blocks, and what counts as held meanwhile.
-use Rattle.std.specs.Prelude.{◌≡◌, ℕ, ℤ, ◌<◌, List, length, drop}
+use Rattle.std.specs.Prelude.{◌≡◌, ℕ, ℤ, ◌<◌, max, List, length, drop}
 use Rattle.vcode_base.specs.declared.op.Op.{Op}
 use Rattle.vcode_base.specs.declared.op.Op.TheVariants.{Move}
 use Rattle.vcode_base.specs.declared.op.StackMove.TheVariants.{Copy, Pop, MoveToTop}
@@ -48,6 +48,10 @@ blocks_beside Second taken blocks = with_releases taken blocks
 -- the words that count as held while an instruction's results are made
 abbrev pub held_under : Rule → ℕ → Op → List ℕ → JobBlocks → ℕ
 held_under rule job op ids blocks = held_words job (blocks_beside rule (taken_ids op ids) blocks)
+
+-- words that count at an instruction as those that are held and needed do: the peak is the same with either
+abbrev pub CountsAs : (needed peak words : ℕ) → Type 0
+CountsAs needed peak words = max peak words ≡ max peak needed
 
 -- The blocks with a new one of these words, and a reference less to each of these operands. The releases come after
 -- it, as by the first rule, or before it, as by the second. Which form they have is not for the rule to say: a block

@@ -5,5 +5,6 @@ pub mod Commits
 pub mod Copies
 pub mod Laws
 pub mod Lines
+pub mod Needs
 pub mod Executions
 pub mod InPlace

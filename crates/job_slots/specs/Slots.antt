@@ -1,9 +1,9 @@
 -- When a job's slot, with the blocks that the job owns, shows the place of the job in its run alone.
-use Rattle.std.specs.Prelude.{◌≡◌, ℕ, ◌-◌, List, reverse, Option, Some, None}
+use Rattle.std.specs.Prelude.{◌≡◌, ℕ, ◌+◌, ◌-◌, ◌≤◌, List, length, reverse, Option, Some, None}
 use Rattle.vcode_base.specs.declared.outcome.Outcome.{Outcome}
 use Rattle.vcode_base.specs.declared.outcome.Outcome.TheVariants.{Returned}
 use Rattle.refcounts.specs.SharedState as shared
-use Rattle.job_memory.specs.JobBlocks.{JobBlocks, IsJob, grant_of, own_slots}
+use Rattle.job_memory.specs.JobBlocks.{JobBlocks, IsJob, ChangesOnlyOf, grant_of, own_slots}
 use Rattle.job_steps.specs.EventLaws.{IsVerified}
 use Rattle.job_steps.specs.Events.{early_end}
 use Rattle.job_steps.specs.Reached.{IsVerifiedBySome}
@@ -159,3 +159,11 @@ recalled_slot slot = record {
   trace = slot.trace;
   outcome = slot.outcome;
 }
+
+-- ---- a run
+
+-- wherever the job leads from these blocks, there are numbers for two blocks more
+abbrev pub HasNumbersOnRun : ℕ → Task → JobBlocks → Type 0
+HasNumbersOnRun number task old =
+    (new : JobBlocks) (slot : SlotState) → ChangesOnlyOf number old new → Shows number new task slot →
+    shared.IsTidy new.memory → shared.block_count new.memory + 2 ≤ length new.memory.slots

@@ -33,7 +33,7 @@ impl Class for Op {
 
 /// `CONST`.
 #[derive(Drop)]
-pub(crate) struct Constant(Scalar);
+pub(crate) struct Constant(pub(crate) Scalar);
 
 impl Class for Constant {
     ghost among_all = { λ it. op.Const it.0 };

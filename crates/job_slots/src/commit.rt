@@ -1,6 +1,6 @@
 //! What an instruction that is executed does to the cells and the blocks.
 
-ghost use Rattle.std.specs.Prelude.{◌≡◌, ◌+◌, ◌<◌, ◌≤◌, length, reverse, Some, IfSome};
+ghost use Rattle.std.specs.Prelude.{◌≡◌, ◌+◌, ◌<◌, ◌≤◌, Bool, length, reverse, Some, IfSome};
 ghost use Rattle.vcode_base.specs.declared.rule.Rule.{Rule};
 ghost use Rattle.vcode_base.specs.Kinds.{result_kinds};
 ghost use Rattle.refcounts.specs.SharedState.{AreLive, block_count, empty_slot, occurrences, slot_at};
@@ -11,7 +11,7 @@ ghost use Rattle.job_steps.specs.Motions.{operand_count, top_entries};
 ghost use Rattle.job_steps.specs.Runs.{state_after};
 ghost use Rattle.job_steps.specs.States.{ruled};
 ghost use Rattle.job_steps.specs.Tracks.{IsDeep, Advances};
-ghost use Rattle.job_slots.specs.Commits.{CanTake, IsExchanged, blocks_after_taking, blocks_beside, held_under};
+ghost use Rattle.job_slots.specs.Commits.{CanTake, CountsAs, IsExchanged, blocks_after_taking, blocks_beside, held_under};
 ghost use Rattle.job_slots.specs.Commits.{moved_ids, taken_ids};
 ghost use Rattle.job_slots.specs.Executions.{CanGoPast, CanSettle, CanShare, HasSettled, ids_in};
 ghost use Rattle.job_slots.specs.Slots.{IsFlyingSlot, IsAfter};
@@ -49,7 +49,7 @@ impl NewBlocks {
     }
 }
 
-/// Executes the next instruction of a job that runs, whose results are these words.
+/// Executes the next instruction of a job that runs, whose results are these words. `words` are held and needed at it.
 pub(crate) fn execute<C: Class, A: Allocator>(
     rule: Rule,
     job: &Job<A>,
@@ -60,6 +60,7 @@ pub(crate) fn execute<C: Class, A: Allocator>(
     flag: bool,
     first: &[i64],
     second: &[i64],
+    words: usize,
 )
     requires flying { IsFlyingSlot (own_slots number blocks.old) (ruled rule job.now) track.old }
     requires verified { IsVerified (ruled rule job.now) }
@@ -67,6 +68,8 @@ pub(crate) fn execute<C: Class, A: Allocator>(
     requires grant { grant_of blocks.old number ≡ Some job.now.limits.words }
     requires numbers { block_count blocks.old.memory + 2 ≤ length blocks.old.memory.slots }
     requires answered { IsAnswered (ruled rule job.now) track.old.executed op flag first.now second.now }
+    requires words { CountsAs (held_under rule number op track.old.cells blocks.old
+        + length first.now + length second.now) track.old.peak words }
     ensures after { IsAfter (own_slots number blocks.new) (ruled rule job.now) track.new
         (state_after (ruled rule job.now) (track.old.executed + 1)) }
     ensures limits { track.new.limits ≡ track.old.limits }
@@ -75,9 +78,31 @@ pub(crate) fn execute<C: Class, A: Allocator>(
 {
     steps_execute();
     let _used = blocks.used();
-    let words = held_under(rule, track, number, blocks, op) + first.len() + second.len();
     let results = settle::<C, A>(rule, track, number, blocks, op, first, second);
     go_past(job, track, op, flag, results.as_slice(), words);
+}
+
+/// The words that are held and needed at the next instruction of a job that runs, whose results are these words.
+pub(crate) fn words_in_flight<A: Allocator>(
+    rule: Rule,
+    job: &Job<A>,
+    track: &Track<BlockId, A>,
+    number: usize,
+    blocks: &JobMemory<A>,
+    op: Op,
+    first: &[i64],
+    second: &[i64],
+) -> usize
+    requires flying { IsFlyingSlot (own_slots number blocks.now) (ruled rule job.now) track.now }
+    requires verified { IsVerified (ruled rule job.now) }
+    requires has_grant { HasGrant blocks.now number }
+    requires answered { (flag : Bool)
+        × IsAnswered (ruled rule job.now) track.now.executed op flag first.now second.now }
+    ensures { result ≡ held_under rule number op track.now.cells blocks.now + length first.now + length second.now }
+{
+    steps_execute();
+    let _used = blocks.used();
+    held_under(rule, track, number, blocks, op) + first.len() + second.len()
 }
 
 /// The words that count as held while an instruction's results are made: not those of the operands under the second
@@ -210,6 +235,9 @@ fn exchange<A: Allocator>(
     releases_only_free();
     releases_change_only_their_job();
     let operands = top(track.cells(), op.operand_kinds().len());
+    if operands.is_empty() {
+        return place(number, blocks, words);
+    }
     if let Some(id) = dying(blocks, operands, words.len()) {
         blocks.exchange_at(number, operands, id, words);
         return id;

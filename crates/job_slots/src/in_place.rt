@@ -2,7 +2,7 @@
 
 ghost use Rattle.std.specs.Prelude.{◌≡◌, ◌+◌, ◌≤◌, length, take, false, IfSome, IfErr, OnOk, OnErr, Some};
 ghost use Rattle.vcode_base.specs.Kinds.{HaveKinds, source_kinds};
-ghost use Rattle.vcode_base.specs.Meaning.{shape, value_fault};
+ghost use Rattle.vcode_base.specs.Meaning.{value_fault};
 ghost use Rattle.vcode_base.specs.Operands.{contents};
 ghost use Rattle.refcounts.specs.SharedState.{block_count};
 ghost use Rattle.job_memory.specs.JobBlocks.{IsJob, ChangesOnlyOf, grant_of, own_slots};
@@ -11,16 +11,18 @@ ghost use Rattle.job_steps.specs.Runs.{state_after};
 ghost use Rattle.job_steps.specs.States.{ruled};
 ghost use Rattle.job_slots.specs.Answers.{IsNext};
 ghost use Rattle.job_slots.specs.InPlace.{IsPlaceable, is_constant, operands_in, words_by};
+ghost use Rattle.job_slots.specs.Needs.{IsReady};
 ghost use Rattle.job_slots.specs.Slots.{IsAfter, IsFlyingSlot, IsRunningSlot};
 
 use crate::commit::{go_past, top};
 use crate::execution::steps_execute;
 use crate::next::Next;
+use crate::ticket::Needs;
 use block_memory::{BlockId, Writer};
 use job_memory::JobMemory;
 use job_memory::laws::releases_change_only_their_job;
 use job_steps::laws::steps_can_begin;
-use job_steps::{Job, Track, fill, flag, need};
+use job_steps::{Job, Track, fill, flag};
 use refcounts::laws::releases_only_free;
 use std::alloc::Allocator;
 use vcode_base::laws::results_have_needed_lengths;
@@ -71,6 +73,7 @@ pub(crate) fn placement_of<A: Allocator>(
     number: usize,
     blocks: &JobMemory<A>,
     next: &Next<'_>,
+    needs: Needs,
 ) -> Option<Placement>
     requires running { IsRunningSlot (own_slots number blocks.now) (ruled rule job.now) track.now }
     requires verified { IsVerified (ruled rule job.now) }
@@ -79,13 +82,14 @@ pub(crate) fn placement_of<A: Allocator>(
         (contents (take next.now.operands.count next.now.operands.lists)) }
     requires kinds { HaveKinds (source_kinds next.now.op)
         (contents (take next.now.operands.count next.now.operands.lists)) }
-    requires shaped { shape next.now.op (contents (take next.now.operands.count next.now.operands.lists)) ≡ None }
+    requires ready { IsReady (ruled rule job.now) number blocks.now track.now next.now.op
+        (contents (take next.now.operands.count next.now.operands.lists)) needs }
     ensures { IfSome result (IsPlaceable (ruled rule job.now) number blocks.now track.now next.now.op) }
 {
     if is_short(next) {
         return None;
     }
-    placement_of_long(rule, job, track, number, blocks, next)
+    placement_of_long(rule, job, track, number, blocks, next, needs)
 }
 
 /// Whether it is seen at once that an instruction has no result of many words from the stack.
@@ -110,6 +114,7 @@ fn placement_of_long<A: Allocator>(
     number: usize,
     blocks: &JobMemory<A>,
     next: &Next<'_>,
+    needs: Needs,
 ) -> Option<Placement>
     requires running { IsRunningSlot (own_slots number blocks.now) (ruled rule job.now) track.now }
     requires verified { IsVerified (ruled rule job.now) }
@@ -118,7 +123,8 @@ fn placement_of_long<A: Allocator>(
         (contents (take next.now.operands.count next.now.operands.lists)) }
     requires kinds { HaveKinds (source_kinds next.now.op)
         (contents (take next.now.operands.count next.now.operands.lists)) }
-    requires shaped { shape next.now.op (contents (take next.now.operands.count next.now.operands.lists)) ≡ None }
+    requires ready { IsReady (ruled rule job.now) number blocks.now track.now next.now.op
+        (contents (take next.now.operands.count next.now.operands.lists)) needs }
     ensures { IfSome result (IsPlaceable (ruled rule job.now) number blocks.now track.now next.now.op) }
 {
     steps_can_begin::<BlockId>();
@@ -128,19 +134,17 @@ fn placement_of_long<A: Allocator>(
     let [_] = next.op.result_kinds() else {
         return None;
     };
-    let operands = next.operands.as_slice();
-    let (first, second) = need(next.op, operands);
-    let len = first as usize;
+    let len = needs.first as usize;
     if len < LEAST {
         return None;
     }
-    if second != 0 {
+    if needs.second != 0 {
         return None;
     }
     if job.limits().words < blocks.held(number).saturating_add(len) {
         return None;
     }
-    let flag = flag(operands);
+    let flag = flag(next.operands.as_slice());
     Some(Placement { len, flag })
 }
 

@@ -1,8 +1,6 @@
 //! The next instruction of a job, with the words of its operands.
 
-ghost use Rattle.std.specs.Prelude.{◌≡◌, ◌≤◌, ◌↔◌, ℤ, List, [], ◌∷◌, IsTrue, length, map, take, Some};
-ghost use Rattle.vcode_base.specs.declared.op.Op.TheVariants.{Const};
-ghost use Rattle.vcode_base.specs.declared.kind.Scalar.{Scalar};
+ghost use Rattle.std.specs.Prelude.{◌≡◌, ◌≤◌, ◌↔◌, false, List, [], ◌∷◌, IsTrue, length, map, take, Some};
 ghost use Rattle.vcode_base.specs.Instructions.{op_of};
 ghost use Rattle.vcode_base.specs.Kinds.{HaveKinds, source_kinds};
 ghost use Rattle.vcode_base.specs.Meaning.{operand};
@@ -18,6 +16,7 @@ ghost use Rattle.job_steps.specs.States.{StackEntry, ruled, words_of};
 ghost use Rattle.job_steps.specs.Steps.{sources_of};
 ghost use Rattle.job_slots.specs.Slots.{IsRunningSlot};
 ghost use Rattle.job_slots.specs.Answers.{IsNext, line_at, question_at};
+ghost use Rattle.job_slots.specs.InPlace.{is_constant};
 ghost use Rattle.job_slots.specs.Lines.{IsLineOf};
 
 use block_memory::BlockId;
@@ -91,7 +90,7 @@ pub(crate) fn next_line<'a, A: Allocator>(
     track.line(job.verified().program())
 }
 
-/// The next instruction of a job that runs, which is this one, of this line.
+/// The next instruction of a job that runs, which is this one, of this line, and no `CONST`.
 #[inline(always)]
 pub(crate) fn next_at<'a, A: Allocator>(
     rule: Rule,
@@ -106,48 +105,15 @@ pub(crate) fn next_at<'a, A: Allocator>(
     requires verified { IsVerified (ruled rule job.now) }
     requires line { IsLineOf (ruled rule job.now) track.now line.now }
     requires op { op ≡ op_of (instruction_in line.now.item) }
+    requires no_list { is_constant op ≡ false }
     ensures next { IsNext (ruled rule job.now) track.now.executed result.op result.line
         (contents (take result.operands.count result.operands.lists)) }
     ensures kinds { HaveKinds (source_kinds result.op) (contents (take result.operands.count result.operands.lists)) }
-    ensures op { result.op ≡ op }
-    ensures constant { (elements : Scalar) → op ≡ Const elements
-        → contents (take result.operands.count result.operands.lists) ≡ list_in (instruction_in line.now.item) ∷ [] }
 {
-    steps_can_begin::<BlockId>();
-    let list = own_list(rule, job, track, number, blocks, line, op);
-    next_of_list(rule, job, track, number, blocks, line, list, op)
+    next_of_list(rule, job, track, number, blocks, line, &[], op)
 }
 
-/// The list of the next instruction of a job that runs, which is this one, if it is a `CONST`; no element for another.
-/// The line is looked at only for a `CONST`.
-#[inline(always)]
-fn own_list<'a, A: Allocator>(
-    rule: Rule,
-    job: &'a Job<A>,
-    track: &Track<BlockId, A>,
-    number: usize,
-    blocks: &JobMemory<A>,
-    line: &CodeLine<'_>,
-    op: Op,
-) -> &'a [i64]
-    requires running { IsRunningSlot (own_slots number blocks.now) (ruled rule job.now) track.now }
-    requires verified { IsVerified (ruled rule job.now) }
-    requires line { IsLineOf (ruled rule job.now) track.now line.now }
-    requires op { op ≡ op_of (instruction_in line.now.item) }
-    ensures { result.now ≡ list_in (instruction_in line.now.item) }
-{
-    steps_can_begin::<BlockId>();
-    match op {
-        Op::Const(_) => {
-            let own = next_line(rule, job, track, number, blocks);
-            list_of(&own)
-        }
-        Op::Elementwise(_) | Op::Segmented(_) | Op::If | Op::Move(..) | Op::Call | Op::Return =>
-            &[],
-    }
-}
-
-/// The same, with the list of the line's `CONST`.
+/// The next instruction of a job that runs, which is this one, of this line, whose list this is.
 #[inline(always)]
 fn next_of_list<'a, A: Allocator>(
     rule: Rule,
@@ -167,9 +133,6 @@ fn next_of_list<'a, A: Allocator>(
     ensures next { IsNext (ruled rule job.now) track.now.executed result.op result.line
         (contents (take result.operands.count result.operands.lists)) }
     ensures kinds { HaveKinds (source_kinds result.op) (contents (take result.operands.count result.operands.lists)) }
-    ensures op { result.op ≡ op }
-    ensures constant { (elements : Scalar) → op ≡ Const elements
-        → contents (take result.operands.count result.operands.lists) ≡ list.now ∷ [] }
 {
     steps_can_begin::<BlockId>();
     Next {
@@ -249,8 +212,6 @@ fn operands_of<'a, A: Allocator>(
     ensures sources { (stack : List StackEntry)
         → map (λ id. (slot_at blocks.now.memory id).words) track.now.cells ≡ words_of stack
         → contents (take result.count result.lists) ≡ sources_of (instruction_in line.now.item) stack }
-    ensures constant { (elements : Scalar) → op ≡ Const elements
-        → contents (take result.count result.lists) ≡ list.now ∷ [] }
 {
     match op {
         Op::Const(_) => constant(list),

@@ -1,9 +1,8 @@
 //! A job with its place in its run.
 
 ghost use Rattle.std.specs.Prelude.{◌≡◌, ◌+◌, ◌<◌, ◌≤◌, ◌↔◌, ℕ, [], false, true, length, IsErr, IfOk, IfErr};
-ghost use Rattle.std.specs.Prelude.{OnOk, OnErr, None, Some, option_copied};
+ghost use Rattle.std.specs.Prelude.{OnOk, OnErr, None, Some, is_some, option_copied};
 ghost use Rattle.vcode_base.specs.declared.limits.TheConstants.{MOST_WORDS};
-ghost use Rattle.vcode_base.specs.declared.op.Op.TheVariants.{Const};
 ghost use Rattle.vcode_base.specs.declared.outcome.Outcome.TheVariants.{Returned};
 ghost use Rattle.vcode_base.specs.Meaning.{value_fault};
 ghost use Rattle.refcounts.specs.SharedState.{block_count};
@@ -15,25 +14,28 @@ ghost use Rattle.job_steps.specs.Runs.{outcome, executed_count, peak, state_afte
 ghost use Rattle.job_steps.specs.Standings.{Live, InFlight, Ended};
 ghost use Rattle.job_steps.specs.States.{ruled};
 ghost use Rattle.job_slots.specs.Answers.{IsAnswered, demand_in, early_end_at, line_at, told_demand_in};
-ghost use Rattle.job_slots.specs.Lines.{IsOpOfNext};
+ghost use Rattle.job_slots.specs.Commits.{CountsAs, held_under};
+ghost use Rattle.job_slots.specs.Lines.{HasNoOperands, IsListOfNext, IsOpOfNext};
 ghost use Rattle.job_slots.specs.declared.status.Status.TheVariants as status;
 ghost use Rattle.job_slots.specs.declared.answer.Finished.TheVariants as finished;
-ghost use Rattle.job_slots.specs.InPlace.{Carries, IsPlaceable, operands_in};
+ghost use Rattle.job_slots.specs.declared.answer.Stepped.TheVariants as stepped;
+ghost use Rattle.job_slots.specs.InPlace.{Carries, IsPlaceable, is_constant, operands_in};
 ghost use Rattle.job_slots.specs.Holdings.{HoldSomeStack, HoldNothing};
 ghost use Rattle.job_slots.specs.Slots.{Shows, Leaves, IsActive, IsNewSlot, IsReturned, standing_of, told_outcome};
-ghost use Rattle.job_slots.specs.Slots.{recalled_slot};
+ghost use Rattle.job_slots.specs.Slots.{HasNumbersOnRun, recalled_slot};
 ghost use Rattle.job_slots.specs.Answers.{Begins, IsPutOff, Finishes, Fits, IsEnding, is_ended, is_in_flight};
-ghost use Rattle.job_slots.specs.Answers.{or_same, question_at, standing_after_begun, standing_after_finished};
+ghost use Rattle.job_slots.specs.Answers.{HasRun, is_live, or_same, question_at, standing_after_begun};
+ghost use Rattle.job_slots.specs.Answers.{standing_after_finished};
 ghost use Rattle.job_slots.specs.Answers.{Steps, IsPassedOver, after_stepped, standing_after_step};
 
 use crate::answer::{Begun, Finished, Stepped};
-use crate::class::{self, Class, Constant};
+use crate::class::{self, Class};
 use crate::collect::results;
-use crate::commit::execute;
+use crate::commit::{execute, words_in_flight};
 use crate::in_place::{Placement, execute_in_place, placement_of};
-use crate::next::{is_asked, line_of_next, list_of, next_at, next_line};
+use crate::next::{is_asked, line_of_next, next_at, next_line, read_next};
 use crate::status::Status;
-use crate::ticket::{Halted, demand_of, early_end, ticket_of};
+use crate::ticket::{Halted, demand_of, needs_of, ticket_of, words_without_operands};
 use block_memory::BlockId;
 use job_memory::laws::{
     changes_join, grants_change_only_their_job, releases_change_only_their_job,
@@ -44,7 +46,8 @@ use job_steps::{Desk, Filled, Job, Track, flag};
 use refcounts::laws::{releases_are_counted, releases_keep_blocks};
 use std::alloc::{AllocError, Allocator};
 use std::marker::Model;
-use vcode_base::{DataFault, Elementwise, Instr, Op, Outcome, Rule, Scalar, StackMove, Values};
+use vcode_base::laws::results_have_needed_lengths;
+use vcode_base::{DataFault, Elementwise, Instr, Op, Outcome, Rule, StackMove, Values};
 use vcode_reader::CodeItem;
 
 /// The place of a job in its run, and how it ended, once that is known.
@@ -312,6 +315,41 @@ impl<A: Allocator> Slot<A> {
         self.step_live(rule, job, number, blocks, desk)
     }
 
+    /// Carries out the instructions of the job, if it is live, until it is over. The desk, which has at least the job's
+    /// words, is lent for their results. Takes no memory.
+    ///
+    /// Wherever the job may lead there have to be numbers for two blocks more.
+    #[inline(always)]
+    pub fn run(
+        &mut self,
+        rule: Rule,
+        job: &Job<A>,
+        number: usize,
+        blocks: &mut JobMemory<A>,
+        desk: &mut Desk<A>,
+    )
+        requires shows { Shows number blocks.old (ruled rule job.now) self.old }
+        requires numbers { HasNumbersOnRun number (ruled rule job.now) blocks.old }
+        requires enough { job.now.limits.words ≤ desk.old }
+        ensures ran { HasRun number (ruled rule job.now) (standing_of self.old) (standing_of self.new) }
+        ensures over { is_live (standing_of self.new) ≡ false }
+        ensures shows { Shows number blocks.new (ruled rule job.now) self.new }
+        ensures others { ChangesOnlyOf number blocks.old blocks.new }
+        ensures desk { desk.new ≡ desk.old }
+    {
+        changes_join();
+        reached();
+        match self.status {
+            Status::Live => {}
+            Status::Waiting | Status::InFlight | Status::Ended | Status::Collected => return,
+        }
+        let _used = blocks.used();
+        while let Stepped::Done = self.step_live(rule, job, number, blocks, desk) {
+            // By its type a memory has no block that no reference names.
+            let _used = blocks.used();
+        }
+    }
+
     /// Carries out the next instruction of a job that is live, by its class.
     #[inline(always)]
     fn step_live(
@@ -336,8 +374,9 @@ impl<A: Allocator> Slot<A> {
     {
         let line = next_line(rule, job, &self.track, number, blocks);
         match &line.item {
-            CodeItem::Do(Instr::Const(elements, _)) => {
-                self.step_constant(rule, job, number, blocks, *elements)
+            CodeItem::Do(Instr::Const(elements, list)) => {
+                let class = class::Constant(*elements);
+                self.step_without_operands(rule, job, number, blocks, class, list.as_slice())
             }
             CodeItem::Do(Instr::Elementwise(Elementwise::Arith(op))) => {
                 self.step_as(rule, job, number, blocks, desk, *op)
@@ -352,26 +391,22 @@ impl<A: Allocator> Slot<A> {
                 self.step_as(rule, job, number, blocks, desk, *op)
             }
             CodeItem::Do(Instr::Move(StackMove::Copy, lower, upper)) => {
-                self.step_as(rule, job, number, blocks, desk, class::Copy(*lower, *upper))
+                let class = class::Copy(*lower, *upper);
+                self.step_without_operands(rule, job, number, blocks, class, &[])
             }
             CodeItem::Do(Instr::Move(StackMove::Pop, lower, upper)) => {
-                self.step_as(rule, job, number, blocks, desk, class::Pop(*lower, *upper))
+                let class = class::Pop(*lower, *upper);
+                self.step_without_operands(rule, job, number, blocks, class, &[])
             }
             CodeItem::Do(Instr::Move(StackMove::MoveToTop, lower, upper)) => {
-                self.step_as(
-                    rule,
-                    job,
-                    number,
-                    blocks,
-                    desk,
-                    class::MoveToTop(*lower, *upper),
-                )
+                let class = class::MoveToTop(*lower, *upper);
+                self.step_without_operands(rule, job, number, blocks, class, &[])
             }
             CodeItem::Do(Instr::Call(_)) => {
-                self.step_as(rule, job, number, blocks, desk, class::Call)
+                self.step_without_operands(rule, job, number, blocks, class::Call, &[])
             }
             CodeItem::Do(Instr::Return) => {
-                self.step_as(rule, job, number, blocks, desk, class::Return)
+                self.step_without_operands(rule, job, number, blocks, class::Return, &[])
             }
             CodeItem::Do(Instr::If) | CodeItem::If | CodeItem::Else | CodeItem::Endif => {
                 self.step_as(rule, job, number, blocks, desk, class::If)
@@ -395,6 +430,7 @@ impl<A: Allocator> Slot<A> {
         requires numbers { block_count blocks.old.memory + 2 ≤ length blocks.old.memory.slots }
         requires enough { job.now.limits.words ≤ desk.old }
         requires next { IsOpOfNext (ruled rule job.now) self.old.trace (C.among_all class) }
+        requires no_list { is_constant (C.among_all class) ≡ false }
         ensures answer { Steps number desk.old (ruled rule job.now) (standing_of self.old) result }
         ensures shows { Shows number blocks.new (ruled rule job.now) self.new }
         ensures others { ChangesOnlyOf number blocks.old blocks.new }
@@ -407,46 +443,63 @@ impl<A: Allocator> Slot<A> {
         early_ends_end();
         others_are_ready();
         end_is_own();
+        results_have_needed_lengths();
         steps_can_begin::<BlockId>();
         let op = class.op();
         let line = next_line(rule, job, &self.track, number, blocks);
         let next = next_at(rule, job, &self.track, number, blocks, &line, op);
-        if let Some(ending) = early_end(rule, job, &self.track, number, blocks, &next) {
-            self.end(rule, job, number, blocks, ending);
-            return Stepped::Ended;
-        }
-        if let Some(placement) = placement_of(rule, job, &self.track, number, blocks, &next) {
-            let (op, line) = (next.op, next.line);
-            return self.step_in_place(rule, job, number, blocks, op, line, placement);
-        }
-        let (op, number_of_line, operands) = (next.op, next.line, next.operands.as_slice());
-        let flag = flag(operands);
-        match desk.fill(op, operands) {
-            Ok((first, second)) => {
-                self.take_results::<C>(rule, job, number, blocks, op, flag, first, second)
-            }
-            Err(fault) => {
-                let ending = Outcome::Fault(fault, number_of_line);
+        let needs = needs_of(rule, job, &self.track, number, blocks, &next);
+        match needs {
+            Err(ending) => {
                 self.end(rule, job, number, blocks, ending);
                 Stepped::Ended
+            }
+            Ok(needs) => {
+                let found = placement_of(rule, job, &self.track, number, blocks, &next, needs);
+                if let Some(placement) = found {
+                    let (op, line) = (next.op, next.line);
+                    return self.step_in_place(rule, job, number, blocks, op, line, placement);
+                }
+                let (op, line, operands) = (next.op, next.line, next.operands.as_slice());
+                let flag = flag(operands);
+                match desk.fill(op, operands, (needs.first, needs.second)) {
+                    Ok((first, second)) => self.take_results::<C>(
+                        rule,
+                        job,
+                        number,
+                        blocks,
+                        op,
+                        flag,
+                        first,
+                        second,
+                        needs.words,
+                    ),
+                    Err(fault) => {
+                        self.end(rule, job, number, blocks, Outcome::Fault(fault, line));
+                        Stepped::Ended
+                    }
+                }
             }
         }
     }
 
-    /// Carries out the next instruction of a job that is live, which is a `CONST`. Its result is its list, which lies
-    /// in the code.
-    fn step_constant(
+    /// Carries out the next instruction of a job that is live, which has no operands: a `CONST`, whose result is this
+    /// list, or an instruction that moves entries or calls, which makes no words.
+    fn step_without_operands<C: Class>(
         &mut self,
         rule: Rule,
         job: &Job<A>,
         number: usize,
         blocks: &mut JobMemory<A>,
-        elements: Scalar,
+        class: C,
+        list: &[i64],
     ) -> Stepped
         requires shows { Shows number blocks.old (ruled rule job.now) self.old }
         requires live { self.old.status ≡ status.Live }
         requires numbers { block_count blocks.old.memory + 2 ≤ length blocks.old.memory.slots }
-        requires next { IsOpOfNext (ruled rule job.now) self.old.trace (Const elements) }
+        requires next { IsOpOfNext (ruled rule job.now) self.old.trace (C.among_all class) }
+        requires list { IsListOfNext (ruled rule job.now) self.old.trace list.now }
+        requires no_operands { HasNoOperands (C.among_all class) }
         ensures answer { (words : ℕ) → job.now.limits.words ≤ words
             → Steps number words (ruled rule job.now) (standing_of self.old) result }
         ensures shows { Shows number blocks.new (ruled rule job.now) self.new }
@@ -455,21 +508,44 @@ impl<A: Allocator> Slot<A> {
             ≡ standing_after_step number (ruled rule job.now) (standing_of self.old) }
         ensures steps { IsPassedOver result → ⊥ }
     {
-        early_ends_end();
         steps_can_begin::<BlockId>();
-        let op = Op::Const(elements);
-        let line = next_line(rule, job, &self.track, number, blocks);
-        let next = next_at(rule, job, &self.track, number, blocks, &line, op);
-        if let Some(ending) = early_end(rule, job, &self.track, number, blocks, &next) {
-            self.end(rule, job, number, blocks, ending);
-            return Stepped::Ended;
+        let op = class.op();
+        match words_without_operands(rule, job, &self.track, number, blocks, op, list) {
+            Some(words) => {
+                let flag = flag(&[list]);
+                self.take_results::<C>(rule, job, number, blocks, op, flag, list, &[], words)
+            }
+            None => {
+                self.end_early(rule, job, number, blocks);
+                Stepped::Ended
+            }
         }
-        let flag = flag(next.operands.as_slice());
-        let list = list_of(&line);
-        self.take_results::<Constant>(rule, job, number, blocks, op, flag, list, &[])
     }
 
-    /// Executes the next instruction of a job that is live, whose results are these words.
+    /// Ends the job, which is live, and ends before the values of its next instruction are looked at.
+    #[cold]
+    #[inline(never)]
+    fn end_early(&mut self, rule: Rule, job: &Job<A>, number: usize, blocks: &mut JobMemory<A>)
+        requires shows { Shows number blocks.old (ruled rule job.now) self.old }
+        requires live { self.old.status ≡ status.Live }
+        requires ends { is_some (early_end_at (ruled rule job.now) self.old.trace.executed) ≡ true }
+        ensures answer { (words : ℕ) → job.now.limits.words ≤ words
+            → Steps number words (ruled rule job.now) (standing_of self.old) stepped.Ended }
+        ensures shows { Shows number blocks.new (ruled rule job.now) self.new }
+        ensures others { ChangesOnlyOf number blocks.old blocks.new }
+        ensures standing { standing_of self.new
+            ≡ standing_after_step number (ruled rule job.now) (standing_of self.old) }
+    {
+        early_ends_end();
+        let next = read_next(rule, job, &self.track, number, blocks);
+        let Err(ending) = needs_of(rule, job, &self.track, number, blocks, &next) else {
+            unreachable!()
+        };
+        self.end(rule, job, number, blocks, ending)
+    }
+
+    /// Executes the next instruction of a job that is live, whose results are these words. `words` are held and needed
+    /// at it.
     fn take_results<C: Class>(
         &mut self,
         rule: Rule,
@@ -480,11 +556,14 @@ impl<A: Allocator> Slot<A> {
         flag: bool,
         first: &[i64],
         second: &[i64],
+        words: usize,
     ) -> Stepped
         requires shows { Shows number blocks.old (ruled rule job.now) self.old }
         requires live { self.old.status ≡ status.Live }
         requires goes_on { early_end_at (ruled rule job.now) self.old.trace.executed ≡ None }
         requires answered { IsAnswered (ruled rule job.now) self.old.trace.executed op flag first.now second.now }
+        requires words { CountsAs (held_under rule number op self.old.trace.cells blocks.old
+            + length first.now + length second.now) self.old.trace.peak words }
         requires numbers { block_count blocks.old.memory + 2 ≤ length blocks.old.memory.slots }
         ensures answer { (words : ℕ) → job.now.limits.words ≤ words
             → Steps number words (ruled rule job.now) (standing_of self.old) result }
@@ -495,7 +574,7 @@ impl<A: Allocator> Slot<A> {
         ensures steps { IsPassedOver result → ⊥ }
     {
         self.status = Status::InFlight;
-        if self.carry_out::<C>(rule, job, number, blocks, op, flag, first, second) {
+        if self.carry_out::<C>(rule, job, number, blocks, op, flag, first, second, words) {
             Stepped::Done
         } else {
             Stepped::Ended
@@ -693,7 +772,17 @@ impl<A: Allocator> Slot<A> {
             }
             Ok((first, second)) => {
                 let (op, flag) = (filled.op(), filled.flag());
-                if self.carry_out::<Op>(rule, job, number, blocks, op, flag, first, second) {
+                let words = words_in_flight(
+                    rule,
+                    job,
+                    &self.track,
+                    number,
+                    blocks,
+                    op,
+                    first,
+                    second,
+                );
+                if self.carry_out::<Op>(rule, job, number, blocks, op, flag, first, second, words) {
                     Finished::Done
                 } else {
                     Finished::Ended
@@ -703,7 +792,7 @@ impl<A: Allocator> Slot<A> {
     }
 
     /// Executes the instruction of the step in flight, whose results are these words: true if the job goes on after
-    /// it, and false if it has returned.
+    /// it, and false if it has returned. `words` are held and needed at it.
     fn carry_out<C: Class>(
         &mut self,
         rule: Rule,
@@ -714,10 +803,13 @@ impl<A: Allocator> Slot<A> {
         flag: bool,
         first: &[i64],
         second: &[i64],
+        words: usize,
     ) -> bool
         requires shows { Shows number blocks.old (ruled rule job.now) self.old }
         requires flying { self.old.status ≡ status.InFlight }
         requires answered { IsAnswered (ruled rule job.now) self.old.trace.executed op flag first.now second.now }
+        requires words { CountsAs (held_under rule number op self.old.trace.cells blocks.old
+            + length first.now + length second.now) self.old.trace.peak words }
         requires numbers { block_count blocks.old.memory + 2 ≤ length blocks.old.memory.slots }
         ensures goes_on { result ≡ true
             → next_standing (event.Finish number) (ruled rule job.now) (standing_of self.old)
@@ -741,6 +833,7 @@ impl<A: Allocator> Slot<A> {
             flag,
             first,
             second,
+            words,
         );
         self.go_on()
     }

@@ -1,11 +1,12 @@
 //! The ticket of a job's next step.
 
-ghost use Rattle.std.specs.Prelude.{◌≡◌, ◌+◌, ◌<◌, ◌≤◌, ◌^◌, ℕ, length, take, IfNone, MatchResult, None, Some};
+ghost use Rattle.std.specs.Prelude.{◌≡◌, ◌+◌, ◌<◌, ◌≤◌, ◌^◌, true, length, take, is_some, MatchOption, MatchResult};
+ghost use Rattle.std.specs.Prelude.{None, Some};
 ghost use Rattle.vcode_base.specs.declared.limits.TheConstants.{MOST_WORDS};
 ghost use Rattle.vcode_base.specs.Kinds.{HaveKinds, source_kinds};
 ghost use Rattle.vcode_base.specs.Meaning.{shape};
 ghost use Rattle.vcode_base.specs.Operands.{contents};
-ghost use Rattle.job_memory.specs.JobBlocks.{HasGrant, own_slots};
+ghost use Rattle.job_memory.specs.JobBlocks.{HasGrant, IsJob, held_words, own_slots};
 ghost use Rattle.job_steps.specs.EventLaws.{IsVerified};
 ghost use Rattle.job_steps.specs.Motions.{depth_after};
 ghost use Rattle.job_steps.specs.Questions.{need_words};
@@ -14,18 +15,28 @@ ghost use Rattle.job_steps.specs.States.{ruled};
 ghost use Rattle.job_steps.specs.Steps.{ending_by, memory_fault};
 ghost use Rattle.job_steps.specs.Tickets.{question_by};
 ghost use Rattle.job_slots.specs.Slots.{IsRunningSlot};
-ghost use Rattle.job_slots.specs.Answers.{CanAsk, IsAskedOf, IsNext, demand_in, early_end_at, told_demand};
-ghost use Rattle.job_slots.specs.Answers.{told_demand_in};
+ghost use Rattle.job_slots.specs.Answers.{IsAskedOf, IsNext, demand_in, early_end_at, told_demand, told_demand_in};
+ghost use Rattle.job_slots.specs.Commits.{CountsAs, held_under};
+ghost use Rattle.job_slots.specs.Lines.{HasNoOperands, IsListOfNext, IsOpOfNext};
+ghost use Rattle.job_slots.specs.Needs.{AreFoundNeeds, IsReady, words_with};
 
 use crate::commit::held_under;
 use crate::execution::held_is_counted;
 use crate::next::{Next, read_next};
 use block_memory::BlockId;
 use job_memory::JobMemory;
-use job_steps::laws::{steps_can_advance, steps_can_begin};
-use job_steps::{Desk, Job, Ticket, Track, need, shape};
+use job_steps::laws::{reached, steps_can_advance, steps_can_begin};
+use job_steps::{Desk, Job, Ticket, Track, lengths};
 use std::alloc::Allocator;
-use vcode_base::{Outcome, Rule, Values};
+use vcode_base::{Op, Outcome, Rule, Values};
+
+/// What an instruction needs: the words of its first and second result, and those that are held and needed at it.
+#[derive(Clone, Copy)]
+pub(crate) struct Needs {
+    pub(crate) first: u64,
+    pub(crate) second: u64,
+    pub(crate) words: usize,
+}
 
 /// How a job ends before its next instruction, with the desk that was meant for it.
 #[derive(Drop)]
@@ -53,22 +64,23 @@ pub(crate) fn ticket_of<A: Allocator>(
         (λ halted. (early_end_at (ruled rule job.now) track.now.executed ≡ Some halted.ending) × (halted.desk ≡ desk)) }
 {
     let next = read_next(rule, job, track, number, blocks);
-    match early_end(rule, job, track, number, blocks, &next) {
-        Some(ending) => Err(Halted { ending, desk }),
-        None => Ok(desk.ask(number, track.executed(), next.op, next.operands.as_slice())),
+    match needs_of(rule, job, track, number, blocks, &next) {
+        Err(ending) => Err(Halted { ending, desk }),
+        Ok(_) => Ok(desk.ask(number, track.executed(), next.op, next.operands.as_slice())),
     }
 }
 
-/// How a job that runs ends before the values of its next instruction are looked at, if it does.
+/// What the next instruction of a job that runs needs, or how the job ends before the values of its operands are looked
+/// at.
 #[inline(always)]
-pub(crate) fn early_end<A: Allocator>(
+pub(crate) fn needs_of<A: Allocator>(
     rule: Rule,
     job: &Job<A>,
     track: &Track<BlockId, A>,
     number: usize,
     blocks: &JobMemory<A>,
     next: &Next<'_>,
-) -> Option<Outcome<Values<A>>>
+) -> Result<Needs, Outcome<Values<A>>>
     requires running { IsRunningSlot (own_slots number blocks.now) (ruled rule job.now) track.now }
     requires verified { IsVerified (ruled rule job.now) }
     requires has_grant { HasGrant blocks.now number }
@@ -76,63 +88,106 @@ pub(crate) fn early_end<A: Allocator>(
         (contents (take next.now.operands.count next.now.operands.lists)) }
     requires kinds { HaveKinds (source_kinds next.now.op)
         (contents (take next.now.operands.count next.now.operands.lists)) }
-    ensures ends { result ≡ early_end_at (ruled rule job.now) track.now.executed }
-    ensures can_ask { IfNone result ((words : ℕ) → job.now.limits.words ≤ words
-        → CanAsk words next.now.op (contents (take next.now.operands.count next.now.operands.lists))) }
+    ensures { MatchResult result
+        (IsReady (ruled rule job.now) number blocks.now track.now next.now.op
+        (contents (take next.now.operands.count next.now.operands.lists)))
+        (λ ending. early_end_at (ruled rule job.now) track.now.executed ≡ Some ending) }
 {
     steps_can_begin::<BlockId>();
     steps_can_advance::<BlockId>();
     held_is_counted();
     if track.executed() == job.limits().budget {
-        return Some(Outcome::Budget);
+        return Err(Outcome::Budget);
     }
     // By its type a memory has no block that no reference names.
     let _used = blocks.used();
     let held = held_under(rule, track, number, blocks, next.op);
-    early_ending(track, held, next)
+    needs_beside(track, held, next)
 }
 
-/// The ending of an instruction by a shape or a limit, if `held` words are held.
+/// What an instruction needs, if `held` words are held, or its ending by a shape or a limit.
 #[inline(always)]
-fn early_ending<A: Allocator>(
+fn needs_beside<A: Allocator>(
     track: &Track<BlockId, A>,
     held: usize,
     next: &Next<'_>,
-) -> Option<Outcome<Values<A>>>
+) -> Result<Needs, Outcome<Values<A>>>
     requires words { track.now.limits.words ≤ MOST_WORDS }
     requires kinds { HaveKinds (source_kinds next.now.op)
         (contents (take next.now.operands.count next.now.operands.lists)) }
     ensures { let sources = contents (take next.now.operands.count next.now.operands.lists) in
-        result ≡ ending_by next.now.line (shape next.now.op sources)
+        AreFoundNeeds held (question_by next.now.op sources)
+        (ending_by next.now.line (shape next.now.op sources)
         (memory_fault track.now.limits next.now.op (held + need_words (question_by next.now.op sources))
-        (depth_after next.now.op (length track.now.cells)) (length track.now.frames)) }
+        (depth_after next.now.op (length track.now.cells)) (length track.now.frames))) result }
 {
-    match shape(next.op, next.operands.as_slice()) {
-        Err(fault) => Some(Outcome::Fault(fault, next.line)),
-        Ok(()) => limit_ending(track, held, next),
+    match lengths(next.op, next.operands.as_slice()) {
+        Err(fault) => Err(Outcome::Fault(fault, next.line)),
+        Ok((first, second)) => {
+            let words = (held as u64).saturating_add(first).saturating_add(second);
+            match track.memory_fault(next.op, words) {
+                Some(fault) => Err(Outcome::Memory(fault, next.line)),
+                None => Ok(Needs {
+                    first,
+                    second,
+                    words: words as usize,
+                }),
+            }
+        }
     }
 }
 
-/// The ending of an instruction whose operands fit one another by a limit that it would pass, if `held` words are held.
+/// The words that count at the next instruction of a job that runs, which has no operands and makes the words of this
+/// list, or none if the job ends before it.
+///
+/// If it makes no words, those that are held need no look: they were within the limit and the peak before.
 #[inline(always)]
-fn limit_ending<A: Allocator>(
+pub(crate) fn words_without_operands<A: Allocator>(
+    rule: Rule,
+    job: &Job<A>,
     track: &Track<BlockId, A>,
-    held: usize,
-    next: &Next<'_>,
-) -> Option<Outcome<Values<A>>>
-    requires words { track.now.limits.words ≤ MOST_WORDS }
-    requires kinds { HaveKinds (source_kinds next.now.op)
-        (contents (take next.now.operands.count next.now.operands.lists)) }
-    requires shaped { shape next.now.op (contents (take next.now.operands.count next.now.operands.lists)) ≡ None }
-    ensures { let sources = contents (take next.now.operands.count next.now.operands.lists) in
-        result ≡ ending_by next.now.line None
-        (memory_fault track.now.limits next.now.op (held + need_words (question_by next.now.op sources))
-        (depth_after next.now.op (length track.now.cells)) (length track.now.frames)) }
+    number: usize,
+    blocks: &JobMemory<A>,
+    op: Op,
+    list: &[i64],
+) -> Option<usize>
+    requires running { IsRunningSlot (own_slots number blocks.now) (ruled rule job.now) track.now }
+    requires verified { IsVerified (ruled rule job.now) }
+    requires has_grant { HasGrant blocks.now number }
+    requires next { IsOpOfNext (ruled rule job.now) track.now op }
+    requires list { IsListOfNext (ruled rule job.now) track.now list.now }
+    requires no_operands { HasNoOperands op }
+    ensures { MatchOption result
+        (is_some (early_end_at (ruled rule job.now) track.now.executed) ≡ true)
+        (λ words. (early_end_at (ruled rule job.now) track.now.executed ≡ None)
+        × CountsAs (held_under rule number op track.now.cells blocks.now + length list.now) track.now.peak words) }
 {
-    let (first, second) = need(next.op, next.operands.as_slice());
-    let words = (held as u64).saturating_add(first).saturating_add(second);
-    let fault = track.memory_fault(next.op, words)?;
-    Some(Outcome::Memory(fault, next.line))
+    steps_can_begin::<BlockId>();
+    reached();
+    held_is_counted();
+    let _used = blocks.used();
+    if track.executed() == job.limits().budget {
+        return None;
+    }
+    let words = words_with(list, number, blocks);
+    match track.memory_fault(op, words as u64) {
+        Some(_) => None,
+        None => Some(words),
+    }
+}
+
+/// The words of a list and those that are held beside it, or 0 if it has none.
+#[inline(always)]
+fn words_with<A: Allocator>(list: &[i64], number: usize, blocks: &JobMemory<A>) -> usize
+    requires is_job { IsJob blocks.now number }
+    requires few { held_words number blocks.now ≤ MOST_WORDS }
+    ensures { result ≡ words_with list.now (held_words number blocks.now) }
+{
+    if list.is_empty() {
+        0
+    } else {
+        blocks.held(number) + list.len()
+    }
 }
 
 /// The words that a job that runs holds and needs at its next instruction. If its operands don't fit one another, only
@@ -168,10 +223,9 @@ fn demand_by(held: usize, next: &Next<'_>) -> usize
     ensures { let sources = contents (take next.now.operands.count next.now.operands.lists) in
         result ≡ told_demand (shape next.now.op sources) held (need_words (question_by next.now.op sources)) }
 {
-    match shape(next.op, next.operands.as_slice()) {
+    match lengths(next.op, next.operands.as_slice()) {
         Err(_) => held,
-        Ok(()) => {
-            let (first, second) = need(next.op, next.operands.as_slice());
+        Ok((first, second)) => {
             let words = (held as u64).saturating_add(first).saturating_add(second);
             words as usize
         }

@@ -2,7 +2,7 @@
 use Rattle.std.proofs.Common.{◌≡◌, ℕ, ◌+◌, ◌<◌, ◌≤◌, max, Bool, true, false, cond, eqb, ltb, List, [], ◌∷◌, length}
 use Rattle.std.proofs.Common.{get_or, Option, Some, None, refl, sym, ◌∙◌, ap, subst, arith, zero, suc}
 use Rattle.std.specs.Prelude.{All, ◌&&◌}
-use Rattle.std.proofs.Math.Nat.{max-le}
+use Rattle.std.proofs.Math.Nat.{max-le, le-max_right}
 use Rattle.std.proofs.lemmas.Bool.Decides.{nat_tests}
 use Rattle.std.proofs.lemmas.List.Elements.{All-nil, All-cons, All-weaker}
 use Rattle.vcode_base.specs.declared.fault.DataFault.{DataFault}
@@ -153,6 +153,7 @@ pub record IsBounded (task : Task) (n : ℕ) (s : State) : Type 0 where
   pub tags : All (λ e. e.tag < s.next) s.stack
   pub alike : Agree s.stack
   pub words : held_words s.stack ≤ task.limits.words
+  pub held : held_words s.stack ≤ s.peak
   pub highest : s.peak ≤ task.limits.words
   pub cells : length s.stack ≤ task.limits.cells
   pub calls : length s.calls ≤ task.limits.calls
@@ -198,6 +199,12 @@ bounded_past law task n s call outer b p =
           (λ k d h j f g. λ e. absurd (omega (arith, young j f g, old k d h)))
           b.alike;
       words = omega (arith, held_after task.rule (item_of call) new s b.alike, total, fit.words_fit);
+      held = omega (
+        arith,
+        held_after task.rule (item_of call) new s b.alike,
+        total,
+        le-max_right s.peak (words_at task.rule (item_of call) s),
+      );
       highest = max-le b.highest fit.words_fit;
       cells = subst (λ m. m ≤ task.limits.cells)
           (sym (length-stack_after op new s.stack (length-results s.next (question_of (item_of call) s.stack))
@@ -271,6 +278,7 @@ bounded_first task = record {
   tags = All-nil (λ e. e.tag < 0);
   alike = All-nil (λ e. All (AreAlike e) []);
   words = omega arith;
+  held = omega arith;
   highest = omega arith;
   cells = omega arith;
   calls = first_calls (callee_named task.verified main_name) task.limits.calls (task.limits.calls_in_range.0);

@@ -64,11 +64,12 @@ pub contents_in_front : (count : ℕ) (refs : List (Bor (List ℤ))) (xs : List 
 contents_in_front count refs xs same front =
     sym (take-map (λ (r : Bor (List ℤ)). r.now) count refs) ∙ (ap (λ n. take n (contents refs)) same ∙ front)
 
--- what can be answered in some words can be in more
-pub can_answer_within : (op : Op) (words room : ℕ) (xs ys : List (List ℤ)) → words ≤ room → ys ≡ xs
-    → CanAnswer words (question_by op xs) → CanAnswer room (question_by op ys)
-can_answer_within op words room xs ys more are h =
-    subst (λ zs. CanAnswer room (question_by op zs)) (sym are)
+-- what can be answered in some words can be in more, by the operands at the front of what is lent
+pub can_answer_in_front : (op : Op) (words room count : ℕ) (refs : List (Bor (List ℤ))) (xs : List (List ℤ))
+    → words ≤ room → count ≡ length xs → take (length xs) (contents refs) ≡ xs
+    → CanAnswer words (question_by op xs) → CanAnswer room (question_by op (contents (take count refs)))
+can_answer_in_front op words room count refs xs more same front h =
+    subst (λ zs. CanAnswer room (question_by op zs)) (sym (contents_in_front count refs xs same front))
     (record { kinds = h.kinds; shaped = h.shaped; room = omega (arith, h.room) })
 
 -- lists that are lent are equal if their elements are

@@ -37,6 +37,7 @@ reached law signatures task v n s e =
       tags = b.tags;
       alike = b.alike;
       words = b.words;
+      held = b.held;
       highest = b.highest;
       cells = b.cells;
       calls = b.calls;

@@ -54,6 +54,7 @@ pub record IsReached (signatures : List Signature) (task : Task) (n : ℕ) (s : 
   pub tags : All (λ e. e.tag < s.next) s.stack
   pub alike : All (λ x. All (AreAlike x) s.stack) s.stack
   pub words : held_words s.stack ≤ task.limits.words
+  pub held : held_words s.stack ≤ s.peak
   pub highest : s.peak ≤ task.limits.words
   pub cells : length s.stack ≤ task.limits.cells
   pub calls : length s.calls ≤ task.limits.calls

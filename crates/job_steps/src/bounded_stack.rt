@@ -203,6 +203,10 @@ fn first_to_last<T: Copy>(entries: &mut [T])
     ensures { entries.new ≡ drop 1 entries.old ++ take 1 entries.old }
 {
     let last = entries.len() - 1;
+    if last == 1 {
+        entries.swap(0, 1);
+        return;
+    }
     let first = entries[0];
     for place in 0..last {
         entries[place] = entries[place + 1];

@@ -3,7 +3,7 @@
 ghost use Rattle.std.specs.Borrow.{sem};
 ghost use Rattle.std.specs.Prelude.{◌≡◌, ◌≤◌, IfOk, MatchResult, Some};
 ghost use Rattle.vcode_base.specs.declared.limits.TheConstants.{MOST_WORDS};
-ghost use Rattle.vcode_base.specs.Meaning.{value_fault};
+ghost use Rattle.vcode_base.specs.Meaning.{need, value_fault};
 ghost use Rattle.vcode_base.specs.Operands.{contents};
 ghost use Rattle.job_steps.specs.Buffers.{HaveAtMost};
 ghost use Rattle.job_steps.specs.Rooms.{KeepsWords};
@@ -69,30 +69,35 @@ impl<A: Allocator> Desk<A> {
     /// Writes the results of an instruction into the room for them, and lends them: the words of the first and of the
     /// second, empty if there is none. Takes no memory.
     ///
-    /// `op` and `operands` are as for [`shape`](crate::shape), which has answered `Ok`. The desk has at least as many
-    /// words as the results together.
+    /// `op` and `operands` are as for [`lengths`](crate::lengths), and `needed` is what it has answered. The desk has at
+    /// least as many words as the results together.
     ///
     /// # Errors
     ///
     /// The fault that the values of the operands have, as [`fill`](crate::fill) answers it.
     #[inline(always)]
-    pub fn fill(&mut self, op: Op, operands: &[&[i64]]) -> Result<(&[i64], &[i64]), DataFault>
-        requires { CanAnswer self.old (question_by op (contents operands.now)) }
+    pub fn fill(
+        &mut self,
+        op: Op,
+        operands: &[&[i64]],
+        needed: (u64, u64),
+    ) -> Result<(&[i64], &[i64]), DataFault>
+        requires can { CanAnswer self.old (question_by op (contents operands.now)) }
+        requires needed { needed ≡ need op (contents operands.now) }
         ensures* keeps_words { sem 𝓛 (KeepsWords A.row A.Allocator self.entry) }
         ensures answer { MatchResult result
             (λ results. AreResults (question_by op (contents operands.now)) results.0.now results.1.now)
             (λ fault. value_fault op (contents operands.now) ≡ Some fault) }
     {
-        let answer = fill_front(op, operands, &mut self.buffers.results);
+        let answer = fill_front(op, operands, needed, &mut self.buffers.results);
         results_in(answer, &self.buffers.results)
     }
 
     /// The ticket of a step, with copies of its operands.
     ///
     /// `job` is the number of the job, from 1 on, and `step` how many instructions it executed before.
-    /// `operands` has the operands of `op` from the bottom of the stack up, as
-    /// [`shape`](crate::shape) takes them, which has answered `Ok`. None of them has more
-    /// words than the desk, and neither have the results, together.
+    /// `operands` has the operands of `op` from the bottom of the stack up, as [`lengths`](crate::lengths) takes them,
+    /// which has answered `Ok`. None of them has more words than the desk, and neither have the results, together.
     pub fn ask(self, job: usize, step: u64, op: Op, operands: &[&[i64]]) -> Ticket<A>
         requires can { CanAnswer self (question_by op (contents operands.now)) }
         requires room { HaveAtMost self (contents operands.now) }

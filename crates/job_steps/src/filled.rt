@@ -4,7 +4,7 @@ ghost use Rattle.std.specs.Prelude.{◌≡◌, ◌+◌, ◌<◌, ◌≤◌, ◌�
 ghost use Rattle.std.specs.Prelude.{MatchResult, Some, vec_len, vec_capacity};
 ghost use Rattle.vcode_base.specs.declared.op.Op.{Op};
 ghost use Rattle.vcode_base.specs.Elements.{is_set};
-ghost use Rattle.vcode_base.specs.Meaning.{operand, value_fault};
+ghost use Rattle.vcode_base.specs.Meaning.{need, operand, value_fault};
 ghost use Rattle.vcode_base.specs.Operands.{contents};
 ghost use Rattle.job_steps.specs.Questions.{Question};
 ghost use Rattle.job_steps.specs.Steps.{flag_of};
@@ -146,7 +146,8 @@ fn fill_results<A: Allocator>(op: Op, buffers: &mut Buffers<A>) -> Result<(usize
 {
     let lists = buffers.operands.lists();
     let count = buffers.operands.count();
-    fill_front(op, &lists[..count], &mut buffers.results)
+    let operands = &lists[..count];
+    fill_front(op, operands, need(op, operands), &mut buffers.results)
 }
 
 /// The words of the first and of the second result, which are at the front of a room with these lengths, or the fault
@@ -194,20 +195,22 @@ fn is_set(words: &[i64]) -> bool
     }
 }
 
-/// Writes the results of the instruction to the front of a room, one after the other, and answers their lengths. The
-/// room has at least as many words reserved as the results have together. It becomes so long, if it is shorter. Takes
-/// no memory.
+/// Writes the results of the instruction, which have the lengths `needed`, to the front of a room, one after the other,
+/// and answers the lengths. The room has at least as many words reserved as the results have together. It becomes so
+/// long, if it is shorter. Takes no memory.
 #[inline(always)]
 pub(crate) fn fill_front<A: Allocator>(
     op: Op,
     ops: &[&[i64]],
+    needed: (u64, u64),
     room: &mut Vec<i64, A>,
 ) -> Result<(usize, usize), DataFault>
-    requires { CanAnswer (vec_capacity room.old) (question_by op (contents ops.now)) }
+    requires can { CanAnswer (vec_capacity room.old) (question_by op (contents ops.now)) }
+    requires needed { needed ≡ need op (contents ops.now) }
     ensures answer { IsAnswer (question_by op (contents ops.now)) result room.new.items }
     ensures capacity { vec_capacity room.old ≤ vec_capacity room.new }
 {
-    let (first_words, second_words) = need(op, ops);
+    let (first_words, second_words) = needed;
     let first_len = first_words as usize;
     let second_len = second_words as usize;
     lengthen(room, first_len + second_len);

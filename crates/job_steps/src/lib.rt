@@ -7,10 +7,9 @@
 //! state to the job's end. `Reached` says what holds of each state that a verified job reaches, and
 //! [`laws`] proves it.
 //!
-//! Every instruction has its meaning in three calls: [`shape`], [`need`] and [`fill`]. A step is
-//! computed away from the machine that it belongs to: a [`Desk`] takes copies of the operands and so
-//! becomes a [`Ticket`], which [`compute`] turns into a [`Filled`], and both give the desk back.
-//! `Tickets` says what they hold.
+//! Every instruction has its meaning in two calls: [`lengths`] and [`fill`]. A step is computed away from the machine
+//! that it belongs to: a [`Desk`] takes copies of the operands and so becomes a [`Ticket`], which [`compute`] turns into
+//! a [`Filled`], and both give the desk back. `Tickets` says what they hold.
 //!
 //! A [`Job`] is what is run. Its [`Track`] is its place in its run: cells that name the vectors of the stack's
 //! entries, and frames over the lines of the code instead of calls with what remains of them. `Frames`
@@ -44,6 +43,6 @@ pub use filled::{Filled, compute, flag};
 pub use frame::Frame;
 pub use job::{Job, JobName};
 pub use operands::MOST_OPERANDS;
-pub use operations::{fill, need, shape};
+pub use operations::{fill, lengths};
 pub use ticket::Ticket;
 pub use track::Track;

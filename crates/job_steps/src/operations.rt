@@ -1,8 +1,8 @@
 //! What every instruction computes, over slices that the caller lends.
 //!
-//! An instruction runs in three calls: [`shape`] says whether the lengths of its operands fit,
-//! [`need`] how many words its results have, and [`fill`] writes them. None of them takes memory.
-//! `IF` has no result; the motions of the stack, `CALL` and `RET` read no operand and have none either.
+//! An instruction runs in two calls: [`lengths`] says whether the lengths of its operands fit, and how many words its
+//! results have, and [`fill`] writes them. Neither takes memory. `IF` has no result; the motions of the stack, `CALL`
+//! and `RET` read no operand and have none either.
 
 ghost use Rattle.std.specs.Prelude.{◌≡◌, length, MatchResult, None, Some};
 ghost use Rattle.vcode_base.specs.Kinds.{HaveKinds, source_kinds};
@@ -11,7 +11,9 @@ ghost use Rattle.vcode_base.specs.Operands.{contents};
 
 use vcode_base::{DataFault, Op};
 
-/// Whether the operands' lengths fit one another. It looks at no element but segment lengths.
+/// The lengths of the first and of the second result, in words, 0 if there is none, if the operands' lengths fit one
+/// another. No element is looked at but segment lengths, flags of packs and lengths to be made descriptors of, and
+/// nothing is made: the length of a result that no memory could hold is found as fast as any.
 ///
 /// `ops` has the operands of `op` from the bottom of the stack up, each of the kind that the
 /// instruction takes, which [`have_kinds`](vcode_base::have_kinds) tests: for `CONST` its list alone,
@@ -26,8 +28,20 @@ use vcode_base::{DataFault, Op};
 /// [`SegmentTotal`](DataFault::SegmentTotal) if the number of an operand's words isn't the total of its
 /// descriptor.
 #[inline(always)]
+pub fn lengths(op: Op, ops: &[&[i64]]) -> Result<(u64, u64), DataFault>
+    requires kinds { HaveKinds (source_kinds op) (contents ops.now) }
+    ensures { MatchResult result
+        (λ needed. (shape op (contents ops.now) ≡ None) × (needed ≡ need op (contents ops.now)))
+        (λ fault. shape op (contents ops.now) ≡ Some fault) }
+{
+    shape(op, ops)?;
+    Ok(need(op, ops))
+}
+
+/// Whether the operands' lengths fit one another.
+#[inline(always)]
 #[tactic(auto, unfolding(vcode_base::specs::Meaning::shape))]
-pub fn shape(op: Op, ops: &[&[i64]]) -> Result<(), DataFault>
+fn shape(op: Op, ops: &[&[i64]]) -> Result<(), DataFault>
     requires kinds { HaveKinds (source_kinds op) (contents ops.now) }
     ensures { MatchResult result
         (λ _. shape op (contents ops.now) ≡ None)
@@ -41,13 +55,10 @@ pub fn shape(op: Op, ops: &[&[i64]]) -> Result<(), DataFault>
     }
 }
 
-/// The lengths of the first and of the second result, in words: 0 if there is none.
-///
-/// `op` and `ops` are as for [`shape`], which has answered `Ok`. Nothing is made: the length of a
-/// result that no memory could hold is found as fast as any.
+/// The lengths of the results of operands that fit one another.
 #[inline(always)]
 #[tactic(auto, unfolding(vcode_base::specs::Meaning::need))]
-pub fn need(op: Op, ops: &[&[i64]]) -> (u64, u64)
+pub(crate) fn need(op: Op, ops: &[&[i64]]) -> (u64, u64)
     requires kinds { HaveKinds (source_kinds op) (contents ops.now) }
     requires shape { shape op (contents ops.now) ≡ None }
     ensures { result ≡ need op (contents ops.now) }
@@ -61,8 +72,7 @@ pub fn need(op: Op, ops: &[&[i64]]) -> (u64, u64)
 
 /// Writes the results of the instruction.
 ///
-/// `op` and `ops` are as for [`shape`], which has answered `Ok`, and `first` and `second` have the
-/// lengths that [`need`] answers.
+/// `op` and `ops` are as for [`lengths`], and `first` and `second` have the lengths that it has answered.
 ///
 /// # Errors
 ///

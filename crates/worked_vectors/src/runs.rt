@@ -2,7 +2,7 @@ ghost use Rattle.job_steps.specs.Buffers.{HaveAtMost};
 ghost use Rattle.vcode_base.specs.Operands.{contents};
 
 use crate::answer::{Answer, Vector};
-use job_steps::{Desk, compute, need, shape};
+use job_steps::{Desk, compute, lengths};
 use std::alloc::{AllocError, Global};
 use vcode_base::limits::MOST_WORDS;
 use vcode_base::{Op, have_kinds};
@@ -12,10 +12,10 @@ pub fn run(alloc: Global, op: Op, ops: &[&[i64]]) -> Result<Answer, AllocError> 
     if !have_kinds(op.source_kinds(), ops) {
         return Ok(Answer::NotOfItsKinds);
     }
-    if let Err(fault) = shape(op, ops) {
-        return Ok(Answer::Fault(fault));
-    }
-    let (first_len, second_len) = need(op, ops);
+    let (first_len, second_len) = match lengths(op, ops) {
+        Ok(needed) => needed,
+        Err(fault) => return Ok(Answer::Fault(fault)),
+    };
     let room = first_len.saturating_add(second_len);
     let words = widest(ops).max(room);
     if words > MOST_WORDS as u64 {

@@ -1,4 +1,4 @@
-use Rattle.std.proofs.Common.{◌≡◌, ◌∙◌, ◌+◌, ◌≤◌, ℕ, List, length, reverse, refl, sym, ap, subst, arith}
+use Rattle.std.proofs.Common.{◌≡◌, ◌∙◌, ◌+◌, ◌≤◌, ℕ, List, [], length, reverse, refl, sym, ap, subst, arith}
 use Rattle.std.proofs.lemmas.List.{reverse-reverse}
 use Rattle.vcode_base.specs.declared.kind.Kind.{Kind}
 use Rattle.vcode_base.specs.declared.rule.Rule.{Rule}
@@ -8,11 +8,11 @@ use Rattle.job_memory.specs.JobBlocks.{AreOwn, grant_of, held_words, words_of}
 use Rattle.job_steps.specs.Motions.{operand_count, top_entries}
 use Rattle.job_slots.specs.Commits.{held_under, taken_ids, with_releases}
 use Rattle.job_slots.proofs.Exchanges.{HasExchanged, held_whatever, own_are_live, own_still, placed_and_released}
-use Rattle.job_slots.proofs.Exchanges.{released_and_placed}
+use Rattle.job_slots.proofs.Exchanges.{held_beside_none, nothing_in, released_and_placed}
 use Rattle.job_slots.proofs.commit.exchange.Given.{Over}
 use Rattle.job_slots.proofs.commit.exchange.Goals as goal
 use Rattle.job_slots.proofs.commit.exchange.Goals.{After-top-operands, After-release_all, After-exchange}
-use Rattle.job_slots.proofs.commit.exchange.Goals.{After-exchange_at}
+use Rattle.job_slots.proofs.commit.exchange.Goals.{After-exchange_at, After-place, Then-is_empty}
 
 operands_are : (g : Over) (c : goal.After-top-operands g) →
     c.top-operands.result.now ≡ taken_ids c.args.op c.args.track.now.cells
@@ -21,6 +21,47 @@ operands_are g c =
     ∙ (ap (λ (ks : List Kind). top_entries (length ks) (reverse c.cells.result.now)) c.operand_kinds.ensures
     ∙ (ap (λ (ids : List ℕ). top_entries (operand_count c.args.op) (reverse ids)) c.cells.ensures
     ∙ ap (λ (ids : List ℕ). top_entries (operand_count c.args.op) ids) (reverse-reverse c.args.track.now.cells)))
+
+-- ---- no operands
+
+none : (g : Over) (c : Then-is_empty g) → taken_ids c.args.op c.args.track.now.cells ≡ []
+none g c =
+    sym (operands_are g (goal.at.Then-is_empty g c).After-top-operands)
+    ∙ nothing_in c.top-operands.result.now (sym c.is_empty.ensures ∙ c.if-is_empty.true)
+
+pub place-requires-clause-room : goal.place-requires-clause-room
+place-requires-clause-room g c =
+    let same = held_beside_none c.args.rule c.args.number c.args.op c.args.track.now.cells c.args.blocks.now
+    (none g (goal.at.place-requires-clause-room g c).Then-is_empty) in
+    omega (arith, same, c.requires.room)
+
+alone : (g : Over) (c : After-place g) →
+    HasExchanged Second c.args.number (taken_ids c.args.op c.args.track.now.cells) c.place.result c.args.words.now
+    c.args.blocks.now c.place.new.blocks
+alone g c =
+    released_and_placed (record {
+      only_free = c.releases_only_free.ensures;
+      only_their_job = c.releases_change_only_their_job.ensures;
+    }) Second c.args.number (taken_ids c.args.op c.args.track.now.cells) [] c.place.result c.args.words.now
+    c.args.blocks.now c.place.new.blocks refl c.place.ensures.fresh.0 c.place.ensures.fresh.1
+    (sym (none g (goal.at.After-place g c).Then-is_empty)) c.place.ensures.placed c.requires.own
+
+pub returns-then-is_empty-clause-exchanged : goal.returns-then-is_empty-clause-exchanged
+returns-then-is_empty-clause-exchanged g c = (Second, (alone g c).is)
+
+pub returns-then-is_empty-clause-held : goal.returns-then-is_empty-clause-held
+returns-then-is_empty-clause-held g c =
+    held_whatever (record {
+      only_free = c.releases_only_free.ensures;
+      only_their_job = c.releases_change_only_their_job.ensures;
+    }) c.args.rule c.args.number (taken_ids c.args.op c.args.track.now.cells) c.place.result c.args.words.now
+    c.args.blocks.now c.place.new.blocks c.requires.own (alone g c)
+
+pub returns-then-is_empty-clause-count : goal.returns-then-is_empty-clause-count
+returns-then-is_empty-clause-count g c = (alone g c).count
+
+pub returns-then-is_empty-clause-numbers : goal.returns-then-is_empty-clause-numbers
+returns-then-is_empty-clause-numbers g c = (alone g c).numbers
 
 -- ---- in the place of an operand that goes
 

@@ -1,10 +1,10 @@
-use Rattle.std.proofs.Common.{◌+◌, List, ℕ, length, ap, subst, arith}
+use Rattle.std.proofs.Common.{◌+◌, List, ℕ, length, refl, ◌∙◌, ap, subst, arith}
 use Rattle.job_memory.specs.JobBlocks.{words_of}
 use Rattle.job_steps.specs.States.{ruled}
 use Rattle.job_steps.specs.Tracks.{Advances}
+use Rattle.job_slots.specs.Commits.{held_under}
 use Rattle.job_slots.specs.Executions.{IsExecuted, CanExecute}
 use Rattle.job_slots.proofs.Executed.{executed_past}
-use Rattle.job_slots.proofs.Operands.{deep_enough}
 use Rattle.job_slots.proofs.commit.execute.Given.{Over}
 use Rattle.job_slots.proofs.commit.execute.Goals as goal
 use Rattle.job_slots.proofs.commit.execute.Goals.{After-used-used, After-go_past}
@@ -17,24 +17,6 @@ can g c =
     c.steps_execute.ensures c.args.number c.args.blocks.now (ruled c.args.rule c.args.job.now) c.args.track.now
     c.args.op c.args.flag c.args.first.now c.args.second.now c.requires.flying c.requires.verified
     c.used-used.ensures.tidy c.requires.answered
-
-pub held_under-requires-clause-own : goal.held_under-requires-clause-own
-held_under-requires-clause-own g c =
-    (can g (goal.at.held_under-requires-clause-own g c).After-used-used).can_settle.own
-
-pub held_under-requires-clause-deep : goal.held_under-requires-clause-deep
-held_under-requires-clause-deep g c =
-    deep_enough c.args.op _ (can g (goal.at.held_under-requires-clause-deep g c).After-used-used).can_settle.deep
-
-pub overflow_add-words : goal.overflow_add-words
-overflow_add-words g c =
-    let known = can g (goal.at.overflow_add-words g c).After-used-used in
-    omega (arith, known.room, c.held_under.ensures, c.args.job.now.limits.words_in_range)
-
-pub overflow_add-words-2 : goal.overflow_add-words-2
-overflow_add-words-2 g c =
-    let known = can g (goal.at.overflow_add-words-2 g c).After-used-used in
-    omega (arith, known.room, c.held_under.ensures, c.args.job.now.limits.words_in_range)
 
 pub settle-results-requires-clause-two : goal.settle-results-requires-clause-two
 settle-results-requires-clause-two g c =
@@ -59,16 +41,31 @@ go_past-requires-clause-given g c = omega (
   c.settle-results.ensures.settled.1.given,
 )
 
+-- the track goes past as if what is held and needed counted
+counted : (g : Over) (c : goal.After-go_past g) →
+    Advances c.args.job.now.verified c.args.op c.args.flag c.as_slice.result.now
+    (held_under c.args.rule c.args.number c.args.op c.args.track.now.cells c.args.blocks.now
+    + length c.args.first.now + length c.args.second.now) c.args.track.now c.go_past.new.track
+counted g c =
+    let past = c.go_past.ensures in
+    record {
+      limits = past.limits;
+      cells = past.cells;
+      frames = past.frames;
+      executed = past.executed;
+      peak = past.peak ∙ c.requires.words;
+    }
+
 -- the instruction is executed
 executed : (g : Over) (c : goal.After-go_past g) →
     IsExecuted c.args.number c.args.blocks.now c.settle-results.new.blocks (ruled c.args.rule c.args.job.now)
     c.args.track.now c.go_past.new.track
 executed g c =
-    executed_past (can g (goal.at.returns-clause-after g c).After-used-used) c.settle-results.ensures.settled.1
-    c.held_under.ensures
+    executed_past (can g (goal.at.returns-clause-after g c).After-used-used) c.settle-results.ensures.settled.1 refl
     (subst (λ (ids : List ℕ). Advances c.args.job.now.verified c.args.op c.args.flag ids
-    (c.held_under.result + length c.args.first.now + length c.args.second.now) c.args.track.now c.go_past.new.track)
-    c.as_slice.ensures c.go_past.ensures)
+    (held_under c.args.rule c.args.number c.args.op c.args.track.now.cells c.args.blocks.now
+    + length c.args.first.now + length c.args.second.now) c.args.track.now c.go_past.new.track)
+    c.as_slice.ensures (counted g c))
 
 pub returns-clause-after : goal.returns-clause-after
 returns-clause-after g c = (executed g c).after

@@ -19,18 +19,16 @@ returns g c =
     let reads : is_constant next.op ≡ false = sym c.is_constant.ensures ∙ c.if-is_constant.false in
     let one : length (result_kinds next.op) ≡ 1 =
     omega (arith, ap length c.result_kinds.ensures, c.in-len1.len_at_least, c.in-len1.len_below) in
-    let lengths : c.need-first.result ≡ need next.op sources =
-    c.need-first.ensures
-    ∙ ap (λ (lists : List (Bor (List ℤ))). need next.op (contents lists)) c.as_slice-operands.ensures in
-    let second : c.need-first.result.1 ≡ 0 = omega (arith, c.if-second-ne0.false) in
-    let needs : need next.op sources ≡ (c.need-first.result.0, 0) =
-    sym lengths ∙ ap (λ (n : ℕ). (c.need-first.result.0, n)) second in
+    let found = c.args.needs in
+    let second : found.second ≡ 0 = omega (arith, c.if-needs-ne0.false) in
+    let needs : need next.op sources ≡ (found.first, 0) =
+    sym c.requires.ready.lengths ∙ ap (λ (n : ℕ). (found.first, n)) second in
     let flag : c.flag-flag.result ≡ flag_of (question_by next.op sources) =
     c.flag-flag.ensures next.op
     ∙ ap (λ (lists : List (Bor (List ℤ))). flag_of (question_by next.op
-    (contents lists))) c.as_slice-operands.ensures in
+    (contents lists))) c.as_slice.ensures in
     let words : c.limits.result.words ≡ c.args.job.now.limits.words = ap (λ (l : Limits). l.words) c.limits.ensures in
-    let room : held_words c.args.number c.args.blocks.now + c.need-first.result.0 ≤ c.args.job.now.limits.words =
+    let room : held_words c.args.number c.args.blocks.now + found.first ≤ c.args.job.now.limits.words =
     omega (
       arith,
       words,
@@ -41,6 +39,6 @@ returns g c =
     ) in
     is_placeable c.steps_can_begin.ensures c.args.number c.args.blocks.now (ruled c.args.rule c.args.job.now)
     c.args.track.now c.requires.running c.requires.verified next.op next.line sources c.requires.next reads
-    (record { len = c.need-first.result.0; flag = c.flag-flag.result }) c.requires.kinds c.requires.shaped one needs
+    (record { len = found.first; flag = c.flag-flag.result }) c.requires.kinds (c.requires.ready.can_ask c.args.job.now.limits.words (omega arith)).can.shaped one needs
     flag
     room

@@ -3,17 +3,17 @@ use Rattle.vcode_base.specs.Operands.{contents}
 use Rattle.job_steps.specs.Tickets.{Asked, question_by}
 use Rattle.job_slots.proofs.ticket.ticket_of.Goals as goal
 
-pub returns-in-Some : goal.returns-in-Some
-returns-in-Some g c = (sym c.in-Some.ensures.ends, refl)
+pub returns-in-Err : goal.returns-in-Err
+returns-in-Err g c = (c.in-Err.ensures, refl)
 
 pub ask-requires : goal.ask-requires
 ask-requires g c =
-    let ask = c.in-None.ensures.can_ask c.args.desk c.requires.words in
+    let ask = c.in-Ok.ensures.can_ask c.args.desk c.requires.words in
     rw c.as_slice.ensures (record { can = ask.can; room = ask.room })
 
-pub returns-in-None : goal.returns-in-None
-returns-in-None g c = record {
-  goes_on = sym c.in-None.ensures.ends;
+pub returns-in-Ok : goal.returns-in-Ok
+returns-in-Ok g c = record {
+  goes_on = c.in-Ok.ensures.goes_on;
   question =
       c.read_next-next.ensures.next.question
       ∙ (ap (λ lists. Some (question_by c.read_next-next.result.op (contents lists))) (sym c.as_slice.ensures)

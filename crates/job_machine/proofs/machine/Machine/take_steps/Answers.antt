@@ -1,81 +1,110 @@
-use Rattle.std.proofs.Common.{◌≡◌, ◌≤◌, ℕ, All, subst, sym, ◌∙◌, refl, false}
-use Rattle.std.proofs.lemmas.Bool.{false≢true}
-use Rattle.job_steps.specs.Standings.{of_job}
-use Rattle.job_slots.specs.declared.answer.Stepped.{Stepped}
-use Rattle.job_slots.specs.Answers.{after_stepped}
-use Rattle.job_machine.specs.Machines.{IsStepped, MachineState, StepsIn, after_step}
-use Rattle.job_machine.proofs.Stepping.{HasStepped, can_step, done, not_done}
-use Rattle.job_machine.proofs.Turns.{runs_first, runs_on, words_on}
+use Rattle.std.proofs.Common.{◌<◌, ◌≤◌, All, length, get_or, refl, sym, subst, ap, ◌∙◌, arith, map}
+use Rattle.std.proofs.lemmas.List.{length-map}
+use Rattle.std.specs.Arc.{arc_value}
+use Rattle.job_steps.specs.States.{ruled}
+use Rattle.job_machine.specs.Machines.{MachineState, is_running}
+use Rattle.job_machine.proofs.TurnLemmas.{HasTurn, has_turn, numbers_on_run, run_state, slot_missing, task_read}
+use Rattle.job_machine.proofs.TurnLemmas.{turn_fits, turn_shows, turn_sound, turn_with, within_jobs}
 use Rattle.job_machine.proofs.machine.Machine.take_steps.Given.{Over}
 use Rattle.job_machine.proofs.machine.Machine.take_steps.Goals as goal
+use Rattle.job_machine.proofs.machine.Machine.take_steps.Goals.{In-Some, After-run-arg-1}
 
--- ---- one step
-
-is_one : (job : ℕ) (here first new : MachineState) (desk words : ℕ) (answer : Stepped) → here ≡ first → desk ≡ words →
-    StepsIn job desk (of_job job here.tasks) (of_job job here.standings) answer →
-    new ≡ after_stepped answer here (after_step job here) → IsStepped job words first new
-is_one job here first new desk words answer same same_words answers state =
-    subst (λ (k : ℕ). IsStepped job k first new) same_words
-    (subst (λ (m : MachineState). IsStepped job desk m new) same (answer, answers, state))
-
-pub returns-then-once : goal.returns-then-once
-returns-then-once g c =
-    let never = λ (all : c.args.once ≡ false). false≢true (sym all ∙ c.if-once.true) in
-    record {
-      one =
-          λ one.
-          is_one c.args.job c.loop.self c.args.self.now c.step.new.self c.loop.desk c.args.desk.now c.step.result
-          (c.loop.invariant.1 one) c.loop.invariant.2 c.step.ensures.answer c.step.ensures.state;
-      goes_on = λ all. absurd (never all);
-      no_more = λ all. absurd (never all);
-      idle = λ all. absurd (never all);
-      desk = c.step.ensures.desk ∙ c.loop.invariant.2;
-    }
-
--- ---- all steps
-
-pub loop-init : goal.loop-init
-loop-init g c = (λ all. runs_first _ _ (c.requires.no_step all), λ one. refl, refl)
-
-stepped : (g : Over) (c : goal.Else-once g) → HasStepped c.args.job c.loop.self c.step.new.self
-stepped g c =
-    let can = can_step c.events_use_up.ensures c.events_keep.ensures c.args.job c.args.self.now c.loop.self
-    c.jobs-jobs.ensures.verified c.jobs-jobs.ensures.kept (c.loop.invariant.0 c.if-once.false) in
-    done c.events_use_up.ensures c.events_keep.ensures c.loop.self c.step.new.self c.args.job c.loop.desk
-    c.step.result can c.in-Done.is c.step.ensures.answer c.step.ensures.state
-
-pub loop-smaller : goal.loop-smaller
-loop-smaller g c = (stepped g c).fewer
-
-pub loop-preserved : goal.loop-preserved
-loop-preserved g c =
-    let step = stepped g c in
-    let all : c.args.once ≡ false = c.if-once.false in (
-      λ _. runs_on c.leads_join.ensures _ _ _ _ (c.loop.invariant.0 all) step.goes_on step.fewer,
-      λ one. absurd (false≢true (sym all ∙ one)),
-      c.step.ensures.desk ∙ c.loop.invariant.2,
+-- the place is that of a job
+within : (g : Over) (c : goal.In-Some g) → c.in-Some.place < length (arc_value c.self.inside.jobs).items
+within g c =
+    omega (
+      arith,
+      within_jobs c.self.inside.blocks (map (ruled c.self.inside.rule) (arc_value c.self.inside.jobs).items)
+          c.self.inside.slots.items c.args.self.now c.args.job c.in-Some.place c.place.result
+          c.self.invariant c.self.view_is c.place.ensures c.in-Some.is,
+      length-map (arc_value c.self.inside.jobs).items (ruled c.self.inside.rule),
     )
 
--- the job doesn't go on
-pub returns : goal.returns
-returns g c =
-    let ran =
-    λ (all : c.args.once ≡ false).
-    let can = can_step c.events_use_up.ensures c.events_keep.ensures c.args.job c.args.self.now c.loop.self
-    c.jobs-jobs.ensures.verified c.jobs-jobs.ensures.kept (c.loop.invariant.0 all) in
-    let fits =
-    subst (λ (k : ℕ). All (λ task. task.limits.words ≤ k) c.loop.self.tasks) (sym c.loop.invariant.2)
-    (words_on _ _ _ (c.loop.invariant.0 all).goes_on.leads (c.requires.words all)) in
-    not_done c.leads_join.ensures c.events_use_up.ensures c.events_keep.ensures c.args.self.now c.loop.self
-    c.step.new.self c.args.job c.loop.desk c.step.result can fits c.in_default.not-Done c.step.ensures.answer
-    c.step.ensures.state (c.loop.invariant.0 all) in
-    record {
-      one =
-          λ one.
-          is_one c.args.job c.loop.self c.args.self.now c.step.new.self c.loop.desk c.args.desk.now c.step.result
-          (c.loop.invariant.1 one) c.loop.invariant.2 c.step.ensures.answer c.step.ensures.state;
-      goes_on = λ all. (ran all).runs.goes_on;
-      no_more = λ all. (ran all).runs.no_more;
-      idle = λ all. (ran all).idle;
-      desk = c.step.ensures.desk ∙ c.loop.invariant.2;
-    }
+pub index_mut-slot-requires : goal.index_mut-slot-requires
+index_mut-slot-requires g c =
+    omega (
+      arith,
+      within g (goal.at.index_mut-slot-requires g c).In-Some,
+      c.self.invariant.slots_are,
+      c.self.inside.slots.ok,
+      length-map (arc_value c.self.inside.jobs).items (ruled c.self.inside.rule),
+    )
+
+pub offset_bounds-jobs-place : goal.offset_bounds-jobs-place
+offset_bounds-jobs-place g c =
+    omega (
+      arith,
+      within g (goal.at.offset_bounds-jobs-place g c).In-Some,
+      ap length (c.as_slice-jobs.ensures.value ∙ ap (λ v. v.items) c.deref.ensures),
+    )
+
+pub bounds-jobs-place : goal.bounds-jobs-place
+bounds-jobs-place g c =
+    omega (
+      arith,
+      within g (goal.at.bounds-jobs-place g c).In-Some,
+      ap length (c.as_slice-jobs.ensures.value ∙ ap (λ v. v.items) c.deref.ensures),
+    )
+
+-- the job has the turn
+turn : (g : Over) (c : goal.After-run-arg-1 g) →
+    HasTurn (map (ruled c.self.inside.rule) (arc_value c.self.inside.jobs).items) c.self.inside.slots.items
+    c.args.self.now c.args.job
+    c.in-Some.place (ruled c.self.inside.rule c.index-jobs-place.result) c.index_mut-slot.result.now
+turn g c =
+    let rule = c.self.inside.rule in
+    let jobs = (arc_value c.self.inside.jobs).items in
+    let jobs_are = c.as_slice-jobs.ensures.value ∙ ap (λ v. v.items) c.deref.ensures in
+    let job = c.index-jobs-place.result in
+    has_turn c.self.inside.blocks (map (ruled rule) jobs) c.self.inside.slots.items c.args.self.now
+    c.args.job c.in-Some.place c.place.result (ruled rule job) c.index_mut-slot.result.now c.self.invariant
+    c.self.view_is
+    c.place.ensures c.in-Some.is
+    (task_read rule jobs c.in-Some.place job (c.index-jobs-place.is ∙ ap (λ js. get_or js c.in-Some.place job)
+    jobs_are))
+    c.index_mut-slot.ensures.value
+
+pub run-requires-clause-shows : goal.run-requires-clause-shows
+run-requires-clause-shows g c =
+    turn_shows c.self.invariant (turn g (goal.at.run-requires-clause-shows g c).After-run-arg-1)
+
+pub run-requires-clause-numbers : goal.run-requires-clause-numbers
+run-requires-clause-numbers g c =
+    numbers_on_run c.shown_is_alone.ensures c.turn_laws.ensures.others c.self.invariant
+    (turn g (goal.at.run-requires-clause-numbers g c).After-run-arg-1)
+
+pub run-requires-clause-enough : goal.run-requires-clause-enough
+run-requires-clause-enough g c =
+    turn_fits c.args.desk.now (turn g (goal.at.run-requires-clause-enough g c).After-run-arg-1)
+    (subst (λ (m : MachineState). All (λ task. task.limits.words ≤ c.args.desk.now) m.tasks) (sym c.self.view_is)
+    c.requires)
+
+pub invariant_of-self : goal.invariant_of-self
+invariant_of-self g c =
+    turn_sound c.turn_laws.ensures.others c.self.invariant (turn g (goal.at.invariant_of-self g c).After-run-arg-1)
+    c.run.ensures.others c.run.ensures.shows
+
+pub returns-clause-ran : goal.returns-clause-ran
+returns-clause-ran g c = (
+  c.run.ensures.ran.0,
+  run_state c.run.ensures.ran.0 c.turn_laws.ensures.changed c.turn_laws.ensures.passes c.self.inside.blocks
+      c.run.new.blocks c.run.new.self c.self.view_is
+      (turn g (goal.at.returns-clause-ran g c).After-run-arg-1) c.run.ensures.others.memory.room c.run.ensures.ran.1,
+)
+
+pub returns-clause-over : goal.returns-clause-over
+returns-clause-over g c =
+    let h = turn_with {rule = c.self.inside.rule} {passes = c.self.inside.passes.items} c.run.new.blocks c.run.new.self
+    (turn g (goal.at.returns-clause-over g c).After-run-arg-1) refl in
+    ap is_running h.shown_standing ∙ c.run.ensures.over
+
+pub returns-in_default : goal.returns-in_default
+returns-in_default g c = record {
+  ran = (0, refl);
+  over =
+      ap is_running (slot_missing c.self.inside.blocks
+      (map (ruled c.self.inside.rule) (arc_value c.self.inside.jobs).items)
+      c.self.inside.slots.items c.args.self.now
+      c.args.job c.place.result c.self.invariant c.self.view_is c.place.ensures c.in_default.is).no_standing;
+  desk = refl;
+}

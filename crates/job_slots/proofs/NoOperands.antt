@@ -1,0 +1,230 @@
+-- The next instruction of a job, if it has no operands.
+use Rattle.std.proofs.Common.{◌≡◌, ℕ, ℤ, ◌+◌, ◌≤◌, Bool, true, ltb, List, [], ◌∷◌, drop, length, Option, Some}
+use Rattle.std.proofs.Common.{None, refl, sym, ◌∙◌, ap, subst, arith}
+use Rattle.std.specs.Prelude.{is_some}
+use Rattle.std.proofs.lemmas.Bool.Decides.{nat_tests}
+use Rattle.vcode_base.specs.declared.fault.DataFault.{DataFault}
+use Rattle.vcode_base.specs.declared.fault.MemoryFault.{MemoryFault}
+use Rattle.vcode_base.specs.declared.instr.Instr.TheVariants.{Const, Elementwise, Segmented, If, Move, Call, Return}
+use Rattle.vcode_base.specs.declared.limits.Limits.{Limits}
+use Rattle.vcode_base.specs.declared.op.Op.{Op}
+use Rattle.vcode_base.specs.declared.op.Op.TheVariants as op
+use Rattle.vcode_base.specs.declared.rule.Rule.{Rule}
+use Rattle.vcode_base.specs.declared.rule.Rule.TheVariants.{First, Second}
+use Rattle.vcode_base.specs.Instructions.{op_of}
+use Rattle.vcode_base.specs.Meaning.{shape, need, value_fault, result_of, second_result_of}
+use Rattle.vcode_reader.specs.Pools.{list_in}
+use Rattle.vcode_reader.specs.Trees.{Item}
+use Rattle.refcounts.specs.SharedState.{IsTidy}
+use Rattle.job_memory.specs.JobBlocks.{JobBlocks, own_slots, held_words}
+use Rattle.job_steps.specs.EventLaws.{IsVerified}
+use Rattle.job_steps.specs.Motions.{depth_after, operand_count}
+use Rattle.job_steps.specs.Questions.{need_words}
+use Rattle.job_steps.specs.Reached.{IsReached, Reaches}
+use Rattle.job_steps.specs.States.{Task, StackEntry, State, held_words as stack_words}
+use Rattle.job_steps.specs.StepLaws.{CanBegin, StepsCanBegin}
+use Rattle.job_steps.specs.Steps.{ending_by, flag_of, held_at, memory_fault, next_item, question_of, sources_of}
+use Rattle.job_steps.specs.Tickets.{AreResults, question_by}
+use Rattle.job_steps.specs.Tracks.{TrackState}
+use Rattle.job_slots.specs.Answers.{IsAnswered, IsNext, early_end_at}
+use Rattle.job_slots.specs.Commits.{CountsAs, held_under}
+use Rattle.job_slots.specs.Executions.{HeldIsCounted}
+use Rattle.job_slots.specs.Lines.{HasNoOperands, IsListOfNext, IsOpOfNext}
+use Rattle.job_slots.specs.Needs.{words_with}
+use Rattle.job_slots.specs.Slots.{IsRunningSlot}
+use Rattle.job_slots.proofs.Begins.{can_begin, line_when, question_when}
+use Rattle.job_slots.proofs.EarlyEnds.{early_end_is, same_by}
+
+-- ---- the instruction
+
+-- what it reads: a CONST its list, and another nothing
+abbrev sources_by : Op → List ℤ → List (List ℤ)
+sources_by (op.Const k) list = list ∷ []
+sources_by o list = []
+
+-- its only result, if it has one, is its list
+record IsPlain (o : Op) (list : List ℤ) : Type 0 where
+  no_operands : operand_count o ≡ 0
+  shaped : shape o (sources_by o list) ≡ None
+  needs : need o (sources_by o list) ≡ (length list, 0)
+  results : AreResults (question_by o (sources_by o list)) list []
+  flag_is : flag_of (question_by o (list ∷ [])) ≡ flag_of (question_by o (sources_by o list))
+
+plain : (item : Item) → HasNoOperands (op_of item) → IsPlain (op_of item) (list_in item)
+unfolding shape need value_fault result_of second_result_of
+plain (Const k list) none = record {
+  no_operands = refl;
+  shaped = refl;
+  needs = refl;
+  results = record { no_fault = refl; first_result = refl; second_result = refl };
+  flag_is = refl;
+}
+plain (Elementwise e) none = absurd none
+plain (Segmented s) none = absurd none
+plain If none = absurd none
+plain (Move motion lower upper) none = record {
+  no_operands = refl;
+  shaped = refl;
+  needs = refl;
+  results = record { no_fault = refl; first_result = refl; second_result = refl };
+  flag_is = refl;
+}
+plain (Call name) none = record {
+  no_operands = refl;
+  shaped = refl;
+  needs = refl;
+  results = record { no_fault = refl; first_result = refl; second_result = refl };
+  flag_is = refl;
+}
+plain Return none = record {
+  no_operands = refl;
+  shaped = refl;
+  needs = refl;
+  results = record { no_fault = refl; first_result = refl; second_result = refl };
+  flag_is = refl;
+}
+
+read_alone : (item : Item) (stack : List StackEntry) → HasNoOperands (op_of item) →
+    sources_of item stack ≡ sources_by (op_of item) (list_in item)
+read_alone (Const k list) stack none = refl
+read_alone (Elementwise e) stack none = absurd none
+read_alone (Segmented s) stack none = absurd none
+read_alone If stack none = absurd none
+read_alone (Move motion lower upper) stack none = refl
+read_alone (Call name) stack none = refl
+read_alone Return stack none = refl
+
+-- ---- words
+
+held_alone : (rule : Rule) (item : Item) (s : State) → operand_count (op_of item) ≡ 0 →
+    held_at rule item s ≡ stack_words s.stack
+held_alone First item s none = refl
+held_alone Second item s none = ap (λ (n : ℕ). stack_words (drop n s.stack)) none
+
+counts_by : (list : List ℤ) (own stack under peak : ℕ) → own ≡ stack → under ≡ stack → stack ≤ peak →
+    CountsAs (under + length list) peak (words_with list own)
+counts_by [] own stack under peak own_is under_is within = omega arith
+counts_by (x ∷ xs) own stack under peak own_is under_is within = omega arith
+
+same_test : (list : List ℤ) (own stack needed limit : ℕ) → own ≡ stack → needed ≡ length list → stack ≤ limit →
+    ltb limit (words_with list own) ≡ ltb limit (stack + needed)
+same_test [] own stack needed limit own_is needed_is within = grind (arith, nat_tests)
+same_test (x ∷ xs) own stack needed limit own_is needed_is within = grind (arith, nat_tests)
+
+some_ends : (line : ℕ) (o : Option MemoryFault) → is_some (ending_by line None o) ≡ is_some o
+some_ends line None = refl
+some_ends line (Some fault) = refl
+
+none_ends : (line : ℕ) (o : Option MemoryFault) → o ≡ None → ending_by line None o ≡ None
+none_ends line o e = ap (ending_by line None) e
+
+-- ---- the next instruction of a job that runs
+
+module _ (begins : StepsCanBegin ℕ) (number : ℕ) (blocks : JobBlocks) (task : Task) (t : TrackState ℕ)
+    (run : IsRunningSlot (own_slots number blocks) task t) (verified : IsVerified task) (o : Op) (list : List ℤ)
+    (next : IsOpOfNext task t o) (own : IsListOfNext task t list) (none : HasNoOperands o) where
+  can : CanBegin task t.executed run.state t
+  can = can_begin begins (own_slots number blocks) task t run verified
+
+  abbrev item : Item
+  item = (next_item can.call).item
+
+  op_is : o ≡ op_of item
+  op_is = next can.call can.outer can.stands
+
+  list_is : list ≡ list_in item
+  list_is = own can.call can.outer can.stands
+
+  none_of : HasNoOperands (op_of item)
+  none_of = subst HasNoOperands op_is none
+
+  is_plain : IsPlain o list
+  is_plain =
+      subst (λ (p : Op). IsPlain p list) (sym op_is)
+      (subst (λ (l : List ℤ). IsPlain (op_of item) l) (sym list_is) (plain item none_of))
+
+  asked : question_of item run.state.stack ≡ question_by o (sources_by o list)
+  asked = cc (read_alone item run.state.stack none_of, op_is, list_is)
+
+  is_next : IsNext task t.executed o (next_item can.call).number (sources_by o list)
+  is_next = record {
+    question =
+        question_when task t.executed run.state can.call can.outer run.running can.calls ∙ ap (λ q. Some q) asked;
+    line_is = line_when task t.executed run.state can.call can.outer run.running can.calls;
+  }
+
+  -- its results are its list, and no second one
+  pub answered : (flag : Bool) → flag ≡ flag_of (question_by o (list ∷ [])) →
+      IsAnswered task t.executed o flag list []
+  answered flag flag_is = record {
+    question = question_by o (sources_by o list);
+    asked = is_next.question;
+    op_is = refl;
+    flag_is = flag_is ∙ is_plain.flag_is;
+    results = is_plain.results;
+  }
+
+  -- ---- its words
+
+  module _ (reaches : Reaches) (counted : HeldIsCounted) (tidy : IsTidy blocks.memory) where
+    reached : IsReached verified.0 task t.executed run.state
+    reached = reaches verified.0 task verified.1 t.executed run.state run.running
+
+    abbrev held : ℕ
+    held = stack_words run.state.stack
+
+    held_here : held_at task.rule item run.state ≡ held
+    held_here = held_alone task.rule item run.state (ap operand_count (sym op_is) ∙ is_plain.no_operands)
+
+    held_own : held_words number blocks ≡ held
+    held_own = (counted First number blocks item run.state t.cells run.holds tidy).held
+
+    held_any : held_under task.rule number o t.cells blocks ≡ held
+    held_any =
+        ap (λ (p : Op). held_under task.rule number p t.cells blocks) op_is
+        ∙ ((counted task.rule number blocks item run.state t.cells run.holds tidy).held ∙ held_here)
+
+    within : held ≤ t.limits.words
+    within = let same = ap (λ (l : Limits). l.words) run.at.limits in omega (arith, reached.words, same)
+
+    pub few_held : held_words number blocks ≤ t.limits.words
+    few_held = omega (arith, held_own, within)
+
+    pub counts : CountsAs (held_under task.rule number o t.cells blocks + length list) t.peak
+        (words_with list (held_words number blocks))
+    counts =
+        counts_by list (held_words number blocks) held (held_under task.rule number o t.cells blocks) t.peak held_own
+        held_any (omega (arith, reached.held, run.at.peak))
+
+    module _ (unspent : t.executed ≡ t.limits.budget → ⊥) where
+      abbrev fault : Option MemoryFault
+      fault =
+          memory_fault t.limits o (words_with list (held_words number blocks)) (depth_after o (length t.cells))
+          (length t.frames)
+
+      needed : need_words (question_by o (sources_by o list)) ≡ length list
+      needed = let same = ap (λ (p : ℕ × ℕ). p.0 + p.1) is_plain.needs in omega (arith, same)
+
+      same_fault : memory_fault t.limits o (held + need_words (question_by o (sources_by o list)))
+          (depth_after o (length t.cells)) (length t.frames) ≡ fault
+      same_fault =
+          sym (same_by t.limits o (words_with list (held_words number blocks))
+          (held + need_words (question_by o (sources_by o list))) (depth_after o (length t.cells)) (length t.frames)
+          (same_test list (held_words number blocks) held (need_words (question_by o (sources_by o list)))
+          t.limits.words held_own needed within))
+
+      -- it ends the job exactly if its words pass a limit
+      ends : early_end_at task t.executed ≡ ending_by (next_item can.call).number None fault
+      ends =
+          early_end_is task t run.state o (next_item can.call).number (sources_by o list) held run.running run.at can
+          is_next (sym held_here) unspent
+          ∙ (ap (λ (shaped : Option DataFault). ending_by (next_item can.call).number shaped
+          (memory_fault t.limits o (held + need_words (question_by o (sources_by o list)))
+          (depth_after o (length t.cells)) (length t.frames))) is_plain.shaped
+          ∙ ap (ending_by (next_item can.call).number None) same_fault)
+
+      pub ends_by_fault : is_some fault ≡ true → is_some (early_end_at task t.executed) ≡ true
+      ends_by_fault is = ap is_some ends ∙ (some_ends (next_item can.call).number fault ∙ is)
+
+      pub goes_on : fault ≡ None → early_end_at task t.executed ≡ None
+      goes_on is = ends ∙ none_ends (next_item can.call).number fault is

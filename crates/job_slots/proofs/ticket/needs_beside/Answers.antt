@@ -1,0 +1,59 @@
+use Rattle.std.proofs.Common.{◌≡◌, ℕ, ◌+◌, ◌-◌, ◌^◌, take, length, None, sym, ◌∙◌, ap, arith}
+use Rattle.vcode_base.specs.Meaning.{need, shape}
+use Rattle.vcode_base.specs.Operands.{contents}
+use Rattle.job_steps.specs.Motions.{depth_after}
+use Rattle.job_steps.specs.Questions.{need_words}
+use Rattle.job_steps.specs.Steps.{memory_fault}
+use Rattle.job_steps.specs.Tickets.{question_by}
+use Rattle.job_slots.proofs.EarlyEnds.{all_counted, ends_by_memory, ends_by_nothing, limit_fault, within_words}
+use Rattle.job_slots.proofs.ticket.needs_beside.Given.{Over}
+use Rattle.job_slots.proofs.ticket.needs_beside.Goals as goal
+use Rattle.job_slots.proofs.ticket.needs_beside.Goals.{After-memory_fault}
+
+shaped : (g : Over) (c : After-memory_fault g) →
+    shape c.args.next.now.op (contents (take c.args.next.now.operands.count c.args.next.now.operands.lists)) ≡ None
+shaped g c = ap (λ lists. shape c.args.next.now.op (contents lists)) (sym c.as_slice.ensures) ∙ c.in-Ok.ensures.0
+
+lengths_are : (g : Over) (c : After-memory_fault g) →
+    ◌≡◌ {A = ℕ × ℕ} (c.in-Ok.first, c.in-Ok.second)
+    (need c.args.next.now.op (contents (take c.args.next.now.operands.count c.args.next.now.operands.lists)))
+lengths_are g c = c.in-Ok.ensures.1 ∙ ap (λ lists. need c.args.next.now.op (contents lists)) c.as_slice.ensures
+
+-- the fault that was found is that at the words that are needed
+fault_is : (g : Over) (c : After-memory_fault g) →
+    let track = c.args.track.now in
+    let next = c.args.next.now in
+    memory_fault track.limits next.op
+    (c.args.held + need_words (question_by next.op (contents (take next.operands.count next.operands.lists))))
+    (depth_after next.op (length track.cells)) (length track.frames)
+    ≡ c.memory_fault.result
+fault_is g c =
+    let track = c.args.track.now in
+    let next = c.args.next.now in
+    sym (c.memory_fault.ensures
+    ∙ limit_fault track.limits next.op (contents (take next.operands.count next.operands.lists)) c.args.held
+    (depth_after next.op (length track.cells)) (length track.frames) c.saturating_add.result
+    c.saturating_add-words.result (2 ^ 64 - 1) (c.in-Ok.first, c.in-Ok.second) (lengths_are g c)
+    c.saturating_add.ensures c.saturating_add-words.ensures (omega (arith, c.requires.words)))
+
+pub returns-in-Some : goal.returns-in-Some
+returns-in-Some g c =
+    let at = (goal.at.returns-in-Some g c).After-memory_fault in
+    ends_by_memory c.args.next.now.line _ _ c.in-Some.fault (shaped g at) (fault_is g at ∙ c.in-Some.is)
+
+pub returns-in-None : goal.returns-in-None
+returns-in-None g c =
+    let at = (goal.at.returns-in-None g c).After-memory_fault in
+    let track = c.args.track.now in
+    let next = c.args.next.now in
+    let few = within_words track.limits next.op c.saturating_add-words.result
+    (depth_after next.op (length track.cells)) (length track.frames) (sym c.memory_fault.ensures ∙ c.in-None.is) in (
+      record {
+        lengths = lengths_are g at;
+        words_are =
+            all_counted track.limits.words c.args.held c.in-Ok.first c.in-Ok.second (2 ^ 64 - 1)
+            c.saturating_add.result c.saturating_add-words.result c.saturating_add.ensures
+            c.saturating_add-words.ensures (omega (arith, c.requires.words)) few;
+      },
+      ends_by_nothing next.line _ _ (shaped g at) (fault_is g at ∙ c.in-None.is),
+    )
