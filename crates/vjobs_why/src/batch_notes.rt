@@ -2,7 +2,7 @@
 
 use crate::lines::{Lines, printable};
 use crate::parts::{Scan, Stage, begins_with, is_only, scan_before};
-use batch_reader::{Batch, BatchFault, Feed};
+use batch_reader::{Batch, BatchFault, Feed, JobEntries};
 use std::alloc::{AllocError, Global};
 use std::io;
 use vcode_base::limits::{
@@ -45,6 +45,18 @@ const RANGES: &[Range] = &[
     },
 ];
 
+/// The jobs of a batch, or why it is refused as a whole.
+pub fn batch_of(alloc: Global, text: &[u8]) -> Result<Batch<JobEntries<Global>>, AllocError> {
+    let mut feed = Feed::new(alloc, MOST_WORDS)?;
+    match feed.feed(text) {
+        Ok(()) => feed.end(),
+        Err(error) => {
+            drop(feed);
+            Err(error)
+        }
+    }
+}
+
 /// A batch whose JOB line has this word as the limit at a place, and 1 as the other limits.
 fn batch_with(alloc: Global, place: usize, word: &[u8]) -> Result<Vec<u8>, AllocError> {
     let mut text = b"JOB t".to_vec(alloc)?;
@@ -59,12 +71,10 @@ fn batch_with(alloc: Global, place: usize, word: &[u8]) -> Result<Vec<u8>, Alloc
 
 /// Whether a batch is refused as a whole.
 fn is_refused(alloc: Global, text: &[u8]) -> Result<bool, AllocError> {
-    let mut feed = Feed::new(alloc, MOST_WORDS)?;
-    feed.feed(text)?;
-    match feed.end()? {
-        Batch::Refused(..) => Ok(true),
-        Batch::Jobs(..) => Ok(false),
-    }
+    let batch = batch_of(alloc, text)?;
+    let is_refused = matches!(&batch, Batch::Refused(..));
+    drop(batch);
+    Ok(is_refused)
 }
 
 /// Whether a JOB line with this word as the limit at a place, and 1 as the other limits, is refused.

@@ -260,16 +260,23 @@ pub fn refusal_object(
     Ok(text)
 }
 
-/// Adds the members for how a job ended and what it used.
-fn push_end(text: &mut String, survey: &Survey) -> Result<(), AllocError> {
+/// Adds the members for the instructions, the peak and the last line of a job.
+fn push_peak(text: &mut String, survey: &Survey) -> Result<(), AllocError> {
     let end = survey.end();
     let (executed, peak) = (end.executed, end.words);
     let (after, last) = (survey.profile().peak_after(), survey.last_line);
-    push_ending(text, end.ending)?;
     write!(
         text,
         ",\"instructions\":{executed},\"peak\":{peak},\"peak_at\":{after},\"last\":{last}"
     )?;
+    Ok(())
+}
+
+/// Adds the members for how a job ended and what it used.
+fn push_end(text: &mut String, survey: &Survey) -> Result<(), AllocError> {
+    let end = survey.end();
+    push_ending(text, end.ending)?;
+    push_peak(text, survey)?;
     push_limits(text, "limits", survey.profile().run().job().limits())?;
     let used = (end.words, end.cells, end.calls, end.executed);
     push_amounts(text, "used", used)

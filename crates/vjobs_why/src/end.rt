@@ -65,6 +65,20 @@ fn run_out(uses: &mut Uses<Global>) -> Result<End, AllocError> {
     Ok(end_of(uses, steps))
 }
 
+/// What was found of a job, and the job.
+pub fn with_job<T>(
+    found: Result<T, AllocError>,
+    job: Job<Global>,
+) -> Result<(T, Job<Global>), AllocError> {
+    match found {
+        Ok(found) => Ok((found, job)),
+        Err(error) => {
+            drop(job);
+            Err(error)
+        }
+    }
+}
+
 /// How a job ends, and the job.
 pub fn run_through(
     alloc: Global,
@@ -72,6 +86,6 @@ pub fn run_through(
     job: Job<Global>,
 ) -> Result<(End, Job<Global>), AllocError> {
     let mut uses = Uses::new(alloc, rule, job)?;
-    let end = run_out(&mut uses)?;
-    Ok((end, uses.into_job()))
+    let end = run_out(&mut uses);
+    with_job(end, uses.into_job())
 }

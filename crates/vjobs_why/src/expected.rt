@@ -49,8 +49,11 @@ fn is_fault(alloc: Global, code: &[u8]) -> Result<bool, AllocError> {
     }
     line_feeds_are_few();
     let mut reader = CodeReader::new(alloc, 1)?;
-    reader.feed(code)?;
-    Ok(reader.fault().is_some())
+    let fed = reader.feed(code);
+    let is_fault = reader.fault().is_some();
+    drop(reader);
+    fed?;
+    Ok(is_fault)
 }
 
 /// Whether code that begins so has a fault if this word is next.

@@ -173,5 +173,7 @@ fn print_run(rt: &HostRuntime, run: &mut Run<Global>) -> io::Result<()> {
 /// many.
 pub fn print_folded(rt: &HostRuntime, rule: Rule, job: Job<Global>) -> io::Result<()> {
     let mut run = Run::new(rt.alloc(), rule, job)?;
-    print_run(rt, &mut run)
+    let printed = print_run(rt, &mut run);
+    drop(run);
+    printed
 }

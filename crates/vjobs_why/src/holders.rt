@@ -1,6 +1,6 @@
 //! What a job holds at a state, by the lines that made it, and what of it is read later.
 
-use crate::end::{Ending, ending_of};
+use crate::end::{Ending, ending_of, with_job};
 use crate::watch::{Next, Watch};
 use job_steps::Job;
 use std::alloc::{AllocError, Global};
@@ -233,8 +233,8 @@ impl Holdings {
         number: u64,
     ) -> Result<(Holdings, Job<Global>), AllocError> {
         let mut watch = Watch::new(alloc, rule, job)?;
-        let holdings = Holdings::after(alloc, &mut watch, number.saturating_sub(1))?;
-        Ok((holdings, watch.into_job()))
+        let holdings = Holdings::after(alloc, &mut watch, number.saturating_sub(1));
+        with_job(holdings, watch.into_job())
     }
 }
 

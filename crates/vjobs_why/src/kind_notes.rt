@@ -33,6 +33,25 @@ fn signatures_of(alloc: Global, text: &[u8]) -> Result<Option<Signatures<Global>
     }
 }
 
+/// A program and the signatures of a text, if it has no fault.
+fn with_signatures(
+    alloc: Global,
+    program: Program<Global>,
+    text: &[u8],
+) -> Result<Option<(Program<Global>, Signatures<Global>)>, AllocError> {
+    match signatures_of(alloc, text) {
+        Ok(Some(signatures)) => Ok(Some((program, signatures))),
+        Ok(None) => {
+            drop(program);
+            Ok(None)
+        }
+        Err(error) => {
+            drop(program);
+            Err(error)
+        }
+    }
+}
+
 /// The program and the signatures of a job, which have no faults as texts.
 fn read_parts(
     alloc: Global,
@@ -45,11 +64,8 @@ fn read_parts(
     } = source.parts;
     let code = source.lines.between(code.first, code.end);
     let signatures = source.lines.between(signatures.first, signatures.end);
-    let Some(program) = program_of(alloc, code)? else {
-        return Ok(None);
-    };
-    match signatures_of(alloc, signatures)? {
-        Some(signatures) => Ok(Some((program, signatures))),
+    match program_of(alloc, code)? {
+        Some(program) => with_signatures(alloc, program, signatures),
         None => Ok(None),
     }
 }
@@ -161,13 +177,17 @@ fn print_misfit(
     }
 }
 
-/// Prints where kinds don't fit in a program.
+/// Prints where kinds don't fit in a program, if that is at this line.
 fn print_found(
     rt: &HostRuntime,
     source: Source<'_>,
+    line: u64,
     program: &Program<Global>,
     misfit: &Misfit,
 ) -> io::Result<()> {
+    if absolute(source.parts.code, misfit.line) != line {
+        return Ok(());
+    }
     match program.functions().get(misfit.function) {
         Some(function) => {
             let name = printable(rt.alloc(), function.name())?;
@@ -188,10 +208,7 @@ fn print_clash(
     let Some(misfit) = misfit_of(rt.alloc(), program, signatures)? else {
         return Ok(());
     };
-    if absolute(source.parts.code, misfit.line) != line {
-        return Ok(());
-    }
-    print_found(rt, source, program, &misfit)
+    print_found(rt, source, line, program, &misfit)
 }
 
 /// Adds a name to a list of names.
@@ -254,6 +271,26 @@ fn print_main(rt: &HostRuntime, signatures: &Signatures<Global>) -> io::Result<(
     println!(rt; "wanted: MAIN () -> {gives}; there: MAIN {takes} -> {gives}")
 }
 
+/// Prints what was expected at a line of a job where kinds have a fault.
+fn print_expected(
+    rt: &HostRuntime,
+    source: Source<'_>,
+    line: u64,
+    fault: KindFault,
+    program: &Program<Global>,
+    signatures: &Signatures<Global>,
+) -> io::Result<()> {
+    match fault {
+        KindFault::MissingOperand
+        | KindFault::WrongKind
+        | KindFault::ArmsDiffer
+        | KindFault::ResultDiffers => print_clash(rt, source, line, program, signatures),
+        KindFault::UnknownFunction | KindFault::NoMain => print_functions(rt, program),
+        KindFault::NoSignature => print_signatures(rt, signatures),
+        KindFault::MainTakes => print_main(rt, signatures),
+    }
+}
+
 /// Prints what was expected at a line where kinds have a fault.
 pub fn print_kind_note(
     rt: &HostRuntime,
@@ -263,16 +300,13 @@ pub fn print_kind_note(
     fault: KindFault,
 ) -> io::Result<()> {
     let source = Source { lines, parts };
-    let Some((program, signatures)) = read_parts(rt.alloc(), source)? else {
-        return Ok(());
-    };
-    match fault {
-        KindFault::MissingOperand
-        | KindFault::WrongKind
-        | KindFault::ArmsDiffer
-        | KindFault::ResultDiffers => print_clash(rt, source, line, &program, &signatures),
-        KindFault::UnknownFunction | KindFault::NoMain => print_functions(rt, &program),
-        KindFault::NoSignature => print_signatures(rt, &signatures),
-        KindFault::MainTakes => print_main(rt, &signatures),
+    match read_parts(rt.alloc(), source)? {
+        Some((program, signatures)) => {
+            let printed = print_expected(rt, source, line, fault, &program, &signatures);
+            drop(program);
+            drop(signatures);
+            printed
+        }
+        None => Ok(()),
     }
 }

@@ -70,25 +70,31 @@ fn print_picture(rt: &HostRuntime, watch: &Watch) -> io::Result<()> {
     }
 }
 
+/// Prints what a job used beside its limit.
+fn print_use(rt: &HostRuntime, name: &str, used: u64, limit: u64) -> io::Result<()> {
+    println!(rt; "  {name:<12} {used:>13} of {limit:>13}")
+}
+
 /// Prints what a job used beside its limits.
 fn print_used(rt: &HostRuntime, end: End, limits: Limits) -> io::Result<()> {
     println!(rt; "\nused")?;
-    for (name, used, limit) in [
-        ("instructions", end.executed, limits.budget),
-        ("words", end.words as u64, limits.words as u64),
-        ("cells", end.cells as u64, limits.cells as u64),
-        ("calls", end.calls as u64, limits.calls as u64),
-    ] {
-        println!(rt; "  {name:<12} {used:>13} of {limit:>13}")?;
-    }
-    Ok(())
+    print_use(rt, "instructions", end.executed, limits.budget)?;
+    print_use(rt, "words", end.words as u64, limits.words as u64)?;
+    print_use(rt, "cells", end.cells as u64, limits.cells as u64)?;
+    print_use(rt, "calls", end.calls as u64, limits.calls as u64)
 }
 
 /// Prints the least limits within which a job of this name returns, if they are known.
-fn print_least(rt: &HostRuntime, name: &str, least: Option<Limits>) -> io::Result<()> {
-    let Some(least) = least else {
-        return Ok(());
-    };
+fn print_least(rt: &HostRuntime, name: &[u8], least: Option<Limits>) -> io::Result<()> {
+    match least {
+        Some(least) => print_within(rt, name, least),
+        None => Ok(()),
+    }
+}
+
+/// Prints the least limits within which a job of this name returns.
+fn print_within(rt: &HostRuntime, name: &[u8], least: Limits) -> io::Result<()> {
+    let name = printable(rt.alloc(), name)?;
     let (words, cells, calls, budget) = (least.words, least.cells, least.calls, least.budget);
     println!(rt;
         "\nWithin these limits, and no less, it returns: JOB {name} {words} {cells} {calls} {budget}"
@@ -96,7 +102,7 @@ fn print_least(rt: &HostRuntime, name: &str, least: Option<Limits>) -> io::Resul
 }
 
 /// Prints how a job of this name goes on within the widest limits.
-fn print_course(rt: &HostRuntime, name: &str, course: Course) -> io::Result<()> {
+fn print_course(rt: &HostRuntime, name: &[u8], course: Course) -> io::Result<()> {
     match course {
         Course::Ends(Ending::Returned, _, least) => print_least(rt, name, least),
         Course::Ends(ending, executed, _) => {
@@ -190,6 +196,29 @@ fn print_ending(rt: &HostRuntime, ending: Ending, count: u64) -> io::Result<()> 
     }
 }
 
+/// Prints where a run is before it ends so, with a note at its last line, and its calls and its stack.
+fn print_before(
+    rt: &HostRuntime,
+    batch: Batch<'_>,
+    watch: &Watch,
+    ending: Ending,
+    wide: Option<Wide>,
+) -> io::Result<()> {
+    let note = note_of(rt.alloc(), watch, ending, wide)?;
+    print_place(rt, batch, watch, note.as_str())?;
+    print_picture(rt, watch)
+}
+
+/// Prints the last instructions of a job.
+fn print_steps(rt: &HostRuntime, batch: Batch<'_>, steps: &[Step]) -> io::Result<()> {
+    println!(rt; "\nthe last instructions")?;
+    print_head(rt)?;
+    for step in steps {
+        print_step(rt, batch, *step)?;
+    }
+    Ok(())
+}
+
 /// Prints what there was before the end of a job, and its last instructions. The run has executed nothing.
 fn print_last(
     rt: &HostRuntime,
@@ -201,15 +230,8 @@ fn print_last(
     let count = end.steps.min(LAST);
     watch.go_to(end.steps.saturating_sub(count))?;
     let steps = steps_of(rt.alloc(), watch, count)?;
-    let note = note_of(rt.alloc(), watch, end.ending, wide)?;
-    print_place(rt, batch, watch, note.as_str())?;
-    print_picture(rt, watch)?;
-    println!(rt; "\nthe last instructions")?;
-    print_head(rt)?;
-    for step in &steps {
-        print_step(rt, batch, *step)?;
-    }
-    Ok(())
+    print_before(rt, batch, watch, end.ending, wide)?;
+    print_steps(rt, batch, &steps)
 }
 
 /// How a job goes on within the widest limits if a limit ended it and this is to be tried, and the job.
@@ -246,7 +268,9 @@ fn print_ended(
     wide: Option<Wide>,
 ) -> io::Result<()> {
     let mut watch = Watch::new(rt.alloc(), batch.rule, job)?;
-    print_all(rt, batch, &mut watch, end, wide)
+    let printed = print_all(rt, batch, &mut watch, end, wide);
+    drop(watch);
+    printed
 }
 
 /// Prints how a job ended, what there was before, and what it used. The run has executed nothing.
@@ -270,10 +294,9 @@ fn print_limits(
     wide: Option<Wide>,
 ) -> io::Result<()> {
     print_used(rt, end, job.limits())?;
-    let name = printable(rt.alloc(), job.name())?;
     match wide {
-        Some(wide) => print_course(rt, name.as_str(), wide.course),
-        None => print_least(rt, name.as_str(), end.least),
+        Some(wide) => print_course(rt, job.name(), wide.course),
+        None => print_least(rt, job.name(), end.least),
     }
 }
 
@@ -306,12 +329,19 @@ fn show_run(rt: &HostRuntime, batch: Batch<'_>, watch: &mut Watch, look: Look) -
     }
 }
 
-/// Prints how a job ended and its profile, on the line of its name.
-fn show_profile(rt: &HostRuntime, batch: Batch<'_>, job: Job<Global>, all: bool) -> io::Result<()> {
-    let shown = Shown::of(rt.alloc(), batch.rule, job)?;
+/// Prints how a job ended and its profile.
+fn print_shown(rt: &HostRuntime, lines: &Lines, shown: &Shown, all: bool) -> io::Result<()> {
     let run = shown.run();
     print_ending(rt, ending_of(run), run.executed())?;
-    print_profile(rt, batch.lines, &shown, all)
+    print_profile(rt, lines, shown, all)
+}
+
+/// Shows how a job ended and its profile, on the line of its name.
+fn show_profile(rt: &HostRuntime, batch: Batch<'_>, job: Job<Global>, all: bool) -> io::Result<()> {
+    let shown = Shown::of(rt.alloc(), batch.rule, job)?;
+    let printed = print_shown(rt, batch.lines, &shown, all);
+    drop(shown);
+    printed
 }
 
 /// The note at the last line of a run that has executed nothing, and goes to this end.
@@ -336,7 +366,9 @@ fn last_note(
     wide: Option<Wide>,
 ) -> Result<String, AllocError> {
     let mut watch = Watch::new(alloc, rule, job)?;
-    note_at(alloc, &mut watch, end, wide)
+    let note = note_at(alloc, &mut watch, end, wide);
+    drop(watch);
+    note
 }
 
 /// The least limits within which a job returns, if it returned, or returns within wider ones.
@@ -397,6 +429,18 @@ fn push_told_of(
     push_told(text, &told)
 }
 
+/// The object of a job that ended so, of which this is the text up to what is said of its end.
+fn with_told(
+    mut text: String,
+    alloc: Global,
+    batch: Batch<'_>,
+    job: Job<Global>,
+    end: End,
+) -> Result<String, AllocError> {
+    push_told_of(&mut text, alloc, batch, job, end)?;
+    Ok(text)
+}
+
 /// A job of this place as data.
 pub fn object_of(
     alloc: Global,
@@ -405,10 +449,14 @@ pub fn object_of(
     job: Job<Global>,
 ) -> Result<String, AllocError> {
     let survey = Survey::of(alloc, batch.rule, job)?;
-    let mut text = job_object(alloc, batch.lines, place, &survey)?;
     let end = survey.end();
-    push_told_of(&mut text, alloc, batch, survey.into_job(), end)?;
-    Ok(text)
+    match job_object(alloc, batch.lines, place, &survey) {
+        Ok(text) => with_told(text, alloc, batch, survey.into_job(), end),
+        Err(error) => {
+            drop(survey);
+            Err(error)
+        }
+    }
 }
 
 /// Prints the place and the name of a job, without an LF.
@@ -420,7 +468,9 @@ fn print_name(rt: &HostRuntime, place: u64, name: &[u8]) -> io::Result<()> {
 /// Shows a state of a job, on the line of its name.
 fn show_state(rt: &HostRuntime, batch: Batch<'_>, job: Job<Global>, look: Look) -> io::Result<()> {
     let mut watch = Watch::new(rt.alloc(), batch.rule, job)?;
-    show_run(rt, batch, &mut watch, look)
+    let shown = show_run(rt, batch, &mut watch, look);
+    drop(watch);
+    shown
 }
 
 /// Shows what was asked for of a job, on the line of its name.
@@ -444,6 +494,11 @@ pub fn show(
     if let Look::Folded = look {
         return print_folded(rt, batch.rule, job);
     }
-    print_name(rt, place, job.name())?;
-    show_named(rt, batch, job, look)
+    match print_name(rt, place, job.name()) {
+        Ok(()) => show_named(rt, batch, job, look),
+        Err(error) => {
+            drop(job);
+            Err(error)
+        }
+    }
 }

@@ -37,8 +37,8 @@ mod watch;
 mod wide;
 mod words;
 
-use batch_notes::print_batch_note;
-use batch_reader::{Batch, BatchFault, Entry, Fate, Feed, JobEntries, JobEntry};
+use batch_notes::{batch_of, print_batch_note};
+use batch_reader::{Batch, BatchFault, Entry, Fate, JobEntries, JobEntry};
 use command::{Asked, Form, Line, Look, VjobsWhy, read_line};
 use data::refusal_object;
 use failure::Failure;
@@ -52,7 +52,6 @@ use refusals::print_refused;
 use std::alloc::{AllocError, Global};
 use std::io;
 use std::process::ExitCode;
-use vcode_base::limits::MOST_WORDS;
 
 /// Reads the command line.
 fn line_of(rt: &HostRuntime) -> Result<Line, WordsFault> {
@@ -120,6 +119,8 @@ fn objects_of(
         place = place.saturating_add(1);
         if job.is_none() || job == Some(place) {
             push_object(&mut objects, alloc, batch, place, entry)?;
+        } else {
+            drop(entry);
         }
     }
     Ok(objects)
@@ -193,6 +194,8 @@ fn show_entries(
         if job.is_none() || job == Some(place) {
             found = true;
             show_entry(rt, batch, place, entry, look)?;
+        } else {
+            drop(entry);
         }
     }
     Ok(found)
@@ -209,13 +212,6 @@ fn print_batch_fault(
     println!(rt; "BATCH line {line} {text}")?;
     lines.print_around(rt, line, batch_meaning(fault))?;
     print_batch_note(rt, lines, line, fault)
-}
-
-/// The jobs of a batch, or why it is refused as a whole.
-fn batch_of(alloc: Global, text: &[u8]) -> Result<Batch<JobEntries<Global>>, AllocError> {
-    let mut feed = Feed::new(alloc, MOST_WORDS)?;
-    feed.feed(text)?;
-    feed.end()
 }
 
 /// Shows why a batch is refused as a whole. Answers the exit status.

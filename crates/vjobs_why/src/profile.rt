@@ -184,6 +184,14 @@ fn print_line(
     println!(rt; "  {times:>12}  {elements:>12} {words:>12} {line:>8}  {code}")
 }
 
+/// Prints how many more there are than were shown, if there are some.
+fn print_more(rt: &HostRuntime, more: usize) -> io::Result<()> {
+    if more == 0 {
+        return Ok(());
+    }
+    println!(rt; "  .. and {more} more")
+}
+
 /// Prints the lines that were executed, or the first of them.
 fn print_lines(
     rt: &HostRuntime,
@@ -193,14 +201,11 @@ fn print_lines(
 ) -> io::Result<()> {
     println!(rt; "\nthe lines, by the elements of their operands and results")?;
     println!(rt; "         times      elements   most words     line  instruction")?;
-    for (place, (count, tally)) in rows.iter().enumerate() {
-        if place == most {
-            let more = rows.len() - place;
-            return println!(rt; "  .. and {more} more");
-        }
+    let shown = rows.get(..most).unwrap_or(rows);
+    for (count, tally) in shown {
         print_line(rt, lines, *count, *tally)?;
     }
-    Ok(())
+    print_more(rt, rows.len().saturating_sub(shown.len()))
 }
 
 /// How many words of a line are not read again, or a dash if that isn't known, since the job doesn't return.
@@ -233,14 +238,12 @@ fn print_holder(
 /// Prints what is held at the peak by the lines that made it.
 fn print_holders(rt: &HostRuntime, lines: &Lines, holdings: &Holdings) -> io::Result<()> {
     println!(rt; "         words   share  vectors  entries  not read     line  instruction")?;
-    for (place, holder) in holdings.holders.iter().enumerate() {
-        if place == MOST_HOLDERS {
-            let more = holdings.holders.len() - place;
-            return println!(rt; "  .. and {more} more");
-        }
+    let holders = holdings.holders.as_slice();
+    let shown = holders.get(..MOST_HOLDERS).unwrap_or(holders);
+    for holder in shown {
         print_holder(rt, lines, holdings, *holder)?;
     }
-    Ok(())
+    print_more(rt, holders.len().saturating_sub(shown.len()))
 }
 
 /// Prints the most words that a job held and needed, and what it held before it, by the lines that made it.
@@ -285,8 +288,13 @@ fn run_out(columns: &mut Columns<Global>) -> Result<(), AllocError> {
 /// The columns of a job that has run to its end.
 fn columns_of(alloc: Global, rule: Rule, job: Job<Global>) -> Result<Columns<Global>, AllocError> {
     let mut columns = Columns::new(alloc, rule, job)?;
-    run_out(&mut columns)?;
-    Ok(columns)
+    match run_out(&mut columns) {
+        Ok(()) => Ok(columns),
+        Err(error) => {
+            drop(columns);
+            Err(error)
+        }
+    }
 }
 
 impl Shown {

@@ -45,25 +45,35 @@ fn total(lengths: &[i64]) -> i64 {
     total
 }
 
+/// Adds the length of an operand of this name, and of a descriptor its segments and its total.
+fn push_length(
+    text: &mut String,
+    name: &str,
+    kind: Option<&Kind>,
+    words: &[i64],
+) -> Result<(), AllocError> {
+    let len = words.len();
+    match kind {
+        Some(Kind::Segdes) => {
+            let total = total(words);
+            write!(text, "segments of {name}: {len}, elements: {total}")?
+        }
+        _ => write!(text, "elements of {name}: {len}")?,
+    }
+    Ok(())
+}
+
 /// The length of each operand, and of a descriptor its segments and its total.
 fn lengths(alloc: Global, watch: &Watch, op: Op) -> Result<String, AllocError> {
     let mut text = String::new(alloc);
     let names = operand_names(op);
     let kinds = op.operand_kinds();
-    for place in 0..names.len() {
-        let words = operand(watch, place, names.len());
-        let name = names[place];
-        let len = words.len();
+    for (place, name) in names.iter().enumerate() {
         if place > 0 {
             text.push_str("; ")?;
         }
-        match kinds.get(place) {
-            Some(Kind::Segdes) => {
-                let total = total(words);
-                write!(text, "segments of {name}: {len}, elements: {total}")?
-            }
-            _ => write!(text, "elements of {name}: {len}")?,
-        }
+        let words = operand(watch, place, names.len());
+        push_length(&mut text, name, kinds.get(place), words)?;
     }
     Ok(text)
 }

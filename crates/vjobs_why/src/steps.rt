@@ -1,5 +1,6 @@
 //! The instructions of a job that were executed, one by one.
 
+use crate::end::with_job;
 use crate::look::{Batch, Step, print_head, print_step, step_of};
 use crate::selection::{Picker, Selection};
 use crate::watch::Watch;
@@ -75,8 +76,8 @@ fn count_steps(
     selection: Selection,
 ) -> Result<(u64, Job<Global>), AllocError> {
     let mut watch = Watch::new(alloc, rule, job)?;
-    let total = count_chosen(&mut watch, selection)?;
-    Ok((total, watch.into_job()))
+    let total = count_chosen(&mut watch, selection);
+    with_job(total, watch.into_job())
 }
 
 /// Prints the instructions of a job, if this many are chosen in all.
@@ -88,7 +89,9 @@ fn print_steps(
     total: u64,
 ) -> io::Result<()> {
     let mut watch = Watch::new(rt.alloc(), batch.rule, job)?;
-    print_chosen(rt, batch, &mut watch, selection, total)
+    let printed = print_chosen(rt, batch, &mut watch, selection, total);
+    drop(watch);
+    printed
 }
 
 /// Prints the instructions of a job that are chosen, on the line of its name. If the last ones are wanted, it is run

@@ -30,13 +30,18 @@ impl Survey {
     /// The survey of a job that has executed nothing.
     fn new(alloc: Global, rule: Rule, job: Job<Global>) -> Result<Survey, AllocError> {
         let columns = Columns::new(alloc, rule, job)?;
-        let chains = Chains::new(alloc, columns.profile().run())?;
-        Ok(Survey {
-            steps: 0,
-            last_line: 0,
-            columns,
-            chains,
-        })
+        match Chains::new(alloc, columns.profile().run()) {
+            Ok(chains) => Ok(Survey {
+                steps: 0,
+                last_line: 0,
+                columns,
+                chains,
+            }),
+            Err(error) => {
+                drop(columns);
+                Err(error)
+            }
+        }
     }
 
     /// The counts.
@@ -81,7 +86,12 @@ impl Survey {
     /// The survey of a job that has run to its end.
     pub fn of(alloc: Global, rule: Rule, job: Job<Global>) -> Result<Survey, AllocError> {
         let mut survey = Survey::new(alloc, rule, job)?;
-        survey.run_out()?;
-        Ok(survey)
+        match survey.run_out() {
+            Ok(()) => Ok(survey),
+            Err(error) => {
+                drop(survey);
+                Err(error)
+            }
+        }
     }
 }

@@ -1,6 +1,7 @@
 //! What the functions and the lines of a job did, counted in a run of its own.
 
 use crate::chains::innermost;
+use crate::end::with_job;
 use crate::watch::op_of;
 use job_profile::Run;
 use job_steps::Job;
@@ -208,8 +209,8 @@ impl Tally {
         job: Job<Global>,
     ) -> Result<(Tally, Job<Global>), AllocError> {
         let mut run = Run::new(alloc, rule, job)?;
-        let tally = Tally::of_run(alloc, &mut run)?;
-        Ok((tally, run.into_job()))
+        let tally = Tally::of_run(alloc, &mut run);
+        with_job(tally, run.into_job())
     }
 
     /// What the function at this place of the code did.

@@ -76,7 +76,10 @@ fn open_line(alloc: Global, code: &[u8]) -> Result<Option<u64>, AllocError> {
         return Ok(None);
     }
     match read(alloc, code) {
-        Ok(_) => Ok(None),
+        Ok(program) => {
+            drop(program);
+            Ok(None)
+        }
         Err(TextFault::At(_, line)) => Ok(Some(line)),
         Err(TextFault::Memory) => Err(AllocError),
     }
@@ -98,17 +101,29 @@ pub fn absolute(code: LineSpan, line: u64) -> u64 {
     code.first.saturating_add(line).saturating_sub(1)
 }
 
+/// The line of the function of this name, counted from the first of the code, if the program has one.
+fn function_line(program: &Program<Global>, name: &[u8]) -> Option<u64> {
+    let place = program.position(name)?;
+    Some(program.functions().get(place)?.line())
+}
+
+/// The line of the function of this name in a code, counted from the first, if it has one and no fault as a text.
+fn first_line(alloc: Global, code: &[u8], name: &[u8]) -> Result<Option<u64>, AllocError> {
+    match program_of(alloc, code)? {
+        Some(program) => {
+            let line = function_line(&program, name);
+            drop(program);
+            Ok(line)
+        }
+        None => Ok(None),
+    }
+}
+
 /// Prints where the function of this name is among those of a code.
 fn print_first(rt: &HostRuntime, found: Misplaced<'_>, code: LineSpan) -> io::Result<()> {
-    let Some(program) = program_of(rt.alloc(), found.earlier)? else {
-        return Ok(());
-    };
-    let Some(place) = program.position(found.bytes) else {
-        return Ok(());
-    };
-    match program.functions().get(place) {
-        Some(function) => {
-            let line = absolute(code, function.line());
+    match first_line(rt.alloc(), found.earlier, found.bytes)? {
+        Some(line) => {
+            let line = absolute(code, line);
             println!(rt; "the first function of this name begins at line {line}")
         }
         None => Ok(()),

@@ -1,6 +1,6 @@
 //! How a job that a limit ended goes on within the widest limits, as far as a look may run it.
 
-use crate::end::{End, Ending, ending_of};
+use crate::end::{End, Ending, ending_of, with_job};
 use crate::tally::elements_of;
 use crate::watch::op_of;
 use job_profile::Uses;
@@ -147,6 +147,6 @@ pub fn run_wide(
     }
     let limits = job.limits();
     let mut uses = Uses::new(alloc, rule, job.with_limits(WIDEST))?;
-    let wide = wide_of(&mut uses, end)?;
-    Ok((wide, uses.into_job().with_limits(limits)))
+    let wide = wide_of(&mut uses, end);
+    with_job(wide, uses.into_job().with_limits(limits))
 }
