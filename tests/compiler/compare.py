@@ -1,8 +1,8 @@
 #!/usr/bin/env python3
 """Compares compiled random programs with the same programs run directly: compare.py [COUNT [FIRST [--first]]]
 
-The programs have the seeds from FIRST on; with --first it ends after the batch with the first difference. The code is run
-by bin/vjobs, or by the vjobs of the folder VJOBS_PROGRAMS; if there is none, by models/. The compiler is that of
+The programs have the seeds from FIRST on; with --first it ends after the batch with the first difference. The code is
+run by bin/vjobs, or by the vjobs of the folder VJOBS_PROGRAMS; if there is none, by models/. The compiler is that of
 examples/compiler, or of the folder COMPILER.
 """
 from __future__ import annotations
@@ -21,8 +21,7 @@ sys.path.append(str(TOP / "models"))
 from compile import compiled  # noqa: E402
 from evaluator import Evaluator, Faulted, TooLong  # noqa: E402
 from programs import random_program  # noqa: E402
-from run import PROGRAMS, decode, reported, run  # noqa: E402
-from source import read_program  # noqa: E402
+from run import PROGRAMS, reported, result_of, run  # noqa: E402
 
 LIMITS = "1048576 4096 1024 3000000"
 # A batch has at most so many jobs, and bytes.
@@ -46,10 +45,12 @@ def report_of(batch: str) -> str:
     return str(import_module("batches").report(batch.encode(), 1_048_576)[0])
 
 
-def given(text: str, end: str, vectors: tuple[list[int], ...]) -> object:
+def given(text: str, end: str, vectors: list[list[int]]) -> object:
     if end == "RETURNED":
-        return decode(read_program(text)["main"].result, vectors)[0]
-    return FAULT if end.startswith("FAULT") else LIMIT if end.startswith(("MEMORY", "BUDGET")) else end
+        return result_of(text, vectors)
+    # The programs recurse a few levels, so none of them needs all cells (M2) or all calls (M3).
+    is_limit = end.startswith("BUDGET") or end.startswith("MEMORY") and "M1" in end
+    return FAULT if end.startswith("FAULT") else LIMIT if is_limit else end
 
 
 def compare(first: int, count: int, counts: Counter[str]) -> list[str]:

@@ -82,14 +82,17 @@ class Maker:
 
     def ways(self, of: str) -> list[Way]:
         if of == "int":
-            return [self.number, self.number, self.number, self.folded]
+            return [self.number, self.number, self.number, self.folded, self.cell]
         if of == "bool":
             return [self.flag, self.flag]
         if of.startswith("tuple"):
             return [self.tupled]
-        found: list[Way] = [self.chosen, self.chosen, self.each, self.each, self.listed, self.appended, self.turned, self.flattened, self.put]
-        special: dict[str, list[Way]] = {"list[int]": [self.ranged, self.sums], "list[tuple[int, list[int]]]": [self.paired],
-                   "list[tuple[int, bool]]": [self.paired], "list[list[int]]": [self.cut, self.read, self.read], "list[list[bool]]": [self.cut]}
+        found: list[Way] = [self.chosen, self.chosen, self.each, self.each, self.listed, self.appended, self.turned,
+                            self.flattened, self.put]
+        special: dict[str, list[Way]] = {
+            "list[int]": [self.ranged, self.sums], "list[tuple[int, list[int]]]": [self.paired],
+            "list[tuple[int, bool]]": [self.paired], "list[list[int]]": [self.cut, self.read, self.read],
+            "list[list[bool]]": [self.cut]}
         return found + special.get(of, [])
 
     def least(self, of: str, scope: Scope) -> str:
@@ -131,7 +134,7 @@ class Maker:
             if self.chance.random() < 0.05:
                 place = self.value("int", scope)
             if f"list[{of}]" == "list[int]" and self.chance.random() < 0.3:
-                return self.cell(scope)
+                return self.cell(of, scope)
             return f"({v}[{place}] if len({v}) > 0 else {self.value(of, scope)})"
         tuples = [(name, number) for name, its in scope.variables.items() if its.startswith("tuple")
                   for number, part in enumerate(parts_of(its)) if part == of]
@@ -140,11 +143,13 @@ class Maker:
             return f"{name}[{number}]"
         return None
 
-    def cell(self, scope: Scope) -> str | None:
-        """An element of a list in a list."""
+    def cell(self, of: str, scope: Scope) -> str | None:
+        """An element of a list in a list, seldom the one after the last of its row."""
         v = self.variable("list[list[int]]", scope)
         if not v:
             return None
+        if self.chance.random() < 0.1:
+            return f"({v}[0][len({v}[0])] if len({v}) > 1 else {self.value('int', scope)})"
         i, j = self.value("int", scope), self.value("int", scope)
         row = f"{v}[({i}) % len({v})]"
         if self.chance.random() < 0.3:
@@ -156,23 +161,30 @@ class Maker:
     def number(self, of: str, scope: Scope) -> str:
         a, b = self.value("int", scope), self.value("int", scope)
         return self.chance.choice([
-            f"({a} + {b})", f"({a} - {b})", f"({a} * {b})", f"({a} // ({b} * {b} + 1))", f"({a} % (abs({b} % 100) + 1))",
+            f"({a} + {b})", f"({a} - {b})", f"({a} * {b})", f"({a} // ({b} * {b} + 1))",
+            f"({a} % (abs({b} % 100) + 1))",
             f"({a} // -3)", f"({a} % -7)", f"({a} // 8)", f"({a} % 16)", f"({a} // 5)", f"({a} % 6)", f"({a} >> 3)",
             f"({a} << ({b} % 64))", f"({a} & {b})", f"({a} | {b})", f"({a} ^ {b})", f"(~{a})", f"(-{a})", f"abs({a})",
             f"max({a}, {b})", f"min({a}, {b})", f"int({self.value('bool', scope)})", f"({a} // {b})" if
-            self.chance.random() < 0.1 else f"({b} + {a} + 1)", f"({a} // (0 - abs({b} % 9) - 1))", f"({a} % (0 - abs({b} % 9) - 1))"])
+            self.chance.random() < 0.1 else f"({b} + {a} + 1)", f"({a} // (0 - abs({b} % 9) - 1))",
+            f"({a} % (0 - abs({b} % 9) - 1))"])
 
     def folded(self, of: str, scope: Scope) -> str:
         v, flags = self.value("list[int]", scope), self.value("list[bool]", scope)
-        return self.chance.choice([f"sum({v})", f"prod({v})", f"max({v})", f"min({v})", f"len({self.value(self.chance.choice(LISTS), scope)})",
+        some = self.value(self.chance.choice(LISTS), scope)
+        if self.chance.random() < 0.04:
+            return f"len(zip({v}, {self.value('list[int]', scope)}))"
+        return self.chance.choice([f"sum({v})", f"prod({v})", f"max({v})", f"min({v})", f"len({some})",
                                    f"sum({flags})"])
 
     def flag(self, of: str, scope: Scope) -> str:
         a, b = self.value("int", scope), self.value("int", scope)
         f, g = self.value("bool", scope), self.value("bool", scope)
-        return self.chance.choice([*(f"({a} {sign} {b})" for sign in ("<", "<=", ">", ">=", "==", "!=")), f"({f} and {g})",
-                                   f"({f} or {g})", f"(not {f})", f"({f} == {g})", f"({f} != {g})", f"({f} ^ {g})",
-                                   f"any({self.value('list[bool]', scope)})", f"all({self.value('list[bool]', scope)})"])
+        return self.chance.choice([*(f"({a} {sign} {b})" for sign in ("<", "<=", ">", ">=", "==", "!=")),
+                                   f"({f} and {g})", f"({f} or {g})", f"(not {f})", f"({f} == {g})",
+                                   f"({f} != {g})", f"({f} ^ {g})",
+                                   f"any({self.value('list[bool]', scope)})",
+                                   f"all({self.value('list[bool]', scope)})"])
 
     def tupled(self, of: str, scope: Scope) -> str:
         return "(" + ", ".join(self.value(it, scope) for it in parts_of(of)) + ")"
@@ -300,6 +312,13 @@ class Maker:
         names = ", ".join(f"{name}: {of}" for name, of in parameters)
         return [f"def {made.name}({names}) -> {made.result}:", *(f"    {line}" for line in lines), "", ""]
 
+    def called_for_each(self, function: Function, v: str, variables: dict[str, str]) -> str:
+        """A call for each number of a list, with recursions of different depths."""
+        x = self.name()
+        scope = Scope({**variables, x: "int"}, None, 1)
+        rest = [self.value(of, scope) for _, of in function.parameters[1:]]
+        return f"[{', '.join([f'{function.name}({x} % 4', *rest])}) for {x} in {v}]"
+
     def program(self) -> tuple[str, list[object]]:
         """A program, and the arguments of its main."""
         lines = [line for _ in range(self.chance.randrange(1, 4)) for line in self.function()]
@@ -310,6 +329,11 @@ class Maker:
             name, of = self.name(), self.any_type()
             inner.append(f"    {name}: {of} = {self.value(of, Scope(variables, None, 4))}")
             variables = {**variables, name: of}
+        for function in self.functions:
+            if function.is_recursive:
+                name, of = self.name(), f"list[{function.result}]"
+                inner.append(f"    {name}: {of} = {self.called_for_each(function, parameters[-1][0], variables)}")
+                variables = {**variables, name: of}
         names = ", ".join(f"{name}: {of}" for name, of in parameters)
         left = list(variables)[2:]
         lines += [f"def main({names}) -> tuple[{', '.join(variables[it] for it in left)}]:", *inner]

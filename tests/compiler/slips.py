@@ -15,34 +15,41 @@ import tempfile
 from pathlib import Path
 
 HERE = Path(__file__).resolve().parent
-COMPILER = HERE.parent.parent / "examples" / "compiler"
+TOP = HERE.parent.parent
+COMPILER = TOP / "examples" / "compiler"
 SLIPS = {
-    "COPY at a last use": ("emit.py", "'CPOP' if moves[done] else 'COPY'", "'COPY'"),
+    "COPY at a last use": ("emit.py", '"CPOP" if moves[done] else "COPY"', '"COPY"'),
     "CPOP of what is used again": ("emit.py", "moves = [it not in live and it", "moves = [it"),
-    "neighbours that are only half there": ("emit.py", "self.stack[start + size : len(self.stack) - done][:1]",
-                                            "self.stack[start : len(self.stack) - done][:1]"),
+    "neighbours that are only half there": (
+        "emit.py", "len(list(takewhile(lambda it: it[0] == it[1] and it[2] == moves[done], neighbours)))",
+        "len(wanted) - done"),
     "a step that may fault is left out": ("structure.py", "operands, found, must_run))", "operands, found, False))"),
     "known from the other part of an IF": ("structure.py", "[], known.new_child()", "[], known"),
-    "starts of an outer list without a scan": ("structure.py", 'self.step("+_SCAN INT", self.lengths(segments), whole)',
-                                               "self.lengths(segments)"),
-    "a total taken from the top": ("structure.py", "segments if whole is self.top.whole else self.joined(segments, whole)",
-                                   "segments"),
-    "a loop's own segments where two levels lie between": ("structure.py", "self.joined(inner.segments, self.between(outer, inner.outer))",
-                                                           "inner.segments"),
-    "an index into another iteration's list": ("structure.py", 'move = self.taken("BPERMUTE", here, segments, self.between(of.level, level), must_run=True)',
-                                               'move = self.taken("BPERMUTE", here, self.total(segments, of.level.whole), level.whole, must_run=True)'),
-    "a row read past its end": ("structure.py", 'self.check(self.step("AND BOOL", *is_within))', "pass"),
-    "lists merged at the other's places": ("structure.py", 'begin, part.places, whole, part.whole)', 'begin, parts[0].places, whole, part.whole)'),
-    "append that forgets what is before": ("structure.py", "after = [begin, *(self.step", "after = [begin, *(begin or self.step"),
-    "both branches take the flags that are T": ("flatten.py", 'flags if way is ways[0] else self.step("NOT BOOL", flags)', "flags"),
-    "a branch that may fault taken for cheap": ("flatten.py", "if is_cheap(way) else ()", "if True else ()"),
-    "SELECT the wrong way round": ("flatten.py", 'flags, a, b) for a, b in zip(*cheap)', 'flags, b, a) for a, b in zip(*cheap)'),
-    "what may fault brought out of a loop": ("source.py", "return not any(map(may_fault, ast.walk(node)))", "return True"),
-    "a quotient that is rounded to 0": ("flatten.py", '"a - int((b ^ c) < 0 and b != 0)"', '"a"'),
-    "no test for an iteration left": ("flatten.py", "if is_loop and self.function.name in function.reaches:", "if False:"),
-    "zip of lists of different lengths": ("flatten.py", "        if first is not second:", "        if False:"),
-    "a filter that keeps the lengths": ("flatten.py", "body, segments = self.branch(flags, body, segments)",
-                                        "body, _ = self.branch(flags, body, segments)"),
+    "starts of an outer list without a scan": (
+        "structure.py", 'move(self.step("+_SCAN INT", lengths, source))', "move(lengths)"),
+    "a total taken from the top": ("structure.py", "if outer is self.one:", "if True:"),
+    "a loop's own segments where two levels lie between": (
+        "structure.py", "self.total(inner.segments, self.between(outer, inner.outer))", "inner.segments"),
+    "an index into another iteration's list": (
+        "structure.py", "of.segments, self.between(at, level), must_run",
+        "self.total(of.segments, at.whole), level.whole, must_run"),
+    "a row read past its end": ("flatten.py", 'self.check(self.step("AND BOOL", *is_good))', "pass"),
+    "lists merged at the other's places": (
+        "structure.py", "begin, places, target, source)", "begin, spots[0][0], target, source)"),
+    "append that forgets what is before": (
+        "structure.py", "[self.fill(level.whole), *ends[:-1]]", "[self.fill(level.whole)] * len(lists)"),
+    "both branches take the flags that are T": (
+        "flatten.py", 'flags if way is ways[0] else self.step("NOT BOOL", flags)', "flags"),
+    "a branch that may fault taken for cheap": ("flatten.py", "if is_cheap(way) else None", "if True else None"),
+    "SELECT the wrong way round": ("flatten.py", "flags, a, b), *cheap)", "flags, b, a), *cheap)"),
+    "what may fault brought out of a loop": (
+        "source.py", "return not any(map(may_fault, ast.walk(node)))", "return True"),
+    "a quotient that is rounded to 0": ("flatten.py", '"c - int((a - c * b ^ b) < 0 and a - c * b != 0)"', '"c"'),
+    "no test for an iteration left": (
+        "flatten.py", "if not is_loop or self.version[0] not in function.reaches:", "if True:"),
+    "zip of lists of different lengths": ("flatten.py", "if it.segments is not segments:", "if False:"),
+    "a filter that keeps the lengths": (
+        "flatten.py", "_, body, segments = self.branch(", "_, body, _ = self.branch("),
 }
 
 
@@ -60,7 +67,8 @@ def first_seen(slip: tuple[str, str, str], count: str) -> str | None:
     with tempfile.TemporaryDirectory() as folder:
         with_slip(folder, *slip)
         words = [sys.executable, str(HERE / "compare.py"), count, "0", "--first"]
-        ran = subprocess.run(words, env={**os.environ, "COMPILER": folder}, capture_output=True, text=True)
+        places = {"VJOBS_PROGRAMS": str(TOP / "bin"), **os.environ, "COMPILER": folder}
+        ran = subprocess.run(words, env=places, capture_output=True, text=True)
     found = re.search(r"^seed (\d+): (.*)", ran.stdout, re.M)
     return f"{int(found[1]) + 1:6}  {found[2][:60]}" if found else None
 

@@ -10,28 +10,25 @@ import sys
 from pathlib import Path
 
 from emit import Emission
-from flatten import Flattening, Version
-from source import kinds_of, read_program
-from structure import Block, Code, Structure, Vectors
+from flatten import Flattening, Version, name_of
+from source import leaves, read_program
+from structure import Block, Structure
 
 LIMITS = "1048576 4096 1024 1000000000"
 
 
 def compiled(text: str, data: list[object], name: str, file: str = "", limits: str = LIMITS) -> str:
     """A job: MAIN, which puts the data on the stack, and the versions of functions that are called."""
-    program, start, versions = read_program(text), Structure(), [Version("main")]
+    program, start, versions = read_program(text), Structure(), list[Version]([("main", None)])
     main = program["main"]
-    operands = sum((start.literal(of, it).vectors for (_, of), it in zip(main.parameters, data)), Vectors())
-    codes = [(Code("MAIN", (), Block(start.steps, start.call("main", operands, kinds_of(main.result)))), main)]
+    operands = leaves(*(start.literal(of, [it]) for of, it in zip(main.parameters.values(), data)))
+    found = start.call("main", operands, main.result)
+    functions = [Emission("MAIN", Block(start.steps, leaves(found)), file)]
+    # The versions that a version calls come to the end of the list that is gone through.
     for version in versions:
-        function = program[version.function]
-        # What is asked for comes to the end of the list that is gone through.
-        flattening = Flattening(program, function, lambda it: None if it in versions else versions.append(it))
-        codes.append((flattening.code(version), function))
-    lines = [f"JOB {name} {limits}", "SIGNATURES"]
-    lines += [f"{code.name} ({' '.join(it.kind for it in code.operands)}) -> ({' '.join(kinds_of(function.result))})"
-              for code, function in codes]
-    return "\n".join([*lines, "CODE", *(line for code, _ in codes for line in Emission(code, file).lines), "END", ""])
+        functions.append(Emission(name_of(version), Flattening(program, version, versions).code(), file))
+    signatures, code = [it.signature for it in functions], [line for it in functions for line in it.lines]
+    return "\n".join([f"JOB {name} {limits}", "SIGNATURES", *signatures, "CODE", *code, "END", ""])
 
 
 def main(path: str, data: str = "") -> None:

@@ -7,302 +7,314 @@ from __future__ import annotations
 
 import ast
 from collections.abc import Callable
-from dataclasses import dataclass
 from functools import partial, reduce
+from itertools import repeat
+from typing import Optional
 
-from source import (BOOL, INT, Function, SourceFault, Type, constant_of, is_cheap, is_flat, is_safe, kinds_of, list_of,
-                    literal_of, parts_of, read_type, tuple_of)
-from structure import Block, Code, Level, Part, Structure, Value, Vector, Vectors
+from source import (Function, List, SourceFault, Type, constant_of, is_cheap, is_safe, leaves, mapped, names_in,
+                    read_type, type_of)
+from structure import Block, Level, Structure, Value, Values, Vector, kinds_of
 
-WORDS: dict[type[ast.AST], str] = {
-    ast.Add: "+", ast.Sub: "-", ast.Mult: "*", ast.LShift: "LSHIFT", ast.RShift: "RSHIFT", ast.BitAnd: "AND",
-    ast.BitOr: "OR", ast.BitXor: "XOR", ast.And: "AND", ast.Or: "OR", ast.Lt: "<", ast.LtE: "<=", ast.Gt: ">",
-    ast.GtE: ">=", ast.Eq: "=", ast.NotEq: "!="}
+# What is one instruction: on numbers or truth values, and on lists of them.
+ELEMENTWISE = {"Add": "+", "Sub": "-", "Mult": "*", "FloorDiv": "/", "Mod": "%", "LShift": "LSHIFT", "RShift": "RSHIFT",
+               "BitAnd": "AND", "BitOr": "OR", "BitXor": "XOR", "Not": "NOT", "Invert": "NOT", "Lt": "<", "LtE": "<=",
+               "Gt": ">", "GtE": ">=", "Eq": "=", "NotEq": "!="}
 REDUCTIONS = {"sum": "+_REDUCE INT", "prod": "*_REDUCE INT", "max": "MAX_REDUCE INT", "min": "MIN_REDUCE INT",
               "any": "OR_REDUCE BOOL", "all": "AND_REDUCE BOOL"}
-# What is said in other words of the source. The machine rounds quotients to 0: with quotient a and rest b of a number by
-# c, the last two round down.
-OTHER_WORDS = {name: ast.parse(text, mode="eval").body for name, text in {
-    "negative": "0 - a", "abs": "0 - a if a < 0 else a", "max": "a if a > b else b", "min": "a if a < b else b",
+# What is said in other words of the source, by the operands a, b and c. The machine rounds quotients to 0: with its
+# quotient or rest c of a by b, `FloorDiv` and `Mod` round down. `cell` is a[b][c], without a copy of the inner list.
+OTHER_WORDS = {
+    "max": "a if a > b else b", "min": "a if a < b else b", "abs": "0 - a if a < 0 else a",
+    "FloorDiv": "c - int((a - c * b ^ b) < 0 and a - c * b != 0)", "Mod": "c + b if (c ^ b) < 0 and c != 0 else c",
     "enumerate": "zip(range(len(a)), a)", "reversed": "[a[len(a) - 1 - i] for i in range(len(a))]",
-    "rest": "a - b * c", "FloorDiv": "a - int((b ^ c) < 0 and b != 0)", "Mod": "b + c if (b ^ c) < 0 and b != 0 else b"}.items()}
+    "accumulate": "[x + y for x, y in zip(before(a), a)]",
+    "cell": "flatten(a)[before([len(x) for x in a])[b] + within(c, [len(x) for x in a][b])]"}
 Variables = dict[str, Value]
+# A function for one call, or for n at once: then it says which of its parameters aren't the same for all n.
+Version = tuple[str, Optional[tuple[bool, ...]]]
 
 
-@dataclass(frozen=True)
-class Version:
-    """A function for one call, or for n at once: then some of its parameters may be the same for all n."""
-
-    function: str
-    varies: tuple[bool, ...] | None = None
-
-    def __str__(self) -> str:
-        return self.function + ("" if self.varies is None else ".each." + "".join("01"[it] for it in self.varies))
-
-
-def returned(*nodes: ast.expr) -> list[list[ast.stmt]]:
-    return [[ast.copy_location(ast.Return(node), node)] for node in nodes]
+def name_of(version: Version) -> str:
+    function, varies = version
+    return function if varies is None else f"{function}.each.{''.join('01'[it] for it in varies)}"
 
 
 def terms_of(node: ast.expr) -> list[ast.expr]:
     """The terms of a sum, or the lists that are joined."""
-    return [*terms_of(node.left), node.right] if isinstance(node, ast.BinOp) and isinstance(node.op, ast.Add) else [node]
+    match node:
+        case ast.BinOp(first, ast.Add(), second):
+            return [*terms_of(first), second]
+    return [node]
+
+
+def call(function: str | ast.AST, *operands: ast.expr) -> ast.Call:
+    """A call of a built-in function, or of an operator."""
+    name = function if isinstance(function, str) else type(function).__name__
+    return ast.Call(ast.Name(name), list(operands), [])
+
+
+def simpler(node: ast.expr) -> ast.expr:
+    """The same with fewer forms of the language. Operators are called as functions are."""
+    match node:
+        case ast.BoolOp(sign, [first, *rest]):
+            second = rest[0] if len(rest) == 1 else ast.BoolOp(sign, rest)
+            if is_safe(second):
+                return call("BitAnd" if isinstance(sign, ast.And) else "BitOr", first, second)
+            ways = (second, ast.Constant(False)) if isinstance(sign, ast.And) else (ast.Constant(True), second)
+            return ast.IfExp(first, *ways)
+        case ast.BinOp(first, ast.FloorDiv(), ast.Constant(number)) if number & (number - 1) == 0 < number:
+            return call("RShift", first, ast.Constant(number.bit_length() - 1))
+        case ast.BinOp(first, ast.Mod(), ast.Constant(number)) if number & (number - 1) == 0 < number:
+            return call("BitAnd", first, ast.Constant(number - 1))
+        case ast.BinOp(_, ast.Add()):
+            return call("Add", *terms_of(node))
+        case ast.UnaryOp(ast.USub(), inner):
+            return call("Sub", ast.Constant(0), inner)
+        case ast.UnaryOp(sign, inner):
+            return call(sign, inner)
+        case ast.BinOp(first, sign, second) | ast.Compare(first, [sign], [second]):
+            return call(sign, first, second)
+        case ast.ListComp(result, [first, second, *more]):
+            return call("flatten", ast.ListComp(ast.ListComp(result, [second, *more]), [first]))
+        case ast.Subscript(inner, ast.Slice(None, None, step)) if step and constant_of(step) == -1:
+            return call("reversed", inner)
+    return node
+
+
+def paired(change: Callable[[Vector, Vector], Vector], first: Values, second: Values) -> Values:
+    """Values of one type, whose vectors are made from those of two."""
+    other = iter(leaves(second))
+    return mapped(lambda it: change(it, next(other)), first)
 
 
 class Flattening(Structure):
-    def __init__(self, program: dict[str, Function], function: Function, asked: Callable[[Version], None]) -> None:
+    def __init__(self, program: dict[str, Function], version: Version, versions: list[Version]) -> None:
         super().__init__()
-        self.program, self.function, self.asked = program, function, asked
+        self.program, self.version, self.versions = program, version, versions
 
-    def code(self, version: Version) -> Code:
+    def code(self) -> Block:
         """The whole function. If it is for n calls, P is its last operand, and its body a level of n iterations."""
-        level, variables, operands = self.top, Variables(), Vectors()
-        if version.varies is not None:
-            whole = self.vector("SEGDES")
-            level = Level(1, whole, self.top, whole)
-        for place, (name, of) in enumerate(self.function.parameters):
-            own = tuple(map(self.vector, kinds_of(of)))
-            operands += own
-            variables[name] = Value(of, own, level if version.varies and version.varies[place] else self.top)
-        found = self.into(self.body(self.function.body, variables, level, self.function.result), level)
-        return Code(str(version), operands + (() if level is self.top else (level.whole,)), Block(self.steps, found.vectors))
+        name, varies = self.version
+        function, level, whole = self.program[name], self.top, self.vector("SEGDES")
+        if varies is not None:
+            level = Level(1, whole, whole, self.top)
+        variables = {parameter: Value(mapped(self.vector, of), level if it else self.top)
+                     for (parameter, of), it in zip(function.parameters.items(), varies or repeat(False))}
+        found = self.into(self.body(function.body, variables, level, function.result), level)
+        operands = leaves(*(it.tree for it in variables.values())) + (() if varies is None else (whole,))
+        return Block(self.steps, leaves(found), operands)
 
     def body(self, statements: list[ast.stmt], variables: Variables, level: Level, wanted: Type | None) -> Value:
         match statements:
             case [ast.Return(ast.expr() as node), *_]:
                 found = self.value(node, variables, level, wanted)
-                if found.type != (wanted or found.type):
+                if wanted and kinds_of(found.tree) != wanted:
                     raise SourceFault(node, "a value of another type")
                 return found
             case [ast.Assign([target], node) | ast.AnnAssign(target, _, ast.expr() as node) as line, *rest]:
                 of = read_type(line.annotation) if isinstance(line, ast.AnnAssign) else None
-                return self.body(rest, variables | self.bound(target, self.value(node, variables, level, of)), level, wanted)
+                bound = self.bound(target, self.value(node, variables, level, of))
+                return self.body(rest, variables | bound, level, wanted)
             case [ast.If(test, first, second), *rest]:
                 return self.conditional(test, [first, [*second, *rest]], variables, level, wanted)
-            case [ast.Expr(ast.Constant()), *rest]:
-                return self.body(rest, variables, level, wanted)
         raise SourceFault(statements[0] if statements else ast.AST(), "no statement of this language, or no return")
 
     def bound(self, target: ast.expr, value: Value) -> Variables:
-        match target:
-            case ast.Name(name):
+        match target, value.tree:
+            case ast.Name(name), _:
                 return {name: value}
-            case ast.Tuple(targets) if value.type.name == "tuple" and len(targets) == len(value.type.parts):
-                parts = [Value(of, own, value.level) for of, own in parts_of(value.type, value.vectors)]
-                return {name: it for target, part in zip(targets, parts) for name, it in self.bound(target, part).items()}
+            case ast.Tuple(targets), tuple(parts) if len(targets) == len(parts):
+                inner = [self.bound(it, Value(part, value.level)) for it, part in zip(targets, parts)]
+                return reduce(lambda a, b: a | b, inner)
         raise SourceFault(target, "no names for this value")
 
     def value(self, node: ast.expr, variables: Variables, level: Level, wanted: Type | None = None) -> Value:
         """The value of an expression, at this level or at an outer one. The wanted type is that of an empty list."""
         if is_safe(node):
-            used = [variables[it.id].level for it in ast.walk(node) if isinstance(it, ast.Name) and it.id in variables]
+            used = [variables[it].level for it in names_in(node) if it in variables]
             level = max(used, key=lambda it: it.depth, default=self.top)
-        line, self.line = self.line, node.lineno
-        constant = literal_of(node, wanted)
-        found = self.literal(*constant) if constant else self.expression(node, variables, level)
+        line, self.line, constant = self.line, getattr(node, "lineno", self.line), constant_of(node)
+        if constant is None:
+            found = self.expression(simpler(node), variables, level)
+        else:
+            of = type_of(constant) or wanted
+            if not of:
+                raise SourceFault(node, "an empty list whose type isn't said")
+            found = Value(self.literal(of, [constant]), self.top)
         self.line = line
         return found
 
     def expression(self, node: ast.expr, variables: Variables, level: Level) -> Value:
-        def here(inner: ast.expr) -> Value:
+        def here(inner: ast.expr) -> Values:
             return self.into(self.value(inner, variables, level), level)
 
         match node:
             case ast.Name(name) if name in variables:
                 return variables[name]
             case ast.Tuple(nodes):
-                parts = list(map(here, nodes))
-                return Value(tuple_of(*(it.type for it in parts)), sum((it.vectors for it in parts), Vectors()), level)
+                return Value(tuple(map(here, nodes)), level)
             case ast.List(nodes):
-                values = list(map(here, nodes))
-                return self.listed(list_of(values[0].type), [it.vectors for it in values], level)
-            case ast.UnaryOp(ast.USub(), inner):
-                return self.in_other_words("negative", [here(inner)], level)
-            case ast.UnaryOp(_, inner):
-                value = here(inner)
-                return Value(value.type, (self.step(f"NOT {value.vectors[0].kind}", *value.vectors),), level)
-            case ast.BoolOp(sign, [first, *rest]):
-                second = ast.copy_location(ast.BoolOp(sign, rest), node) if len(rest) > 1 else rest[0]
-                if is_safe(second):
-                    return self.operation(node, sign, here(first), here(second))
-                fixed = ast.copy_location(ast.Constant(isinstance(sign, ast.Or)), node)
-                ways = returned(second, fixed) if isinstance(sign, ast.And) else returned(fixed, second)
-                return self.conditional(first, ways, variables, level)
+                return Value(self.listed(list(map(here, nodes)), level), level)
             case ast.IfExp(test, first, second):
-                return self.conditional(test, returned(first, second), variables, level)
-            case ast.BinOp(_, ast.Add()):
-                values = list(map(here, terms_of(node)))
-                if values[0].type.name == "list":
-                    return self.appended(values[0].type, [it.vectors for it in values], level)
-                return reduce(lambda a, b: self.operation(node, ast.Add(), a, b), values)
-            case ast.BinOp(first, ast.FloorDiv() | ast.Mod() as sign, second):
-                return self.divided(sign, here(first), here(second), constant_of(second) or 0)
-            case ast.BinOp(first, sign, second) | ast.Compare(first, [sign], [second]):
-                return self.operation(node, sign, here(first), here(second))
+                return self.conditional(test, [[ast.Return(first)], [ast.Return(second)]], variables, level)
             case ast.ListComp(result, [generator]):
-                return self.comprehension(result, generator, variables, level)
-            case ast.ListComp(result, [generator, *more]):
-                rows = self.comprehension(ast.copy_location(ast.ListComp(result, more), node), generator, variables, level)
-                return self.built_in(node, "flatten", [rows], level)
-            case ast.Subscript(ast.Subscript(inner, ast.expr() as row), place) if not isinstance(row, ast.Slice):
-                value = self.value(inner, variables, level)
-                if value.type.name == value.type.parts[0].name == "list":
-                    return self.element_of_row(value, here(row), here(place))
-                return self.indexed(self.indexed(value, row, here), place, here)
-            case ast.Subscript(inner, ast.Slice(None, None, step)) if step and constant_of(step) == -1:
-                return self.in_other_words("reversed", [here(inner)], level)
+                return Value(self.loop(result, generator, variables, level), level)
             case ast.Subscript(inner, place):
-                return self.indexed(self.value(inner, variables, level), place, here)
-            case ast.Call(ast.Name(name), nodes) if name in self.program:
-                arguments = [self.value(it, variables, level) for it in nodes]
-                if [it.type for it in arguments] == [of for _, of in self.program[name].parameters]:
-                    return self.call_of(self.program[name], arguments, level)
+                return self.subscript(inner, place, variables, level)
+            case ast.Call(ast.Name(name), nodes) if name in ELEMENTWISE:
+                return Value(self.built_in(node, name, list(map(here, nodes)), level), level)
             case ast.Call(ast.Name(name), nodes):
-                return self.built_in(node, name, [self.value(it, variables, level) for it in nodes], level)
+                values = [self.value(it, variables, level) for it in nodes]
+                if name in self.program:
+                    return Value(self.call_of(node, name, values, level), level)
+                return Value(self.built_in(node, name, [self.into(it, level) for it in values], level), level)
         raise SourceFault(node, "no expression of this language")
 
-    def in_other_words(self, name: str, values: list[Value], level: Level) -> Value:
-        for node in ast.walk(OTHER_WORDS[name]):
-            if isinstance(node, ast.expr):
-                node.lineno = self.line
-        return self.value(OTHER_WORDS[name], dict(zip("abc", values)), level)
+    def number(self, node: ast.expr, variables: Variables, level: Level) -> Vector:
+        return leaves(self.into(self.value(node, variables, level), level))[0]
 
-    def operation(self, node: ast.expr, sign: ast.AST, first: Value, second: Value) -> Value:
-        operands, kind, word = (*first.vectors, *second.vectors), first.vectors[0].kind, WORDS.get(type(sign), "")
-        if first.type != second.type or first.type not in (INT, BOOL) or not word:
-            raise SourceFault(node, "no operation on these types")
-        if kind == "BOOL" and word in ("=", "!="):
-            found = self.step("XOR BOOL", *operands)
-            found = found if word == "!=" else self.step("NOT BOOL", found)
-        else:
-            found = self.step(f"{word} {kind}", *operands, must_run="SHIFT" in word)
-        return Value(BOOL if found.kind == "BOOL" else INT, (found,), first.level)
+    def subscript(self, of: ast.expr, place: ast.expr, variables: Variables, level: Level) -> Value:
+        if isinstance(of, ast.Subscript):
+            value = self.value(of.value, variables, level)
+            if isinstance(value.tree, List) and isinstance(value.tree.elements, List):
+                row, cell = (self.value(it, variables, level) for it in (of.slice, place))
+                return self.in_other_words("cell", level, value, row, cell)
+        value = self.value(of, variables, level)
+        match value.tree:
+            case tuple(parts) if constant_of(place) in range(len(parts)):
+                return Value(parts[constant_of(place)], value.level)
+            case List():
+                index = self.number(place, variables, level)
+                return Value(self.element(value.tree, value.level, index, level), level)
+        raise SourceFault(of, "no list or tuple")
 
-    def divided(self, sign: ast.AST, first: Value, second: Value, constant: int) -> Value:
-        """Rounded down: a power of 2 by a shift or a mask."""
-        level, operands = first.level, (*first.vectors, *second.vectors)
-        if constant > 0 and constant & (constant - 1) == 0:
-            code, by = ("RSHIFT INT", constant.bit_length() - 1) if isinstance(sign, ast.FloorDiv) else ("AND INT", constant - 1)
-            return Value(INT, (self.step(code, *first.vectors, self.fill(level.whole, by)),), level)
-        code = "% INT" if isinstance(sign, ast.Mod) else "/ INT"
-        found = rest = Value(INT, (self.step(code, *operands, must_run=True),), level)
-        if isinstance(sign, ast.FloorDiv):
-            rest = self.in_other_words("rest", [first, found, second], level)
-        return self.in_other_words(type(sign).__name__, [found, rest, second], level)
+    def in_other_words(self, name: str, level: Level, *values: Value) -> Value:
+        node = ast.parse(OTHER_WORDS[name], mode="eval").body
+        ast.increment_lineno(node, self.line - 1)
+        return self.value(node, dict(zip("abc", values)), level)
 
     def conditional(self, test: ast.expr, ways: list[list[ast.stmt]], variables: Variables, level: Level,
                     wanted: Type | None = None) -> Value:
-        """By an IF, if all iterations go one way. Otherwise each way is a branch, except those that are cheap: these are
-        computed for all iterations, and the others are written over them."""
-        flag, found = self.value(test, variables, level), [Value(wanted, (), level)] if wanted else []
+        """By an IF, if all iterations go one way. Otherwise each way is a branch, except those that are cheap: these
+        are computed for all iterations, and the others are written over them."""
+        def way_at(level: Level, way: list[ast.stmt]) -> Values:
+            nonlocal wanted
+            tree = self.into(self.body(way, variables, level, wanted), level)
+            wanted = kinds_of(tree)
+            return tree
 
-        def way_at(level: Level, way: list[ast.stmt]) -> Vectors:
-            value = self.into(self.body(way, variables, level, found[0].type if found else None), level)
-            found.append(value)
-            return value.vectors
-
+        flag, trees, spots, cheap = self.value(test, variables, level), [], [], []
         if flag.level is self.top:
-            vectors = self.choice(flag.vectors[0], *(partial(way_at, level, way) for way in ways))
-            return Value(found[-1].type, vectors, level)
-        flags, parts, cheap = self.into(flag, level).vectors[0], [], []
+            return Value(self.choice(leaves(flag.tree)[0], *(partial(way_at, level, way) for way in ways)), level)
+        flags = leaves(self.into(flag, level))[0]
         for way in sorted(ways, key=is_cheap):
-            everywhere = way_at(level, way) if is_cheap(way) else ()
-            if everywhere and is_flat(found[-1].type):
-                cheap.append(everywhere)
+            tree = way_at(level, way) if is_cheap(way) else None
+            if tree and "SEGDES" not in leaves(kinds_of(tree)):
+                cheap.append(tree)
             else:
-                inner, _ = self.branch(flags if way is ways[0] else self.step("NOT BOOL", flags), level)
-                assert inner.places
-                parts.append(Part(way_at(inner, way), inner.places, inner.whole))
-        of = found[-1].type
-        if not parts:
-            return Value(of, tuple(self.step(f"SELECT {a.kind}", flags, a, b) for a, b in zip(*cheap)), level)
-        places = self.index(level.whole)
-        defaults = cheap[0] if cheap else tuple(flags if kind == "BOOL" else places for kind in kinds_of(of))
-        return Value(of, self.merged(of, parts, level.whole, defaults), level)
+                own = flags if way is ways[0] else self.step("NOT BOOL", flags)
+                places, inner, _ = self.branch(own, level, level.whole, self.one)
+                trees.append(way_at(inner, way))
+                spots.append((places, inner.whole))
+        if not trees:
+            return Value(paired(lambda a, b: self.step(f"SELECT {a.kind}", flags, a, b), *cheap), level)
+        # Any vectors that are there may be written over, if both ways are branches.
+        there = {"BOOL": flags}
+        under = cheap[0] if cheap else mapped(lambda it: there.get(it.kind, self.index(level.whole)), trees[0])
+        return Value(self.merged(trees, spots, level.whole, self.one, under), level)
 
-    def branch(self, flags: Vector, level: Level, segments: Vector | None = None) -> tuple[Level, Vector]:
-        """The level of the iterations with a T; and how many of each segment these are, if there are segments."""
-        places, kept = self.results("PACK INT", self.index(level.whole), flags, segments or level.whole)
-        whole = self.total(kept, level.outer.whole) if segments and level.outer else kept
-        return Level(level.depth + 1, whole, level, self.step("MAKE_SEGDES", self.step("B_TO_I", flags)), places), kept
+    def branch(self, flags: Vector, level: Level, segments: Vector, whole: Vector) -> tuple[Vector, Level, Vector]:
+        """The places of the iterations with a T, their level, and how many of each segment these are. The whole has an
+        item for each segment."""
+        places, kept = self.results("PACK INT", self.index(level.whole), flags, segments)
+        own = self.step("MAKE_SEGDES", self.step("B_TO_I", flags))
+        return places, Level(level.depth + 1, self.total(kept, whole), own, level, places), kept
 
-    def comprehension(self, result: ast.expr, generator: ast.comprehension, variables: Variables, level: Level) -> Value:
+    def loop(self, result: ast.expr, generator: ast.comprehension, variables: Variables, level: Level) -> Values:
         """The elements of the list are the iterations of the body, and stay where they are."""
         rows = self.into(self.value(generator.iter, variables, level), level)
-        *elements, segments = rows.vectors
-        body = Level(level.depth + 1, self.total(segments, level.whole), level, segments)
-        variables = variables | self.bound(generator.target, Value(rows.type.parts[0], tuple(elements), body))
+        if not isinstance(rows, List):
+            raise SourceFault(generator.iter, "no list")
+        segments = rows.segments
+        body = Level(level.depth + 1, self.total(segments, level.whole), segments, level)
+        variables = variables | self.bound(generator.target, Value(rows.elements, body))
         if generator.ifs:
-            first, *more = generator.ifs
-            test = ast.copy_location(ast.BoolOp(ast.And(), generator.ifs), first) if more else first
-            flags = self.into(self.value(test, variables, body), body).vectors[0]
-            if isinstance(result, ast.Name) and variables[result.id].vectors == tuple(elements[:1]) and len(elements) == 1:
-                return Value(rows.type, self.results(f"PACK {elements[0].kind}", elements[0], flags, segments), level)
-            body, segments = self.branch(flags, body, segments)
-        value = self.into(self.value(result, variables, body), body)
-        return Value(list_of(value.type), (*value.vectors, segments), level)
+            test = reduce(lambda a, b: ast.BoolOp(ast.And(), [a, b]), generator.ifs)
+            flags = self.number(test, variables, body)
+            if isinstance(rows.elements, Vector) and ast.unparse(result) == ast.unparse(generator.target):
+                return List(*self.results(f"PACK {rows.elements.kind}", rows.elements, flags, segments))
+            _, body, segments = self.branch(flags, body, segments, level.whole)
+        return List(self.into(self.value(result, variables, body), body), segments)
 
-    def indexed(self, of: Value, place: ast.expr, here: Callable[[ast.expr], Value]) -> Value:
-        if of.type.name == "tuple":
-            part, own = parts_of(of.type, of.vectors)[constant_of(place) or 0]
-            return Value(part, own, of.level)
-        return self.element(of, here(place))
-
-    def call_of(self, function: Function, arguments: list[Value], level: Level) -> Value:
+    def call_of(self, node: ast.AST, name: str, arguments: list[Value], level: Level) -> Values:
         """A call in a loop is one call for all iterations. One that may come back to the function that calls is made
         only if there is an iteration, or it would never end."""
-        kinds, is_loop = kinds_of(function.result), level is not self.top
-        version = Version(function.name, tuple(it.level is not self.top for it in arguments) if is_loop else None)
-        self.asked(version)
-        values = [it if it.level is self.top else self.into(it, level) for it in arguments]
-        operands = sum((it.vectors for it in values), Vectors()) + ((level.whole,) if is_loop else ())
-        called = partial(self.call, str(version), operands, kinds)
-        if is_loop and self.function.name in function.reaches:
-            some = self.step("I_TO_B", self.lengths(level.whole))
-            return Value(function.result, self.choice(some, called, lambda: tuple(self.constant(it, []) for it in kinds)), level)
-        return Value(function.result, called(), level)
+        function, is_loop = self.program[name], level is not self.top
+        if [kinds_of(it.tree) for it in arguments] != list(function.parameters.values()):
+            raise SourceFault(node, "arguments of other types")
+        version = name, tuple(it.level is not self.top for it in arguments) if is_loop else None
+        if version not in self.versions:
+            self.versions.append(version)
+        operands = leaves(*(it.tree if it.level is self.top else self.into(it, level) for it in arguments))
+        called = partial(self.call, name_of(version), operands + ((level.whole,) if is_loop else ()), function.result)
+        if not is_loop or self.version[0] not in function.reaches:
+            return called()
+        is_some = self.step("I_TO_B", self.lengths(level.whole))
+        return self.choice(is_some, called, lambda: mapped(lambda kind: self.constant(kind, []), function.result))
 
-    def built_in(self, node: ast.expr, name: str, values: list[Value], level: Level) -> Value:
-        first, *rest = values
-        if name in REDUCTIONS and not rest:
-            words, segments = first.vectors
-            words = self.step("B_TO_I", words) if name == "sum" and words.kind == "BOOL" else words
-            found = self.step(REDUCTIONS[name], words, segments)
-            return Value(BOOL if found.kind == "BOOL" else INT, (found,), first.level)
-        values = first, *rest = [self.into(it, level) for it in values]
-        if name in OTHER_WORDS:
-            return self.in_other_words(name, values, level)
-        *elements, last = first.vectors
-        match name, rest:
-            case "len", []:
-                return Value(INT, (self.lengths(last),), level)
-            case "int", []:
-                return Value(INT, (self.step("B_TO_I", last),), level)
-            case "flatten", []:
-                return Value(first.type.parts[0], (*elements[:-1], self.joined(elements[-1], last)), level)
-            case "accumulate", []:
-                return Value(first.type, (self.step("+ INT", self.step("+_SCAN INT", *first.vectors), elements[0]), last), level)
-            case "range", _:
-                start = last if rest else self.fill(level.whole)
-                size = self.step("- INT", rest[0].vectors[0], start) if rest else last
-                segments = self.step("MAKE_SEGDES", size, must_run=True)
-                return Value(list_of(INT), (self.runs(start, segments, level.whole), segments), level)
-            case "zip", _:
-                for other in rest:
-                    self.same(self.lengths(last), self.lengths(other.vectors[-1]))
-                columns = [it for value in values for it in value.vectors[:-1]]
-                return Value(list_of(tuple_of(*(it.type.parts[0] for it in values))), (*columns, last), level)
-            case "partition", [by]:
-                sizes, outer = by.vectors
-                self.same(self.lengths(last), self.step("+_REDUCE INT", sizes, outer))
-                return Value(list_of(first.type), (*elements, self.step("MAKE_SEGDES", sizes, must_run=True), outer), level)
-            case "put", [by]:
-                places, *new, source = by.vectors
-                put = [self.step(f"DPERMUTE {old.kind}", it, places, old, source, last, must_run=True)
-                       for it, old in zip(new, elements)]
-                return Value(first.type, (*put, last), level)
-        raise SourceFault(node, "no function of this language")
+    def built_in(self, node: ast.expr, name: str, trees: list[Values], level: Level) -> Values:
+        """An operator or a built-in function."""
+        match name, trees:
+            case "Add", [List(), *_]:
+                return self.appended([it for it in trees if isinstance(it, List)], level)
+            case "Add", [first, second, third, *more]:
+                sum_of_two = self.built_in(node, name, [first, second], level)
+                return self.built_in(node, name, [sum_of_two, third, *more], level)
+            case "Eq" | "NotEq", [Vector(kind="BOOL") as a, Vector(kind="BOOL") as b]:
+                found = self.step("XOR BOOL", a, b)
+                return self.step("NOT BOOL", found) if name == "Eq" else found
+            case "FloorDiv" | "Mod", [Vector() as a, Vector() as b]:
+                found = self.step(f"{ELEMENTWISE[name]} INT", a, b, must_run=True)
+                return self.in_other_words(name, level, *(Value(it, level) for it in (a, b, found))).tree
+            case _, [Vector(kind=kind), *_] if name in ELEMENTWISE and set(map(kinds_of, trees)) == {kind}:
+                return self.step(f"{ELEMENTWISE[name]} {kind}", *leaves(*trees), must_run="Shift" in name)
+            case _, [List(Vector() as words, segments)] if name in REDUCTIONS:
+                words = self.step("B_TO_I", words) if name == "sum" and words.kind == "BOOL" else words
+                return self.step(REDUCTIONS[name], words, segments)
+            case _ if name in OTHER_WORDS:
+                return self.in_other_words(name, level, *(Value(it, level) for it in trees)).tree
+            case "len", [List(_, segments)]:
+                return self.lengths(segments)
+            case "int", [Vector() as flag]:
+                return self.step("B_TO_I", flag)
+            case "flatten", [List(List(elements, inner), outer)]:
+                return List(elements, self.total(inner, outer))
+            case "before", [List(Vector() as words, segments)]:
+                return List(self.step("+_SCAN INT", words, segments), segments)
+            case "range", [*starts, Vector() as end]:
+                start = leaves(*starts, self.fill(level.whole))[0]
+                segments = self.step("MAKE_SEGDES", self.step("- INT", end, start) if starts else end, must_run=True)
+                return List(self.runs(start, segments, level.whole), segments)
+            case "zip", [List(_, segments), *_]:
+                lists = [it for it in trees if isinstance(it, List)]
+                for it in lists:
+                    if it.segments is not segments:
+                        self.check(self.step("= INT", self.lengths(segments), self.lengths(it.segments)))
+                return List(tuple(it.elements for it in lists), segments)
+            case "partition", [List(elements, segments), List(Vector() as sizes, outer)]:
+                self.check(self.step("= INT", self.lengths(segments), self.step("+_REDUCE INT", sizes, outer)))
+                return List(List(elements, self.step("MAKE_SEGDES", sizes, must_run=True)), outer)
+            case "put", [List(elements, target), List((Vector() as places, new), source)]:
+                def put(old: Vector, it: Vector) -> Vector:
+                    return self.step(f"DPERMUTE {old.kind}", it, places, old, source, target, must_run=True)
+                return List(paired(put, elements, new), target)
+            case "within", [Vector() as place, Vector() as length]:
+                is_good = self.step(">= INT", place, self.fill(level.whole)), self.step("< INT", place, length)
+                self.check(self.step("AND BOOL", *is_good))
+                return place
+        raise SourceFault(node, "no function of this language, or of other types")
 
-    def same(self, first: Vector, second: Vector) -> None:
-        if first is not second:
-            self.check(self.step("= INT", first, second))
+    def check(self, flags: Vector) -> None:
+        """Ends the job if a flag is F."""
+        number = self.step("B_TO_I", flags)
+        self.step("/ INT", number, number, must_run=True)

@@ -1,8 +1,8 @@
 #!/usr/bin/env python3
 """Compiles a program, runs it, and shows its result and what each line of its source did: run.py PROGRAM [SIZE]
 
-PROGRAM is a name of programs/, which gets data of plain.py, SIZE times as much as the least; or the path of a file whose
-`main` has no parameters. The programs are bin/vjobs and bin/vjobs-why, or those of the folder VJOBS_PROGRAMS.
+PROGRAM is a name of programs/, which gets data of plain.py, SIZE times as much as the least; or the path of a file
+whose `main` has no parameters. The programs are bin/vjobs and bin/vjobs-why, or those of the folder VJOBS_PROGRAMS.
 """
 from __future__ import annotations
 
@@ -13,37 +13,47 @@ import re
 import subprocess
 import sys
 from collections import Counter
+from collections.abc import Sequence
 from itertools import accumulate
 from pathlib import Path
 
 from compile import compiled
 from plain import DATA, PLAIN
-from source import KINDS, Type, parts_of, read_program
+from source import List, Tree, mapped, read_program
 
 HERE = Path(os.path.abspath(__file__)).parent
 PROGRAMS = Path(os.environ.get("VJOBS_PROGRAMS", HERE.parent.parent / "bin"))
 # How many lines of a profile are shown, and how much of a result.
 MOST_LINES, MOST_SHOWN = 12, 200
-NUMBERS = {"T": 1, "F": 0}
+FLAGS = {"T": True, "F": False}
 
 
-def decode(of: Type, vectors: tuple[list[int], ...]) -> list[object]:
+def decode(tree: Tree[list[int]]) -> Sequence[object]:
     """The values of a type that these vectors are."""
-    if of.name in KINDS:
-        return [bool(number) if of.name == "bool" else number for number in vectors[0]]
-    if of.name == "list":
-        elements = decode(of.parts[0], vectors[:-1])
-        return [elements[end - length : end] for end, length in zip(accumulate(vectors[-1]), vectors[-1])]
-    return list(zip(*(decode(*part) for part in parts_of(of, vectors))))
+    match tree:
+        case List(inner, lengths):
+            elements = decode(inner)
+            return [elements[end - length : end] for end, length in zip(accumulate(lengths), lengths)]
+        case tuple():
+            return list(zip(*map(decode, tree)))
+    return tree
 
 
-def reported(report: str) -> list[tuple[str, tuple[list[int], ...]]]:
+def result_of(text: str, vectors: list[list[int]]) -> object:
+    """The result of a program, which left these vectors."""
+    left = iter(vectors)
+    return decode(mapped(lambda _: next(left), read_program(text)["main"].result))[0]
+
+
+def reported(report: str) -> list[tuple[str, list[list[int]]]]:
     """How each job of a report ended, and the vectors that it left."""
     found = []
     for job in re.split(r"^(?=JOB )", report, flags=re.M)[1:]:
         head, *lines = job.splitlines()
-        words = [line.partition(" ")[2].strip("()").split() for line in lines if line.split()[0] in ("INT", "BOOL", "SEGDES")]
-        found.append((head.split(maxsplit=3)[3], tuple([NUMBERS.get(it) or int(NUMBERS.get(it, it)) for it in row] for row in words)))
+        left = [line.partition(" ") for line in lines]
+        words = [rest.strip("()").split() for kind, _, rest in left if kind in ("INT", "BOOL", "SEGDES")]
+        vectors = [[FLAGS[it] if it in FLAGS else int(it) for it in row] for row in words]
+        found.append((head.split(maxsplit=3)[3], vectors))
     return found
 
 
@@ -68,7 +78,7 @@ def main(name: str, size: str = "1") -> None:
     end, vectors = reported(report)[0]
     print(f"{path.name}: {end}, {report.splitlines()[-2].lower()}")
     if end == "RETURNED":
-        value = decode(read_program(text)["main"].result, vectors)[0]
+        value = result_of(text, vectors)
         print(str(value)[:MOST_SHOWN])
         if name in PLAIN and value != PLAIN[name](*data):
             sys.exit("plain Python gives another result")

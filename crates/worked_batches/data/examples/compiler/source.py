@@ -2,19 +2,19 @@
 
 A program is a file of functions whose parameters and results have types: `int`, `bool`, `list[..]` and `tuple[..]`. A
 body assigns variables, may choose by `if`, and returns. Loops are comprehensions and recursion. Four things differ from
-Python: numbers have 64 bits and wrap; an index below 0 is a fault; so is a `range` whose end is before its start; and so
-is a `zip` of lists of different lengths. A text, as "abc", is the list of its codes.
+Python: numbers have 64 bits and wrap; an index below 0 is a fault; so is a `range` whose end is before its start; and
+so is a `zip` of lists of different lengths. A text, as "abc", is the list of its codes.
 """
 from __future__ import annotations
 
 import ast
+from collections.abc import Callable
 from dataclasses import dataclass
 from functools import cache
-from itertools import accumulate
-from typing import TypeVar
+from typing import Any, Generic, TypeVar, Union
 
+S = TypeVar("S")
 T = TypeVar("T")
-KINDS = {"int": "INT", "bool": "BOOL"}
 
 
 class SourceFault(Exception):
@@ -25,93 +25,80 @@ class SourceFault(Exception):
 
 
 @dataclass(frozen=True)
-class Type:
-    """`int`, `bool`, a list with the type of its elements, or a tuple with those of its parts."""
+class List(Generic[T]):
+    """n lists: the elements of all, and the descriptor with a segment for each."""
 
-    name: str
-    parts: tuple[Type, ...] = ()
-
-
-INT, BOOL = Type("int"), Type("bool")
+    elements: Tree[T]
+    segments: T
 
 
-def list_of(element: Type) -> Type:
-    return Type("list", (element,))
+# A type is a tree of kinds, and n values of the type are a tree of vectors of these kinds. A tuple has its parts.
+Tree = Union[T, List[T], "tuple[Tree[T], ...]"]
+Type = Tree[str]
 
 
-def tuple_of(*parts: Type) -> Type:
-    return Type("tuple", parts)
+def mapped(change: Callable[[S], T], tree: Tree[S]) -> Tree[T]:
+    """The tree with each leaf changed, from the bottom of the stack up. A list adds a descriptor after the vectors of
+    its elements, so the parts of a tuple in a list share it."""
+    match tree:
+        case List():
+            elements = mapped(change, tree.elements)
+            return List(elements, change(tree.segments))
+        case tuple():
+            parts: tuple[Any, ...] = tree
+            return tuple(mapped(change, part) for part in parts)
+        case leaf:
+            return change(leaf)
 
 
-def kinds_of(of: Type) -> list[str]:
-    """The kinds of the vectors that are n values of a type. A list adds a descriptor after the vectors of its elements,
-    so the parts of a tuple in a list share it."""
-    parts = [kind for part in of.parts for kind in kinds_of(part)]
-    return [KINDS[of.name]] if of.name in KINDS else [*parts, "SEGDES"] if of.name == "list" else parts
-
-
-def is_flat(of: Type) -> bool:
-    return "SEGDES" not in kinds_of(of)
-
-
-def parts_of(of: Type, vectors: tuple[T, ...]) -> list[tuple[Type, tuple[T, ...]]]:
-    """The parts of a tuple, each with its own of the vectors."""
-    ends = accumulate(len(kinds_of(part)) for part in of.parts)
-    return [(part, vectors[end - len(kinds_of(part)) : end]) for part, end in zip(of.parts, ends)]
-
-
-def columns_of(of: Type, values: list[object]) -> list[tuple[str, list[int]]]:
-    """The vectors that are these values of a type, each with its kind."""
-    if of.name in KINDS:
-        return [(KINDS[of.name], [it for it in values if isinstance(it, int)])]
-    rows = [list(map(ord, it)) if isinstance(it, str) else list(it) for it in values if isinstance(it, (str, list, tuple))]
-    if of.name == "list":
-        return [*columns_of(of.parts[0], [it for row in rows for it in row]), ("SEGDES", list(map(len, rows)))]
-    return [column for place, part in enumerate(of.parts) for column in columns_of(part, [row[place] for row in rows])]
+def leaves(*trees: Tree[T]) -> tuple[T, ...]:
+    """The kinds or vectors of trees, in the same order."""
+    found: list[T] = []
+    for tree in trees:
+        mapped(found.append, tree)
+    return tuple(found)
 
 
 def type_of(value: object) -> Type | None:
     """The type of a constant; None if it has only empty lists, whose elements may have any."""
-    if isinstance(value, str):
-        return list_of(INT)
-    if isinstance(value, list):
-        element = next(filter(None, map(type_of, value)), None)
-        return element and list_of(element)
-    if isinstance(value, tuple):
-        parts = [part for part in map(type_of, value) if part]
-        return tuple_of(*parts) if len(parts) == len(value) else None
-    return BOOL if isinstance(value, bool) else INT
+    match value:
+        case str():
+            return List("INT", "SEGDES")
+        case list(elements):
+            found = [of for of in map(type_of, elements) if of]
+            return List(found[0], "SEGDES") if found else None
+        case tuple(parts):
+            found = [of for of in map(type_of, parts) if of]
+            return tuple(found) if len(found) == len(parts) else None
+    return "BOOL" if isinstance(value, bool) else "INT"
 
 
-def literal_of(node: ast.expr, wanted: Type | None) -> tuple[Type, object] | None:
-    """The type and the value of an expression that is written as a constant."""
-    if not isinstance(node, (ast.Constant, ast.List, ast.Tuple, ast.UnaryOp)):
-        return None
+def constant_of(node: ast.AST) -> Any:
+    """The value of an expression that is written as a constant; None of others."""
     try:
-        value = ast.literal_eval(node)
+        return ast.literal_eval(node) if isinstance(node, (ast.Constant, ast.List, ast.Tuple, ast.UnaryOp)) else None
     except ValueError:
         return None
-    of = type_of(value) or wanted
-    if of is None:
-        raise SourceFault(node, "an empty list whose type isn't said")
-    return of, value
 
 
 def read_type(node: ast.expr | None) -> Type:
     match node:
         case ast.Name("int" | "bool" as name):
-            return Type(name)
+            return name.upper()
         case ast.Subscript(ast.Name("list"), element):
-            return list_of(read_type(element))
+            return List(read_type(element), "SEGDES")
         case ast.Subscript(ast.Name("tuple"), ast.Tuple(parts)):
-            return tuple_of(*map(read_type, parts))
+            return tuple(map(read_type, parts))
     raise SourceFault(node or ast.AST(), "no type of this language")
+
+
+def names_in(node: ast.AST) -> set[str]:
+    return {it.id for it in ast.walk(node) if isinstance(it, ast.Name)}
 
 
 @dataclass
 class Function:
-    name: str
-    parameters: list[tuple[str, Type]]
+    parameters: dict[str, Type]
     result: Type
     body: list[ast.stmt]
     # The functions that it may come to call, also by way of others.
@@ -123,27 +110,18 @@ def read_program(text: str) -> dict[str, Function]:
     program = {}
     for node in ast.parse(text).body:
         if isinstance(node, ast.FunctionDef):
-            parameters = [(it.arg, read_type(it.annotation)) for it in node.args.args]
-            names = {it.id for it in ast.walk(node) if isinstance(it, ast.Name)}
-            program[node.name] = Function(node.name, parameters, read_type(node.returns), node.body, names)
+            parameters = {it.arg: read_type(it.annotation) for it in node.args.args}
+            body = node.body[ast.get_docstring(node) is not None :]
+            program[node.name] = Function(parameters, read_type(node.returns), body, names_in(node))
     for _ in program:
         for function in program.values():
-            function.reaches = function.reaches.union(*(program[it].reaches for it in function.reaches if it in program))
+            function.reaches.update(*(program[it].reaches for it in function.reaches & set(program)))
     return program
 
 
-# Built-in functions that can't fault, and those that are elementwise. More nodes of an expression aren't cheap.
-SAFE_CALLS = {"len", "sum", "prod", "max", "min", "any", "all", "abs", "int", "enumerate", "flatten", "accumulate"}
+# Built-in functions that are elementwise, and those that can't fault. More nodes of an expression aren't cheap.
 CHEAP_CALLS, MOST_NODES = {"len", "max", "min", "abs", "int"}, 16
-
-
-def constant_of(node: ast.AST) -> int | None:
-    match node:
-        case ast.Constant(int() as number):
-            return number
-        case ast.UnaryOp(ast.USub(), ast.Constant(int() as number)):
-            return -number
-    return None
+SAFE_CALLS = CHEAP_CALLS | {"sum", "prod", "any", "all", "enumerate", "flatten", "accumulate", "before"}
 
 
 def may_fault(node: ast.AST) -> bool:
@@ -172,6 +150,7 @@ def is_cheap(way: list[ast.stmt]) -> bool:
     match way:
         case [ast.Return(ast.expr() as node), *_] if is_safe(node):
             nodes = [it for it in ast.walk(node) if isinstance(it, ast.expr)]
-            calls = {it.func.id for it in nodes if isinstance(it, ast.Call) and isinstance(it.func, ast.Name)}
-            return len(nodes) <= MOST_NODES and not any(isinstance(it, ast.ListComp) for it in nodes) and calls <= CHEAP_CALLS
+            calls = {ast.unparse(it.func) for it in nodes if isinstance(it, ast.Call)}
+            is_flat = calls <= CHEAP_CALLS and not any(isinstance(it, ast.ListComp) for it in nodes)
+            return is_flat and len(nodes) <= MOST_NODES
     return False

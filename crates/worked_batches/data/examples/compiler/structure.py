@@ -1,5 +1,5 @@
 """Steps, which name their operands and results in place of a stack; and the operations that move the values of n
-iterations: each takes items from places, or puts items to places, by recursion over their type.
+iterations: each takes items from places, or puts items to places, by recursion over their trees.
 
 A `Level` is a place in the nest of loops. The top has one iteration. The iterations of a comprehension's body are the
 elements of the list; those of a conditional's branch are the ones that take it; and the body of a function that is
@@ -10,9 +10,10 @@ from __future__ import annotations
 from collections import ChainMap
 from collections.abc import Callable
 from dataclasses import dataclass
-from itertools import accumulate, count
+from itertools import accumulate, count, repeat
+from typing import Any
 
-from source import INT, Type, columns_of, is_flat, kinds_of, list_of, parts_of, tuple_of
+from source import List, Tree, Type, leaves, mapped
 
 
 @dataclass(frozen=True)
@@ -22,11 +23,24 @@ class Vector:
 
 
 Vectors = tuple[Vector, ...]
+Values = Tree[Vector]
 Move = Callable[[Vector], Vector]
+# Where items are put: their places, and the descriptor of the items. The places count within its segments.
+Spot = tuple[Vector, Vector]
 # A list of a constant has at most so many elements.
 MOST_CONSTANT = 65_536
 KINDS_LEFT = {"<": "BOOL", "<=": "BOOL", ">": "BOOL", ">=": "BOOL", "=": "BOOL", "!=": "BOOL", "I_TO_B": "BOOL",
               "B_TO_I": "INT", "INDEX": "INT", "LENGTHS": "INT", "MAKE_SEGDES": "SEGDES"}
+INVERSE = {"MAKE_SEGDES": "LENGTHS", "LENGTHS": "MAKE_SEGDES"}
+
+
+@dataclass
+class Block:
+    """The steps of a function, or of a part of an IF; what they leave; and the operands of the function."""
+
+    steps: list[Step]
+    results: Vectors
+    operands: Vectors = ()
 
 
 @dataclass
@@ -37,31 +51,8 @@ class Step:
     results: Vectors
     # It may fault, or it calls, so it is executed even if nothing uses its results.
     must_run: bool
-
-
-@dataclass
-class Block:
-    steps: list[Step | Choice]
-    results: Vectors
-
-
-@dataclass
-class Choice:
-    """An IF: one of two blocks, whose results have equal kinds."""
-
-    line: int
-    flag: Vector
-    parts: tuple[Block, Block]
-    results: Vectors
-
-
-@dataclass
-class Code:
-    """A function: its name, its operands from the bottom up, and what it does."""
-
-    name: str
-    operands: Vectors
-    block: Block
+    # The parts of an IF, which leave equal kinds.
+    parts: tuple[Block, ...] = ()
 
 
 @dataclass(eq=False)
@@ -70,25 +61,19 @@ class Level:
     # P, one segment of all iterations; S, which has a segment for each iteration of the outer level, with those that
     # belong to it; and of a branch the places of its iterations among those of the outer level.
     whole: Vector
+    segments: Vector
     outer: Level | None = None
-    segments: Vector | None = None
     places: Vector | None = None
 
 
 @dataclass
 class Value:
-    type: Type
-    vectors: Vectors
+    tree: Values
     level: Level
 
 
-@dataclass
-class Part:
-    """Some items of a sequence that is put together: their vectors, their places in it, and one segment of them all."""
-
-    vectors: Vectors
-    places: Vector
-    whole: Vector
+def kinds_of(tree: Values) -> Type:
+    return mapped(lambda it: it.kind, tree)
 
 
 class Structure:
@@ -96,10 +81,11 @@ class Structure:
 
     def __init__(self) -> None:
         self.numbers, self.line = count(), 0
-        self.steps: list[Step | Choice] = []
+        self.steps: list[Step] = []
         # The results of the steps that needn't be repeated here.
         self.known: ChainMap[tuple[str, Vectors], Vectors] = ChainMap()
-        self.top = Level(0, self.step("MAKE_SEGDES", self.step("CONST INT 1")))
+        self.one = self.step("MAKE_SEGDES", self.step("CONST INT 1"))
+        self.top = Level(0, self.one, self.one)
 
     def vector(self, kind: str) -> Vector:
         return Vector(next(self.numbers), kind)
@@ -107,51 +93,45 @@ class Structure:
     def results(self, code: str, *operands: Vector, must_run: bool = False) -> Vectors:
         """The results of a step, which is added if it isn't known."""
         if (code, operands) not in self.known:
-            word, kind = code.split()[0], code.split()[1 if code.startswith("CONST") else -1]
-            kinds = [kind, "SEGDES"] if word == "PACK" else [KINDS_LEFT.get(word, kind)]
+            word, *more = code.split(maxsplit=2)
+            kinds = [more[0], "SEGDES"] if word == "PACK" else [KINDS_LEFT.get(word) or more[0]]
             self.known[code, operands] = found = tuple(map(self.vector, kinds))
             self.steps.append(Step(self.line, code, operands, found, must_run))
-            back = {"MAKE_SEGDES": "LENGTHS", "LENGTHS": "MAKE_SEGDES"}.get(word)
-            if back:
-                self.known[back, found] = operands
+            if word in INVERSE:
+                self.known[INVERSE[word], found] = operands
         return self.known[code, operands]
 
     def step(self, code: str, *operands: Vector, must_run: bool = False) -> Vector:
         return self.results(code, *operands, must_run=must_run)[0]
 
-    def call(self, name: str, operands: Vectors, kinds: list[str]) -> Vectors:
+    def call(self, name: str, operands: Vectors, result: Type) -> Values:
         """Calls a function. What was known before is forgotten, so that it isn't kept on the stack in the call."""
-        found, self.known = tuple(map(self.vector, kinds)), ChainMap()
-        self.steps.append(Step(self.line, f"CALL {name}", operands, found, True))
+        found, self.known = mapped(self.vector, result), ChainMap()
+        self.steps.append(Step(self.line, f"CALL {name}", operands, leaves(found), True))
         return found
 
-    def choice(self, flag: Vector, *ways: Callable[[], Vectors]) -> Vectors:
+    def choice(self, flag: Vector, *ways: Callable[[], Values]) -> Values:
         """Executes one of two ways, by a single flag."""
         parts, steps, known = [], self.steps, self.known
         for way in ways:
             self.steps, self.known = [], known.new_child()
-            here, found = self.known, way()
-            parts.append(Block(self.steps, found))
+            here, tree = self.known, way()
+            parts.append(Block(self.steps, leaves(tree)))
             known = known if self.known is here else ChainMap()
-        found = tuple(self.vector(it.kind) for it in parts[0].results)
-        self.steps, self.known = [*steps, Choice(self.line, flag, (parts[0], parts[1]), found)], known
+        found, must_run = mapped(self.vector, kinds_of(tree)), any(it.must_run for part in parts for it in part.steps)
+        self.steps, self.known = [*steps, Step(self.line, "IF", (flag,), leaves(found), must_run, tuple(parts))], known
         return found
 
-    def check(self, flags: Vector) -> None:
-        """Ends the job if a flag is F."""
-        number = self.step("B_TO_I", flags)
-        self.step("/ INT", number, number, must_run=True)
-
-    # Numbers, descriptors and constants.
+    # Numbers, descriptors and constants. A whole is one segment.
 
     def fill(self, whole: Vector, number: int = 0, kind: str = "INT") -> Vector:
         """A constant, once for each item of a whole."""
         constant = self.constant(kind, [number])
-        return constant if whole is self.top.whole else self.step(f"DIST {kind}", constant, whole)
+        return constant if whole is self.one else self.step(f"DIST {kind}", constant, whole)
 
     def index(self, whole: Vector, start: int = 0, stride: int = 1) -> Vector:
         """The numbers from the start on, one for each item of a whole."""
-        return self.step("INDEX", self.constant("INT", [start]), self.constant("INT", [stride]), whole)
+        return self.step("INDEX", self.fill(self.one, start), self.fill(self.one, stride), whole)
 
     def runs(self, starts: Vector, segments: Vector, whole: Vector) -> Vector:
         """The numbers from each start on, as many as each segment has. The whole has an item for each segment."""
@@ -160,143 +140,113 @@ class Structure:
     def lengths(self, segments: Vector) -> Vector:
         return self.step("LENGTHS", segments)
 
-    def starts(self, segments: Vector, whole: Vector) -> Vector:
-        return self.step("+_SCAN INT", self.lengths(segments), whole)
-
-    def joined(self, inner: Vector, outer: Vector) -> Vector:
+    def total(self, inner: Vector, outer: Vector) -> Vector:
         """A descriptor over two levels: the elements of all inner segments that belong to each outer one."""
+        if outer is self.one:
+            return inner
         return self.step("MAKE_SEGDES", self.step("+_REDUCE INT", self.lengths(inner), outer))
-
-    def total(self, segments: Vector, whole: Vector) -> Vector:
-        """One segment of all elements of these segments."""
-        return segments if whole is self.top.whole else self.joined(segments, whole)
 
     def between(self, outer: Level, inner: Level) -> Vector:
         """The iterations of the inner level that belong to each one of the outer level."""
-        assert inner.outer and inner.segments
-        if outer is self.top:
+        if outer is self.top or not inner.outer:
             return inner.whole
-        return inner.segments if inner.outer is outer else self.joined(inner.segments, self.between(outer, inner.outer))
+        return inner.segments if inner.outer is outer else self.total(inner.segments, self.between(outer, inner.outer))
 
-    def constant(self, kind: str, numbers: list[int]) -> Vector:
+    def constant(self, kind: str, numbers: list[Any]) -> Vector:
         if kind == "SEGDES":
             return self.step("MAKE_SEGDES", self.constant("INT", numbers))
         if len(numbers) > MOST_CONSTANT:
-            cuts = range(0, len(numbers), MOST_CONSTANT)
-            pieces = [(start, numbers[start : start + MOST_CONSTANT]) for start in cuts]
-            wholes = [self.constant("SEGDES", [len(piece)]) for _, piece in pieces]
-            parts = [Part((self.constant(kind, piece),), self.index(whole, start), whole)
-                     for (start, piece), whole in zip(pieces, wholes)]
-            return self.scattered(kind, parts, self.constant("SEGDES", [len(numbers)]))
-        words = " ".join(str(it) if kind == "INT" else "FT"[it] for it in numbers)
+            pieces = [numbers[start : start + MOST_CONSTANT] for start in range(0, len(numbers), MOST_CONSTANT)]
+            lists = [List(self.constant(kind, piece), self.constant("SEGDES", [len(piece)])) for piece in pieces]
+            return leaves(self.appended(lists, self.top))[0]
+        words = " ".join("FT"[it] if kind == "BOOL" else str(ord(it) if isinstance(it, str) else it) for it in numbers)
         return self.step(f"CONST {kind} {words if len(numbers) == 1 else f'({words})'}")
 
-    def literal(self, of: Type, value: object) -> Value:
-        return Value(of, tuple(self.constant(*column) for column in columns_of(of, [value])), self.top)
+    def literal(self, of: Type, values: list[Any]) -> Values:
+        """Constant values of a type."""
+        match of:
+            case List(element, _):
+                elements = self.literal(element, [it for value in values for it in value])
+                return List(elements, self.constant("SEGDES", list(map(len, values))))
+            case tuple(parts):
+                return tuple(self.literal(part, [value[place] for value in values]) for place, part in enumerate(parts))
+        return self.constant(of, values)
 
     # Items are taken from places.
 
     def taken(self, code: str, *operands: Vector, must_run: bool = False) -> Move:
         return lambda it: self.step(f"{code} {it.kind}", it, *operands, must_run=must_run)
 
-    def items(self, of: Type, vectors: Vectors, move: Move, source: Vector, target: Vector) -> Vectors:
-        """Moves values of a type. `move` takes a vector of words from the source to the target, which are one segment
-        of all values before and after. Of lists it takes the lengths and starts; then the elements are taken."""
-        if of.name == "tuple":
-            parts = (self.items(part, own, move, source, target) for part, own in parts_of(of, vectors))
-            return sum(parts, Vectors())
-        if of.name != "list":
-            return (move(vectors[0]),)
-        *elements, segments = vectors
-        lengths, starts = move(self.lengths(segments)), move(self.starts(segments, source))
-        found = self.step("MAKE_SEGDES", lengths)
-        places, before, after = self.runs(starts, found, target), self.total(segments, source), self.total(found, target)
-        inner = self.taken("BPERMUTE", places, before, after)
-        return (*self.items(of.parts[0], tuple(elements), inner, before, after), found)
+    def items(self, tree: Values, move: Move, source: Vector, target: Vector) -> Values:
+        """Moves values. `move` takes a vector of words from the source to the target, which are one segment of all
+        values before and after. Of lists it takes the lengths and starts; then the elements are taken."""
+        match tree:
+            case tuple(parts):
+                return tuple(self.items(part, move, source, target) for part in parts)
+            case List(elements, segments):
+                lengths = self.lengths(segments)
+                taken, starts = move(lengths), move(self.step("+_SCAN INT", lengths, source))
+                found = self.step("MAKE_SEGDES", taken)
+                places = self.runs(starts, found, target)
+                before, after = self.total(segments, source), self.total(found, target)
+                inner = self.taken("BPERMUTE", places, before, after)
+                return List(self.items(elements, inner, before, after), found)
+            case Vector():
+                return move(tree)
 
-    def into(self, value: Value, level: Level) -> Value:
-        """A value of an outer level, once for each iteration of an inner one."""
+    def into(self, value: Value, level: Level) -> Values:
+        """Values of an outer level, once for each iteration of an inner one."""
+        tree, source, move = value.tree, self.one, self.taken("DIST", level.whole)
         if value.level is level:
-            return value
-        assert level.outer and level.segments
-        if value.level is self.top:
-            source, move = self.top.whole, self.taken("DIST", level.whole)
-        else:
-            value, source, move = self.into(value, level.outer), level.outer.whole, self.taken("DIST", level.segments)
+            return tree
+        if value.level is not self.top and level.outer:
+            tree, source, move = self.into(value, level.outer), level.outer.whole, self.taken("DIST", level.segments)
             if level.places:
                 move = self.taken("BPERMUTE", level.places, source, level.whole)
-        return Value(value.type, self.items(value.type, value.vectors, move, source, level.whole), level)
+        return self.items(tree, move, source, level.whole)
 
-    def element(self, of: Value, place: Value) -> Value:
-        """An element of a list. If the list is one of an outer level, it isn't copied."""
-        *elements, segments = of.vectors
-        level, here, source = place.level, place.vectors[0], self.total(segments, of.level.whole)
-        move = self.taken("EXTRACT", here, segments, must_run=True)
-        if of.level is not level:
-            move = self.taken("BPERMUTE", here, segments, self.between(of.level, level), must_run=True)
-        return Value(of.type.parts[0], self.items(of.type.parts[0], tuple(elements), move, source, level.whole), level)
-
-    def element_of_row(self, of: Value, row: Value, place: Value) -> Value:
-        """An element of a list in a list, without a copy of the inner list."""
-        *elements, inner, outer = of.vectors
-        level, here, rows = place.level, place.vectors[0], self.total(outer, of.level.whole)
-        pairs = Value(list_of(tuple_of(INT, INT)), (self.lengths(inner), self.starts(inner, rows), outer), of.level)
-        length, start = self.element(pairs, row).vectors
-        is_within = self.step(">= INT", here, self.fill(level.whole)), self.step("< INT", here, length)
-        self.check(self.step("AND BOOL", *is_within))
-        source, found = self.total(inner, rows), of.type.parts[0].parts[0]
-        move = self.taken("BPERMUTE", self.step("+ INT", start, here), source, level.whole, must_run=True)
-        return Value(found, self.items(found, tuple(elements), move, source, level.whole), level)
+    def element(self, of: List[Vector], at: Level, place: Vector, level: Level) -> Values:
+        """An element of the lists of a level, at this or an inner level. A list of an outer level isn't copied."""
+        move = self.taken("EXTRACT", place, of.segments, must_run=True)
+        if at is not level:
+            move = self.taken("BPERMUTE", place, of.segments, self.between(at, level), must_run=True)
+        return self.items(of.elements, move, self.total(of.segments, at.whole), level.whole)
 
     # Items are put to places.
 
-    def scattered(self, kind: str, parts: list[Part], whole: Vector, default: Vector | None = None) -> Vector:
-        """Words, those of each part at its places. The default has what isn't in a part."""
-        found = default or self.fill(whole, 0, kind)
-        for part in parts:
-            found = self.step(f"DPERMUTE {kind}", part.vectors[0], part.places, found, part.whole, whole)
+    def put(self, vectors: list[Vector], spots: list[Spot], target: Vector, whole: Vector, under: Any) -> Vector:
+        """Words, each vector at its spot of the target, over the vector `under` or zeros."""
+        kind = vectors[0].kind
+        found: Vector = under or self.step(f"DIST {kind}", self.fill(whole, 0, kind), target)
+        for vector, (places, source) in zip(vectors, spots):
+            found = self.step(f"DPERMUTE {kind}", vector, places, found, source, target)
         return found
 
-    def merged(self, of: Type, parts: list[Part], whole: Vector, defaults: Vectors = ()) -> Vectors:
-        """Puts values of a type together. Of lists it puts the lengths together; these say where each list begins; and
-        then it puts the elements there."""
-        if of.name == "tuple":
-            columns = zip(*([own for _, own in parts_of(of, it.vectors)] for it in parts))
-            given = [own for _, own in parts_of(of, defaults)]
-            rows = ([Part(own, it.places, it.whole) for own, it in zip(column, parts)] for column in columns)
-            return sum((self.merged(part, row, whole, own) for part, row, own in zip(of.parts, rows, given)), Vectors())
-        default = defaults[-1] if defaults else None
-        if of.name != "list":
-            return (self.scattered(kinds_of(of)[0], parts, whole, default),)
-        lengths = [Part((self.lengths(it.vectors[-1]),), it.places, it.whole) for it in parts]
-        segments = self.step("MAKE_SEGDES", self.scattered("INT", lengths, whole, default))
-        begin, inner = self.starts(segments, whole), []
-        for part in parts:
-            own = self.step("BPERMUTE INT", begin, part.places, whole, part.whole)
-            places = self.runs(own, part.vectors[-1], part.whole)
-            inner.append(Part(part.vectors[:-1], places, self.total(part.vectors[-1], part.whole)))
-        return (*self.merged(of.parts[0], inner, self.total(segments, whole)), segments)
+    def merged(self, trees: list[Any], spots: list[Spot], target: Vector, whole: Vector, under: Any = None) -> Values:
+        """Puts values together. The whole has an item for each segment of the target. Of lists it puts the lengths
+        together; these say where each list begins; and then it puts the elements there."""
+        if isinstance(trees[0], tuple):
+            columns = zip(zip(*trees), under or repeat(None))
+            return tuple(self.merged(list(column), spots, target, whole, own) for column, own in columns)
+        if isinstance(trees[0], Vector):
+            return self.put(trees, spots, target, whole, under)
+        lengths = self.put([self.lengths(it.segments) for it in trees], spots, target, whole, under and under.segments)
+        segments, items, inner = self.step("MAKE_SEGDES", lengths), self.total(target, whole), []
+        begin = self.step("+_SCAN INT", lengths, items)
+        for it, (places, source) in zip(trees, spots):
+            own, each = self.step("BPERMUTE INT", begin, places, target, source), self.total(source, whole)
+            inner.append((self.runs(own, it.segments, each), self.total(it.segments, each)))
+        return List(self.merged([it.elements for it in trees], inner, self.total(segments, items), self.one), segments)
 
-    def appended(self, of: Type, lists: list[Vectors], level: Level) -> Value:
-        """Lists of one type, one after another in each iteration."""
-        lengths = [self.lengths(it[-1]) for it in lists]
-        ends = list(accumulate(lengths, lambda a, b: self.step("+ INT", a, b)))
-        segments = self.step("MAKE_SEGDES", ends[-1])
-        if is_flat(of.parts[0]):
-            # Places count within the segments then.
-            offsets = [self.fill(level.whole), *ends[:-1]]
-            parts = [Part(it[:-1], self.runs(by, it[-1], level.whole), it[-1]) for it, by in zip(lists, offsets)]
-            none = [self.fill(level.whole, 0, kind) for kind in kinds_of(of.parts[0])]
-            defaults = tuple(self.step(f"DIST {it.kind}", it, segments) for it in none)
-            return Value(of, (*self.merged(of.parts[0], parts, segments, defaults), segments), level)
-        begin = self.starts(segments, level.whole)
-        after = [begin, *(self.step("+ INT", begin, end) for end in ends[:-1])]
-        parts = [Part(it[:-1], self.runs(start, it[-1], level.whole), self.total(it[-1], level.whole))
-                 for it, start in zip(lists, after)]
-        return Value(of, (*self.merged(of.parts[0], parts, self.total(segments, level.whole)), segments), level)
+    def appended(self, lists: list[List[Vector]], level: Level) -> Values:
+        """Lists, one after another in each iteration."""
+        ends = list(accumulate((self.lengths(it.segments) for it in lists), lambda a, b: self.step("+ INT", a, b)))
+        segments, begins = self.step("MAKE_SEGDES", ends[-1]), [self.fill(level.whole), *ends[:-1]]
+        spots = [(self.runs(begin, it.segments, level.whole), it.segments) for it, begin in zip(lists, begins)]
+        return List(self.merged([it.elements for it in lists], spots, segments, level.whole), segments)
 
-    def listed(self, of: Type, values: list[Vectors], level: Level) -> Value:
+    def listed(self, trees: list[Values], level: Level) -> Values:
         """A list of these elements in each iteration."""
-        segments = self.step("MAKE_SEGDES", self.fill(level.whole, len(values)))
-        parts = [Part(it, self.index(level.whole, place, len(values)), level.whole) for place, it in enumerate(values)]
-        return Value(of, (*self.merged(of.parts[0], parts, self.total(segments, level.whole)), segments), level)
+        segments = self.step("MAKE_SEGDES", self.fill(level.whole, len(trees)))
+        spots = [(self.index(level.whole, place, len(trees)), level.whole) for place in range(len(trees))]
+        return List(self.merged(trees, spots, self.total(segments, level.whole), self.one), segments)
