@@ -3,7 +3,10 @@
 
 One job holds nearly the whole region in 1,000 blocks. By a schedule it leaves holes far apart, again and again, so that
 a vector of the other job, of 64 words, fits only after nearly all words of the region have moved. The same two jobs run
-with room at the end of the region, where nothing moves. `valgrind` counts the instructions of the processor."""
+with room at the end of the region, where nothing moves. `valgrind` counts the instructions of the processor.
+
+In a third job a block slides in each round, above many small blocks that stay or above one long block. A slide costs
+the same above both."""
 import re
 import subprocess
 import sys
@@ -14,6 +17,9 @@ from pathlib import Path
 TOP = Path(__file__).resolve().parent.parent
 PROGRAM = sys.argv[1] if sys.argv[1:] else str(TOP / "bin" / "vjobs")
 REGION, ROUNDS, LENGTH, SHORT, WIDE = 1_048_576, 100, 1_037, 32, 64
+BELOW, SLIDES = 3_900, 1_000
+# What makes room by slides, with all that it calls.
+MAKE_ROOM = "--toggle-collect=*SlidingPacking*make_room*"
 
 
 def vector(length: int) -> list[str]:
@@ -61,33 +67,57 @@ def batch(blocks: int) -> tuple[str, str]:
     return text, ",".join(["2"] * second_begin + ["1"] * first_begin + a_round * ROUNDS)
 
 
-def run(blocks: int, *before: str) -> tuple[float, subprocess.CompletedProcess[str]]:
-    """The seconds of a run of both jobs, by a command with these words before it, and what it printed."""
-    text, schedule = batch(blocks)
+def sliding(is_small: bool, rounds: int) -> tuple[str, int]:
+    """A job in which a block slides in each round, above small blocks or a long one, and the words of its region."""
+    below = ["CONST INT (1 2)", *another(0) * (BELOW - 1)] if is_small else vector(2 * BELOW)
+    begin = ["CONST INT (1 2 3 4)", "CONST INT (1 2 3 4 5)", *another(1), *another(1)]
+    # The lower block of four words goes, and for one of five the upper one slides down. Then two of four and five words
+    # take the places of both.
+    a_round = ["POP 1 1", *another(1), "POP 1 1", *another(2), "POP 1 1", *another(1)]
+    words = 2 * BELOW + 20
+    end = ["POP 1 0"] * (BELOW + 4 if is_small else 5)
+    return job("slider", words, 4096, [*below, *begin, *a_round * rounds, *end]), words
+
+
+def run(text: str, options: list[str], before: list[str]) -> tuple[float, subprocess.CompletedProcess[str]]:
+    """The seconds of a run of a batch, by a command with these words before it, and what it printed."""
     with tempfile.NamedTemporaryFile("w", suffix=".vcode") as file:
         file.write(text)
         file.flush()
-        words = [*before, PROGRAM, "--workers", "1", "--schedule", schedule, file.name]
+        words = [*before, PROGRAM, "--workers", "1", *options, file.name]
         begun = time.monotonic()
         ran = subprocess.run(words, capture_output=True, text=True, check=False)
         return time.monotonic() - begun, ran
 
 
-def instructions(blocks: int) -> int:
+def instructions(text: str, options: list[str], *counted: str) -> int:
     """The instructions of the processor that a run takes."""
-    _, ran = run(blocks, "valgrind", "--tool=callgrind", "--callgrind-out-file=/dev/null")
+    _, ran = run(text, options, ["valgrind", "--tool=callgrind", "--callgrind-out-file=/dev/null", *counted])
     return int(re.search(r"Collected : (\d+)", ran.stderr)[1])
+
+
+def of_a_slide(is_small: bool) -> float:
+    """The instructions of the processor that a round takes to make room."""
+    few, many = (sliding(is_small, rounds) for rounds in (ROUNDS, ROUNDS + SLIDES))
+    counts = [instructions(text, ["--region", str(words)], MAKE_ROOM) for text, words in (few, many)]
+    return (counts[1] - counts[0]) / SLIDES
 
 
 def main() -> None:
     full = (REGION - SHORT - 2 * WIDE) // LENGTH - 1
+    counts = []
     for blocks in (full, full - 10):
-        seconds, ran = run(blocks)
+        text, schedule = batch(blocks)
+        options = ["--schedule", schedule]
+        seconds, ran = run(text, options, [])
+        counts.append(instructions(text, options))
         print(ran.stdout, end="")
         print(f"{blocks} blocks: {seconds * 1e6 / ROUNDS:.0f} µs a round with all before it")
-    moving, still = instructions(full), instructions(full - 10)
+    moving, still = counts
     more = (moving - still) / ROUNDS / REGION
     print(f"{moving} and {still} instructions: {more:.1f} more a round for each word of the region")
+    small, none = of_a_slide(is_small=True), of_a_slide(is_small=False)
+    print(f"a slide: {small:.0f} instructions above {BELOW} small blocks, {none:.0f} above none")
 
 
 main()

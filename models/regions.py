@@ -179,7 +179,9 @@ class Sliding(Memory):
 MADE: dict[str, type] = {"holes": Holes, "plain": Plain, "packed": Packed, "sliding": Sliding}
 CALLS: dict[type, dict[str, Callable[..., str]]] = {
     Holes: {"take": Holes.take, "give": Holes.give, "reset": Holes.reset},
-    Memory: {"place": Memory.place, "free": Memory.free_block, "pack": Memory.pack, "words": Memory.words_of},
+    # Each kind of memory has its own `pack`.
+    Memory: {"place": Memory.place, "free": Memory.free_block, "pack": lambda memory: memory.pack(),
+             "words": Memory.words_of},
 }
 # How many operands a word has, but `place`, which has an owner and any words.
 OPERANDS = {"holes": 2, "plain": 2, "packed": 2, "sliding": 2, "take": 1, "give": 2, "reset": 1, "free": 1, "pack": 0,

@@ -9,4 +9,5 @@ pub mod PackLemmas
 pub mod BesideLemmas
 pub mod RegionLemmas
 pub mod SlideLemmas
+pub mod FrontLemmas
 pub mod WriterLemmas

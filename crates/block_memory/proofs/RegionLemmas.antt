@@ -13,7 +13,8 @@ use Rattle.block_memory.specs.Content.{words_of as content_words_of, words_at as
 use Rattle.block_memory.specs.Content.{Content, owner_of as content_owner_of, owner_at as content_owner_at}
 use Rattle.block_memory.specs.Table.{value_at}
 use Rattle.block_memory.specs.Layout.{PlacedBlock, Layout, Covers, IsBare, block_of, content_of, place_of, words_of}
-use Rattle.block_memory.specs.Layout.{covered_of, covered_at, covered_words, place_at, words_at, with_slot, IsClear, block_with_words, layout_after_rewrite}
+use Rattle.block_memory.specs.Layout.{covered_of, covered_at, covered_words, place_at, words_at, with_slot, IsClear}
+use Rattle.block_memory.specs.Layout.{block_with_words, layout_after_rewrite}
 use Rattle.block_memory.specs.Region.{AreWithin, IsCovered, CoverRegion, IsRegion, IsPackedRegion, ArePacked, HasRoom}
 use Rattle.block_memory.proofs.Lists.{IsSome-in_range, None≢Some, true-not_false}
 use Rattle.block_memory.proofs.ContentLemmas.{used_words-with_block, used_words-rewritten, used_words-without_block}

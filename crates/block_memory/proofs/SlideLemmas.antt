@@ -95,7 +95,8 @@ after_no_move layout n to some here =
     let p = the_block layout.slots n some in
     let is_to : p.0.place ≡ to = ap place_of (sym p.1) ∙ here in
     let stays : block_at_place to (value_at layout.slots n) ≡ value_at layout.slots n = ap (block_at_place to) p.1
-    ∙ (ap (λ k. let b : Option PlacedBlock = Some (record { owner = p.0.owner; place = k; len = p.0.len; words = p.0.words }) in b)
+    ∙ (ap (λ k. let b : Option PlacedBlock =
+    Some (record { owner = p.0.owner; place = k; len = p.0.len; words = p.0.words }) in b)
     (sym is_to) ∙ sym p.1) in
     sym (ap (with_slot layout n) stays
     ∙ ap (λ (slots : List (Option PlacedBlock)). let l : Layout = record { size = layout.size; slots = slots } in l)

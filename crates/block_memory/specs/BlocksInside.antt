@@ -1,5 +1,5 @@
 -- How the blocks of a memory are kept: the span of each number in a list of words, which begins with `front` words, one
--- of each number, and has the words of the region behind them; and at the first word of each block in the region its
+-- of each number, and goes on with the words of the region; and at the first word of each block in the region its
 -- number.
 use Rattle.std.specs.Prelude.{◌≡◌, ◌⊎◌, ℕ, ℤ, ◌+◌, ◌-◌, ◌<◌, ◌≤◌, List, map, length, take, drop, Option, Some, None}
 use Rattle.std.specs.Prelude.{slice_index}

@@ -24,7 +24,7 @@ use std::marker::Model;
 #[derive(Drop)]
 pub struct Blocks<A: Allocator> {
     size: usize,
-    // One word of each number, and behind them the words of the region.
+    // One word of each number, and after them the words of the region.
     words: Vec<i64, A>,
     // At the first word of each block that has words in the region, the block's number. Elsewhere any number, which
     // says nothing: whether a block begins at a word is seen by its span.

@@ -2,27 +2,25 @@
 ghost use Rattle.std.specs.Prelude.{◌≡◌, ◌+◌, ◌-◌, ◌<◌, ◌≤◌, length};
 ghost use Rattle.holes.specs.FreeWords.{free_from, NoneFree, hole_count, given_to};
 ghost use Rattle.block_memory.specs.Layout.{content_of, covered_words};
-ghost use Rattle.block_memory.specs.Region.{AreApart, AreWithin, ArePacked, IsRegion, HasRoom};
+ghost use Rattle.block_memory.specs.Region.{AreWithin, ArePacked, IsRegion, HasRoom};
 
 use crate::blocks::Blocks;
 use crate::packing::{MoveCounts, Packing};
 use holes::Holes;
 use std::alloc::Allocator;
 
-// Moves the blocks to the front of the region, in the order in which they lie, each word at most once. Answers how many
-// words moved.
-fn pack_blocks<A: Allocator>(blocks: &mut Blocks<A>, covered: usize) -> usize
-    requires apart { AreApart blocks.old.slots }
-    requires within { AreWithin blocks.old.slots blocks.old.size }
-    requires counted { covered ≡ covered_words blocks.old.slots }
+// Moves the blocks to the front of the region, in the order in which they lie, each word at most once. Those below the
+// lowest free word stay. Answers how many words moved.
+fn pack_blocks<A: Allocator>(blocks: &mut Blocks<A>, holes: &Holes<A>, covered: usize) -> usize
+    requires { IsRegion blocks.old holes.now covered }
     ensures size { blocks.new.size ≡ blocks.old.size }
     ensures content { content_of blocks.new.slots ≡ content_of blocks.old.slots }
     ensures within { AreWithin blocks.new.slots blocks.new.size }
     ensures packed { ArePacked blocks.new.slots covered }
     ensures counted { covered ≡ covered_words blocks.new.slots }
 {
-    let mut packed = 0;
-    let mut place = 0;
+    let mut packed = holes.lowest_free();
+    let mut place = packed;
     let mut moved = 0;
     while packed < covered {
         match blocks.beginning_at(place) {
@@ -51,7 +49,7 @@ pub(crate) fn pack_region<A: Allocator>(
     ensures region { IsRegion blocks.new holes.new covered }
     ensures packed { holes.new.free ≡ free_from covered blocks.new.size }
 {
-    let moved = pack_blocks(blocks, covered);
+    let moved = pack_blocks(blocks, holes, covered);
     holes.reset(covered);
     moved
 }

@@ -191,28 +191,6 @@ impl<P: Packing, A: Allocator> PackedRegion<P, A> {
         if len == 1 {
             return self.put_word_with(owner, lent, writer);
         }
-        self.put_words_with(owner, len, lent, writer)
-    }
-
-    // As `put_with`, in the region.
-    fn put_words_with<W: Writer>(
-        &mut self,
-        owner: usize,
-        len: usize,
-        lent: &[BlockId],
-        writer: &W,
-    ) -> Result<BlockId, Unwritten<W::Fault>>
-        requires numbers { block_count self.old.content < length self.old.content }
-        requires room { used_words self.old.content + len ≤ self.old.room }
-        requires few { length lent.now ≤ MOST_LENT }
-        requires live { All (IsLive self.old.content) lent.now }
-        requires can { W.can_write writer.now (map (words_at self.old.content) lent.now) len }
-        ensures placed { IfOk result (λ id. IsPlacedWith self.old.content self.new.content id owner len
-            (W.writes writer.now (map (words_at self.old.content) lent.now))) }
-        ensures fault { IfErr result (λ u. IsPlacedWith self.old.content self.new.content u.id owner len
-            (λ words. W.faults writer.now (map (words_at self.old.content) lent.now) u.fault)) }
-        ensures same_room { self.new.room ≡ self.old.room }
-    {
         let _size = self.blocks.size();
         let place = take_room::<P, A>(
             &mut self.blocks,

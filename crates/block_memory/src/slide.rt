@@ -62,8 +62,9 @@ impl Packing for SlidingPacking {
         }
         let mut moved = 0;
         // The blocks before `place` lie together up to `packed`, and the words from there on to `place` are free.
-        let mut packed = 0;
-        let mut place = 0;
+        // No block below the lowest free word moves.
+        let mut packed = holes.lowest_free();
+        let mut place = packed;
         while place - packed < len {
             match blocks.beginning_at(place) {
                 Some(number) => {

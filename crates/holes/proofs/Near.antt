@@ -129,6 +129,29 @@ run_within bits len first index run passed =
     omega (arith, passed.back, back-le-length (words_between bits first index), length-between bits first index)
 
 -- No word is free before the first of the bitmaps.
+near_words : (bits : List ℕ) (near : ℕ) → near ≤ length bits → NoneBelow bits (64 * near) →
+    words_of bits ≡ replicate (64 * near) false ++ words_between bits near (length bits)
+near_words bits near within none =
+    ap (λ n. words_from (word_at bits) 0 n)
+    (let e : 64 * length bits ≡ 64 * near + 64 * (length bits - near) = omega arith in e)
+    ∙ (words_from-add (word_at bits) 0 (64 * near) (64 * (length bits - near))
+    ∙ (ap (λ p. words_from (word_at bits) 0 (64 * near) ++ words_from (word_at bits) p (64 * (length bits - near)))
+    (let e : 0 + 64 * near ≡ 64 * near = omega arith in e)
+    ∙ ap (λ (words : List Bool). words ++ words_between bits near (length bits))
+    (all_words (word_at bits) 0 (64 * near) false (λ word lt. none (0 + word) (omega arith)))))
+
+pub none_near : (bits : List ℕ) (near end : ℕ) → near ≤ end → end ≡ length bits → NoneBelow bits (64 * near) →
+    widest (words_between bits near end) < 1 → widest (words_of bits) < 1
+none_near bits near end from all none short =
+    let rest = words_between bits near (length bits) in
+    omega (
+      arith,
+      ap widest (near_words bits near (omega (arith, from, all)) none),
+      widest_before (64 * near) rest,
+      ap (λ n. widest (words_between bits near n)) all,
+      short,
+    )
+
 pub found_near : (bits : List ℕ) (len near end place : ℕ) → 1 ≤ len → near ≤ end → end ≤ length bits →
     NoneBelow bits (64 * near) → Found bits len near end place →
     (len ≤ widest (words_of bits)) × (place ≡ lowest_fit len (words_of bits))
@@ -136,15 +159,9 @@ found_near bits len near end place some from to none found =
     let here = words_between bits near end in
     let rest = words_between bits end (length bits) in
     let all : words_of bits ≡ replicate (64 * near) false ++ (here ++ rest) =
-    ap (λ n. words_from (word_at bits) 0 n)
-    (let e : 64 * length bits ≡ 64 * near + 64 * (length bits - near) = omega arith in e)
-    ∙ (words_from-add (word_at bits) 0 (64 * near) (64 * (length bits - near))
-    ∙ (ap (λ p. words_from (word_at bits) 0 (64 * near) ++ words_from (word_at bits) p (64 * (length bits - near)))
-    (let e : 0 + 64 * near ≡ 64 * near = omega arith in e)
-    ∙ (ap (λ (words : List Bool). words ++ words_between bits near (length bits))
-    (all_words (word_at bits) 0 (64 * near) false (λ word lt. none (0 + word) (omega arith)))
+    near_words bits near (omega arith) none
     ∙ ap (λ (words : List Bool). replicate (64 * near) false ++ words)
-    (between_split bits near end (length bits) from to)))) in (
+    (between_split bits near end (length bits) from to) in (
       omega (arith, found.fits, ap widest all, widest_before (64 * near) (here ++ rest), widest-append here rest),
       omega (
         arith,

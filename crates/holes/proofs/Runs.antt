@@ -7,7 +7,7 @@ use mathlib.Core.Bool.{beq}
 use Rattle.std.proofs.lemmas.Bool.{cases_lt, cases_Bool, false≢true, le-leb, lt-leb, cond-true, cond-false, eqb-true}
 use Rattle.std.proofs.lemmas.List.{length-append, length-drop, get_or-drop}
 use Rattle.holes.specs.declared.summary.Summary.{Summary}
-use Rattle.holes.specs.FreeWords.{is_free, AllFree, IsLowestFit, front_run, widest}
+use Rattle.holes.specs.FreeWords.{is_free, AllFree, IsLowestFit, front_run, lowest_free, widest}
 use Rattle.holes.specs.Tree.{all_free, back_run, lowest_fit, summary, join}
 
 pub front-le-length : (free : List Bool) → front_run free ≤ length free
@@ -340,3 +340,15 @@ run-le-widest (suc place) (word ∷ free) = omega (arith, run-le-widest place fr
 pub word_run : (free : List Bool) (word : ℕ) → is_free free word ≡ true → 1 ≤ front_run (drop word free)
 word_run free word is =
     free_run free word 1 (λ at from to. ap (is_free free) (let e : at ≡ word = omega arith in e) ∙ is)
+
+-- The lowest free word.
+pub lowest_free-fit : (free : List Bool) → lowest_fit 1 free ≡ lowest_free free
+lowest_free-fit [] = refl
+lowest_free-fit (true ∷ free) = lowest_here 1 true free (omega arith)
+lowest_free-fit (false ∷ free) =
+    lowest_later 1 false free (omega arith) ∙ ap (λ n. 1 + n) (lowest_free-fit free)
+
+pub lowest_free-none : (free : List Bool) → widest free < 1 → lowest_free free ≡ length free
+lowest_free-none [] none = refl
+lowest_free-none (true ∷ free) none = absurd (omega arith)
+lowest_free-none (false ∷ free) none = let rest = lowest_free-none free (omega arith) in omega (arith, rest)

@@ -64,6 +64,12 @@ hole_count_after false (true ∷ free) = 1 + hole_count_after true free
 abbrev pub hole_count : List Bool → ℕ
 hole_count free = hole_count_after false free
 
+-- the lowest free word, or the number of words if none is free
+abbrev pub lowest_free : List Bool → ℕ
+lowest_free [] = 0
+lowest_free (false ∷ free) = 1 + lowest_free free
+lowest_free (true ∷ free) = 0
+
 -- how many words are free in a row from the front on
 abbrev pub front_run : List Bool → ℕ
 front_run [] = 0

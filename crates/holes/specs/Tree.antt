@@ -18,7 +18,7 @@ abbrev pub back_run : List Bool → ℕ
 back_run [] = 0
 back_run (word ∷ free) = if all_free (word ∷ free) then 1 + length free else back_run free
 
--- the front of the lowest hole of at least `len` words, in words that have one
+-- the first place from which on `len` words are free in a row, in words that have such a place
 abbrev pub lowest_fit : ℕ → List Bool → ℕ
 lowest_fit len [] = 0
 lowest_fit len (word ∷ free) = if nat_le len (front_run (word ∷ free)) then 0 else 1 + lowest_fit len free

@@ -8,7 +8,7 @@
 ghost use Rattle.std.specs.Prelude.{◌≡◌, ◌+◌, ◌*◌, ◌<◌, ◌≤◌, ◌↔◌, length, replicate, true};
 ghost use Rattle.std.specs.Prelude.{IfOk, IfSome, IsNone, IfNone, MatchBool};
 ghost use Rattle.holes.specs.FreeWords.{NoneFree, IsLowestFit, taken_from, given_to, free_from, free_count};
-ghost use Rattle.holes.specs.FreeWords.{hole_count, widest};
+ghost use Rattle.holes.specs.FreeWords.{hole_count, lowest_free, widest};
 ghost use Rattle.holes.specs.Tree.{IsPowerOfTwo, lowest_fit};
 
 mod bitmap;
@@ -268,6 +268,19 @@ impl<A: Allocator> Holes<A> {
         ensures within { result ≤ length self.now.free }
     {
         self.free
+    }
+
+    /// The lowest free word, or the number of words if none is free.
+    ///
+    /// After a `take` that answered None it costs one look if a word is free. After other calls it may look at all words,
+    /// 64 at a time.
+    pub fn lowest_free(&self) -> usize
+        ensures { result ≡ lowest_free self.now.free }
+    {
+        match tree::find_in(&self.bits, self.near, self.bits.len(), 1) {
+            Some(place) => place,
+            None => self.size,
+        }
     }
 
     /// The number of words of the widest hole, 0 if no word is free.

@@ -436,7 +436,7 @@ pub(crate) fn fill(
 }
 
 /// Answers where the lowest hole of at least `len` words begins that the words of the bitmaps `first..end` have.
-fn find_in(bits: &[u64], first: usize, end: usize, len: usize) -> Option<usize>
+pub(crate) fn find_in(bits: &[u64], first: usize, end: usize, len: usize) -> Option<usize>
     requires some { 1 ≤ len }
     requires order { first ≤ end }
     requires within { end ≤ length bits.now }

@@ -1,14 +1,16 @@
 use Rattle.std.proofs.Common.{◌∙◌, sym, ap, arith}
 use Rattle.block_memory.specs.Layout.{Layout, covered_of, covered_at}
-use Rattle.block_memory.proofs.PackLemmas.{IsPacking-start, IsPacking-inside, IsPacking-skip, IsPacking-moved}
+use Rattle.block_memory.proofs.PackLemmas.{IsPacking-inside, IsPacking-skip, IsPacking-moved}
 use Rattle.block_memory.proofs.PackLemmas.{ArePacked-end, slide_clear, moved_within, begins-some}
+use Rattle.block_memory.proofs.FrontLemmas.{is_begun}
 use Rattle.block_memory.proofs.pack.pack_blocks.Goals as goal
 
 pub loop-packed-init : goal.loop-packed-init
-loop-packed-init g c = record {
-  packing = IsPacking-start c.args.blocks.now c.args.covered c.requires.apart c.requires.within c.requires.counted;
-  few = omega arith;
-}
+loop-packed-init g c =
+    let begun =
+    is_begun c.args.blocks.now c.args.holes.now c.args.covered c.lowest_free-packed.result c.requires
+    c.lowest_free-packed.ensures in
+    record { packing = begun.packing; few = omega arith }
 
 pub beginning_at-requires : goal.beginning_at-requires
 beginning_at-requires g c =
@@ -68,7 +70,8 @@ pub overflow_add-moved : goal.overflow_add-moved
 overflow_add-moved g c =
     let l = c.loop-packed in
     let within =
-    moved_within c.args.blocks.now l.blocks l.packed l.place c.args.covered c.in-Some.number l.moved c.slide-moved.result
+    moved_within c.args.blocks.now l.blocks l.packed l.place c.args.covered c.in-Some.number l.moved
+    c.slide-moved.result
     l.invariant.packing c.in-Some.ensures.found l.invariant.few c.slide-moved.ensures.few in
     omega (arith, within, c.beginning_at.ensures.in_memory)
 
@@ -112,4 +115,5 @@ loop-packed-smaller g c =
 pub returns-clause-packed : goal.returns-clause-packed
 returns-clause-packed g c =
     let l = c.loop-packed in
-    ArePacked-end c.args.blocks.now l.blocks l.packed l.place c.args.covered l.invariant.packing c.loop-packed-test.false
+    ArePacked-end c.args.blocks.now l.blocks l.packed l.place c.args.covered l.invariant.packing
+    c.loop-packed-test.false

@@ -7,14 +7,16 @@ pub returns-then-place-reached-clause-none : goal.returns-then-place-reached-cla
 returns-then-place-reached-clause-none g c =
     let here = c.self.inside in
     rw (← c.self.view_is)
-    (none_past (length here.spans) here.words.items here.starts.items here.spans c.args.place (spans_of _ _ _ _ _ _ _ c.self.invariant)
+    (none_past (length here.spans) here.words.items here.starts.items here.spans c.args.place
+    (spans_of _ _ _ _ _ _ _ c.self.invariant)
     (omega (arith, here.starts.ok.0)))
 
 pub returns-in_err-span-clause-none : goal.returns-in_err-span-clause-none
 returns-in_err-span-clause-none g c =
     let here = c.self.inside in
     rw (c.from_residual.ensures, ← c.self.view_is)
-    (none_begins (length here.spans) here.words.items here.starts.items here.spans c.args.place c.index-number.result.now
+    (none_begins (length here.spans) here.words.items here.starts.items here.spans c.args.place
+    c.index-number.result.now
     (spans_of _ _ _ _ _ _ _ c.self.invariant) (omega (arith, here.starts.ok.0)) c.index-number.ensures
     (λ s there _ _. None≢Some s (sym (ap option_copied c.in_err-span.was) ∙ (c.find.ensures ∙ there))))
 
@@ -22,7 +24,8 @@ pub returns-then-span-front-clause-none : goal.returns-then-span-front-clause-no
 returns-then-span-front-clause-none g c =
     let here = c.self.inside in
     rw (← c.self.view_is)
-    (none_begins (length here.spans) here.words.items here.starts.items here.spans c.args.place c.index-number.result.now
+    (none_begins (length here.spans) here.words.items here.starts.items here.spans c.args.place
+    c.index-number.result.now
     (spans_of _ _ _ _ _ _ _ c.self.invariant) (omega (arith, here.starts.ok.0)) c.index-number.ensures
     (λ s there block_at_place _. c.if-span-front.true
     (rw c.len-front.ensures (rw (sym (same_some s c.in_ok-span.span.now
@@ -32,7 +35,8 @@ pub returns-then-span-eq0-clause-none : goal.returns-then-span-eq0-clause-none
 returns-then-span-eq0-clause-none g c =
     let here = c.self.inside in
     rw (← c.self.view_is)
-    (none_begins (length here.spans) here.words.items here.starts.items here.spans c.args.place c.index-number.result.now
+    (none_begins (length here.spans) here.words.items here.starts.items here.spans c.args.place
+    c.index-number.result.now
     (spans_of _ _ _ _ _ _ _ c.self.invariant) (omega (arith, here.starts.ok.0)) c.index-number.ensures
     (λ s there _ some. let none = c.if-span-eq0.true in let more : 0 < c.in_ok-span.span.now.len =
     rw (sym (same_some s c.in_ok-span.span.now

@@ -8,8 +8,10 @@ use Rattle.block_memory.proofs.blocks.Blocks.put.Goals as goal
 use Rattle.block_memory.proofs.blocks.Blocks.put.Goals.{After-mark_start}
 
 after : (g : Over) (c : After-mark_start g) →
-    IsAfterWrite (length c.self.inside.spans) c.self.inside.words.items c.write_words.new.region c.mark_start.new.starts.items c.self.inside.spans
-    c.insert-number.result (record { owner = c.args.owner; place = length c.self.inside.spans + c.args.place; len = length c.args.words.now })
+    IsAfterWrite (length c.self.inside.spans) c.self.inside.words.items c.write_words.new.region
+    c.mark_start.new.starts.items c.self.inside.spans
+    c.insert-number.result
+    (record { owner = c.args.owner; place = length c.self.inside.spans + c.args.place; len = length c.args.words.now })
     c.args.place (length c.args.words.now) c.args.words.now
 after g c =
     let here = c.self.inside in
@@ -49,5 +51,9 @@ returns-clause-put g c =
     (same_layout c.self.inside.size c.self.inside.size _ _ refl
     (slots-set c.write_words.new.region c.self.inside.spans c.insert-number.result _ _
     (after g (goal.at.returns-clause-put g c).After-mark_start).slots))
-    ∙ ap (λ layout. with_slot layout c.insert-number.result
-    (Some (record { owner = c.args.owner; place = c.args.place; len = length c.args.words.now; words = c.args.words.now }))) c.self.view_is
+    ∙ ap (λ layout. with_slot layout c.insert-number.result (Some (record {
+      owner = c.args.owner;
+      place = c.args.place;
+      len = length c.args.words.now;
+      words = c.args.words.now;
+    }))) c.self.view_is

@@ -28,7 +28,8 @@ use Rattle.block_memory.proofs.blocks.Blocks.put_with.Goals.{
 
 -- what lies in the words that were made longer
 now : (g : Over) (c : goal.After-lengthen g) →
-    IsLonger (length c.self.inside.spans) c.self.inside.words.items c.lengthen.new.list.items c.self.inside.starts.items c.self.inside.spans
+    IsLonger (length c.self.inside.spans) c.self.inside.words.items c.lengthen.new.list.items c.self.inside.starts.items
+    c.self.inside.spans
 now g c =
     let here = c.self.inside in
     longer (length here.spans) here.words.items c.lengthen.new.list.items here.starts.items here.spans
@@ -43,8 +44,8 @@ write_lent-written-requires-clause-apart g c =
     rw c.len-front.ensures (subst (λ (ws : List ℤ).
     All (λ id. IsApart (length ws) (length here.spans + c.args.place) c.args.len (span_at here.spans id))
     c.args.lent.now) (sym c.deref_mut.ensures.value)
-    (λ k d within. span_apart (length here.spans) c.lengthen.new.list.items here.starts.items here.spans _ c.args.place c.args.len
-    after.are_spans (rw after.slots (rw (← c.self.view_is) at bare))))
+    (λ k d within. span_apart (length here.spans) c.lengthen.new.list.items here.starts.items here.spans _ c.args.place
+    c.args.len after.are_spans (rw after.slots (rw (← c.self.view_is) at bare))))
 
 pub write_lent-written-requires-clause-can : goal.write_lent-written-requires-clause-can
 write_lent-written-requires-clause-can g c =
@@ -74,9 +75,8 @@ long g c =
 after : (g : Over) (c : goal.After-mark_start g) →
     length (take c.args.len (drop (length c.self.inside.spans + c.args.place) c.write_lent-written.new.words))
     ≡ c.args.len →
-    IsAfterWrite (length c.self.inside.spans) c.self.inside.words.items c.write_lent-written.new.words c.mark_start.new.starts.items
-    c.self.inside.spans
-    c.insert-number.result
+    IsAfterWrite (length c.self.inside.spans) c.self.inside.words.items c.write_lent-written.new.words
+    c.mark_start.new.starts.items c.self.inside.spans c.insert-number.result
     (record { owner = c.args.owner; place = length c.self.inside.spans + c.args.place; len = c.args.len })
     c.args.place c.args.len
     (take c.args.len (drop (length c.self.inside.spans + c.args.place) c.write_lent-written.new.words))

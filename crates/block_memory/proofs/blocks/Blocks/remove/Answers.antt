@@ -7,8 +7,8 @@ use Rattle.block_memory.proofs.blocks.Blocks.remove.Goals as goal
 
 pub freed-requires : goal.freed-requires
 freed-requires g c =
-    rw c.len-front.ensures (aside (length c.self.inside.spans) c.args.number c.remove-span.result (c.self.invariant.home c.args.number c.remove-span.result
-    c.remove-span.ensures.value))
+    rw c.len-front.ensures (aside (length c.self.inside.spans) c.args.number c.remove-span.result
+    (c.self.invariant.home c.args.number c.remove-span.result c.remove-span.ensures.value))
 
 pub returns-clause-removed : goal.returns-clause-removed
 returns-clause-removed g c =

@@ -13,7 +13,8 @@ long g c =
     let here = c.self.inside in
     let same = rw (← c.self.view_is) at c.requires.same_length in
     let size =
-    length-words_of-span (length here.spans) here.words.items here.starts.items here.spans c.args.number c.value-span.result.now
+    length-words_of-span (length here.spans) here.words.items here.starts.items here.spans c.args.number
+    c.value-span.result.now
     (spans_of _ _ _ _ _ _ _ c.self.invariant) c.value-span.ensures in
     omega (arith, same, size)
 
@@ -26,14 +27,14 @@ write_words-requires g c =
     omega (arith, inside, size, whole)
 
 after : (g : Over) (c : After-write_words g) → c.value-span.result.now.len ≡ length c.args.words.now →
-    IsAfterRewrite (length c.self.inside.spans) c.self.inside.words.items c.write_words.new.region c.self.inside.starts.items c.self.inside.spans
-    c.args.number c.args.words.now
+    IsAfterRewrite (length c.self.inside.spans) c.self.inside.words.items c.write_words.new.region
+    c.self.inside.starts.items c.self.inside.spans c.args.number c.args.words.now
 after g c size =
     let here = c.self.inside in
     let s = c.value-span.result.now in
     let clear = rw (← c.self.view_is) at c.requires.clear in
-    after_rewrite (length here.spans) here.words.items c.write_words.new.region here.starts.items here.spans c.args.number s
-    c.args.words.now (spans_of _ _ _ _ _ _ _ c.self.invariant) c.value-span.ensures
+    after_rewrite (length here.spans) here.words.items c.write_words.new.region here.starts.items here.spans
+    c.args.number s c.args.words.now (spans_of _ _ _ _ _ _ _ c.self.invariant) c.value-span.ensures
     (rw c.deref_mut.ensures.value at c.write_words.ensures) size
     (rw (
       ← place_by_span (length here.spans) here.words.items here.spans c.args.number s c.value-span.ensures,

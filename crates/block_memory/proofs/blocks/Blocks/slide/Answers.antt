@@ -22,14 +22,14 @@ after : (g : Over) (c : After-mark_start g) →
     covered_at (slots_from (length c.self.inside.spans) c.self.inside.words.items c.self.inside.spans) c.args.number
     ≡ c.value.result.now.len →
     let s = c.value.result.now in
-    IsAfterWrite (length c.self.inside.spans) c.self.inside.words.items c.move_words-moved.new.region c.mark_start.new.starts.items
-    c.self.inside.spans
+    IsAfterWrite (length c.self.inside.spans) c.self.inside.words.items c.move_words-moved.new.region
+    c.mark_start.new.starts.items c.self.inside.spans
     c.args.number (record { owner = s.owner; place = length c.self.inside.spans + c.args.to; len = s.len })
     c.args.to s.len (take s.len (drop s.place c.self.inside.words.items))
 after g c size =
     let here = c.self.inside in
-    after_move (length here.spans) here.words.items c.lengthen.new.list.items c.move_words-moved.new.region here.starts.items
-    c.mark_start.new.starts.items here.spans c.args.number c.args.to c.value.result.now
+    after_move (length here.spans) here.words.items c.lengthen.new.list.items c.move_words-moved.new.region
+    here.starts.items c.mark_start.new.starts.items here.spans c.args.number c.args.to c.value.result.now
     (spans_of _ _ _ _ _ _ _ c.self.invariant) c.value.ensures
     (rw c.len-front.ensures at c.lengthen.ensures.lengthened) (rw size at (rw (← c.self.view_is) at c.requires.clear))
     (rw (c.deref_mut.ensures.value, c.len-front.ensures) at c.move_words-moved.ensures.written)

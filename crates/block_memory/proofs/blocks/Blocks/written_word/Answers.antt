@@ -25,6 +25,7 @@ write-written-requires g c =
 
 pub returns : goal.returns
 returns g c =
-    subst (λ ws. MatchResult c.write-written.result (λ _. g.W.Writer.writes c.args.writer.now ws c.write-written.new.block)
+    subst (λ ws. MatchResult c.write-written.result
+    (λ _. g.W.Writer.writes c.args.writer.now ws c.write-written.new.block)
     (λ fault. g.W.Writer.faults c.args.writer.now ws fault))
     (are g (goal.at.returns g c).After-lent_words-5) c.write-written.ensures

@@ -44,7 +44,8 @@ with_words g c is so =
       in_range = omega (arith, c.put_word_with-number.ensures.in_range, length-map slots block_of, ap length content);
       empty =
           ap (λ (k : Content). block_at k c.put_word_with-number.result.0) (sym content)
-          ∙ (block_at-content_of slots c.put_word_with-number.result.0 ∙ ap block_of c.put_word_with-number.ensures.vacant);
+          ∙ (block_at-content_of slots c.put_word_with-number.result.0
+          ∙ ap block_of c.put_word_with-number.ensures.vacant);
       long = put.1.0;
       so = so;
       placed =

@@ -1,18 +1,17 @@
 use Rattle.std.proofs.Common.{◌-◌, is_some, ap, ◌∙◌, arith}
 use Rattle.block_memory.specs.Layout.{Layout, place_of, covered_of}
-use Rattle.block_memory.proofs.PackLemmas.{IsPacking-start, IsPacking-skip, IsPacking-moved, moved_within, begins-some}
+use Rattle.block_memory.proofs.PackLemmas.{IsPacking-skip, IsPacking-moved, moved_within, begins-some}
 use Rattle.block_memory.proofs.SlideLemmas.{is_gap, place_inside, widest-ge}
+use Rattle.block_memory.proofs.FrontLemmas.{is_begun}
 use Rattle.block_memory.proofs.slide.SlidingPackingPacking.make_room.Goals as goal
 
 pub loop-place-init : goal.loop-place-init
 loop-place-init g c =
     let r = c.requires.region in
-    record {
-      packing = IsPacking-start c.args.blocks.now c.args.covered r.cover.apart r.within r.counted;
-      region = r;
-      within = omega arith;
-      few = omega arith;
-    }
+    let begun =
+    is_begun c.args.blocks.now c.args.holes.now c.args.covered c.lowest_free-packed.result r
+    c.lowest_free-packed.ensures in
+    record { packing = begun.packing; region = r; within = begun.within; few = omega arith }
 
 pub beginning_at-requires : goal.beginning_at-requires
 beginning_at-requires g c =

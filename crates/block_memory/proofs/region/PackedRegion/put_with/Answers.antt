@@ -7,9 +7,10 @@ use Rattle.block_memory.specs.Region.{RegionState, IsPackedRegion}
 use Rattle.block_memory.specs.Placing.{IsPlacedWith}
 use Rattle.block_memory.proofs.LayoutLemmas.{block_at-content_of, words_at-content_of}
 use Rattle.block_memory.proofs.RegionLemmas.{HasRoom-bare, IsPackedRegion-put, content_of-put, covered_fits}
-use Rattle.block_memory.proofs.region.PackedRegion.put_words_with.Given.{Over}
-use Rattle.block_memory.proofs.region.PackedRegion.put_words_with.Goals as goal
-use Rattle.block_memory.proofs.region.PackedRegion.put_words_with.Goals.{After-take_room-place, After-new-id, in-Ok, in-Err}
+use Rattle.block_memory.proofs.region.PackedRegion.put_with.Given.{Over}
+use Rattle.block_memory.proofs.region.PackedRegion.put_with.Goals as goal
+use Rattle.block_memory.proofs.region.PackedRegion.put_with.Goals.{After-take_room-place, After-new-id, in-Ok}
+use Rattle.block_memory.proofs.region.PackedRegion.put_with.Goals.{in-Err}
 
 -- the blocks have moved, and are those of the memory
 same : (g : Over) (c : goal.After-take_room-place g) →

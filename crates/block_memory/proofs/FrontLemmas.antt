@@ -1,0 +1,111 @@
+-- Lemmas on the words below the lowest free one: the blocks there are packed already.
+use Rattle.std.proofs.Common.{◌≡◌, ℕ, zero, suc, ◌+◌, ◌<◌, ◌≤◌, Bool, true, false, List, [], ◌∷◌, length, Some}
+use Rattle.std.proofs.Common.{is_some, inl, inr, refl, sym, ap, subst, ◌∙◌, arith}
+use Rattle.std.proofs.lemmas.Bool.{cases_lt}
+use Rattle.holes.specs.FreeWords.{Region, is_free, lowest_free}
+use Rattle.block_memory.specs.Table.{value_at}
+use Rattle.block_memory.specs.Layout.{PlacedBlock, Layout, Covers, Begins, place_of, covered_of}
+use Rattle.block_memory.specs.Region.{IsRegion}
+use Rattle.block_memory.proofs.Lists.{true-not_false}
+use Rattle.block_memory.proofs.PackLemmas.{IsPacking, IsPacking-start, IsPacking-moved}
+use Rattle.block_memory.proofs.SlideLemmas.{after_no_move}
+
+pub lowest-within : (free : List Bool) → lowest_free free ≤ length free
+lowest-within [] = omega arith
+lowest-within (true ∷ free) = omega arith
+lowest-within (false ∷ free) = let rest = lowest-within free in omega (arith, rest)
+
+lowest-none_below : (free : List Bool) (word : ℕ) → word < lowest_free free → is_free free word ≡ false
+lowest-none_below [] word below = absurd (omega arith)
+lowest-none_below (true ∷ free) word below = absurd (omega arith)
+lowest-none_below (false ∷ free) zero below = refl
+lowest-none_below (false ∷ free) (suc word) below = lowest-none_below free word (omega arith)
+
+lowest-is_free : (free : List Bool) → lowest_free free < length free → is_free free (lowest_free free) ≡ true
+lowest-is_free [] within = absurd (omega arith)
+lowest-is_free (true ∷ free) within = refl
+lowest-is_free (false ∷ free) within =
+    let next : 1 + lowest_free free ≡ suc (lowest_free free) = omega arith in
+    ap (is_free (false ∷ free)) next ∙ lowest-is_free free (omega arith)
+
+-- a block that lies right after those that are packed, and ends no later than at `front`
+record IsPassed (layout : Layout) (used front place : ℕ) : Type 0 where
+  len : ℕ
+  some : 1 ≤ len
+  below : place + len ≤ front
+  packing : IsPacking layout layout (place + len) (place + len) used
+
+module _ (layout : Layout) (holes : Region) (used : ℕ) (r : IsRegion layout holes used) where
+  -- a block that begins below the lowest free word ends there
+  ends_below : (n : ℕ) (p : PlacedBlock) → value_at layout.slots n ≡ Some p → 0 < p.len
+      → p.place < lowest_free holes.free → p.place + p.len ≤ lowest_free holes.free
+  ends_below n p there some before =
+      elim (cases_lt (lowest_free holes.free) (p.place + p.len)) [
+        | inr ends ↦ ends
+        | inl across ↦
+            let covers : Covers layout.slots n (lowest_free holes.free) =
+            record { block = p; there = there; from = omega arith; below = across } in
+            let within = (r.within n p there).0 in
+            absurd (true-not_false (is_free holes.free (lowest_free holes.free))
+            (lowest-is_free holes.free (omega (arith, within, r.same_size))) (r.cover.covered n _ covers))
+      ]
+
+  pass : (place : ℕ) → place < lowest_free holes.free → IsPacking layout layout place place used
+      → IsPassed layout used (lowest_free holes.free) place
+  pass place before i =
+      let within = lowest-within holes.free in
+      let covered = r.cover.others place (omega arith) (lowest-none_below holes.free place before) in
+      let n = covered.number in
+      let p = covered.covers.block in
+      let there = covered.covers.there in
+      let from = covered.covers.from in
+      let below = covered.covers.below in
+      let some : 0 < p.len = omega arith in
+      let here : p.place ≡ place = elim (i.sides n p there some) [
+        | inl packed ↦ absurd (omega arith)
+        | inr after ↦ omega arith
+      ] in
+      let begins : Begins layout.slots n place = record { block = p; there = there; here = here; some = some } in
+      let stays = after_no_move layout n place (ap is_some there) (ap place_of there ∙ here) in
+      let ends = ends_below n p there some (omega arith) in
+      record {
+        len = p.len;
+        some = some;
+        below = omega (arith, here, ends);
+        packing =
+            IsPacking-moved layout layout layout place place used n p.len i begins stays (sym (ap covered_of there));
+      }
+
+  pass_all : (steps place : ℕ) → lowest_free holes.free ≤ place + steps → place ≤ lowest_free holes.free
+      → IsPacking layout layout place place used
+      → IsPacking layout layout (lowest_free holes.free) (lowest_free holes.free) used
+  pass_all zero place enough within i =
+      let end : place ≡ lowest_free holes.free = omega arith in
+      subst (λ k. IsPacking layout layout k k used) end i
+  pass_all (suc steps) place enough within i =
+      elim (cases_lt place (lowest_free holes.free)) [
+        | inr past ↦
+            let end : place ≡ lowest_free holes.free = omega arith in
+            subst (λ k. IsPacking layout layout k k used) end i
+        | inl before ↦
+            let next = pass place before i in
+            pass_all steps (place + next.len) (omega (arith, next.some)) next.below next.packing
+      ]
+
+  -- so packing may begin at the lowest free word
+  IsPacking-lowest : IsPacking layout layout (lowest_free holes.free) (lowest_free holes.free) used
+  IsPacking-lowest =
+      pass_all (lowest_free holes.free) 0 (omega arith) (omega arith)
+      (IsPacking-start layout used r.cover.apart r.within r.counted)
+
+-- what is known where packing begins
+pub record IsBegun (layout : Layout) (used front : ℕ) : Type 0 where
+  pub packing : IsPacking layout layout front front used
+  pub within : front ≤ layout.size
+
+pub is_begun : (layout : Layout) (holes : Region) (used front : ℕ) → IsRegion layout holes used
+    → front ≡ lowest_free holes.free → IsBegun layout used front
+is_begun layout holes used front r is = record {
+  packing = subst (λ k. IsPacking layout layout k k used) (sym is) (IsPacking-lowest layout holes used r);
+  within = let within = lowest-within holes.free in omega (arith, within, is, r.same_size);
+}
