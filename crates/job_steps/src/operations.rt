@@ -48,10 +48,10 @@ fn shape(op: Op, ops: &[&[i64]]) -> Result<(), DataFault>
         (λ fault. shape op (contents ops.now) ≡ Some fault) }
 {
     match op {
-        Op::Const(_) | Op::Elementwise(_) => vector_ops::shape(op, ops),
-        Op::Segmented(_) => segment_ops::shape(op, ops),
+        Op::Elementwise(op) => vector_ops::shape(op, ops),
+        Op::Segmented(op) => segment_ops::shape(op, ops),
         Op::If if ops[0].len() != 1 => Err(DataFault::NotSingle),
-        Op::If | Op::Move(..) | Op::Call | Op::Return => Ok(()),
+        Op::Const(_) | Op::If | Op::Move(..) | Op::Call | Op::Return => Ok(()),
     }
 }
 
@@ -64,8 +64,9 @@ pub(crate) fn need(op: Op, ops: &[&[i64]]) -> (u64, u64)
     ensures { result ≡ need op (contents ops.now) }
 {
     match op {
-        Op::Const(_) | Op::Elementwise(_) => vector_ops::need(op, ops),
-        Op::Segmented(_) => segment_ops::need(op, ops),
+        Op::Const(_) => (ops[0].len() as u64, 0),
+        Op::Elementwise(op) => (vector_ops::need(op, ops), 0),
+        Op::Segmented(op) => segment_ops::need(op, ops),
         Op::If | Op::Move(..) | Op::Call | Op::Return => (0, 0),
     }
 }
@@ -83,7 +84,7 @@ pub(crate) fn need(op: Op, ops: &[&[i64]]) -> (u64, u64)
 /// [`BadLength`](DataFault::BadLength) if a descriptor is made of a negative length or of lengths
 /// whose total is above [`MOST_TOTAL`](vcode_base::limits::MOST_TOTAL). What the results then hold is
 /// not specified.
-#[tactic(auto, unfolding(vcode_base::specs::Meaning::need, vcode_base::specs::Meaning::value_fault, vcode_base::specs::Meaning::result_of, vcode_base::specs::Meaning::second_result_of))]
+#[tactic(auto, unfolding(vcode_base::specs::Meaning::shape, vcode_base::specs::Meaning::need, vcode_base::specs::Meaning::value_fault, vcode_base::specs::Meaning::result_of, vcode_base::specs::Meaning::second_result_of))]
 #[inline(always)]
 pub fn fill(op: Op, ops: &[&[i64]], first: &mut [i64], second: &mut [i64]) -> Result<(), DataFault>
     requires kinds { HaveKinds (source_kinds op) (contents ops.now) }
@@ -96,8 +97,12 @@ pub fn fill(op: Op, ops: &[&[i64]], first: &mut [i64], second: &mut [i64]) -> Re
         (λ fault. value_fault op (contents ops.now) ≡ Some fault) }
 {
     match op {
-        Op::Const(_) | Op::Elementwise(_) => vector_ops::fill(op, ops, first, second),
-        Op::Segmented(_) => segment_ops::fill(op, ops, first, second),
+        Op::Const(_) => {
+            vector_ops::copy(ops[0], first);
+            Ok(())
+        }
+        Op::Elementwise(op) => vector_ops::fill(op, ops, first),
+        Op::Segmented(op) => segment_ops::fill(op, ops, first, second),
         Op::If | Op::Move(..) | Op::Call | Op::Return => Ok(()),
     }
 }

@@ -1,10 +1,8 @@
 ghost use Rattle.std.specs.Prelude.{◌≡◌, length, MatchResult, None, Some};
-ghost use Rattle.vcode_base.specs.Kinds.{HaveKinds, source_kinds, segmented_operands};
-ghost use Rattle.vcode_base.specs.Meaning.{shape, need, value_fault, result_of, second_result_of};
+ghost use Rattle.vcode_base.specs.Kinds.{HaveKinds, segmented_operands};
 ghost use Rattle.vcode_base.specs.Meaning.{segmented_shape, segmented_need, segmented_fault};
 ghost use Rattle.vcode_base.specs.Meaning.{segmented_result, segmented_second};
 ghost use Rattle.vcode_base.specs.Operands.{contents};
-ghost use Rattle.segment_ops.specs.Served.{IsServed};
 
 use crate::descriptors::{lengths, make_descriptor};
 use crate::distributions::{distribute, index};
@@ -16,7 +14,7 @@ use crate::permutations::permute;
 use crate::reductions::reduce;
 use crate::replacements::replace;
 use crate::scans::scan;
-use vcode_base::{DataFault, Op, Segmented};
+use vcode_base::{DataFault, Segmented};
 
 /// Writes the results of the instruction.
 ///
@@ -29,26 +27,7 @@ use vcode_base::{DataFault, Op, Segmented};
 /// [`IndexTwice`](DataFault::IndexTwice) if two elements of a segment go to one index.
 /// [`BadLength`](DataFault::BadLength) if a descriptor is made of a negative length or of lengths
 /// whose total is above 4,294,967,295. What the results then hold is not specified.
-#[tactic(auto, unfolding(vcode_base::specs::Meaning::shape, vcode_base::specs::Meaning::need, vcode_base::specs::Meaning::value_fault, vcode_base::specs::Meaning::result_of, vcode_base::specs::Meaning::second_result_of))]
-pub fn fill(op: Op, ops: &[&[i64]], first: &mut [i64], second: &mut [i64]) -> Result<(), DataFault>
-    requires served { IsServed op }
-    requires kinds { HaveKinds (source_kinds op) (contents ops.now) }
-    requires shape { shape op (contents ops.now) ≡ None }
-    requires room { need op (contents ops.now) ≡ (length first.old, length second.old) }
-    ensures { MatchResult result
-        (λ _. (value_fault op (contents ops.now) ≡ None)
-        × (first.new ≡ result_of op (contents ops.now))
-        × (second.new ≡ second_result_of op (contents ops.now)))
-        (λ fault. value_fault op (contents ops.now) ≡ Some fault) }
-{
-    match op {
-        Op::Segmented(op) => fill_segmented(op, ops, first, second),
-        _ => unreachable!(),
-    }
-}
-
-/// Writes the results of an instruction over segments.
-fn fill_segmented(
+pub fn fill(
     op: Segmented,
     ops: &[&[i64]],
     first: &mut [i64],

@@ -1,34 +1,18 @@
-ghost use Rattle.std.specs.Prelude.{◌≡◌, None};
-ghost use Rattle.vcode_base.specs.Kinds.{HaveKinds, source_kinds, segmented_operands};
-ghost use Rattle.vcode_base.specs.Meaning.{shape, need, segmented_need};
+ghost use Rattle.std.specs.Prelude.{◌≡◌};
+ghost use Rattle.vcode_base.specs.Kinds.{HaveKinds, segmented_operands};
+ghost use Rattle.vcode_base.specs.Meaning.{segmented_need};
 ghost use Rattle.vcode_base.specs.Operands.{contents};
-ghost use Rattle.segment_ops.specs.Served.{IsServed};
 
 use crate::descriptors::total_of;
 use crate::packs::count_set;
-use vcode_base::{Op, Segmented};
+use vcode_base::Segmented;
 
 /// The lengths of the first and of the second result, in words: 0 for a result that the instruction doesn't have.
 ///
 /// `op` and `ops` are as for [`shape`](crate::shape), which has answered `Ok`. Nothing is made: the
 /// length of a result that no memory could hold is found as fast as any.
 #[inline(always)]
-#[tactic(auto, unfolding(vcode_base::specs::Meaning::need))]
-pub fn need(op: Op, ops: &[&[i64]]) -> (u64, u64)
-    requires served { IsServed op }
-    requires kinds { HaveKinds (source_kinds op) (contents ops.now) }
-    requires shape { shape op (contents ops.now) ≡ None }
-    ensures { result ≡ need op (contents ops.now) }
-{
-    match op {
-        Op::Segmented(op) => need_segmented(op, ops),
-        _ => unreachable!(),
-    }
-}
-
-/// The same of an instruction over segments.
-#[inline(always)]
-fn need_segmented(op: Segmented, ops: &[&[i64]]) -> (u64, u64)
+pub fn need(op: Segmented, ops: &[&[i64]]) -> (u64, u64)
     requires kinds { HaveKinds (segmented_operands op) (contents ops.now) }
     ensures { result ≡ segmented_need op (contents ops.now) }
 {

@@ -9,7 +9,7 @@ use crate::steps::{Max, Min, identity_of};
 use vcode_base::element::{And, Combine, Or, Product, Sum, Xor};
 use vcode_base::{Fold, Logic};
 
-/// So many elements of a segment are multiplied one by one.
+/// How many elements at the front of a segment are multiplied without a loop.
 const FEW: usize = 8;
 
 /// `+_REDUCE` and the other reductions: writes the fold of each segment, which of an empty one is

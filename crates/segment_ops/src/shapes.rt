@@ -1,42 +1,25 @@
 ghost use Rattle.std.specs.Prelude.{◌≡◌, ◌==◌, ◌≤◌, not, length, MatchResult, None, Some};
 ghost use Rattle.std.specs.List.{list_any};
-ghost use Rattle.vcode_base.specs.Kinds.{AreLengths, HaveKinds, source_kinds, segmented_operands};
+ghost use Rattle.vcode_base.specs.Kinds.{AreLengths, HaveKinds, segmented_operands};
 ghost use Rattle.vcode_base.specs.declared.limits.TheConstants.{MOST_TOTAL};
-ghost use Rattle.vcode_base.specs.Meaning.{shape, segmented_shape, shape_in, shape_between};
+ghost use Rattle.vcode_base.specs.Meaning.{segmented_shape, shape_in, shape_between};
 ghost use Rattle.vcode_base.specs.Segments.{total};
 ghost use Rattle.vcode_base.specs.Operands.{contents};
-ghost use Rattle.segment_ops.specs.Served.{IsServed};
 
 use crate::descriptors::total_of;
-use vcode_base::{DataFault, Op, Segmented};
+use vcode_base::{DataFault, Segmented};
 
 /// Whether the operands' lengths fit one another. It looks at no element but the segment lengths.
 ///
-/// `op` is an instruction that makes, reads or takes a descriptor, and `ops` has its operands from
-/// the bottom of the stack up, each of the kind that the instruction takes, which
-/// [`have_kinds`](vcode_base::have_kinds) tests.
+/// `ops` has the operands of `op` from the bottom of the stack up, each of the kind that the
+/// instruction takes, which [`have_kinds`](vcode_base::have_kinds) tests.
 ///
 /// # Errors
 ///
 /// [`DataFault::SegmentCount`] if the number of an operand's elements isn't the number of segments, or two
 /// descriptors have different numbers of segments; else [`DataFault::SegmentTotal`] if the number of an
 /// operand's words isn't the total of its descriptor.
-#[tactic(auto, unfolding(vcode_base::specs::Meaning::shape))]
-pub fn shape(op: Op, ops: &[&[i64]]) -> Result<(), DataFault>
-    requires served { IsServed op }
-    requires kinds { HaveKinds (source_kinds op) (contents ops.now) }
-    ensures { MatchResult result
-        (λ _. shape op (contents ops.now) ≡ None)
-        (λ fault. shape op (contents ops.now) ≡ Some fault) }
-{
-    match op {
-        Op::Segmented(op) => shape_segmented(op, ops),
-        _ => unreachable!(),
-    }
-}
-
-/// The same of an instruction over segments.
-fn shape_segmented(op: Segmented, ops: &[&[i64]]) -> Result<(), DataFault>
+pub fn shape(op: Segmented, ops: &[&[i64]]) -> Result<(), DataFault>
     requires kinds { HaveKinds (segmented_operands op) (contents ops.now) }
     ensures { MatchResult result
         (λ _. segmented_shape op (contents ops.now) ≡ None)

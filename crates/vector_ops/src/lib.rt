@@ -1,8 +1,10 @@
-//! `CONST` and the elementwise instructions, over slices that the caller lends.
+//! The elementwise instructions, over slices that the caller lends.
 //!
 //! An instruction runs in three calls: [`shape`] says whether the lengths of its operands fit,
-//! [`need`] how many words its results have, and [`fill`] writes them. None of them takes memory,
+//! [`need`] how many words its result has, and [`fill`] writes it. None of them takes memory,
 //! and each goes at most twice over the elements.
+//!
+//! [`copy`] writes the result of `CONST`, which has no operand but its list.
 //!
 //! What the instructions mean is defined in `vcode_base`. What a row of its table makes of the
 //! elements at one place is a type of its own: those that segments use too are in
@@ -17,5 +19,5 @@ mod selection;
 mod shapes;
 mod steps;
 
-pub use fills::fill;
+pub use fills::{copy, fill};
 pub use shapes::{need, shape};
