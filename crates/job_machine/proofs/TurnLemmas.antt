@@ -77,7 +77,7 @@ turn_at rule passes tasks slots region job place task slot job_is task_at slot_a
   shown_standing = ap (λ (j : ℕ). of_job j (standings_of slots)) job_is ∙ standing_at slots place slot slot_at;
 }
 
-pub has_turn : {rule : Rule} {passes : List ℕ} (blocks : JobBlocks) (tasks : List Task) (slots : List SlotState) (m :
+has_turn : {rule : Rule} {passes : List ℕ} (blocks : JobBlocks) (tasks : List Task) (slots : List SlotState) (m :
     MachineState)
     (job place : ℕ)
     (o : Option ℕ) (task : Task) (slot : SlotState) → IsSound blocks tasks slots passes →
@@ -119,7 +119,7 @@ some_turn {rule} {passes} blocks tasks slots m job place o slot sound view o_is 
     o_is
 
 -- a place is within the jobs
-pub within_jobs : {rule : Rule} {passes : List ℕ} (blocks : JobBlocks) (tasks : List Task) (slots : List SlotState) (m
+within_jobs : {rule : Rule} {passes : List ℕ} (blocks : JobBlocks) (tasks : List Task) (slots : List SlotState) (m
     : MachineState)
     (job place : ℕ)
     (o : Option ℕ) → IsSound blocks tasks slots passes → shown_machine rule blocks tasks slots passes ≡ m →
@@ -127,6 +127,28 @@ pub within_jobs : {rule : Rule} {passes : List ℕ} (blocks : JobBlocks) (tasks 
 within_jobs {rule} {passes} blocks tasks slots m job place o sound view o_is some =
     subst (λ (m : MachineState). o ≡ place_of (length m.tasks) job → place < length tasks) view
     (λ e. (place_is (length tasks) job place (sym e ∙ some)).within) o_is
+
+-- the job of a number is among the jobs and the slots
+pub record IsLent (rule : Rule) (jobs : List JobValue) (slots : List SlotState) (m : MachineState) (number place : ℕ)
+    : Type 0 where
+  pub among_jobs : place < length jobs
+  pub among_slots : place < length slots
+  pub turn : (job : JobValue) (slot : SlotState) → job ≡ get_or jobs place job → slot ≡ get_or slots place slot →
+      HasTurn (map (ruled rule) jobs) slots m number place (ruled rule job) slot
+
+pub is_lent : {rule : Rule} {passes : List ℕ} (blocks : JobBlocks) (jobs : List JobValue) (slots : List SlotState)
+    (m : MachineState) (number place : ℕ) (o : Option ℕ) → IsSound blocks (map (ruled rule) jobs) slots passes →
+    shown_machine rule blocks (map (ruled rule) jobs) slots passes ≡ m → o ≡ place_of (length m.tasks) number →
+    o ≡ Some place → IsLent rule jobs slots m number place
+is_lent {rule} blocks jobs slots m number place o sound view o_is some =
+    let within = within_jobs blocks (map (ruled rule) jobs) slots m number place o sound view o_is some in
+    record {
+      among_jobs = omega (arith, within, length-map jobs (ruled rule));
+      among_slots = omega (arith, within, sound.slots_are);
+      turn = λ job slot job_is slot_is.
+          has_turn blocks (map (ruled rule) jobs) slots m number place o (ruled rule job) slot sound view o_is some
+          (task_read rule jobs place job job_is) slot_is;
+    }
 
 -- ---- one slot, and the blocks of its job
 

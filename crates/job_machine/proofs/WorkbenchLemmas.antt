@@ -16,17 +16,15 @@ use Rattle.job_steps.specs.Tickets.{Asked}
 use Rattle.job_slots.specs.declared.answer.Begun.{Begun}
 use Rattle.job_slots.specs.declared.answer.Begun.TheVariants as begun
 use Rattle.job_slots.specs.declared.answer.Finished.{Finished}
-use Rattle.job_slots.specs.declared.answer.Stepped.{Stepped}
-use Rattle.job_slots.specs.declared.answer.Stepped.TheVariants as stepped
-use Rattle.job_slots.specs.Answers.{Begins, Steps, is_in_flight, is_live, standing_after_step, after_stepped}
+use Rattle.job_slots.specs.Answers.{Begins, is_in_flight, is_live}
 use Rattle.job_machine.specs.declared.workbench.Workplace.{Workplace}
 use Rattle.job_machine.specs.declared.workbench.Workplace.TheVariants as workplace
 use Rattle.job_machine.specs.Machines.{MachineState, queue_of, with_queue, machine_after, BeginsIn, FinishesIn}
-use Rattle.job_machine.specs.Machines.{StepsIn, OthersStand, after_begun, after_finished, after_step}
+use Rattle.job_machine.specs.Machines.{OthersStand, after_begun, after_finished}
 use Rattle.job_machine.specs.Workbench.{with_workplace, Takes, workplace_after, WorkplaceFits, FitsIn, WorkbenchFits}
 use Rattle.job_machine.proofs.RunningOut.{Happens, Passed, Opened, happens, of_with}
 use Rattle.job_machine.proofs.Places.{get-set_same, get-set_other, set_back}
-use Rattle.job_machine.proofs.Stepping.{after_open, after_both, finished_by}
+use Rattle.job_machine.proofs.Stepping.{after_open, finished_by}
 
 -- ---- lists of workplaces
 

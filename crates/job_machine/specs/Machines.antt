@@ -20,7 +20,7 @@ use Rattle.job_slots.specs.declared.answer.Finished.{Finished}
 use Rattle.job_slots.specs.declared.answer.Finished.TheVariants as finished
 use Rattle.job_slots.specs.declared.answer.Stepped.{Stepped}
 use Rattle.job_slots.specs.declared.answer.Stepped.TheVariants as stepped
-use Rattle.job_slots.specs.Answers.{Begins, Finishes, Steps, after_stepped, is_live, is_in_flight, is_ended}
+use Rattle.job_slots.specs.Answers.{Begins, Finishes, Steps, is_live, is_in_flight, is_ended}
 use Rattle.job_slots.specs.Answers.{question_at}
 use Rattle.job_slots.specs.Slots.{IsReturned}
 use Rattle.job_machine.specs.declared.machine.Admission.{Admission}
@@ -208,7 +208,7 @@ abbrev pub is_running : Option Standing → Bool
 is_running None = false
 is_running (Some standing) = is_live standing
 
--- so many steps of a job lead from one machine to another, and it was live at each
+-- `count` steps of a job lead from one machine to another, and it was live at each
 abbrev pub StepsLeadIn : (count job : ℕ) → MachineState → MachineState → Type 0
 StepsLeadIn zero job old new = new ≡ old
 StepsLeadIn (suc count) job old new =

@@ -1,7 +1,7 @@
 //! Jobs over one region of words.
 
-ghost use Rattle.std.specs.Prelude.{◌≡◌, ◌≤◌, ◌↔◌, ℕ, false, length, All, IfOk, IfSome, OnOk, OnErr, IsTrue, option_map};
-ghost use Rattle.std.specs.Prelude.{Some, map, option_copied};
+ghost use Rattle.std.specs.Prelude.{◌≡◌, ◌<◌, ◌≤◌, ◌↔◌, ℕ, false, length, get_or, All, IfOk, IfSome, OnOk, OnErr};
+ghost use Rattle.std.specs.Prelude.{IsTrue, Some, map, option_copied, option_map};
 ghost use Rattle.std.specs.Arc.{arc_value};
 ghost use Rattle.vcode_base.specs.declared.limits.TheConstants.{MOST_JOBS, MOST_PASSES, MOST_WORDS};
 ghost use Rattle.job_steps.specs.declared.event.Event.TheVariants.{Admit, Begin, Finish, Recall, Collect};
@@ -25,7 +25,7 @@ use crate::setting::{all_cells, most_words, new_slots, next_admission, pass_befo
 use job_memory::JobMemory;
 use job_memory::laws::changes_join;
 use job_slots::laws::{new_is_shown, others_are_shown, recalled_is_shown, shown_is_alone};
-use job_slots::{Begun, Finished, Slot, Status, Stepped};
+use job_slots::{Begun, Finished, Slot, Status, Stepped, Turn};
 use job_steps::laws::{
     admissions_pass_once, admitted_have_room, closed_change_nothing, events_change_their_job,
     leads_join, missing_are_closed, others_pass_nobody, passes_are_few,
@@ -143,10 +143,12 @@ impl<A: Allocator + Clone> Machine<A> {
         let Some(place) = self.place(job) else {
             return Ok(false);
         };
-        let rule = self.rule;
-        let jobs = self.jobs.as_slice();
+        let turn = Turn {
+            rule: self.rule,
+            number: job,
+        };
         let slot = &mut self.slots[place];
-        slot.collect(rule, &jobs[place], job, &mut self.blocks)
+        slot.collect(turn, job_at(&self.jobs, place), &mut self.blocks)
     }
 
     /// Gives up all steps that have begun, and then runs and collects all jobs on this thread, on a desk of at least
@@ -193,10 +195,12 @@ impl<A: Allocator> Machine<A> {
         };
         let place = job - 1;
         pass_before(place, self.slots.as_slice(), self.passes.as_mut_slice());
-        let rule = self.rule;
-        let jobs = self.jobs.as_slice();
+        let turn = Turn {
+            rule: self.rule,
+            number: job,
+        };
         let slot = &mut self.slots[place];
-        let _granted = slot.admit(rule, &jobs[place], job, &mut self.blocks);
+        let _granted = slot.admit(turn, job_at(&self.jobs, place), &mut self.blocks);
         next
     }
 
@@ -212,10 +216,12 @@ impl<A: Allocator> Machine<A> {
         let Some(place) = self.place(job) else {
             return Begun::NotReady(desk);
         };
-        let rule = self.rule;
-        let jobs = self.jobs.as_slice();
+        let turn = Turn {
+            rule: self.rule,
+            number: job,
+        };
         let slot = &mut self.slots[place];
-        slot.begin(rule, &jobs[place], job, &mut self.blocks, desk)
+        slot.begin(turn, job_at(&self.jobs, place), &mut self.blocks, desk)
     }
 
     /// Commits a step that was computed, if it is the one of its job that has begun, with the same instruction and
@@ -233,10 +239,12 @@ impl<A: Allocator> Machine<A> {
         let Some(place) = self.place(job) else {
             return (Finished::Stale, filled.into_desk());
         };
-        let rule = self.rule;
-        let jobs = self.jobs.as_slice();
+        let turn = Turn {
+            rule: self.rule,
+            number: job,
+        };
         let slot = &mut self.slots[place];
-        slot.finish(rule, &jobs[place], job, &mut self.blocks, filled)
+        slot.finish(turn, job_at(&self.jobs, place), &mut self.blocks, filled)
     }
 
     /// Commits a step that was computed, as `finish` does, but compares no operands: the step is known to ask what its
@@ -255,10 +263,12 @@ impl<A: Allocator> Machine<A> {
         let Some(place) = self.place(job) else {
             return (Finished::Stale, filled.into_desk());
         };
-        let rule = self.rule;
-        let jobs = self.jobs.as_slice();
+        let turn = Turn {
+            rule: self.rule,
+            number: job,
+        };
         let slot = &mut self.slots[place];
-        slot.finish_own(rule, &jobs[place], job, &mut self.blocks, filled)
+        slot.finish_own(turn, job_at(&self.jobs, place), &mut self.blocks, filled)
     }
 
     /// Carries out the next instruction of a job in one go, with the desk's room for its results. Takes no memory.
@@ -278,10 +288,12 @@ impl<A: Allocator> Machine<A> {
         let Some(place) = self.place(job) else {
             return Stepped::NotReady;
         };
-        let rule = self.rule;
-        let jobs = self.jobs.as_slice();
+        let turn = Turn {
+            rule: self.rule,
+            number: job,
+        };
         let slot = &mut self.slots[place];
-        slot.step(rule, &jobs[place], job, &mut self.blocks, desk)
+        slot.step(turn, job_at(&self.jobs, place), &mut self.blocks, desk)
     }
 
     /// Carries out the instructions of a job, if it is live, until it is over, on a desk of at least its words.
@@ -298,10 +310,12 @@ impl<A: Allocator> Machine<A> {
         let Some(place) = self.place(job) else {
             return;
         };
-        let rule = self.rule;
-        let jobs = self.jobs.as_slice();
+        let turn = Turn {
+            rule: self.rule,
+            number: job,
+        };
         let slot = &mut self.slots[place];
-        slot.run(rule, &jobs[place], job, &mut self.blocks, desk)
+        slot.run(turn, job_at(&self.jobs, place), &mut self.blocks, desk)
     }
 
     /// Gives up the step of a job that has begun; true if there was one. The job is as before the step's begin.
@@ -449,6 +463,14 @@ impl<A: Allocator> Machine<A> {
         }
         Some(job - 1)
     }
+}
+
+/// The job at a place.
+fn job_at<A: Allocator>(jobs: &Arc<Vec<Job<A>, A>, A>, place: usize) -> &Job<A>
+    requires { place < length (arc_value jobs.now).items }
+    ensures { result.now ≡ get_or (arc_value jobs.now).items place result.now }
+{
+    &jobs.as_slice()[place]
 }
 
 /// The laws by which a turn of one job leaves a machine sound, and standing as an event leaves it.

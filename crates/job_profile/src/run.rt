@@ -12,7 +12,7 @@ ghost use Rattle.job_profile.specs.Walks.{lists_in, next_line_in, progress_of, t
 use block_memory::BlockId;
 use job_memory::JobMemory;
 use job_slots::laws::{new_is_shown, shown_are_live, shown_are_reached, shown_is_alone};
-use job_slots::{Slot, Status};
+use job_slots::{Slot, Status, Turn};
 use job_steps::laws::{early_ends_end, ended_are_over, steps_can_begin};
 use job_steps::{Desk, Frame, Job};
 use std::alloc::{AllocError, Allocator};
@@ -69,7 +69,11 @@ impl<A: Allocator + Clone> Run<A> {
         let numbers = limits.cells + 2;
         let mut blocks = JobMemory::new(alloc.clone()?, limits.words, 1, numbers)?;
         let desk = Desk::new(alloc, limits.words)?;
-        let Ok(()) = slot.admit(rule, &job, ONLY_JOB, &mut blocks) else {
+        let turn = Turn {
+            rule,
+            number: ONLY_JOB,
+        };
+        let Ok(()) = slot.admit(turn, &job, &mut blocks) else {
             unreachable!()
         };
         Ok(Run {
@@ -91,8 +95,11 @@ impl<A: Allocator + Clone> Run<A> {
         ensures collected { OnOk result (ending_of self.new ≡ ending_at (progress_of self.old)) }
         ensures unchanged { OnErr result (self.new ≡ self.old) }
     {
-        self.slot
-            .collect(self.rule, &self.job, ONLY_JOB, &mut self.blocks)?;
+        let turn = Turn {
+            rule: self.rule,
+            number: ONLY_JOB,
+        };
+        self.slot.collect(turn, &self.job, &mut self.blocks)?;
         Ok(())
     }
 }
@@ -106,13 +113,13 @@ impl<A: Allocator> Run<A> {
         shown_is_alone();
         ended_are_over();
         let _used = self.blocks.used();
-        let _stepped = self.slot.step(
-            self.rule,
-            &self.job,
-            ONLY_JOB,
-            &mut self.blocks,
-            &mut self.desk,
-        );
+        let turn = Turn {
+            rule: self.rule,
+            number: ONLY_JOB,
+        };
+        let _stepped = self
+            .slot
+            .step(turn, &self.job, &mut self.blocks, &mut self.desk);
         self.goes_on()
     }
 
@@ -165,8 +172,11 @@ impl<A: Allocator> Run<A> {
     {
         early_ends_end();
         if self.goes_on() {
-            self.slot
-                .demand(self.rule, &self.job, ONLY_JOB, &self.blocks)
+            let turn = Turn {
+                rule: self.rule,
+                number: ONLY_JOB,
+            };
+            self.slot.demand(turn, &self.job, &self.blocks)
         } else {
             0
         }

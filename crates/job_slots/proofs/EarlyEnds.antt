@@ -2,7 +2,7 @@
 use Rattle.std.proofs.Common.{◌≡◌, ℕ, ℤ, ◌+◌, ◌≤◌, Bool, true, false, cond, eqb, ltb, min, max, List, [], ◌∷◌, length}
 use Rattle.std.proofs.Common.{Option, Some, None}
 use Rattle.std.proofs.Common.{refl, sym, ◌∙◌, ap, subst, arith}
-use Rattle.std.specs.Prelude.{◌&&◌, MatchOption, MatchResult, Result, Ok, Err}
+use Rattle.std.specs.Prelude.{◌&&◌, MatchOption}
 use Rattle.std.proofs.lemmas.Bool.{eq-eqb}
 use Rattle.std.proofs.lemmas.Bool.Decides.{nat_tests}
 use Rattle.std.proofs.lemmas.Option.{none-some}
@@ -13,6 +13,7 @@ use Rattle.vcode_base.specs.declared.limits.Limits.{Limits}
 use Rattle.vcode_base.specs.declared.op.Op.{Op}
 use Rattle.vcode_base.specs.declared.outcome.Outcome.TheVariants.{Budget, Memory}
 use Rattle.vcode_base.specs.Instructions.{op_of}
+use Rattle.vcode_base.specs.Kinds.{HaveKinds, source_kinds}
 use Rattle.vcode_base.specs.Laws.{ResultsHaveNeededLengths}
 use Rattle.vcode_base.specs.Meaning.{shape, need, result_of, second_result_of}
 use Rattle.vcode_reader.specs.Trees.{Function}
@@ -28,7 +29,7 @@ use Rattle.job_steps.specs.Questions.{Question, need_words}
 use Rattle.job_steps.specs.Runs.{state_after}
 use Rattle.job_steps.specs.States.{Task, Active, State}
 use Rattle.job_steps.specs.Steps.{Ending, Running, next_item, question_of, ending_by, memory_fault}
-use Rattle.job_steps.specs.Steps.{held_at, is_call}
+use Rattle.job_steps.specs.Steps.{flag_of, held_at, is_call}
 use Rattle.job_steps.specs.StepLaws.{CanBegin, StepsCanBegin, StepsCanAdvance}
 use Rattle.job_steps.specs.Tickets.{AreResults, CanAnswer, question_by}
 use Rattle.job_steps.specs.Tracks.{TrackState, IsAt, functions_of}
@@ -37,7 +38,7 @@ use Rattle.job_slots.specs.Answers.{told_demand_before, told_demand_in}
 use Rattle.job_slots.specs.Commits.{CountsAs, held_under, taken_ids}
 use Rattle.job_slots.specs.Executions.{IsCounted, HeldIsCounted}
 use Rattle.job_slots.specs.declared.ticket.Needs.{Needs}
-use Rattle.job_slots.specs.Needs.{AreFoundNeeds, IsReady}
+use Rattle.job_slots.specs.Needs.{AreNeeds, IsReady}
 use Rattle.job_slots.specs.Slots.{IsRunningSlot, IsReturned}
 use Rattle.job_slots.proofs.Begins.{can_begin, question_when, line_when, early_end_when}
 use Rattle.job_slots.proofs.Instructions.{length_by_kinds}
@@ -292,19 +293,22 @@ asks_on begins advances slots task t run op line sources verified next goes_on w
     (can_begin begins slots task t run verified) next goes_on enough
 
 -- what was found of its needs is that of the job
-pub found_of : (task : Task) (job : ℕ) (blocks : JobBlocks) (t : TrackState ℕ) (op : Op) (sources : List (List ℤ))
-    (held : ℕ) (early : Option Ending) (found : Result Needs Ending) → held ≡ held_under task.rule job op t.cells blocks →
-    early_end_at task t.executed ≡ early → (early_end_at task t.executed ≡ None → (words : ℕ) →
-    task.limits.words ≤ words → CanAsk words op sources) →
-    AreFoundNeeds held (question_by op sources) early found →
-    MatchResult found (IsReady task job blocks t op sources) (λ ending. early_end_at task t.executed ≡ Some ending)
-found_of task job blocks t op sources held early (Ok needs) held_is is asks are = record {
+pub is_ready : (task : Task) (job : ℕ) (blocks : JobBlocks) (t : TrackState ℕ) (op : Op) (line : ℕ)
+    (sources : List (List ℤ)) (flag : Bool) (needs : Needs) (held : ℕ) (early : Option Ending) →
+    held ≡ held_under task.rule job op t.cells blocks → early_end_at task t.executed ≡ early →
+    (early_end_at task t.executed ≡ None → (words : ℕ) → task.limits.words ≤ words → CanAsk words op sources) →
+    IsNext task t.executed op line sources → HaveKinds (source_kinds op) sources →
+    flag ≡ flag_of (question_by op sources) → AreNeeds held (question_by op sources) needs × (early ≡ None) →
+    IsReady task job blocks t sources (record { op = op; line = line; flag = flag; needs = needs })
+is_ready task job blocks t op line sources flag needs held early held_is is asks is_next kinds flag_is are = record {
+  next = is_next;
+  kinds = kinds;
+  flag_is = flag_is;
   goes_on = is ∙ are.1;
   can_ask = asks (is ∙ are.1);
   lengths = are.0.lengths;
   words_are = are.0.words_are ∙ ap (λ (h : ℕ). h + needs.first + needs.second) held_is;
 }
-found_of task job blocks t op sources held early (Err ending) held_is is asks ends = is ∙ ends
 
 -- the words of its needs are those that are held and those of its results
 pub needs_count : ResultsHaveNeededLengths → (op : Op) (sources : List (List ℤ)) (first second : List ℤ)

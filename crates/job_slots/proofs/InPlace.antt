@@ -1,9 +1,7 @@
 -- The operands of an instruction whose result is computed where it is placed.
-use Rattle.std.proofs.Common.{◌≡◌, ℕ, ℤ, ◌+◌, ◌≤◌, false, List, [], ◌∷◌, length, Some, None, refl, sym, ◌∙◌, ap}
+use Rattle.std.proofs.Common.{◌≡◌, ℕ, ℤ, ◌+◌, ◌≤◌, Bool, false, List, [], ◌∷◌, length, Some, None, refl, sym, ◌∙◌, ap}
 use Rattle.std.proofs.Common.{subst, arith}
-use Rattle.std.proofs.lemmas.Bool.{false≢true}
 use Rattle.vcode_base.specs.declared.op.Op.{Op}
-use Rattle.vcode_base.specs.declared.instr.Instr.TheVariants.{Const, Elementwise, Segmented, If, Move, Call, Return}
 use Rattle.vcode_base.specs.Instructions.{op_of}
 use Rattle.vcode_base.specs.Kinds.{HaveKinds, source_kinds, result_kinds}
 use Rattle.vcode_base.specs.Laws.{ResultsHaveNeededLengths}
@@ -13,9 +11,9 @@ use Rattle.refcounts.specs.Making.{words_at}
 use Rattle.refcounts.specs.SharedState.{IsLive}
 use Rattle.job_memory.specs.JobBlocks.{JobBlocks, own_slots, held_words}
 use Rattle.job_steps.specs.EventLaws.{IsVerified}
-use Rattle.job_steps.specs.Motions.{operand_count, top_entries}
+use Rattle.job_steps.specs.Motions.{operand_count}
 use Rattle.job_steps.specs.Questions.{Question}
-use Rattle.job_steps.specs.States.{Task, StackEntry, words_of}
+use Rattle.job_steps.specs.States.{Task, StackEntry}
 use Rattle.job_steps.specs.StepLaws.{CanBegin, StepsCanBegin}
 use Rattle.job_steps.specs.Steps.{next_item, question_of, sources_of, flag_of}
 use Rattle.job_steps.specs.Tickets.{question_by}
@@ -29,17 +27,7 @@ use Rattle.job_slots.proofs.EarlyEnds.{same_question}
 use Rattle.job_slots.proofs.Held.{are_there}
 use Rattle.job_slots.proofs.Instructions.{length_by_kinds}
 use Rattle.job_slots.proofs.Operands.{All-top, deep_enough, same_top}
-
--- what an instruction reads from the stack
-read_on_top : (item : Item) (stack : List StackEntry) → is_constant (op_of item) ≡ false →
-    sources_of item stack ≡ words_of (top_entries (operand_count (op_of item)) stack)
-read_on_top (Const k list) stack reads = absurd (false≢true (sym reads))
-read_on_top (Elementwise e) stack reads = refl
-read_on_top (Segmented s) stack reads = refl
-read_on_top If stack reads = refl
-read_on_top (Move motion lower upper) stack reads = refl
-read_on_top (Call name) stack reads = refl
-read_on_top Return stack reads = refl
+use Rattle.job_slots.proofs.Readings.{read_on_top}
 
 module _ (law : StepsCanBegin ℕ) (job : ℕ) (blocks : JobBlocks) (task : Task) (t : TrackState ℕ)
     (run : IsRunningSlot (own_slots job blocks) task t) (verified : IsVerified task) (op : Op) (line : ℕ)
@@ -67,13 +55,15 @@ module _ (law : StepsCanBegin ℕ) (job : ℕ) (blocks : JobBlocks) (task : Task
       ap (λ (q : Question). q.sources) (sym same)
       ∙ (on_top ∙ ap (λ (o : Op). operands_in blocks o t.cells) op_is)
 
-  pub is_placeable : (p : Placement) → HaveKinds (source_kinds op) sources → shape op sources ≡ None →
-      length (result_kinds op) ≡ 1 → need op sources ≡ (p.len, 0) → p.flag ≡ flag_of (question_by op sources) →
-      held_words job blocks + p.len ≤ task.limits.words → IsPlaceable task job blocks t op p
-  is_placeable p kinds shaped one needs flag room = record {
+  pub is_placeable : (len : ℕ) (flag : Bool) → HaveKinds (source_kinds op) sources → shape op sources ≡ None →
+      length (result_kinds op) ≡ 1 → need op sources ≡ (len, 0) → flag ≡ flag_of (question_by op sources) →
+      held_words job blocks + len ≤ task.limits.words →
+      IsPlaceable task job blocks t (record { op = op; line = line; len = len; flag = flag })
+  is_placeable len flag kinds shaped one needs flag_is room = record {
     question = next.question ∙ ap (λ (s : List (List ℤ)). Some (question_by op s)) operands_are;
-    flag_is = flag ∙ ap (λ (s : List (List ℤ)). flag_of (question_by op s)) operands_are;
-    can = subst (λ (s : List (List ℤ)). CanCompute op s p.len) operands_are
+    line_is = next.line_is;
+    flag_is = flag_is ∙ ap (λ (s : List (List ℤ)). flag_of (question_by op s)) operands_are;
+    can = subst (λ (s : List (List ℤ)). CanCompute op s len) operands_are
         (record { kinds = kinds; shaped = shaped; needs = needs });
     one = one;
     deep =
@@ -92,10 +82,11 @@ no_word [] none = refl
 no_word (w ∷ ws) none = absurd (omega (arith, none))
 
 -- one result is all that the instruction answers
-pub answered : ResultsHaveNeededLengths → (task : Task) (job : ℕ) (blocks : JobBlocks) (t : TrackState ℕ) (op : Op)
-    (p : Placement) → IsPlaceable task job blocks t op p → (words : List ℤ) →
-    IsResult op (operands_in blocks op t.cells) words → IsAnswered task t.executed op p.flag words []
-answered lengths task job blocks t op p placeable words is =
+pub answered : ResultsHaveNeededLengths → (task : Task) (job : ℕ) (blocks : JobBlocks) (t : TrackState ℕ)
+    (p : Placement) → IsPlaceable task job blocks t p → (words : List ℤ) →
+    IsResult p.op (operands_in blocks p.op t.cells) words → IsAnswered task t.executed p.op p.flag words []
+answered lengths task job blocks t p placeable words is =
+    let op = p.op in
     let sources = operands_in blocks op t.cells in
     let needed = lengths op sources (length_by_kinds _ sources placeable.can.kinds) placeable.can.shaped is.no_fault in
     let second : length (second_result_of op sources) ≡ 0 =

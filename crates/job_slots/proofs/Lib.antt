@@ -20,6 +20,7 @@ mod OneGo
 mod Operands
 mod Pictures
 mod Placed
+mod Readings
 mod Results
 mod Reversed
 mod Running

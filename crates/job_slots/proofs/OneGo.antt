@@ -1,5 +1,5 @@
 -- The standing in which a step in one go leaves a job.
-use Rattle.std.proofs.Common.{◌≡◌, ℕ, ◌+◌, ◌≤◌, List, Option, Some, None, sym, ◌∙◌, ap}
+use Rattle.std.proofs.Common.{◌≡◌, ℕ, ◌+◌, ◌≤◌, List, Option, Some, None, sym, ◌∙◌, ap, subst}
 use Rattle.vcode_base.specs.declared.fault.DataFault.{DataFault}
 use Rattle.vcode_base.specs.declared.outcome.Outcome.TheVariants.{Fault}
 use Rattle.vcode_base.specs.Meaning.{value_fault}
@@ -14,6 +14,7 @@ use Rattle.job_steps.specs.Standings.{Standing, Live, InFlight, Ended}
 use Rattle.job_steps.specs.States.{Task}
 use Rattle.job_steps.specs.Steps.{Ending}
 use Rattle.job_steps.specs.Tracks.{TrackState}
+use Rattle.job_slots.specs.declared.answer.Stepped.{Stepped}
 use Rattle.job_slots.specs.declared.answer.Stepped.TheVariants as stepped
 use Rattle.job_slots.specs.declared.status.Status.{Status}
 use Rattle.job_slots.specs.declared.status.Status.TheVariants as status
@@ -110,16 +111,15 @@ module _ (number words : ℕ) (blocks : JobBlocks) (task : Task) (slot : SlotSta
       standing_of new ≡ standing_after_step number task (standing_of slot)
   stands_after new early second = sym (after early (standing_of new) (sym second))
 
-  -- the job ends in place of its next instruction
-  ends : (ending : Ending) → EndsByStep number task n slot.trace.peak ending →
-      standing_after_step number task (standing_of slot) ≡ Ended
-  ends ending by = ap (standing_after_step number task) stands_live ∙ by.standing
+-- ---- what is so of a live standing is so of the slot's
 
-  pub is_halted : task.limits.words ≤ words → (ending : Ending) → EndsByStep number task n slot.trace.peak ending →
-      Steps number words task (standing_of slot) stepped.Ended
-  is_halted enough ending by = (has_room enough, ends ending by)
+pub as_live : (number words : ℕ) (task : Task) (slot : SlotState) (answer : Stepped) → slot.status ≡ status.Live →
+    Steps number words task (Live slot.trace.executed) answer → Steps number words task (standing_of slot) answer
+as_live number words task slot answer live steps =
+    subst (λ (s : Status). Steps number words task (standing_by s slot.trace.executed) answer) (sym live) steps
 
-  pub stands_halted : (new : SlotState) (ending : Ending) → EndsByStep number task n slot.trace.peak ending →
-      new.status ≡ status.Ended → standing_of new ≡ standing_after_step number task (standing_of slot)
-  stands_halted new ending by ended =
-      ap (λ (s : Status). standing_by s new.trace.executed) ended ∙ sym (ends ending by)
+pub after_live : (number : ℕ) (task : Task) (slot new : SlotState) → slot.status ≡ status.Live →
+    standing_of new ≡ standing_after_step number task (Live slot.trace.executed) →
+    standing_of new ≡ standing_after_step number task (standing_of slot)
+after_live number task slot new live is =
+    is ∙ ap (λ (s : Status). standing_after_step number task (standing_by s slot.trace.executed)) (sym live)

@@ -1,16 +1,11 @@
 -- The standing in which a begin leaves a job.
 use Rattle.std.proofs.Common.{◌≡◌, ◌≤◌, ℕ, cond, Option, Some, None, sym, ◌∙◌, ap, subst}
 use Rattle.std.specs.Prelude.{is_some}
-use Rattle.vcode_base.specs.declared.op.Op.{Op}
-use Rattle.vcode_base.specs.Instructions.{op_of}
-use Rattle.vcode_reader.specs.Trees.{CodeLine}
 use Rattle.job_memory.specs.JobBlocks.{JobBlocks, HasGrant, own_slots}
 use Rattle.job_steps.specs.declared.event.Event.TheVariants as event
 use Rattle.job_steps.specs.EventLaws.{EarlyEndsEnd}
 use Rattle.job_steps.specs.Events.{next_standing, standing_after_begin}
-use Rattle.job_steps.specs.Frames.{instruction_in}
 use Rattle.job_steps.specs.Runs.{state_after}
-use Rattle.job_steps.specs.StepLaws.{StepsCanBegin}
 use Rattle.job_steps.specs.Standings.{Standing, Live, InFlight, Ended}
 use Rattle.job_steps.specs.States.{Task, State}
 use Rattle.job_steps.specs.Steps.{Ending, Progress, Running}
@@ -20,8 +15,7 @@ use Rattle.job_slots.specs.declared.status.Status.TheVariants as status
 use Rattle.job_slots.specs.Slots.{SlotState, Shows, ShowsAs, IsRunningSlot, standing_of, standing_by}
 use Rattle.job_slots.specs.Slots.{grant_by}
 use Rattle.job_slots.specs.Answers.{IsTicketOf, IsAskedOf, IsEnding, question_at, early_end_at, or_same}
-use Rattle.job_slots.specs.Lines.{IsLineOf, IsOpOfNext}
-use Rattle.job_slots.proofs.Begins.{can_begin, early_end_when, op_of_line}
+use Rattle.job_slots.proofs.Begins.{early_end_when}
 use Rattle.job_slots.proofs.EarlyEnds.{is_ending}
 
 -- the slot with a step that has begun
@@ -41,15 +35,6 @@ pub runs_inside : (number : ℕ) (blocks : JobBlocks) (task : Task) (inside slot
 runs_inside number blocks task inside slot same shows live =
     subst (λ (s : SlotState). IsRunningSlot (own_slots number blocks) task s.trace) (sym same)
     (runs number blocks task slot shows live)
-
--- its next instruction is that of the line of the next one
-pub is_op_of_line : StepsCanBegin ℕ → (number : ℕ) (blocks : JobBlocks) (task : Task) (inside slot : SlotState) →
-    inside ≡ slot → Shows number blocks task slot → slot.status ≡ status.Live → (line : CodeLine) (op : Op) →
-    IsLineOf task inside.trace line → IsOpOfNext task slot.trace op → op ≡ op_of (instruction_in line.item)
-is_op_of_line law number blocks task inside slot same shows live line op is_line is_next =
-    let run = runs_inside number blocks task inside slot same shows live in
-    op_of_line task inside.trace run.state line op (can_begin law _ task inside.trace run shows.verified) is_line
-    (subst (λ (s : SlotState). IsOpOfNext task s.trace op) (sym same) is_next)
 
 pub has_grant : (number : ℕ) (blocks : JobBlocks) (task : Task) (slot : SlotState) → Shows number blocks task slot →
     slot.status ≡ status.Live → HasGrant blocks number

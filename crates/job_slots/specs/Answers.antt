@@ -228,7 +228,7 @@ after_stepped stepped.SmallDesk old new = old
 
 -- ---- a run
 
--- so many steps lead a job from one standing to another, and it was live at each
+-- `count` steps lead a job from one standing to another, and it was live at each
 abbrev pub StepsLead : (count job : ℕ) → Task → (old new : Standing) → Type 0
 StepsLead zero job task old new = new ≡ old
 StepsLead (suc count) job task old new =

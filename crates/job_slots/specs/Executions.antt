@@ -15,14 +15,21 @@ use Rattle.job_steps.specs.States.{Task, State}
 use Rattle.job_steps.specs.Steps.{held_at}
 use Rattle.job_steps.specs.Tracks.{TrackState, IsDeep, CanFollow, Advances}
 use Rattle.verifier.specs.Typed.{TypedProgram}
+use Rattle.job_slots.specs.declared.commit.Made.{Made}
 use Rattle.job_slots.specs.declared.commit.NewBlocks.{NewBlocks}
-use Rattle.verifier.specs.Typed.{TypedProgram}
 use Rattle.job_slots.specs.declared.commit.NewBlocks.TheVariants.{Without, One, Two}
 use Rattle.job_slots.specs.Answers.{IsAnswered}
-use Rattle.job_slots.specs.Commits.{CanTake, IsExchanged, blocks_after_taking, held_under, moved_ids, taken_ids}
+use Rattle.job_slots.specs.Commits.{CanTake, CountsAs, IsExchanged, blocks_after_taking, held_under, moved_ids}
+use Rattle.job_slots.specs.Commits.{taken_ids}
 use Rattle.job_memory.specs.JobBlocks.{JobBlocks, AreOwn, ChangesOnlyOf, own_slots, with_block}
 use Rattle.job_slots.specs.Holdings.{HoldStack}
 use Rattle.job_slots.specs.Slots.{IsFlyingSlot, IsAfter}
+
+-- this is what the next instruction of a job makes, and its words count as those that are held and needed
+pub record IsMade (task : Task) (job : ℕ) (blocks : JobBlocks) (t : TrackState ℕ) (made : Made) : Type 0 where
+  pub answered : IsAnswered task t.executed made.op made.flag made.first.now made.second.now
+  pub counted : CountsAs (held_under task.rule job made.op t.cells blocks + length made.first.now
+      + length made.second.now) t.peak made.words
 
 -- the numbers of the blocks of results, from the bottom up
 abbrev pub ids_in : NewBlocks → List ℕ

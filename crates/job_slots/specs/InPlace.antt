@@ -18,7 +18,7 @@ use Rattle.job_steps.specs.declared.event.Event.TheVariants as event
 use Rattle.job_steps.specs.Events.{next_standing}
 use Rattle.job_steps.specs.Standings.{Live, Ended}
 use Rattle.job_slots.specs.declared.in_place.Placement.{Placement}
-use Rattle.job_slots.specs.Answers.{question_at}
+use Rattle.job_slots.specs.Answers.{line_at, question_at}
 use Rattle.job_slots.specs.Commits.{taken_ids}
 use Rattle.job_slots.specs.Slots.{SlotState, standing_of}
 
@@ -41,16 +41,16 @@ pub record IsResult (op : Op) (sources : List (List ℤ)) (words : List ℤ) : T
 abbrev pub operands_in : JobBlocks → Op → List ℕ → List (List ℤ)
 operands_in blocks op cells = map (words_at blocks.memory) (taken_ids op cells)
 
--- this instruction is the next of the job, its operands are on the stack, and the job has room for its one result of so
+-- the instruction is the next of the job, its operands are on the stack, and the job has room for its one result of so
 -- many words beside them
-pub record IsPlaceable (task : Task) (job : ℕ) (blocks : JobBlocks) (t : TrackState ℕ) (op : Op) (p : Placement)
-    : Type 0 where
-  pub question : question_at task t.executed ≡ Some (question_by op (operands_in blocks op t.cells))
-  pub flag_is : p.flag ≡ flag_of (question_by op (operands_in blocks op t.cells))
-  pub can : CanCompute op (operands_in blocks op t.cells) p.len
-  pub one : length (result_kinds op) ≡ 1
-  pub deep : operand_count op ≤ length t.cells
-  pub live : AreLive blocks.memory (taken_ids op t.cells)
+pub record IsPlaceable (task : Task) (job : ℕ) (blocks : JobBlocks) (t : TrackState ℕ) (p : Placement) : Type 0 where
+  pub question : question_at task t.executed ≡ Some (question_by p.op (operands_in blocks p.op t.cells))
+  pub line_is : line_at task t.executed ≡ Some p.line
+  pub flag_is : p.flag ≡ flag_of (question_by p.op (operands_in blocks p.op t.cells))
+  pub can : CanCompute p.op (operands_in blocks p.op t.cells) p.len
+  pub one : length (result_kinds p.op) ≡ 1
+  pub deep : operand_count p.op ≤ length t.cells
+  pub live : AreLive blocks.memory (taken_ids p.op t.cells)
   pub room : held_words job blocks + p.len ≤ task.limits.words
 
 -- the instruction is executed, and the job goes on or has returned

@@ -10,26 +10,26 @@ ghost use Rattle.job_steps.specs.States.{ruled};
 ghost use Rattle.job_slots.specs.Copies.{AreCopies};
 ghost use Rattle.job_slots.specs.Slots.{HasReturned};
 
+use crate::turn::Turn;
 use block_memory::BlockId;
 use job_memory::JobMemory;
 use job_steps::laws::{each_ends, results_have_kinds};
 use job_steps::{Job, Track};
 use std::alloc::{AllocError, Allocator};
-use vcode_base::{Rule, Sequence, SharedWords, Value, Values};
+use vcode_base::{Sequence, SharedWords, Value, Values};
 
 /// The results, from the bottom of the stack up. The words of each block are copied once: results that have the same
 /// block share them.
 pub(crate) fn results<A: Allocator + Clone>(
     alloc: A,
-    rule: Rule,
+    turn: Turn,
     job: &Job<A>,
     track: &Track<BlockId, A>,
-    number: usize,
     blocks: &JobMemory<A>,
 ) -> Result<Values<A>, AllocError>
-    requires returned { HasReturned (own_slots number blocks.now) (ruled rule job.now) track.now }
-    requires verified { IsVerified (ruled rule job.now) }
-    ensures { IfOk result (λ values. outcome (ruled rule job.now) ≡ Returned values) }
+    requires returned { HasReturned (own_slots turn.number blocks.now) (ruled turn.rule job.now) track.now }
+    requires verified { IsVerified (ruled turn.rule job.now) }
+    ensures { IfOk result (λ values. outcome (ruled turn.rule job.now) ≡ Returned values) }
 {
     results_have_kinds();
     each_ends();

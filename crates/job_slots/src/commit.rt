@@ -1,8 +1,9 @@
 //! What an instruction that is executed does to the cells and the blocks.
 
-ghost use Rattle.std.specs.Prelude.{◌≡◌, ◌+◌, ◌<◌, ◌≤◌, Bool, length, reverse, Some, IfSome};
+ghost use Rattle.std.specs.Prelude.{◌≡◌, ◌+◌, ◌<◌, ◌≤◌, length, reverse, Some, IfSome, MatchResult};
 ghost use Rattle.vcode_base.specs.declared.rule.Rule.{Rule};
 ghost use Rattle.vcode_base.specs.Kinds.{result_kinds};
+ghost use Rattle.vcode_base.specs.Meaning.{value_fault};
 ghost use Rattle.refcounts.specs.SharedState.{AreLive, block_count, empty_slot, occurrences, slot_at};
 ghost use Rattle.job_memory.specs.JobBlocks.{IsJob, HasGrant, AreOwn, ChangesOnlyOf, grant_of, words_of, own_slots};
 ghost use Rattle.job_memory.specs.JobBlocks.{held_words, with_block};
@@ -10,22 +11,23 @@ ghost use Rattle.job_steps.specs.EventLaws.{IsVerified};
 ghost use Rattle.job_steps.specs.Motions.{operand_count, top_entries};
 ghost use Rattle.job_steps.specs.Runs.{state_after};
 ghost use Rattle.job_steps.specs.States.{ruled};
-ghost use Rattle.job_steps.specs.Tracks.{IsDeep, Advances};
-ghost use Rattle.job_slots.specs.Commits.{CanTake, CountsAs, IsExchanged, blocks_after_taking, blocks_beside, held_under};
+ghost use Rattle.job_steps.specs.Tracks.{IsDeep};
+ghost use Rattle.job_slots.specs.Commits.{CanTake, IsExchanged, blocks_after_taking, blocks_beside, held_under};
 ghost use Rattle.job_slots.specs.Commits.{moved_ids, taken_ids};
-ghost use Rattle.job_slots.specs.Executions.{CanGoPast, CanSettle, CanShare, HasSettled, ids_in};
+ghost use Rattle.job_slots.specs.Executions.{CanSettle, CanShare, HasSettled, IsMade, ids_in};
 ghost use Rattle.job_slots.specs.Slots.{IsFlyingSlot, IsAfter};
-ghost use Rattle.job_slots.specs.Answers.{IsAnswered};
+ghost use Rattle.job_slots.specs.Answers.{question_at};
 
 use crate::class::Class;
 use crate::execution::steps_execute;
+use crate::turn::Turn;
 use block_memory::BlockId;
 use job_memory::JobMemory;
 use job_memory::laws::releases_change_only_their_job;
-use job_steps::{Job, Track};
+use job_steps::{Filled, Job, Track};
 use refcounts::laws::releases_only_free;
 use std::alloc::Allocator;
-use vcode_base::{Op, Rule, StackMove};
+use vcode_base::{DataFault, Op, Rule, StackMove};
 
 /// The blocks of an instruction's results, from the bottom of the stack up.
 #[derive(Clone, Copy)]
@@ -49,137 +51,151 @@ impl NewBlocks {
     }
 }
 
-/// Executes the next instruction of a job that runs, whose results are these words. `words` are held and needed at it.
-pub(crate) fn execute<C: Class, A: Allocator>(
-    rule: Rule,
-    job: &Job<A>,
-    track: &mut Track<BlockId, A>,
-    number: usize,
-    blocks: &mut JobMemory<A>,
-    op: Op,
-    flag: bool,
-    first: &[i64],
-    second: &[i64],
-    words: usize,
-)
-    requires flying { IsFlyingSlot (own_slots number blocks.old) (ruled rule job.now) track.old }
-    requires verified { IsVerified (ruled rule job.now) }
-    requires is_job { IsJob blocks.old number }
-    requires grant { grant_of blocks.old number ≡ Some job.now.limits.words }
-    requires numbers { block_count blocks.old.memory + 2 ≤ length blocks.old.memory.slots }
-    requires answered { IsAnswered (ruled rule job.now) track.old.executed op flag first.now second.now }
-    requires words { CountsAs (held_under rule number op track.old.cells blocks.old
-        + length first.now + length second.now) track.old.peak words }
-    ensures after { IsAfter (own_slots number blocks.new) (ruled rule job.now) track.new
-        (state_after (ruled rule job.now) (track.old.executed + 1)) }
-    ensures limits { track.new.limits ≡ track.old.limits }
-    ensures others { ChangesOnlyOf number blocks.old blocks.new }
-    ensures same_grant { grant_of blocks.new number ≡ grant_of blocks.old number }
-{
-    steps_execute();
-    let _used = blocks.used();
-    let results = settle::<C, A>(rule, track, number, blocks, op, first, second);
-    go_past(job, track, op, flag, results.as_slice(), words);
+/// What an instruction makes: its results, and the words that are held and needed at it.
+#[derive(Clone, Copy)]
+pub(crate) struct Made<'a> {
+    pub(crate) op: Op,
+    /// Whether the first word of the first operand is other than 0.
+    pub(crate) flag: bool,
+    pub(crate) first: &'a [i64],
+    pub(crate) second: &'a [i64],
+    pub(crate) words: usize,
 }
 
-/// The words that are held and needed at the next instruction of a job that runs, whose results are these words.
-pub(crate) fn words_in_flight<A: Allocator>(
-    rule: Rule,
+/// What the step in flight, which was computed, makes.
+///
+/// # Errors
+///
+/// The fault that the values of its operands have.
+pub(crate) fn made_in_flight<'a, A: Allocator>(
+    turn: Turn,
     job: &Job<A>,
     track: &Track<BlockId, A>,
-    number: usize,
     blocks: &JobMemory<A>,
-    op: Op,
-    first: &[i64],
-    second: &[i64],
-) -> usize
-    requires flying { IsFlyingSlot (own_slots number blocks.now) (ruled rule job.now) track.now }
-    requires verified { IsVerified (ruled rule job.now) }
-    requires has_grant { HasGrant blocks.now number }
-    requires answered { (flag : Bool)
-        × IsAnswered (ruled rule job.now) track.now.executed op flag first.now second.now }
-    ensures { result ≡ held_under rule number op track.now.cells blocks.now + length first.now + length second.now }
+    filled: &'a Filled<A>,
+) -> Result<Made<'a>, DataFault>
+    requires flying { IsFlyingSlot (own_slots turn.number blocks.now) (ruled turn.rule job.now) track.now }
+    requires verified { IsVerified (ruled turn.rule job.now) }
+    requires has_grant { HasGrant blocks.now turn.number }
+    requires asked { question_at (ruled turn.rule job.now) track.now.executed ≡ Some filled.now.question }
+    ensures { MatchResult result (IsMade (ruled turn.rule job.now) turn.number blocks.now track.now)
+        (λ fault. value_fault filled.now.question.op filled.now.question.sources ≡ Some fault) }
+{
+    steps_execute();
+    match filled.answer() {
+        Err(fault) => Err(fault),
+        Ok((first, second)) => {
+            let _used = blocks.used();
+            let (op, flag) = (filled.op(), filled.flag());
+            let words = held_under(turn, track, blocks, op) + first.len() + second.len();
+            Ok(Made {
+                op,
+                flag,
+                first,
+                second,
+                words,
+            })
+        }
+    }
+}
+
+/// Executes the next instruction of a job that runs, which makes this.
+pub(crate) fn execute<C: Class, A: Allocator>(
+    turn: Turn,
+    job: &Job<A>,
+    track: &mut Track<BlockId, A>,
+    blocks: &mut JobMemory<A>,
+    made: Made<'_>,
+)
+    requires flying { IsFlyingSlot (own_slots turn.number blocks.old) (ruled turn.rule job.now) track.old }
+    requires verified { IsVerified (ruled turn.rule job.now) }
+    requires is_job { IsJob blocks.old turn.number }
+    requires grant { grant_of blocks.old turn.number ≡ Some job.now.limits.words }
+    requires numbers { block_count blocks.old.memory + 2 ≤ length blocks.old.memory.slots }
+    requires made { IsMade (ruled turn.rule job.now) turn.number blocks.old track.old made }
+    ensures after { IsAfter (own_slots turn.number blocks.new) (ruled turn.rule job.now) track.new
+        (state_after (ruled turn.rule job.now) (track.old.executed + 1)) }
+    ensures limits { track.new.limits ≡ track.old.limits }
+    ensures others { ChangesOnlyOf turn.number blocks.old blocks.new }
+    ensures same_grant { grant_of blocks.new turn.number ≡ grant_of blocks.old turn.number }
 {
     steps_execute();
     let _used = blocks.used();
-    held_under(rule, track, number, blocks, op) + first.len() + second.len()
+    let results = settle::<C, A>(turn, track, blocks, made);
+    track.advance(job, made.op, made.flag, results.as_slice(), made.words);
 }
 
 /// The words that count as held while an instruction's results are made: not those of the operands under the second
 /// rule, unless an entry below them has them too.
 #[inline(always)]
 pub(crate) fn held_under<A: Allocator>(
-    rule: Rule,
+    turn: Turn,
     track: &Track<BlockId, A>,
-    number: usize,
     blocks: &JobMemory<A>,
     op: Op,
 ) -> usize
-    requires has_grant { HasGrant blocks.now number }
+    requires has_grant { HasGrant blocks.now turn.number }
     requires deep { operand_count op ≤ length track.now.cells }
-    requires own { AreOwn number blocks.now (taken_ids op track.now.cells) }
-    ensures { result ≡ held_under rule number op track.now.cells blocks.now }
+    requires own { AreOwn turn.number blocks.now (taken_ids op track.now.cells) }
+    ensures { result ≡ held_under turn.rule turn.number op track.now.cells blocks.now }
 {
-    match rule {
-        Rule::First => blocks.held(number),
-        Rule::Second => blocks.held_without(number, top(track.cells(), op.operand_kinds().len())),
+    match turn.rule {
+        Rule::First => blocks.held(turn.number),
+        Rule::Second => blocks.held_without(
+            turn.number,
+            top(track.cells(), op.operand_kinds().len()),
+        ),
     }
 }
 
 /// Takes the operands of an instruction off the blocks, and places its results.
 #[tactic(auto, using(crate::proofs::Placed::same_grants))]
 fn settle<C: Class, A: Allocator>(
-    rule: Rule,
+    turn: Turn,
     track: &Track<BlockId, A>,
-    number: usize,
     blocks: &mut JobMemory<A>,
-    op: Op,
-    first: &[i64],
-    second: &[i64],
+    made: Made<'_>,
 ) -> NewBlocks
-    requires has_grant { HasGrant blocks.old number }
+    requires has_grant { HasGrant blocks.old turn.number }
     requires numbers { block_count blocks.old.memory + 2 ≤ length blocks.old.memory.slots }
-    requires two { length (result_kinds op) ≤ 2 }
-    requires room { held_under rule number op track.now.cells blocks.old + length first.now + length second.now
-        ≤ words_of (grant_of blocks.old number) }
-    requires can { CanSettle number op track.now.cells blocks.old }
-    ensures settled { (form : Rule) × HasSettled form number op first.now second.now track.now.cells (ids_in result)
-        blocks.old blocks.new }
+    requires two { length (result_kinds made.op) ≤ 2 }
+    requires room { held_under turn.rule turn.number made.op track.now.cells blocks.old
+        + length made.first.now + length made.second.now ≤ words_of (grant_of blocks.old turn.number) }
+    requires can { CanSettle turn.number made.op track.now.cells blocks.old }
+    ensures settled { (form : Rule) × HasSettled form turn.number made.entry.op made.entry.first.now
+        made.entry.second.now track.now.cells (ids_in result) blocks.old blocks.new }
     ensures grants { blocks.new.grants ≡ blocks.old.grants }
 {
-    match op.result_kinds() {
+    match made.op.result_kinds() {
         [] => {
-            take(track, number, blocks, op);
+            take(track, turn.number, blocks, made.op);
             NewBlocks::Without
         }
-        [_] => NewBlocks::One([exchange(rule, track, number, blocks, op, first)]),
-        _ => settle_two(rule, track, number, blocks, op, first, second),
+        [_] => NewBlocks::One([exchange(turn, track, blocks, made.op, made.first)]),
+        _ => settle_two(turn, track, blocks, made),
     }
 }
 
 /// The same for an instruction of two results.
 #[inline(never)]
 fn settle_two<A: Allocator>(
-    rule: Rule,
+    turn: Turn,
     track: &Track<BlockId, A>,
-    number: usize,
     blocks: &mut JobMemory<A>,
-    op: Op,
-    first: &[i64],
-    second: &[i64],
+    made: Made<'_>,
 ) -> NewBlocks
-    requires has_grant { HasGrant blocks.old number }
+    requires has_grant { HasGrant blocks.old turn.number }
     requires numbers { block_count blocks.old.memory + 2 ≤ length blocks.old.memory.slots }
-    requires two { length (result_kinds op) ≡ 2 }
-    requires room { held_under rule number op track.now.cells blocks.old + length first.now + length second.now
-        ≤ words_of (grant_of blocks.old number) }
-    requires can { CanSettle number op track.now.cells blocks.old }
-    ensures settled { (form : Rule) × HasSettled form number op first.now second.now track.now.cells (ids_in result)
-        blocks.old blocks.new }
+    requires two { length (result_kinds made.op) ≡ 2 }
+    requires room { held_under turn.rule turn.number made.op track.now.cells blocks.old
+        + length made.first.now + length made.second.now ≤ words_of (grant_of blocks.old turn.number) }
+    requires can { CanSettle turn.number made.op track.now.cells blocks.old }
+    ensures settled { (form : Rule) × HasSettled form turn.number made.entry.op made.entry.first.now
+        made.entry.second.now track.now.cells (ids_in result) blocks.old blocks.new }
     ensures grants { blocks.new.grants ≡ blocks.old.grants }
 {
-    let below = exchange(rule, track, number, blocks, op, first);
-    let top = place(number, blocks, second);
+    let below = exchange(turn, track, blocks, made.op, made.first);
+    let top = place(turn.number, blocks, made.second);
     NewBlocks::Two([below, top])
 }
 
@@ -211,23 +227,22 @@ fn take<A: Allocator>(track: &Track<BlockId, A>, number: usize, blocks: &mut Job
 /// rule. If one of them is named by nothing else and has as many words, the new block takes its number and its place.
 #[inline(always)]
 fn exchange<A: Allocator>(
-    rule: Rule,
+    turn: Turn,
     track: &Track<BlockId, A>,
-    number: usize,
     blocks: &mut JobMemory<A>,
     op: Op,
     words: &[i64],
 ) -> BlockId
-    requires has_grant { HasGrant blocks.old number }
+    requires has_grant { HasGrant blocks.old turn.number }
     requires numbers { block_count blocks.old.memory < length blocks.old.memory.slots }
     requires deep { operand_count op ≤ length track.now.cells }
-    requires own { AreOwn number blocks.old (taken_ids op track.now.cells) }
-    requires room { held_under rule number op track.now.cells blocks.old + length words.now
-        ≤ words_of (grant_of blocks.old number) }
+    requires own { AreOwn turn.number blocks.old (taken_ids op track.now.cells) }
+    requires room { held_under turn.rule turn.number op track.now.cells blocks.old + length words.now
+        ≤ words_of (grant_of blocks.old turn.number) }
     ensures exchanged { (form : Rule)
-        × IsExchanged form number (taken_ids op track.now.cells) result words.now blocks.old blocks.new }
-    ensures held { held_words number blocks.new
-        ≤ held_under rule number op track.now.cells blocks.old + length words.now }
+        × IsExchanged form turn.number (taken_ids op track.now.cells) result words.now blocks.old blocks.new }
+    ensures held { held_words turn.number blocks.new
+        ≤ held_under turn.rule turn.number op track.now.cells blocks.old + length words.now }
     ensures count { block_count blocks.new.memory ≤ block_count blocks.old.memory + 1 }
     ensures numbers { length blocks.new.memory.slots ≡ length blocks.old.memory.slots }
     ensures grants { blocks.new.grants ≡ blocks.old.grants }
@@ -236,19 +251,19 @@ fn exchange<A: Allocator>(
     releases_change_only_their_job();
     let operands = top(track.cells(), op.operand_kinds().len());
     if operands.is_empty() {
-        return place(number, blocks, words);
+        return place(turn.number, blocks, words);
     }
     if let Some(id) = dying(blocks, operands, words.len()) {
-        blocks.exchange_at(number, operands, id, words);
+        blocks.exchange_at(turn.number, operands, id, words);
         return id;
     }
-    match rule {
+    match turn.rule {
         Rule::First => {
-            let id = place(number, blocks, words);
-            blocks.release_all(number, operands);
+            let id = place(turn.number, blocks, words);
+            blocks.release_all(turn.number, operands);
             id
         }
-        Rule::Second => blocks.exchange(number, operands, words),
+        Rule::Second => blocks.exchange(turn.number, operands, words),
     }
 }
 
@@ -282,23 +297,6 @@ fn place<A: Allocator>(number: usize, blocks: &mut JobMemory<A>, words: &[i64]) 
         unreachable!()
     };
     id
-}
-
-/// The results of the next instruction take the place of its operands among the cells, and the job goes on after it.
-#[inline(always)]
-pub(crate) fn go_past<A: Allocator>(
-    job: &Job<A>,
-    track: &mut Track<BlockId, A>,
-    op: Op,
-    flag: bool,
-    results: &[BlockId],
-    words: usize,
-)
-    requires can { CanGoPast job.now.verified track.old op }
-    requires given { length results.now ≡ length (result_kinds op) }
-    ensures { Advances job.now.verified op flag results.now words track.old track.new }
-{
-    track.advance(job, op, flag, results, words);
 }
 
 /// The cells at the top, of which there are at least `count`.

@@ -1,28 +1,25 @@
 //! Computing a result where it is placed.
 
-ghost use Rattle.std.specs.Prelude.{◌≡◌, ◌+◌, ◌≤◌, length, take, false, IfSome, IfErr, OnOk, OnErr, Some};
-ghost use Rattle.vcode_base.specs.Kinds.{HaveKinds, source_kinds};
+ghost use Rattle.std.specs.Prelude.{◌≡◌, ◌+◌, ◌≤◌, ℤ, List, length, false, IfSome, IfErr, OnOk, OnErr, Some};
 ghost use Rattle.vcode_base.specs.Meaning.{value_fault};
-ghost use Rattle.vcode_base.specs.Operands.{contents};
 ghost use Rattle.refcounts.specs.SharedState.{block_count};
 ghost use Rattle.job_memory.specs.JobBlocks.{IsJob, ChangesOnlyOf, grant_of, own_slots};
 ghost use Rattle.job_steps.specs.EventLaws.{IsVerified};
 ghost use Rattle.job_steps.specs.Runs.{state_after};
 ghost use Rattle.job_steps.specs.States.{ruled};
-ghost use Rattle.job_slots.specs.Answers.{IsNext};
 ghost use Rattle.job_slots.specs.InPlace.{IsPlaceable, is_constant, operands_in, words_by};
 ghost use Rattle.job_slots.specs.Needs.{IsReady};
 ghost use Rattle.job_slots.specs.Slots.{IsAfter, IsFlyingSlot, IsRunningSlot};
 
-use crate::commit::{go_past, top};
+use crate::commit::top;
 use crate::execution::steps_execute;
-use crate::next::Next;
-use crate::ticket::Needs;
+use crate::ticket::Ready;
+use crate::turn::Turn;
 use block_memory::{BlockId, Writer};
 use job_memory::JobMemory;
 use job_memory::laws::releases_change_only_their_job;
 use job_steps::laws::steps_can_begin;
-use job_steps::{Job, Track, fill, flag};
+use job_steps::{Job, Track, fill};
 use refcounts::laws::releases_only_free;
 use std::alloc::Allocator;
 use vcode_base::laws::results_have_needed_lengths;
@@ -31,11 +28,14 @@ use vcode_base::{DataFault, Op, Rule};
 /// A result of fewer words is computed on the desk: to copy it takes less time than to look for the operands once more.
 const LEAST: usize = 512;
 
-/// How an instruction computes its one result where it is placed: how many words the result has, and whether the first
-/// word of the first operand is other than 0.
+/// How an instruction computes its one result where it is placed.
 #[derive(Clone, Copy)]
 pub(crate) struct Placement {
+    pub(crate) op: Op,
+    pub(crate) line: u64,
+    /// How many words the result has.
     pub(crate) len: usize,
+    /// Whether the first word of the first operand is other than 0.
     pub(crate) flag: bool,
 }
 
@@ -67,95 +67,68 @@ impl Writer for Computation {
 /// words, if its operand is not on the stack, or if the job's words have no room for the result beside its operands.
 #[inline(always)]
 pub(crate) fn placement_of<A: Allocator>(
-    rule: Rule,
+    turn: Turn,
     job: &Job<A>,
     track: &Track<BlockId, A>,
-    number: usize,
     blocks: &JobMemory<A>,
-    next: &Next<'_>,
-    needs: Needs,
+    ready: Ready,
 ) -> Option<Placement>
-    requires running { IsRunningSlot (own_slots number blocks.now) (ruled rule job.now) track.now }
-    requires verified { IsVerified (ruled rule job.now) }
-    requires is_job { IsJob blocks.now number }
-    requires next { IsNext (ruled rule job.now) track.now.executed next.now.op next.now.line
-        (contents (take next.now.operands.count next.now.operands.lists)) }
-    requires kinds { HaveKinds (source_kinds next.now.op)
-        (contents (take next.now.operands.count next.now.operands.lists)) }
-    requires ready { IsReady (ruled rule job.now) number blocks.now track.now next.now.op
-        (contents (take next.now.operands.count next.now.operands.lists)) needs }
-    ensures { IfSome result (IsPlaceable (ruled rule job.now) number blocks.now track.now next.now.op) }
+    requires running { IsRunningSlot (own_slots turn.number blocks.now) (ruled turn.rule job.now) track.now }
+    requires verified { IsVerified (ruled turn.rule job.now) }
+    requires is_job { IsJob blocks.now turn.number }
+    requires ready { (sources : List (List ℤ))
+        × IsReady (ruled turn.rule job.now) turn.number blocks.now track.now sources ready }
+    ensures { IfSome result (IsPlaceable (ruled turn.rule job.now) turn.number blocks.now track.now) }
 {
-    if is_short(next) {
-        return None;
-    }
-    placement_of_long(rule, job, track, number, blocks, next, needs)
-}
-
-/// Whether it is seen at once that an instruction has no result of many words from the stack.
-#[inline(always)]
-fn is_short(next: &Next<'_>) -> bool {
-    match next.op {
-        Op::Elementwise(_) => match next.operands.as_slice().first() {
-            Some(words) => words.len() < LEAST,
-            None => true,
-        },
-        Op::Segmented(_) => false,
-        Op::Const(_) | Op::If | Op::Move(..) | Op::Call | Op::Return => true,
+    match ready.op {
+        Op::Elementwise(_) | Op::Segmented(_) => placement_of_long(turn, job, track, blocks, ready),
+        Op::Const(_) | Op::If | Op::Move(..) | Op::Call | Op::Return => None,
     }
 }
 
-/// The same, if the instruction may have such a result.
+/// The same for an instruction of a class that may have such a result.
 #[inline(always)]
 fn placement_of_long<A: Allocator>(
-    rule: Rule,
+    turn: Turn,
     job: &Job<A>,
     track: &Track<BlockId, A>,
-    number: usize,
     blocks: &JobMemory<A>,
-    next: &Next<'_>,
-    needs: Needs,
+    ready: Ready,
 ) -> Option<Placement>
-    requires running { IsRunningSlot (own_slots number blocks.now) (ruled rule job.now) track.now }
-    requires verified { IsVerified (ruled rule job.now) }
-    requires is_job { IsJob blocks.now number }
-    requires next { IsNext (ruled rule job.now) track.now.executed next.now.op next.now.line
-        (contents (take next.now.operands.count next.now.operands.lists)) }
-    requires kinds { HaveKinds (source_kinds next.now.op)
-        (contents (take next.now.operands.count next.now.operands.lists)) }
-    requires ready { IsReady (ruled rule job.now) number blocks.now track.now next.now.op
-        (contents (take next.now.operands.count next.now.operands.lists)) needs }
-    ensures { IfSome result (IsPlaceable (ruled rule job.now) number blocks.now track.now next.now.op) }
+    requires running { IsRunningSlot (own_slots turn.number blocks.now) (ruled turn.rule job.now) track.now }
+    requires verified { IsVerified (ruled turn.rule job.now) }
+    requires is_job { IsJob blocks.now turn.number }
+    requires ready { (sources : List (List ℤ))
+        × IsReady (ruled turn.rule job.now) turn.number blocks.now track.now sources ready }
+    requires no_list { is_constant ready.op ≡ false }
+    ensures { IfSome result (IsPlaceable (ruled turn.rule job.now) turn.number blocks.now track.now) }
 {
     steps_can_begin::<BlockId>();
-    if is_constant(next.op) {
-        return None;
-    }
-    let [_] = next.op.result_kinds() else {
-        return None;
-    };
+    let Ready {
+        op,
+        line,
+        flag,
+        needs,
+    } = ready;
     let len = needs.first as usize;
     if len < LEAST {
         return None;
     }
+    let [_] = op.result_kinds() else {
+        return None;
+    };
     if needs.second != 0 {
         return None;
     }
-    if job.limits().words < blocks.held(number).saturating_add(len) {
+    if job.limits().words < blocks.held(turn.number).saturating_add(len) {
         return None;
     }
-    let flag = flag(next.operands.as_slice());
-    Some(Placement { len, flag })
-}
-
-/// Whether it is `CONST`.
-fn is_constant(op: Op) -> bool
-    ensures { result ≡ is_constant op }
-{
-    match op {
-        Op::Const(_) => true,
-        _ => false,
-    }
+    Some(Placement {
+        op,
+        line,
+        len,
+        flag,
+    })
 }
 
 /// Executes the next instruction of a job that runs, whose result is computed where it is placed.
@@ -164,42 +137,40 @@ fn is_constant(op: Op) -> bool
 ///
 /// The fault that the values of the operands have. Nothing changes then.
 pub(crate) fn execute_in_place<A: Allocator>(
-    rule: Rule,
+    turn: Turn,
     job: &Job<A>,
     track: &mut Track<BlockId, A>,
-    number: usize,
     blocks: &mut JobMemory<A>,
-    op: Op,
     placement: Placement,
 ) -> Result<(), DataFault>
-    requires flying { IsFlyingSlot (own_slots number blocks.old) (ruled rule job.now) track.old }
-    requires verified { IsVerified (ruled rule job.now) }
-    requires is_job { IsJob blocks.old number }
-    requires grant { grant_of blocks.old number ≡ Some job.now.limits.words }
+    requires flying { IsFlyingSlot (own_slots turn.number blocks.old) (ruled turn.rule job.now) track.old }
+    requires verified { IsVerified (ruled turn.rule job.now) }
+    requires is_job { IsJob blocks.old turn.number }
+    requires grant { grant_of blocks.old turn.number ≡ Some job.now.limits.words }
     requires numbers { block_count blocks.old.memory + 2 ≤ length blocks.old.memory.slots }
-    requires placeable { IsPlaceable (ruled rule job.now) number blocks.old track.old op placement }
-    ensures after { OnOk result (IsAfter (own_slots number blocks.new) (ruled rule job.now) track.new
-        (state_after (ruled rule job.now) (track.old.executed + 1))) }
+    requires placeable { IsPlaceable (ruled turn.rule job.now) turn.number blocks.old track.old placement }
+    ensures after { OnOk result (IsAfter (own_slots turn.number blocks.new) (ruled turn.rule job.now) track.new
+        (state_after (ruled turn.rule job.now) (track.old.executed + 1))) }
     ensures limits { track.new.limits ≡ track.old.limits }
-    ensures others { OnOk result (ChangesOnlyOf number blocks.old blocks.new) }
-    ensures same_grant { grant_of blocks.new number ≡ grant_of blocks.old number }
+    ensures others { OnOk result (ChangesOnlyOf turn.number blocks.old blocks.new) }
+    ensures same_grant { grant_of blocks.new turn.number ≡ grant_of blocks.old turn.number }
     ensures unchanged { OnErr result ((track.new ≡ track.old) × (blocks.new ≡ blocks.old)) }
     ensures fault { IfErr result (λ fault.
-        value_fault op (operands_in blocks.old op track.old.cells) ≡ Some fault) }
+        value_fault placement.op (operands_in blocks.old placement.op track.old.cells) ≡ Some fault) }
 {
-    let Placement { len, flag } = placement;
+    let Placement { op, len, flag, .. } = placement;
     steps_execute();
     results_have_needed_lengths();
     releases_only_free();
     releases_change_only_their_job();
     let _used = blocks.used();
-    let held = blocks.held(number);
+    let held = blocks.held(turn.number);
     let operands = top(track.cells(), op.operand_kinds().len());
-    match blocks.place_with(number, len, operands, &Computation { op }) {
+    match blocks.place_with(turn.number, len, operands, &Computation { op }) {
         Ok(id) => {
-            blocks.release_all(number, operands);
-            let words = words_by(rule, held + len, blocks.held(number));
-            go_past(job, track, op, flag, &[id], words);
+            blocks.release_all(turn.number, operands);
+            let words = words_by(turn.rule, held + len, blocks.held(turn.number));
+            track.advance(job, op, flag, &[id], words);
             Ok(())
         }
         Err(fault) => Err(fault),

@@ -18,7 +18,9 @@ mod next;
 mod slot;
 mod status;
 mod ticket;
+mod turn;
 
 pub use answer::{Begun, Finished, Stepped};
 pub use slot::Slot;
 pub use status::Status;
+pub use turn::Turn;

@@ -17,14 +17,15 @@ ghost use Rattle.job_steps.specs.Steps.{sources_of};
 ghost use Rattle.job_slots.specs.Slots.{IsRunningSlot};
 ghost use Rattle.job_slots.specs.Answers.{IsNext, line_at, question_at};
 ghost use Rattle.job_slots.specs.InPlace.{is_constant};
-ghost use Rattle.job_slots.specs.Lines.{IsLineOf};
+ghost use Rattle.job_slots.specs.Lines.{IsLineOf, IsOpOfNext};
 
+use crate::turn::Turn;
 use block_memory::BlockId;
 use job_memory::JobMemory;
 use job_steps::laws::steps_can_begin;
 use job_steps::{Filled, Job, MOST_OPERANDS, Track};
 use std::alloc::Allocator;
-use vcode_base::{Instr, Instruction, Op, Rule};
+use vcode_base::{Instr, Instruction, Op};
 use vcode_reader::{CodeItem, CodeLine};
 
 /// The words of an instruction's operands from the bottom of the stack up, or of its list.
@@ -56,106 +57,82 @@ pub(crate) struct Next<'a> {
 /// The next instruction of a job that runs.
 #[inline(always)]
 pub(crate) fn read_next<'a, A: Allocator>(
-    rule: Rule,
+    turn: Turn,
     job: &'a Job<A>,
     track: &Track<BlockId, A>,
-    number: usize,
     blocks: &'a JobMemory<A>,
 ) -> Next<'a>
-    requires running { IsRunningSlot (own_slots number blocks.now) (ruled rule job.now) track.now }
-    requires verified { IsVerified (ruled rule job.now) }
-    ensures next { IsNext (ruled rule job.now) track.now.executed result.op result.line
+    requires running { IsRunningSlot (own_slots turn.number blocks.now) (ruled turn.rule job.now) track.now }
+    requires verified { IsVerified (ruled turn.rule job.now) }
+    ensures next { IsNext (ruled turn.rule job.now) track.now.executed result.op result.line
         (contents (take result.operands.count result.operands.lists)) }
     ensures kinds { HaveKinds (source_kinds result.op) (contents (take result.operands.count result.operands.lists)) }
 {
-    let line = next_line(rule, job, track, number, blocks);
+    steps_can_begin::<BlockId>();
+    let line = next_line(turn, job, track, blocks);
     let op = op_of(&line);
-    next_of_list(rule, job, track, number, blocks, &line, list_of(&line), op)
+    Next {
+        op,
+        line: line.number,
+        operands: operands_of(&line, list_of(&line), op, track, blocks),
+    }
 }
 
 /// The line of the next instruction of a job that runs.
 #[inline(always)]
 pub(crate) fn next_line<'a, A: Allocator>(
-    rule: Rule,
+    turn: Turn,
     job: &'a Job<A>,
     track: &Track<BlockId, A>,
-    number: usize,
     blocks: &JobMemory<A>,
 ) -> CodeLine<'a>
-    requires running { IsRunningSlot (own_slots number blocks.now) (ruled rule job.now) track.now }
-    requires verified { IsVerified (ruled rule job.now) }
-    ensures { IsLineOf (ruled rule job.now) track.now result }
+    requires running { IsRunningSlot (own_slots turn.number blocks.now) (ruled turn.rule job.now) track.now }
+    requires verified { IsVerified (ruled turn.rule job.now) }
+    ensures { IsLineOf (ruled turn.rule job.now) track.now result }
 {
     steps_can_begin::<BlockId>();
     track.line(job.verified().program())
 }
 
-/// The next instruction of a job that runs, which is this one, of this line, and no `CONST`.
+/// The next instruction of a job that runs, which is this one, and no `CONST`.
 #[inline(always)]
 pub(crate) fn next_at<'a, A: Allocator>(
-    rule: Rule,
+    turn: Turn,
     job: &'a Job<A>,
     track: &Track<BlockId, A>,
-    number: usize,
     blocks: &'a JobMemory<A>,
-    line: &CodeLine<'_>,
     op: Op,
 ) -> Next<'a>
-    requires running { IsRunningSlot (own_slots number blocks.now) (ruled rule job.now) track.now }
-    requires verified { IsVerified (ruled rule job.now) }
-    requires line { IsLineOf (ruled rule job.now) track.now line.now }
-    requires op { op ≡ op_of (instruction_in line.now.item) }
+    requires running { IsRunningSlot (own_slots turn.number blocks.now) (ruled turn.rule job.now) track.now }
+    requires verified { IsVerified (ruled turn.rule job.now) }
+    requires op { IsOpOfNext (ruled turn.rule job.now) track.now op }
     requires no_list { is_constant op ≡ false }
-    ensures next { IsNext (ruled rule job.now) track.now.executed result.op result.line
-        (contents (take result.operands.count result.operands.lists)) }
-    ensures kinds { HaveKinds (source_kinds result.op) (contents (take result.operands.count result.operands.lists)) }
-{
-    next_of_list(rule, job, track, number, blocks, line, &[], op)
-}
-
-/// The next instruction of a job that runs, which is this one, of this line, whose list this is.
-#[inline(always)]
-fn next_of_list<'a, A: Allocator>(
-    rule: Rule,
-    job: &Job<A>,
-    track: &Track<BlockId, A>,
-    number: usize,
-    blocks: &'a JobMemory<A>,
-    line: &CodeLine<'_>,
-    list: &'a [i64],
-    op: Op,
-) -> Next<'a>
-    requires running { IsRunningSlot (own_slots number blocks.now) (ruled rule job.now) track.now }
-    requires verified { IsVerified (ruled rule job.now) }
-    requires line { IsLineOf (ruled rule job.now) track.now line.now }
-    requires list { list.now ≡ list_in (instruction_in line.now.item) }
-    requires op { op ≡ op_of (instruction_in line.now.item) }
-    ensures next { IsNext (ruled rule job.now) track.now.executed result.op result.line
+    ensures next { IsNext (ruled turn.rule job.now) track.now.executed result.op result.line
         (contents (take result.operands.count result.operands.lists)) }
     ensures kinds { HaveKinds (source_kinds result.op) (contents (take result.operands.count result.operands.lists)) }
 {
     steps_can_begin::<BlockId>();
+    let line = next_line(turn, job, track, blocks);
     Next {
         op,
         line: line.number,
-        operands: operands_of(line, list, op, track, blocks),
+        operands: top_operands(op, track, blocks),
     }
 }
 
 /// The number of the line of the next instruction of a job that runs.
 pub(crate) fn line_of_next<A: Allocator>(
-    rule: Rule,
+    turn: Turn,
     job: &Job<A>,
     track: &Track<BlockId, A>,
-    number: usize,
     blocks: &JobMemory<A>,
 ) -> u64
-    requires running { IsRunningSlot (own_slots number blocks.now) (ruled rule job.now) track.now }
-    requires verified { IsVerified (ruled rule job.now) }
-    ensures { line_at (ruled rule job.now) track.now.executed ≡ Some result }
+    requires running { IsRunningSlot (own_slots turn.number blocks.now) (ruled turn.rule job.now) track.now }
+    requires verified { IsVerified (ruled turn.rule job.now) }
+    ensures { line_at (ruled turn.rule job.now) track.now.executed ≡ Some result }
 {
     steps_can_begin::<BlockId>();
-    next_line(rule, job, track, number, blocks).number
+    next_line(turn, job, track, blocks).number
 }
 
 /// The instruction of a line of code without its list or name.
@@ -282,21 +259,20 @@ fn words_at<'a, A: Allocator>(ids: &[BlockId], place: usize, blocks: &'a JobMemo
 
 /// Whether a step that was computed is the next of the job.
 pub(crate) fn is_asked<A: Allocator>(
-    rule: Rule,
+    turn: Turn,
     job: &Job<A>,
     track: &Track<BlockId, A>,
-    number: usize,
     blocks: &JobMemory<A>,
     filled: &Filled<A>,
 ) -> bool
-    requires running { IsRunningSlot (own_slots number blocks.now) (ruled rule job.now) track.now }
-    requires verified { IsVerified (ruled rule job.now) }
+    requires running { IsRunningSlot (own_slots turn.number blocks.now) (ruled turn.rule job.now) track.now }
+    requires verified { IsVerified (ruled turn.rule job.now) }
     ensures { IsTrue result ↔ ((track.now.executed ≡ filled.now.step)
-        × (question_at (ruled rule job.now) filled.now.step ≡ Some filled.now.question)) }
+        × (question_at (ruled turn.rule job.now) filled.now.step ≡ Some filled.now.question)) }
 {
     if track.executed() != filled.step() {
         return false;
     }
-    let next = read_next(rule, job, track, number, blocks);
+    let next = read_next(turn, job, track, blocks);
     filled.asks(next.op, next.operands.as_slice())
 }

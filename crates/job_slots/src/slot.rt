@@ -13,8 +13,8 @@ ghost use Rattle.job_steps.specs.Events.{next_standing};
 ghost use Rattle.job_steps.specs.Runs.{outcome, executed_count, peak, state_after};
 ghost use Rattle.job_steps.specs.Standings.{Live, InFlight, Ended};
 ghost use Rattle.job_steps.specs.States.{ruled};
-ghost use Rattle.job_slots.specs.Answers.{IsAnswered, demand_in, early_end_at, line_at, told_demand_in};
-ghost use Rattle.job_slots.specs.Commits.{CountsAs, held_under};
+ghost use Rattle.job_slots.specs.Answers.{EndsByStep, demand_in, early_end_at, told_demand_in};
+ghost use Rattle.job_slots.specs.Executions.{IsMade};
 ghost use Rattle.job_slots.specs.Lines.{HasNoOperands, IsListOfNext, IsOpOfNext};
 ghost use Rattle.job_slots.specs.declared.status.Status.TheVariants as status;
 ghost use Rattle.job_slots.specs.declared.answer.Finished.TheVariants as finished;
@@ -31,11 +31,14 @@ ghost use Rattle.job_slots.specs.Answers.{Steps, IsPassedOver, after_stepped, st
 use crate::answer::{Begun, Finished, Stepped};
 use crate::class::{self, Class};
 use crate::collect::results;
-use crate::commit::{execute, words_in_flight};
+use crate::commit::{Made, execute, made_in_flight};
 use crate::in_place::{Placement, execute_in_place, placement_of};
 use crate::next::{is_asked, line_of_next, next_at, next_line, read_next};
 use crate::status::Status;
-use crate::ticket::{Halted, demand_of, needs_of, ticket_of, words_without_operands};
+use crate::ticket::{
+    Halted, Plain, Ready, demand_of, ready_for, ticket_of, words_without_operands,
+};
+use crate::turn::Turn;
 use block_memory::BlockId;
 use job_memory::laws::{
     changes_join, grants_change_only_their_job, releases_change_only_their_job,
@@ -47,13 +50,13 @@ use refcounts::laws::{releases_are_counted, releases_keep_blocks};
 use std::alloc::{AllocError, Allocator};
 use std::marker::Model;
 use vcode_base::laws::results_have_needed_lengths;
-use vcode_base::{DataFault, Elementwise, Instr, Op, Outcome, Rule, StackMove, Values};
+use vcode_base::{DataFault, Elementwise, Instr, Op, Outcome, StackMove, Values};
 use vcode_reader::CodeItem;
 
 /// The place of a job in its run, and how it ended, once that is known.
 ///
-/// Its calls take the rule by which the job runs, the job that it was made for, the job's number from 1 on, and the
-/// memory of all jobs, in which it has to show the job's standing.
+/// Its calls take the turn of the job, the job that it was made for, and the memory of all jobs, in which it has to
+/// show the job's standing.
 #[derive(Drop)]
 pub struct Slot<A: Allocator> {
     alloc: A,
@@ -115,14 +118,15 @@ impl<A: Allocator> Slot<A> {
     ///
     /// If the instruction's operands don't fit one another, these are only the words that it holds. If they are more
     /// than the greatest `u64`, they are answered as that.
-    pub fn demand(&self, rule: Rule, job: &Job<A>, number: usize, blocks: &JobMemory<A>) -> usize
-        requires shows { Shows number blocks.now (ruled rule job.now) self.now }
+    pub fn demand(&self, turn: Turn, job: &Job<A>, blocks: &JobMemory<A>) -> usize
+        requires shows { Shows turn.number blocks.now (ruled turn.rule job.now) self.now }
         requires live { self.now.status ≡ status.Live }
-        ensures executed { early_end_at (ruled rule job.now) self.now.trace.executed ≡ None
-            → result ≡ demand_in rule (state_after (ruled rule job.now) self.now.trace.executed) }
-        ensures told { result ≡ told_demand_in rule (state_after (ruled rule job.now) self.now.trace.executed) }
+        ensures executed { early_end_at (ruled turn.rule job.now) self.now.trace.executed ≡ None
+            → result ≡ demand_in turn.rule (state_after (ruled turn.rule job.now) self.now.trace.executed) }
+        ensures told { result
+            ≡ told_demand_in turn.rule (state_after (ruled turn.rule job.now) self.now.trace.executed) }
     {
-        demand_of(rule, job, &self.track, number, blocks)
+        demand_of(turn, job, &self.track, blocks)
     }
 
     /// How it ended, if it is collected.
@@ -140,22 +144,21 @@ impl<A: Allocator> Slot<A> {
     /// `NotNow` exactly if all reserved words and these together are more than the region has; then nothing changes.
     pub fn admit(
         &mut self,
-        rule: Rule,
+        turn: Turn,
         job: &Job<A>,
-        number: usize,
         blocks: &mut JobMemory<A>,
     ) -> Result<(), NotNow>
-        requires shows { Shows number blocks.old (ruled rule job.now) self.old }
+        requires shows { Shows turn.number blocks.old (ruled turn.rule job.now) self.old }
         requires waits { self.old.status ≡ status.Waiting }
         ensures not_now { IsErr result ↔ (blocks.old.memory.room < granted_words blocks.old + job.now.limits.words) }
-        ensures shows { Shows number blocks.new (ruled rule job.now) self.new }
-        ensures others { ChangesOnlyOf number blocks.old blocks.new }
+        ensures shows { Shows turn.number blocks.new (ruled turn.rule job.now) self.new }
+        ensures others { ChangesOnlyOf turn.number blocks.old blocks.new }
         ensures admitted { OnOk result (standing_of self.new ≡ Live 0) }
         ensures unchanged { OnErr result ((self.new ≡ self.old) × (blocks.new ≡ blocks.old)) }
     {
         changes_join();
         grants_change_only_their_job();
-        blocks.grant(number, job.limits().words)?;
+        blocks.grant(turn.number, job.limits().words)?;
         self.status = Status::Live;
         Ok(())
     }
@@ -166,19 +169,18 @@ impl<A: Allocator> Slot<A> {
     /// limit, ends here; then its blocks are released.
     pub fn begin(
         &mut self,
-        rule: Rule,
+        turn: Turn,
         job: &Job<A>,
-        number: usize,
         blocks: &mut JobMemory<A>,
         desk: Desk<A>,
     ) -> Begun<A>
-        requires { Shows number blocks.old (ruled rule job.now) self.old }
-        ensures answer { Begins number desk (ruled rule job.now) (standing_of self.old) result }
-        ensures shows { Shows number blocks.new (ruled rule job.now) self.new }
-        ensures others { ChangesOnlyOf number blocks.old blocks.new }
+        requires { Shows turn.number blocks.old (ruled turn.rule job.now) self.old }
+        ensures answer { Begins turn.number desk (ruled turn.rule job.now) (standing_of self.old) result }
+        ensures shows { Shows turn.number blocks.new (ruled turn.rule job.now) self.new }
+        ensures others { ChangesOnlyOf turn.number blocks.old blocks.new }
         ensures standing { standing_of self.new ≡ standing_after_begun result (standing_of self.old)
             (or_same (standing_of self.old)
-            (next_standing (event.Begin number) (ruled rule job.now) (standing_of self.old))) }
+            (next_standing (event.Begin turn.number) (ruled turn.rule job.now) (standing_of self.old))) }
         ensures unchanged { IsPutOff result → (self.new ≡ self.old) × (blocks.new ≡ blocks.old) }
     {
         changes_join();
@@ -192,14 +194,14 @@ impl<A: Allocator> Slot<A> {
         if desk.words() < job.limits().words {
             return Begun::SmallDesk(desk);
         }
-        match ticket_of(rule, job, &self.track, number, blocks, desk) {
+        match ticket_of(turn, job, &self.track, blocks, desk) {
             Ok(ticket) => {
                 self.status = Status::InFlight;
                 Begun::Began(ticket)
             }
             Err(halted) => {
                 let Halted { ending, desk } = halted;
-                self.end(rule, job, number, blocks, ending);
+                self.end(turn, job, blocks, ending);
                 Begun::Ended(desk)
             }
         }
@@ -212,21 +214,20 @@ impl<A: Allocator> Slot<A> {
     /// The job ends by a value fault, and by the RET of its only active call.
     pub fn finish(
         &mut self,
-        rule: Rule,
+        turn: Turn,
         job: &Job<A>,
-        number: usize,
         blocks: &mut JobMemory<A>,
         filled: Filled<A>,
     ) -> (Finished, Desk<A>)
-        requires shows { Shows number blocks.old (ruled rule job.now) self.old }
+        requires shows { Shows turn.number blocks.old (ruled turn.rule job.now) self.old }
         requires numbers { block_count blocks.old.memory + 2 ≤ length blocks.old.memory.slots }
-        ensures answer { Finishes number (ruled rule job.now) (standing_of self.old) filled result.0 }
+        ensures answer { Finishes turn.number (ruled turn.rule job.now) (standing_of self.old) filled result.0 }
         ensures desk { result.1 ≡ filled.words }
-        ensures shows { Shows number blocks.new (ruled rule job.now) self.new }
-        ensures others { ChangesOnlyOf number blocks.old blocks.new }
+        ensures shows { Shows turn.number blocks.new (ruled turn.rule job.now) self.new }
+        ensures others { ChangesOnlyOf turn.number blocks.old blocks.new }
         ensures standing { standing_of self.new ≡ standing_after_finished result.0 (standing_of self.old)
             (or_same (standing_of self.old)
-            (next_standing (event.Finish number) (ruled rule job.now) (standing_of self.old))) }
+            (next_standing (event.Finish turn.number) (ruled turn.rule job.now) (standing_of self.old))) }
         ensures unchanged { result.0 ≡ finished.Stale → (self.new ≡ self.old) × (blocks.new ≡ blocks.old) }
     {
         changes_join();
@@ -236,10 +237,10 @@ impl<A: Allocator> Slot<A> {
                 return (Finished::Stale, filled.into_desk());
             }
         }
-        if !is_asked(rule, job, &self.track, number, blocks, &filled) {
+        if !is_asked(turn, job, &self.track, blocks, &filled) {
             return (Finished::Stale, filled.into_desk());
         }
-        let finished = self.commit(rule, job, number, blocks, &filled);
+        let finished = self.commit(turn, job, blocks, &filled);
         (finished, filled.into_desk())
     }
 
@@ -249,28 +250,27 @@ impl<A: Allocator> Slot<A> {
     /// There have to be numbers for two blocks more.
     pub fn finish_own(
         &mut self,
-        rule: Rule,
+        turn: Turn,
         job: &Job<A>,
-        number: usize,
         blocks: &mut JobMemory<A>,
         filled: Filled<A>,
     ) -> (Finished, Desk<A>)
-        requires shows { Shows number blocks.old (ruled rule job.now) self.old }
+        requires shows { Shows turn.number blocks.old (ruled turn.rule job.now) self.old }
         requires numbers { block_count blocks.old.memory + 2 ≤ length blocks.old.memory.slots }
-        requires own { question_at (ruled rule job.now) filled.step ≡ Some filled.question }
-        ensures answer { Finishes number (ruled rule job.now) (standing_of self.old) filled result.0 }
+        requires own { question_at (ruled turn.rule job.now) filled.step ≡ Some filled.question }
+        ensures answer { Finishes turn.number (ruled turn.rule job.now) (standing_of self.old) filled result.0 }
         ensures desk { result.1 ≡ filled.words }
-        ensures shows { Shows number blocks.new (ruled rule job.now) self.new }
-        ensures others { ChangesOnlyOf number blocks.old blocks.new }
+        ensures shows { Shows turn.number blocks.new (ruled turn.rule job.now) self.new }
+        ensures others { ChangesOnlyOf turn.number blocks.old blocks.new }
         ensures standing { standing_of self.new ≡ standing_after_finished result.0 (standing_of self.old)
             (or_same (standing_of self.old)
-            (next_standing (event.Finish number) (ruled rule job.now) (standing_of self.old))) }
+            (next_standing (event.Finish turn.number) (ruled turn.rule job.now) (standing_of self.old))) }
         ensures unchanged { result.0 ≡ finished.Stale → (self.new ≡ self.old) × (blocks.new ≡ blocks.old) }
     {
         changes_join();
         match self.status {
             Status::InFlight if self.track.executed() == filled.step() => {
-                let finished = self.commit(rule, job, number, blocks, &filled);
+                let finished = self.commit(turn, job, blocks, &filled);
                 (finished, filled.into_desk())
             }
             Status::Waiting | Status::Live | Status::InFlight | Status::Ended | Status::Collected =>
@@ -286,19 +286,18 @@ impl<A: Allocator> Slot<A> {
     #[inline(always)]
     pub fn step(
         &mut self,
-        rule: Rule,
+        turn: Turn,
         job: &Job<A>,
-        number: usize,
         blocks: &mut JobMemory<A>,
         desk: &mut Desk<A>,
     ) -> Stepped
-        requires shows { Shows number blocks.old (ruled rule job.now) self.old }
+        requires shows { Shows turn.number blocks.old (ruled turn.rule job.now) self.old }
         requires numbers { block_count blocks.old.memory + 2 ≤ length blocks.old.memory.slots }
-        ensures answer { Steps number desk.old (ruled rule job.now) (standing_of self.old) result }
-        ensures shows { Shows number blocks.new (ruled rule job.now) self.new }
-        ensures others { ChangesOnlyOf number blocks.old blocks.new }
+        ensures answer { Steps turn.number desk.old (ruled turn.rule job.now) (standing_of self.old) result }
+        ensures shows { Shows turn.number blocks.new (ruled turn.rule job.now) self.new }
+        ensures others { ChangesOnlyOf turn.number blocks.old blocks.new }
         ensures standing { standing_of self.new ≡ after_stepped result (standing_of self.old)
-            (standing_after_step number (ruled rule job.now) (standing_of self.old)) }
+            (standing_after_step turn.number (ruled turn.rule job.now) (standing_of self.old)) }
         ensures desk { desk.new ≡ desk.old }
         ensures unchanged { IsPassedOver result → (self.new ≡ self.old) × (blocks.new ≡ blocks.old) }
     {
@@ -312,7 +311,7 @@ impl<A: Allocator> Slot<A> {
         if desk.words() < job.limits().words {
             return Stepped::SmallDesk;
         }
-        self.step_live(rule, job, number, blocks, desk)
+        self.step_live(turn, job, blocks, desk)
     }
 
     /// Carries out the instructions of the job, if it is live, until it is over. The desk, which has at least the job's
@@ -320,21 +319,14 @@ impl<A: Allocator> Slot<A> {
     ///
     /// Wherever the job may lead there have to be numbers for two blocks more.
     #[inline(always)]
-    pub fn run(
-        &mut self,
-        rule: Rule,
-        job: &Job<A>,
-        number: usize,
-        blocks: &mut JobMemory<A>,
-        desk: &mut Desk<A>,
-    )
-        requires shows { Shows number blocks.old (ruled rule job.now) self.old }
-        requires numbers { HasNumbersOnRun number (ruled rule job.now) blocks.old }
+    pub fn run(&mut self, turn: Turn, job: &Job<A>, blocks: &mut JobMemory<A>, desk: &mut Desk<A>)
+        requires shows { Shows turn.number blocks.old (ruled turn.rule job.now) self.old }
+        requires numbers { HasNumbersOnRun turn.number (ruled turn.rule job.now) blocks.old }
         requires enough { job.now.limits.words ≤ desk.old }
-        ensures ran { HasRun number (ruled rule job.now) (standing_of self.old) (standing_of self.new) }
+        ensures ran { HasRun turn.number (ruled turn.rule job.now) (standing_of self.old) (standing_of self.new) }
         ensures over { is_live (standing_of self.new) ≡ false }
-        ensures shows { Shows number blocks.new (ruled rule job.now) self.new }
-        ensures others { ChangesOnlyOf number blocks.old blocks.new }
+        ensures shows { Shows turn.number blocks.new (ruled turn.rule job.now) self.new }
+        ensures others { ChangesOnlyOf turn.number blocks.old blocks.new }
         ensures desk { desk.new ≡ desk.old }
     {
         changes_join();
@@ -344,7 +336,7 @@ impl<A: Allocator> Slot<A> {
             Status::Waiting | Status::InFlight | Status::Ended | Status::Collected => return,
         }
         let _used = blocks.used();
-        while let Stepped::Done = self.step_live(rule, job, number, blocks, desk) {
+        while let Stepped::Done = self.step_live(turn, job, blocks, desk) {
             // By its type a memory has no block that no reference names.
             let _used = blocks.used();
         }
@@ -354,62 +346,57 @@ impl<A: Allocator> Slot<A> {
     #[inline(always)]
     fn step_live(
         &mut self,
-        rule: Rule,
+        turn: Turn,
         job: &Job<A>,
-        number: usize,
         blocks: &mut JobMemory<A>,
         desk: &mut Desk<A>,
     ) -> Stepped
-        requires shows { Shows number blocks.old (ruled rule job.now) self.old }
+        requires shows { Shows turn.number blocks.old (ruled turn.rule job.now) self.old }
         requires live { self.old.status ≡ status.Live }
         requires numbers { block_count blocks.old.memory + 2 ≤ length blocks.old.memory.slots }
         requires enough { job.now.limits.words ≤ desk.old }
-        ensures answer { Steps number desk.old (ruled rule job.now) (standing_of self.old) result }
-        ensures shows { Shows number blocks.new (ruled rule job.now) self.new }
-        ensures others { ChangesOnlyOf number blocks.old blocks.new }
+        ensures answer { Steps turn.number desk.old (ruled turn.rule job.now) (standing_of self.old) result }
+        ensures shows { Shows turn.number blocks.new (ruled turn.rule job.now) self.new }
+        ensures others { ChangesOnlyOf turn.number blocks.old blocks.new }
         ensures standing { standing_of self.new
-            ≡ standing_after_step number (ruled rule job.now) (standing_of self.old) }
+            ≡ standing_after_step turn.number (ruled turn.rule job.now) (standing_of self.old) }
         ensures desk { desk.new ≡ desk.old }
         ensures steps { IsPassedOver result → ⊥ }
     {
-        let line = next_line(rule, job, &self.track, number, blocks);
+        let line = next_line(turn, job, &self.track, blocks);
         match &line.item {
             CodeItem::Do(Instr::Const(elements, list)) => {
                 let class = class::Constant(*elements);
-                self.step_without_operands(rule, job, number, blocks, class, list.as_slice())
+                self.step_without_operands(turn, job, blocks, class, list.as_slice())
             }
             CodeItem::Do(Instr::Elementwise(Elementwise::Arith(op))) => {
-                self.step_as(rule, job, number, blocks, desk, *op)
+                self.step_as(turn, job, blocks, desk, *op)
             }
             CodeItem::Do(Instr::Elementwise(Elementwise::Compare(op))) => {
-                self.step_as(rule, job, number, blocks, desk, *op)
+                self.step_as(turn, job, blocks, desk, *op)
             }
-            CodeItem::Do(Instr::Elementwise(op)) => {
-                self.step_as(rule, job, number, blocks, desk, *op)
-            }
-            CodeItem::Do(Instr::Segmented(op)) => {
-                self.step_as(rule, job, number, blocks, desk, *op)
-            }
+            CodeItem::Do(Instr::Elementwise(op)) => { self.step_as(turn, job, blocks, desk, *op) }
+            CodeItem::Do(Instr::Segmented(op)) => { self.step_as(turn, job, blocks, desk, *op) }
             CodeItem::Do(Instr::Move(StackMove::Copy, lower, upper)) => {
                 let class = class::Copy(*lower, *upper);
-                self.step_without_operands(rule, job, number, blocks, class, &[])
+                self.step_without_operands(turn, job, blocks, class, &[])
             }
             CodeItem::Do(Instr::Move(StackMove::Pop, lower, upper)) => {
                 let class = class::Pop(*lower, *upper);
-                self.step_without_operands(rule, job, number, blocks, class, &[])
+                self.step_without_operands(turn, job, blocks, class, &[])
             }
             CodeItem::Do(Instr::Move(StackMove::MoveToTop, lower, upper)) => {
                 let class = class::MoveToTop(*lower, *upper);
-                self.step_without_operands(rule, job, number, blocks, class, &[])
+                self.step_without_operands(turn, job, blocks, class, &[])
             }
             CodeItem::Do(Instr::Call(_)) => {
-                self.step_without_operands(rule, job, number, blocks, class::Call, &[])
+                self.step_without_operands(turn, job, blocks, class::Call, &[])
             }
             CodeItem::Do(Instr::Return) => {
-                self.step_without_operands(rule, job, number, blocks, class::Return, &[])
+                self.step_without_operands(turn, job, blocks, class::Return, &[])
             }
             CodeItem::Do(Instr::If) | CodeItem::If | CodeItem::Else | CodeItem::Endif => {
-                self.step_as(rule, job, number, blocks, desk, class::If)
+                self.step_as(turn, job, blocks, desk, class::If)
             }
         }
     }
@@ -418,24 +405,23 @@ impl<A: Allocator> Slot<A> {
     /// It looks up the line itself, since a line that is lent is written to memory at each step.
     fn step_as<C: Class>(
         &mut self,
-        rule: Rule,
+        turn: Turn,
         job: &Job<A>,
-        number: usize,
         blocks: &mut JobMemory<A>,
         desk: &mut Desk<A>,
         class: C,
     ) -> Stepped
-        requires shows { Shows number blocks.old (ruled rule job.now) self.old }
+        requires shows { Shows turn.number blocks.old (ruled turn.rule job.now) self.old }
         requires live { self.old.status ≡ status.Live }
         requires numbers { block_count blocks.old.memory + 2 ≤ length blocks.old.memory.slots }
         requires enough { job.now.limits.words ≤ desk.old }
-        requires next { IsOpOfNext (ruled rule job.now) self.old.trace (C.among_all class) }
+        requires next { IsOpOfNext (ruled turn.rule job.now) self.old.trace (C.among_all class) }
         requires no_list { is_constant (C.among_all class) ≡ false }
-        ensures answer { Steps number desk.old (ruled rule job.now) (standing_of self.old) result }
-        ensures shows { Shows number blocks.new (ruled rule job.now) self.new }
-        ensures others { ChangesOnlyOf number blocks.old blocks.new }
+        ensures answer { Steps turn.number desk.old (ruled turn.rule job.now) (standing_of self.old) result }
+        ensures shows { Shows turn.number blocks.new (ruled turn.rule job.now) self.new }
+        ensures others { ChangesOnlyOf turn.number blocks.old blocks.new }
         ensures standing { standing_of self.new
-            ≡ standing_after_step number (ruled rule job.now) (standing_of self.old) }
+            ≡ standing_after_step turn.number (ruled turn.rule job.now) (standing_of self.old) }
         ensures desk { desk.new ≡ desk.old }
         ensures steps { IsPassedOver result → ⊥ }
     {
@@ -445,41 +431,32 @@ impl<A: Allocator> Slot<A> {
         end_is_own();
         results_have_needed_lengths();
         steps_can_begin::<BlockId>();
-        let op = class.op();
-        let line = next_line(rule, job, &self.track, number, blocks);
-        let next = next_at(rule, job, &self.track, number, blocks, &line, op);
-        let needs = needs_of(rule, job, &self.track, number, blocks, &next);
-        match needs {
-            Err(ending) => {
-                self.end(rule, job, number, blocks, ending);
-                Stepped::Ended
+        let next = next_at(turn, job, &self.track, blocks, class.op());
+        let ready = match ready_for(turn, job, &self.track, blocks, &next) {
+            Err(ending) => return self.end_by_step(turn, job, blocks, ending),
+            Ok(ready) => ready,
+        };
+        if let Some(placement) = placement_of(turn, job, &self.track, blocks, ready) {
+            return self.step_in_place(turn, job, blocks, placement);
+        }
+        let Ready {
+            op,
+            line,
+            flag,
+            needs,
+        } = ready;
+        match desk.fill(op, next.operands.as_slice(), (needs.first, needs.second)) {
+            Ok((first, second)) => {
+                let made = Made {
+                    op,
+                    flag,
+                    first,
+                    second,
+                    words: needs.words,
+                };
+                self.take_results::<C>(turn, job, blocks, made)
             }
-            Ok(needs) => {
-                let found = placement_of(rule, job, &self.track, number, blocks, &next, needs);
-                if let Some(placement) = found {
-                    let (op, line) = (next.op, next.line);
-                    return self.step_in_place(rule, job, number, blocks, op, line, placement);
-                }
-                let (op, line, operands) = (next.op, next.line, next.operands.as_slice());
-                let flag = flag(operands);
-                match desk.fill(op, operands, (needs.first, needs.second)) {
-                    Ok((first, second)) => self.take_results::<C>(
-                        rule,
-                        job,
-                        number,
-                        blocks,
-                        op,
-                        flag,
-                        first,
-                        second,
-                        needs.words,
-                    ),
-                    Err(fault) => {
-                        self.end(rule, job, number, blocks, Outcome::Fault(fault, line));
-                        Stepped::Ended
-                    }
-                }
-            }
+            Err(fault) => self.end_by_step(turn, job, blocks, Outcome::Fault(fault, line)),
         }
     }
 
@@ -487,94 +464,117 @@ impl<A: Allocator> Slot<A> {
     /// list, or an instruction that moves entries or calls, which makes no words.
     fn step_without_operands<C: Class>(
         &mut self,
-        rule: Rule,
+        turn: Turn,
         job: &Job<A>,
-        number: usize,
         blocks: &mut JobMemory<A>,
         class: C,
         list: &[i64],
     ) -> Stepped
-        requires shows { Shows number blocks.old (ruled rule job.now) self.old }
+        requires shows { Shows turn.number blocks.old (ruled turn.rule job.now) self.old }
         requires live { self.old.status ≡ status.Live }
         requires numbers { block_count blocks.old.memory + 2 ≤ length blocks.old.memory.slots }
-        requires next { IsOpOfNext (ruled rule job.now) self.old.trace (C.among_all class) }
-        requires list { IsListOfNext (ruled rule job.now) self.old.trace list.now }
+        requires next { IsOpOfNext (ruled turn.rule job.now) self.old.trace (C.among_all class) }
+        requires list { IsListOfNext (ruled turn.rule job.now) self.old.trace list.now }
         requires no_operands { HasNoOperands (C.among_all class) }
         ensures answer { (words : ℕ) → job.now.limits.words ≤ words
-            → Steps number words (ruled rule job.now) (standing_of self.old) result }
-        ensures shows { Shows number blocks.new (ruled rule job.now) self.new }
-        ensures others { ChangesOnlyOf number blocks.old blocks.new }
+            → Steps turn.number words (ruled turn.rule job.now) (standing_of self.old) result }
+        ensures shows { Shows turn.number blocks.new (ruled turn.rule job.now) self.new }
+        ensures others { ChangesOnlyOf turn.number blocks.old blocks.new }
         ensures standing { standing_of self.new
-            ≡ standing_after_step number (ruled rule job.now) (standing_of self.old) }
+            ≡ standing_after_step turn.number (ruled turn.rule job.now) (standing_of self.old) }
         ensures steps { IsPassedOver result → ⊥ }
     {
         steps_can_begin::<BlockId>();
         let op = class.op();
-        match words_without_operands(rule, job, &self.track, number, blocks, op, list) {
+        let plain = Plain { op, list };
+        match words_without_operands(turn, job, &self.track, blocks, plain) {
             Some(words) => {
                 let flag = flag(&[list]);
-                self.take_results::<C>(rule, job, number, blocks, op, flag, list, &[], words)
+                let made = Made {
+                    op,
+                    flag,
+                    first: list,
+                    second: &[],
+                    words,
+                };
+                self.take_results::<C>(turn, job, blocks, made)
             }
-            None => {
-                self.end_early(rule, job, number, blocks);
-                Stepped::Ended
-            }
+            None => self.end_early(turn, job, blocks),
         }
     }
 
     /// Ends the job, which is live, and ends before the values of its next instruction are looked at.
     #[cold]
     #[inline(never)]
-    fn end_early(&mut self, rule: Rule, job: &Job<A>, number: usize, blocks: &mut JobMemory<A>)
-        requires shows { Shows number blocks.old (ruled rule job.now) self.old }
+    fn end_early(&mut self, turn: Turn, job: &Job<A>, blocks: &mut JobMemory<A>) -> Stepped
+        requires shows { Shows turn.number blocks.old (ruled turn.rule job.now) self.old }
         requires live { self.old.status ≡ status.Live }
-        requires ends { is_some (early_end_at (ruled rule job.now) self.old.trace.executed) ≡ true }
+        requires ends { is_some (early_end_at (ruled turn.rule job.now) self.old.trace.executed) ≡ true }
         ensures answer { (words : ℕ) → job.now.limits.words ≤ words
-            → Steps number words (ruled rule job.now) (standing_of self.old) stepped.Ended }
-        ensures shows { Shows number blocks.new (ruled rule job.now) self.new }
-        ensures others { ChangesOnlyOf number blocks.old blocks.new }
+            → Steps turn.number words (ruled turn.rule job.now) (standing_of self.old) result }
+        ensures shows { Shows turn.number blocks.new (ruled turn.rule job.now) self.new }
+        ensures others { ChangesOnlyOf turn.number blocks.old blocks.new }
         ensures standing { standing_of self.new
-            ≡ standing_after_step number (ruled rule job.now) (standing_of self.old) }
+            ≡ standing_after_step turn.number (ruled turn.rule job.now) (standing_of self.old) }
+        ensures steps { IsPassedOver result → ⊥ }
     {
         early_ends_end();
-        let next = read_next(rule, job, &self.track, number, blocks);
-        let Err(ending) = needs_of(rule, job, &self.track, number, blocks, &next) else {
+        let next = read_next(turn, job, &self.track, blocks);
+        let Err(ending) = ready_for(turn, job, &self.track, blocks, &next) else {
             unreachable!()
         };
-        self.end(rule, job, number, blocks, ending)
+        self.end_by_step(turn, job, blocks, ending)
     }
 
-    /// Executes the next instruction of a job that is live, whose results are these words. `words` are held and needed
-    /// at it.
+    /// Ends the job, which runs, as its next instruction ends it.
+    #[cold]
+    #[inline(never)]
+    fn end_by_step(
+        &mut self,
+        turn: Turn,
+        job: &Job<A>,
+        blocks: &mut JobMemory<A>,
+        ending: Outcome<Values<A>>,
+    ) -> Stepped
+        requires shows { Shows turn.number blocks.old (ruled turn.rule job.now) self.old }
+        requires active { IsActive self.old.status }
+        requires ends { EndsByStep turn.number (ruled turn.rule job.now) self.old.trace.executed self.old.trace.peak
+            ending }
+        ensures answer { (words : ℕ) → job.now.limits.words ≤ words
+            → Steps turn.number words (ruled turn.rule job.now) (Live self.old.trace.executed) result }
+        ensures shows { Shows turn.number blocks.new (ruled turn.rule job.now) self.new }
+        ensures others { ChangesOnlyOf turn.number blocks.old blocks.new }
+        ensures standing { standing_of self.new
+            ≡ standing_after_step turn.number (ruled turn.rule job.now) (Live self.old.trace.executed) }
+        ensures steps { IsPassedOver result → ⊥ }
+    {
+        self.end(turn, job, blocks, ending);
+        Stepped::Ended
+    }
+
+    /// Executes the next instruction of a job that is live, which makes this.
     fn take_results<C: Class>(
         &mut self,
-        rule: Rule,
+        turn: Turn,
         job: &Job<A>,
-        number: usize,
         blocks: &mut JobMemory<A>,
-        op: Op,
-        flag: bool,
-        first: &[i64],
-        second: &[i64],
-        words: usize,
+        made: Made<'_>,
     ) -> Stepped
-        requires shows { Shows number blocks.old (ruled rule job.now) self.old }
+        requires shows { Shows turn.number blocks.old (ruled turn.rule job.now) self.old }
         requires live { self.old.status ≡ status.Live }
-        requires goes_on { early_end_at (ruled rule job.now) self.old.trace.executed ≡ None }
-        requires answered { IsAnswered (ruled rule job.now) self.old.trace.executed op flag first.now second.now }
-        requires words { CountsAs (held_under rule number op self.old.trace.cells blocks.old
-            + length first.now + length second.now) self.old.trace.peak words }
+        requires goes_on { early_end_at (ruled turn.rule job.now) self.old.trace.executed ≡ None }
+        requires made { IsMade (ruled turn.rule job.now) turn.number blocks.old self.old.trace made }
         requires numbers { block_count blocks.old.memory + 2 ≤ length blocks.old.memory.slots }
         ensures answer { (words : ℕ) → job.now.limits.words ≤ words
-            → Steps number words (ruled rule job.now) (standing_of self.old) result }
-        ensures shows { Shows number blocks.new (ruled rule job.now) self.new }
-        ensures others { ChangesOnlyOf number blocks.old blocks.new }
+            → Steps turn.number words (ruled turn.rule job.now) (standing_of self.old) result }
+        ensures shows { Shows turn.number blocks.new (ruled turn.rule job.now) self.new }
+        ensures others { ChangesOnlyOf turn.number blocks.old blocks.new }
         ensures standing { standing_of self.new
-            ≡ standing_after_step number (ruled rule job.now) (standing_of self.old) }
+            ≡ standing_after_step turn.number (ruled turn.rule job.now) (standing_of self.old) }
         ensures steps { IsPassedOver result → ⊥ }
     {
         self.status = Status::InFlight;
-        if self.carry_out::<C>(rule, job, number, blocks, op, flag, first, second, words) {
+        if self.carry_out::<C>(turn, job, blocks, made) {
             Stepped::Done
         } else {
             Stepped::Ended
@@ -585,32 +585,28 @@ impl<A: Allocator> Slot<A> {
     #[inline(never)]
     fn step_in_place(
         &mut self,
-        rule: Rule,
+        turn: Turn,
         job: &Job<A>,
-        number: usize,
         blocks: &mut JobMemory<A>,
-        op: Op,
-        line: u64,
         placement: Placement,
     ) -> Stepped
-        requires shows { Shows number blocks.old (ruled rule job.now) self.old }
+        requires shows { Shows turn.number blocks.old (ruled turn.rule job.now) self.old }
         requires live { self.old.status ≡ status.Live }
-        requires goes_on { early_end_at (ruled rule job.now) self.old.trace.executed ≡ None }
-        requires line { line_at (ruled rule job.now) self.old.trace.executed ≡ Some line }
-        requires placeable { IsPlaceable (ruled rule job.now) number blocks.old self.old.trace op placement }
+        requires goes_on { early_end_at (ruled turn.rule job.now) self.old.trace.executed ≡ None }
+        requires placeable { IsPlaceable (ruled turn.rule job.now) turn.number blocks.old self.old.trace placement }
         requires numbers { block_count blocks.old.memory + 2 ≤ length blocks.old.memory.slots }
         ensures answer { (words : ℕ) → job.now.limits.words ≤ words
-            → Steps number words (ruled rule job.now) (standing_of self.old) result }
-        ensures shows { Shows number blocks.new (ruled rule job.now) self.new }
-        ensures others { ChangesOnlyOf number blocks.old blocks.new }
+            → Steps turn.number words (ruled turn.rule job.now) (standing_of self.old) result }
+        ensures shows { Shows turn.number blocks.new (ruled turn.rule job.now) self.new }
+        ensures others { ChangesOnlyOf turn.number blocks.old blocks.new }
         ensures standing { standing_of self.new
-            ≡ standing_after_step number (ruled rule job.now) (standing_of self.old) }
+            ≡ standing_after_step turn.number (ruled turn.rule job.now) (standing_of self.old) }
         ensures steps { IsPassedOver result → ⊥ }
     {
         end_is_own();
         others_are_ready();
         self.status = Status::InFlight;
-        match self.carry_out_in_place(rule, job, number, blocks, op, placement) {
+        match self.carry_out_in_place(turn, job, blocks, placement) {
             Ok(goes_on) => {
                 if goes_on {
                     Stepped::Done
@@ -619,9 +615,8 @@ impl<A: Allocator> Slot<A> {
                 }
             }
             Err(fault) => {
-                let ending = Outcome::Fault(fault, line);
-                self.end(rule, job, number, blocks, ending);
-                Stepped::Ended
+                let ending = Outcome::Fault(fault, placement.line);
+                self.end_by_step(turn, job, blocks, ending)
             }
         }
     }
@@ -634,27 +629,25 @@ impl<A: Allocator> Slot<A> {
     /// The fault that the values of the operands have. Nothing changes then.
     fn carry_out_in_place(
         &mut self,
-        rule: Rule,
+        turn: Turn,
         job: &Job<A>,
-        number: usize,
         blocks: &mut JobMemory<A>,
-        op: Op,
         placement: Placement,
     ) -> Result<bool, DataFault>
-        requires shows { Shows number blocks.old (ruled rule job.now) self.old }
+        requires shows { Shows turn.number blocks.old (ruled turn.rule job.now) self.old }
         requires flying { self.old.status ≡ status.InFlight }
-        requires placeable { IsPlaceable (ruled rule job.now) number blocks.old self.old.trace op placement }
+        requires placeable { IsPlaceable (ruled turn.rule job.now) turn.number blocks.old self.old.trace placement }
         requires numbers { block_count blocks.old.memory + 2 ≤ length blocks.old.memory.slots }
-        ensures carried { IfOk result (Carries number (ruled rule job.now) self.old self.new) }
-        ensures shows { OnOk result (Shows number blocks.new (ruled rule job.now) self.new) }
-        ensures others { OnOk result (ChangesOnlyOf number blocks.old blocks.new) }
+        ensures carried { IfOk result (Carries turn.number (ruled turn.rule job.now) self.old self.new) }
+        ensures shows { OnOk result (Shows turn.number blocks.new (ruled turn.rule job.now) self.new) }
+        ensures others { OnOk result (ChangesOnlyOf turn.number blocks.old blocks.new) }
         ensures unchanged { OnErr result ((self.new ≡ self.old) × (blocks.new ≡ blocks.old)) }
         ensures fault { IfErr result (λ fault.
-            value_fault op (operands_in blocks.old op self.old.trace.cells) ≡ Some fault) }
+            value_fault placement.op (operands_in blocks.old placement.op self.old.trace.cells) ≡ Some fault) }
     {
         reached();
         end_is_own();
-        match execute_in_place(rule, job, &mut self.track, number, blocks, op, placement) {
+        match execute_in_place(turn, job, &mut self.track, blocks, placement) {
             Ok(()) => Ok(self.go_on()),
             Err(fault) => Err(fault),
         }
@@ -684,24 +677,24 @@ impl<A: Allocator> Slot<A> {
     #[tactic(auto, using(crate::proofs::Holding::words_of_none))]
     pub fn collect(
         &mut self,
-        rule: Rule,
+        turn: Turn,
         job: &Job<A>,
-        number: usize,
         blocks: &mut JobMemory<A>,
     ) -> Result<bool, AllocError>
     where
         A: Clone,
-        requires { Shows number blocks.old (ruled rule job.now) self.old }
+        requires { Shows turn.number blocks.old (ruled turn.rule job.now) self.old }
         ensures answer { IfOk result (λ yes. yes ≡ is_ended (standing_of self.old)) }
         ensures standing { OnOk result
             (standing_of self.new ≡ or_same (standing_of self.old)
-            (next_standing (event.Collect number) (ruled rule job.now) (standing_of self.old))) }
-        ensures shows { Shows number blocks.new (ruled rule job.now) self.new }
-        ensures others { ChangesOnlyOf number blocks.old blocks.new }
+            (next_standing (event.Collect turn.number) (ruled turn.rule job.now) (standing_of self.old))) }
+        ensures shows { Shows turn.number blocks.new (ruled turn.rule job.now) self.new }
+        ensures others { ChangesOnlyOf turn.number blocks.old blocks.new }
         ensures nothing_to_collect { IfOk result (λ yes. yes ≡ false
             → (self.new ≡ self.old) × (blocks.new ≡ blocks.old)) }
         ensures unchanged { OnErr result ((self.new ≡ self.old) × (blocks.new ≡ blocks.old)) }
-        ensures returned { OnErr result ((standing_of self.old ≡ Ended) × IsReturned (outcome (ruled rule job.now))) }
+        ensures returned { OnErr result
+            ((standing_of self.old ≡ Ended) × IsReturned (outcome (ruled turn.rule job.now))) }
     {
         changes_join();
         grants_change_only_their_job();
@@ -711,34 +704,30 @@ impl<A: Allocator> Slot<A> {
                 return Ok(false);
             }
         }
-        self.store(rule, job, number, blocks)?;
-        self.let_go(number, blocks);
-        blocks.close(number);
+        self.store(turn, job, blocks)?;
+        self.let_go(turn.number, blocks);
+        blocks.close(turn.number);
         self.status = Status::Collected;
         Ok(true)
     }
 
     /// Copies the results of a job that has returned, so that the outcome of a job that has ended is there.
-    fn store(
-        &mut self,
-        rule: Rule,
-        job: &Job<A>,
-        number: usize,
-        blocks: &JobMemory<A>,
-    ) -> Result<(), AllocError>
+    fn store(&mut self, turn: Turn, job: &Job<A>, blocks: &JobMemory<A>) -> Result<(), AllocError>
     where
         A: Clone,
-        requires verified { IsVerified (ruled rule job.now) }
-        requires leaves { Leaves (own_slots number blocks.now) (ruled rule job.now) self.old.trace self.old.outcome }
-        ensures stored { OnOk result (self.new ≡ record self.old { outcome = Some (outcome (ruled rule job.now)) }) }
+        requires verified { IsVerified (ruled turn.rule job.now) }
+        requires leaves { Leaves (own_slots turn.number blocks.now) (ruled turn.rule job.now) self.old.trace
+            self.old.outcome }
+        ensures stored { OnOk result
+            (self.new ≡ record self.old { outcome = Some (outcome (ruled turn.rule job.now)) }) }
         ensures unchanged { OnErr result (self.new ≡ self.old) }
-        ensures returned { OnErr result (IsReturned (outcome (ruled rule job.now))) }
+        ensures returned { OnErr result (IsReturned (outcome (ruled turn.rule job.now))) }
     {
         if self.outcome.is_some() {
             return Ok(());
         }
         let alloc = self.alloc.clone()?;
-        let values = results(alloc, rule, job, &self.track, number, blocks)?;
+        let values = results(alloc, turn, job, &self.track, blocks)?;
         self.outcome = Some(Outcome::Returned(values));
         Ok(())
     }
@@ -746,43 +735,31 @@ impl<A: Allocator> Slot<A> {
     /// The job goes on past its step, or ends with it.
     fn commit(
         &mut self,
-        rule: Rule,
+        turn: Turn,
         job: &Job<A>,
-        number: usize,
         blocks: &mut JobMemory<A>,
         filled: &Filled<A>,
     ) -> Finished
-        requires shows { Shows number blocks.old (ruled rule job.now) self.old }
+        requires shows { Shows turn.number blocks.old (ruled turn.rule job.now) self.old }
         requires flying { self.old.status ≡ status.InFlight }
-        requires fits { Fits (ruled rule job.now) (standing_of self.old) filled.now }
+        requires fits { Fits (ruled turn.rule job.now) (standing_of self.old) filled.now }
         requires numbers { block_count blocks.old.memory + 2 ≤ length blocks.old.memory.slots }
-        ensures answer { Finishes number (ruled rule job.now) (standing_of self.old) filled.now result }
-        ensures shows { Shows number blocks.new (ruled rule job.now) self.new }
-        ensures others { ChangesOnlyOf number blocks.old blocks.new }
+        ensures answer { Finishes turn.number (ruled turn.rule job.now) (standing_of self.old) filled.now result }
+        ensures shows { Shows turn.number blocks.new (ruled turn.rule job.now) self.new }
+        ensures others { ChangesOnlyOf turn.number blocks.old blocks.new }
         ensures standing { Some (standing_of self.new)
-            ≡ next_standing (event.Finish number) (ruled rule job.now) (standing_of self.old) }
+            ≡ next_standing (event.Finish turn.number) (ruled turn.rule job.now) (standing_of self.old) }
     {
         others_are_ready();
         end_is_own();
-        match filled.answer() {
+        match made_in_flight(turn, job, &self.track, blocks, filled) {
             Err(fault) => {
-                let line = line_of_next(rule, job, &self.track, number, blocks);
-                self.end(rule, job, number, blocks, Outcome::Fault(fault, line));
+                let line = line_of_next(turn, job, &self.track, blocks);
+                self.end(turn, job, blocks, Outcome::Fault(fault, line));
                 Finished::Ended
             }
-            Ok((first, second)) => {
-                let (op, flag) = (filled.op(), filled.flag());
-                let words = words_in_flight(
-                    rule,
-                    job,
-                    &self.track,
-                    number,
-                    blocks,
-                    op,
-                    first,
-                    second,
-                );
-                if self.carry_out::<Op>(rule, job, number, blocks, op, flag, first, second, words) {
+            Ok(made) => {
+                if self.carry_out::<Op>(turn, job, blocks, made) {
                     Finished::Done
                 } else {
                     Finished::Ended
@@ -791,50 +768,32 @@ impl<A: Allocator> Slot<A> {
         }
     }
 
-    /// Executes the instruction of the step in flight, whose results are these words: true if the job goes on after
-    /// it, and false if it has returned. `words` are held and needed at it.
+    /// Executes the instruction of the step in flight, which makes this: true if the job goes on after it, and false if
+    /// it has returned.
     fn carry_out<C: Class>(
         &mut self,
-        rule: Rule,
+        turn: Turn,
         job: &Job<A>,
-        number: usize,
         blocks: &mut JobMemory<A>,
-        op: Op,
-        flag: bool,
-        first: &[i64],
-        second: &[i64],
-        words: usize,
+        made: Made<'_>,
     ) -> bool
-        requires shows { Shows number blocks.old (ruled rule job.now) self.old }
+        requires shows { Shows turn.number blocks.old (ruled turn.rule job.now) self.old }
         requires flying { self.old.status ≡ status.InFlight }
-        requires answered { IsAnswered (ruled rule job.now) self.old.trace.executed op flag first.now second.now }
-        requires words { CountsAs (held_under rule number op self.old.trace.cells blocks.old
-            + length first.now + length second.now) self.old.trace.peak words }
+        requires made { IsMade (ruled turn.rule job.now) turn.number blocks.old self.old.trace made }
         requires numbers { block_count blocks.old.memory + 2 ≤ length blocks.old.memory.slots }
         ensures goes_on { result ≡ true
-            → next_standing (event.Finish number) (ruled rule job.now) (standing_of self.old)
+            → next_standing (event.Finish turn.number) (ruled turn.rule job.now) (standing_of self.old)
             ≡ Some (Live (self.old.trace.executed + 1)) }
         ensures returned { result ≡ false
-            → next_standing (event.Finish number) (ruled rule job.now) (standing_of self.old) ≡ Some Ended }
-        ensures shows { Shows number blocks.new (ruled rule job.now) self.new }
-        ensures others { ChangesOnlyOf number blocks.old blocks.new }
+            → next_standing (event.Finish turn.number) (ruled turn.rule job.now) (standing_of self.old) ≡ Some Ended }
+        ensures shows { Shows turn.number blocks.new (ruled turn.rule job.now) self.new }
+        ensures others { ChangesOnlyOf turn.number blocks.old blocks.new }
         ensures standing { Some (standing_of self.new)
-            ≡ next_standing (event.Finish number) (ruled rule job.now) (standing_of self.old) }
+            ≡ next_standing (event.Finish turn.number) (ruled turn.rule job.now) (standing_of self.old) }
     {
         reached();
         end_is_own();
-        execute::<C, A>(
-            rule,
-            job,
-            &mut self.track,
-            number,
-            blocks,
-            op,
-            flag,
-            first,
-            second,
-            words,
-        );
+        execute::<C, A>(turn, job, &mut self.track, blocks, made);
         self.go_on()
     }
 
@@ -870,22 +829,21 @@ impl<A: Allocator> Slot<A> {
     #[inline(never)]
     fn end(
         &mut self,
-        rule: Rule,
+        turn: Turn,
         job: &Job<A>,
-        number: usize,
         blocks: &mut JobMemory<A>,
         ending: Outcome<Values<A>>,
     )
-        requires shows { Shows number blocks.old (ruled rule job.now) self.old }
+        requires shows { Shows turn.number blocks.old (ruled turn.rule job.now) self.old }
         requires active { IsActive self.old.status }
-        requires ending { IsEnding (ruled rule job.now) self.old.trace.executed self.old.trace.peak ending }
-        ensures shows { Shows number blocks.new (ruled rule job.now) self.new }
-        ensures others { ChangesOnlyOf number blocks.old blocks.new }
+        requires ending { IsEnding (ruled turn.rule job.now) self.old.trace.executed self.old.trace.peak ending }
+        ensures shows { Shows turn.number blocks.new (ruled turn.rule job.now) self.new }
+        ensures others { ChangesOnlyOf turn.number blocks.old blocks.new }
         ensures ended { self.new.status ≡ status.Ended }
     {
         self.outcome = Some(ending);
         self.status = Status::Ended;
-        self.let_go(number, blocks)
+        self.let_go(turn.number, blocks)
     }
 
     /// Lets go of all cells, and so of all blocks of the job.

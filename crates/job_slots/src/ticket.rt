@@ -23,12 +23,13 @@ ghost use Rattle.job_slots.specs.Needs.{AreFoundNeeds, IsReady, words_with};
 use crate::commit::held_under;
 use crate::execution::held_is_counted;
 use crate::next::{Next, read_next};
+use crate::turn::Turn;
 use block_memory::BlockId;
 use job_memory::JobMemory;
 use job_steps::laws::{reached, steps_can_advance, steps_can_begin};
-use job_steps::{Desk, Job, Ticket, Track, lengths};
+use job_steps::{Desk, Job, Ticket, Track, flag, lengths};
 use std::alloc::Allocator;
-use vcode_base::{Op, Outcome, Rule, Values};
+use vcode_base::{Op, Outcome, Values};
 
 /// What an instruction needs: the words of its first and second result, and those that are held and needed at it.
 #[derive(Clone, Copy)]
@@ -36,6 +37,23 @@ pub(crate) struct Needs {
     pub(crate) first: u64,
     pub(crate) second: u64,
     pub(crate) words: usize,
+}
+
+/// The next instruction of a job, which nothing ends before the values of its operands are looked at.
+#[derive(Clone, Copy)]
+pub(crate) struct Ready {
+    pub(crate) op: Op,
+    pub(crate) line: u64,
+    /// Whether the first word of the first operand is other than 0.
+    pub(crate) flag: bool,
+    pub(crate) needs: Needs,
+}
+
+/// An instruction without operands: a `CONST` with its list, or one that makes no words.
+#[derive(Clone, Copy)]
+pub(crate) struct Plain<'a> {
+    pub(crate) op: Op,
+    pub(crate) list: &'a [i64],
 }
 
 /// How a job ends before its next instruction, with the desk that was meant for it.
@@ -48,50 +66,52 @@ pub(crate) struct Halted<A: Allocator> {
 /// The ticket of the next step of a job that runs, on a desk of at least the job's words, or how the job ends before
 /// it.
 pub(crate) fn ticket_of<A: Allocator>(
-    rule: Rule,
+    turn: Turn,
     job: &Job<A>,
     track: &Track<BlockId, A>,
-    number: usize,
     blocks: &JobMemory<A>,
     desk: Desk<A>,
 ) -> Result<Ticket<A>, Halted<A>>
-    requires running { IsRunningSlot (own_slots number blocks.now) (ruled rule job.now) track.now }
-    requires verified { IsVerified (ruled rule job.now) }
-    requires has_grant { HasGrant blocks.now number }
+    requires running { IsRunningSlot (own_slots turn.number blocks.now) (ruled turn.rule job.now) track.now }
+    requires verified { IsVerified (ruled turn.rule job.now) }
+    requires has_grant { HasGrant blocks.now turn.number }
     requires words { job.now.limits.words ≤ desk }
     ensures { MatchResult result
-        (IsAskedOf number desk (ruled rule job.now) track.now.executed)
-        (λ halted. (early_end_at (ruled rule job.now) track.now.executed ≡ Some halted.ending) × (halted.desk ≡ desk)) }
+        (IsAskedOf turn.number desk (ruled turn.rule job.now) track.now.executed)
+        (λ halted. (early_end_at (ruled turn.rule job.now) track.now.executed ≡ Some halted.ending)
+        × (halted.desk ≡ desk)) }
 {
-    let next = read_next(rule, job, track, number, blocks);
-    match needs_of(rule, job, track, number, blocks, &next) {
+    let next = read_next(turn, job, track, blocks);
+    match ready_for(turn, job, track, blocks, &next) {
         Err(ending) => Err(Halted { ending, desk }),
-        Ok(_) => Ok(desk.ask(number, track.executed(), next.op, next.operands.as_slice())),
+        Ok(_) => {
+            let operands = next.operands.as_slice();
+            Ok(desk.ask(turn.number, track.executed(), next.op, operands))
+        }
     }
 }
 
-/// What the next instruction of a job that runs needs, or how the job ends before the values of its operands are looked
-/// at.
+/// The next instruction of a job that runs, with what it needs, or how the job ends before the values of its operands
+/// are looked at.
 #[inline(always)]
-pub(crate) fn needs_of<A: Allocator>(
-    rule: Rule,
+pub(crate) fn ready_for<A: Allocator>(
+    turn: Turn,
     job: &Job<A>,
     track: &Track<BlockId, A>,
-    number: usize,
     blocks: &JobMemory<A>,
     next: &Next<'_>,
-) -> Result<Needs, Outcome<Values<A>>>
-    requires running { IsRunningSlot (own_slots number blocks.now) (ruled rule job.now) track.now }
-    requires verified { IsVerified (ruled rule job.now) }
-    requires has_grant { HasGrant blocks.now number }
-    requires next { IsNext (ruled rule job.now) track.now.executed next.now.op next.now.line
+) -> Result<Ready, Outcome<Values<A>>>
+    requires running { IsRunningSlot (own_slots turn.number blocks.now) (ruled turn.rule job.now) track.now }
+    requires verified { IsVerified (ruled turn.rule job.now) }
+    requires has_grant { HasGrant blocks.now turn.number }
+    requires next { IsNext (ruled turn.rule job.now) track.now.executed next.now.op next.now.line
         (contents (take next.now.operands.count next.now.operands.lists)) }
     requires kinds { HaveKinds (source_kinds next.now.op)
         (contents (take next.now.operands.count next.now.operands.lists)) }
     ensures { MatchResult result
-        (IsReady (ruled rule job.now) number blocks.now track.now next.now.op
-        (contents (take next.now.operands.count next.now.operands.lists)))
-        (λ ending. early_end_at (ruled rule job.now) track.now.executed ≡ Some ending) }
+        (λ ready. (ready.op ≡ next.now.op) × IsReady (ruled turn.rule job.now) turn.number blocks.now track.now
+        (contents (take next.now.operands.count next.now.operands.lists)) ready)
+        (λ ending. early_end_at (ruled turn.rule job.now) track.now.executed ≡ Some ending) }
 {
     steps_can_begin::<BlockId>();
     steps_can_advance::<BlockId>();
@@ -101,8 +121,16 @@ pub(crate) fn needs_of<A: Allocator>(
     }
     // By its type a memory has no block that no reference names.
     let _used = blocks.used();
-    let held = held_under(rule, track, number, blocks, next.op);
-    needs_beside(track, held, next)
+    let held = held_under(turn, track, blocks, next.op);
+    match needs_beside(track, held, next) {
+        Err(ending) => Err(ending),
+        Ok(needs) => Ok(Ready {
+            op: next.op,
+            line: next.line,
+            flag: flag(next.operands.as_slice()),
+            needs,
+        }),
+    }
 }
 
 /// What an instruction needs, if `held` words are held, or its ending by a shape or a limit.
@@ -137,30 +165,29 @@ fn needs_beside<A: Allocator>(
     }
 }
 
-/// The words that count at the next instruction of a job that runs, which has no operands and makes the words of this
-/// list, or none if the job ends before it.
+/// The words that count at the next instruction of a job that runs, which is this one, or none if the job ends before
+/// it.
 ///
 /// If it makes no words, those that are held need no look: they were within the limit and the peak before.
 #[inline(always)]
 pub(crate) fn words_without_operands<A: Allocator>(
-    rule: Rule,
+    turn: Turn,
     job: &Job<A>,
     track: &Track<BlockId, A>,
-    number: usize,
     blocks: &JobMemory<A>,
-    op: Op,
-    list: &[i64],
+    plain: Plain<'_>,
 ) -> Option<usize>
-    requires running { IsRunningSlot (own_slots number blocks.now) (ruled rule job.now) track.now }
-    requires verified { IsVerified (ruled rule job.now) }
-    requires has_grant { HasGrant blocks.now number }
-    requires next { IsOpOfNext (ruled rule job.now) track.now op }
-    requires list { IsListOfNext (ruled rule job.now) track.now list.now }
-    requires no_operands { HasNoOperands op }
+    requires running { IsRunningSlot (own_slots turn.number blocks.now) (ruled turn.rule job.now) track.now }
+    requires verified { IsVerified (ruled turn.rule job.now) }
+    requires has_grant { HasGrant blocks.now turn.number }
+    requires next { IsOpOfNext (ruled turn.rule job.now) track.now plain.op }
+    requires list { IsListOfNext (ruled turn.rule job.now) track.now plain.list.now }
+    requires no_operands { HasNoOperands plain.op }
     ensures { MatchOption result
-        (is_some (early_end_at (ruled rule job.now) track.now.executed) ≡ true)
-        (λ words. (early_end_at (ruled rule job.now) track.now.executed ≡ None)
-        × CountsAs (held_under rule number op track.now.cells blocks.now + length list.now) track.now.peak words) }
+        (is_some (early_end_at (ruled turn.rule job.now) track.now.executed) ≡ true)
+        (λ words. (early_end_at (ruled turn.rule job.now) track.now.executed ≡ None)
+        × CountsAs (held_under turn.rule turn.number plain.entry.op track.now.cells blocks.now
+        + length plain.entry.list.now) track.now.peak words) }
 {
     steps_can_begin::<BlockId>();
     reached();
@@ -169,8 +196,8 @@ pub(crate) fn words_without_operands<A: Allocator>(
     if track.executed() == job.limits().budget {
         return None;
     }
-    let words = words_with(list, number, blocks);
-    match track.memory_fault(op, words as u64) {
+    let words = words_with(plain.list, turn.number, blocks);
+    match track.memory_fault(plain.op, words as u64) {
         Some(_) => None,
         None => Some(words),
     }
@@ -193,26 +220,25 @@ fn words_with<A: Allocator>(list: &[i64], number: usize, blocks: &JobMemory<A>) 
 /// The words that a job that runs holds and needs at its next instruction. If its operands don't fit one another, only
 /// those that it holds.
 pub(crate) fn demand_of<A: Allocator>(
-    rule: Rule,
+    turn: Turn,
     job: &Job<A>,
     track: &Track<BlockId, A>,
-    number: usize,
     blocks: &JobMemory<A>,
 ) -> usize
-    requires running { IsRunningSlot (own_slots number blocks.now) (ruled rule job.now) track.now }
-    requires verified { IsVerified (ruled rule job.now) }
-    requires has_grant { HasGrant blocks.now number }
-    ensures executed { early_end_at (ruled rule job.now) track.now.executed ≡ None
-        → result ≡ demand_in rule (state_after (ruled rule job.now) track.now.executed) }
-    ensures told { result ≡ told_demand_in rule (state_after (ruled rule job.now) track.now.executed) }
+    requires running { IsRunningSlot (own_slots turn.number blocks.now) (ruled turn.rule job.now) track.now }
+    requires verified { IsVerified (ruled turn.rule job.now) }
+    requires has_grant { HasGrant blocks.now turn.number }
+    ensures executed { early_end_at (ruled turn.rule job.now) track.now.executed ≡ None
+        → result ≡ demand_in turn.rule (state_after (ruled turn.rule job.now) track.now.executed) }
+    ensures told { result ≡ told_demand_in turn.rule (state_after (ruled turn.rule job.now) track.now.executed) }
 {
     steps_can_begin::<BlockId>();
     held_is_counted();
-    let next = read_next(rule, job, track, number, blocks);
+    let next = read_next(turn, job, track, blocks);
     // By its type a memory has no block that no reference names.
     let _used = blocks.used();
     let op = next.op;
-    let held = held_under(rule, track, number, blocks, op);
+    let held = held_under(turn, track, blocks, op);
     demand_by(held, &next)
 }
 

@@ -17,8 +17,8 @@ copy_of-requires-clause-live g c =
     let turn = zip_turn c.cells-cells.result.now c.results-kinds.result.now c.loop-id.yielded
     c.into_iter-id-iterator.result c.loop-id.id-iterator c.next.new.self c.next.result first second c.loop-id.yielded_by
     (c.in-Some.id, c.in-Some.kind) c.in-Some.is c.next.ensures.steps in
-    (result_of_turn c.results_have_kinds.ensures c.each_ends.ensures c.args.number c.args.blocks.now
-    (ruled c.args.rule c.args.job.now)
+    (result_of_turn c.results_have_kinds.ensures c.each_ends.ensures c.args.turn.number c.args.blocks.now
+    (ruled c.args.turn.rule c.args.job.now)
     c.args.track.now c.requires.verified c.requires.returned c.cells-cells.result.now c.results-kinds.result.now
     (record {
       ids_are = c.cells-cells.ensures;
@@ -32,8 +32,9 @@ loop-id-preserved g c =
     let turn = zip_turn c.cells-cells.result.now c.results-kinds.result.now c.loop-id.yielded
     c.into_iter-id-iterator.result c.loop-id.id-iterator c.next.new.self c.next.result first second c.loop-id.yielded_by
     (c.in-Some.id, c.in-Some.kind) c.in-Some.is c.next.ensures.steps in
-    let is = result_of_turn c.results_have_kinds.ensures c.each_ends.ensures c.args.number c.args.blocks.now
-    (ruled c.args.rule c.args.job.now) c.args.track.now c.requires.verified c.requires.returned c.cells-cells.result.now
+    let is = result_of_turn c.results_have_kinds.ensures c.each_ends.ensures c.args.turn.number c.args.blocks.now
+    (ruled c.args.turn.rule c.args.job.now) c.args.track.now c.requires.verified c.requires.returned
+    c.cells-cells.result.now
     c.results-kinds.result.now (record {
       ids_are = c.cells-cells.ensures;
       kinds_are = c.results-kinds.ensures.same ∙ ap (λ (v : TypedProgram). v.results) c.verified.ensures.same;
@@ -45,7 +46,7 @@ loop-id-preserved g c =
     let inv = c.loop-id.invariant in
     record {
       count = ap length pushed ∙ (length-append c.loop-id.values.items (value ∷ []) ∙ omega (arith, inv.count, more));
-      first = more_results (values_in (outcome (ruled c.args.rule c.args.job.now))) c.loop-id.values.items
+      first = more_results (values_in (outcome (ruled c.args.turn.rule c.args.job.now))) c.loop-id.values.items
           c.push.new.self.items (length c.loop-id.yielded)
           (length (c.loop-id.yielded ++ (c.in-Some.id, c.in-Some.kind) ∷ [])) value is.within inv.first
           (is.value_is value value c.in_ok-words.words refl c.in_ok-words.ensures) pushed more;
@@ -62,7 +63,8 @@ returns g c =
     let count = zip_end c.cells-cells.result.now c.results-kinds.result.now c.loop-id.yielded
     c.into_iter-id-iterator.result c.loop-id.id-iterator c.next.new.self c.next.result first second c.loop-id.yielded_by
     c.in-None.is c.next.ensures.steps in
-    all_results c.results_have_kinds.ensures c.each_ends.ensures _ (ruled c.args.rule c.args.job.now) c.args.track.now
+    all_results c.results_have_kinds.ensures c.each_ends.ensures _ (ruled c.args.turn.rule c.args.job.now)
+    c.args.track.now
     c.requires.verified
     c.requires.returned c.cells-cells.result.now c.results-kinds.result.now
     (record {

@@ -9,6 +9,6 @@ use Rattle.job_slots.proofs.collect.results.Given as goal
 abbrev pub invariant-loop-id : goal.invariant-loop-id
 invariant-loop-id g l = record {
   count : length l.values.items ≡ length l.yielded;
-  first : l.values.items ≡ take (length l.yielded) (values_in (outcome (ruled l.fn.rule l.job)));
+  first : l.values.items ≡ take (length l.yielded) (values_in (outcome (ruled l.fn.turn.rule l.job)));
   copies : AreCopies l.blocks.memory l.cells l.values.items;
 }

@@ -31,18 +31,18 @@ none g c =
 
 pub place-requires-clause-room : goal.place-requires-clause-room
 place-requires-clause-room g c =
-    let same = held_beside_none c.args.rule c.args.number c.args.op c.args.track.now.cells c.args.blocks.now
+    let same = held_beside_none c.args.turn.rule c.args.turn.number c.args.op c.args.track.now.cells c.args.blocks.now
     (none g (goal.at.place-requires-clause-room g c).Then-is_empty) in
     omega (arith, same, c.requires.room)
 
 alone : (g : Over) (c : After-place g) →
-    HasExchanged Second c.args.number (taken_ids c.args.op c.args.track.now.cells) c.place.result c.args.words.now
+    HasExchanged Second c.args.turn.number (taken_ids c.args.op c.args.track.now.cells) c.place.result c.args.words.now
     c.args.blocks.now c.place.new.blocks
 alone g c =
     released_and_placed (record {
       only_free = c.releases_only_free.ensures;
       only_their_job = c.releases_change_only_their_job.ensures;
-    }) Second c.args.number (taken_ids c.args.op c.args.track.now.cells) [] c.place.result c.args.words.now
+    }) Second c.args.turn.number (taken_ids c.args.op c.args.track.now.cells) [] c.place.result c.args.words.now
     c.args.blocks.now c.place.new.blocks refl c.place.ensures.fresh.0 c.place.ensures.fresh.1
     (sym (none g (goal.at.After-place g c).Then-is_empty)) c.place.ensures.placed c.requires.own
 
@@ -54,7 +54,7 @@ returns-then-is_empty-clause-held g c =
     held_whatever (record {
       only_free = c.releases_only_free.ensures;
       only_their_job = c.releases_change_only_their_job.ensures;
-    }) c.args.rule c.args.number (taken_ids c.args.op c.args.track.now.cells) c.place.result c.args.words.now
+    }) c.args.turn.rule c.args.turn.number (taken_ids c.args.op c.args.track.now.cells) c.place.result c.args.words.now
     c.args.blocks.now c.place.new.blocks c.requires.own (alone g c)
 
 pub returns-then-is_empty-clause-count : goal.returns-then-is_empty-clause-count
@@ -69,21 +69,21 @@ pub dying-requires : goal.dying-requires
 dying-requires g c =
     let at = goal.at.dying-requires g c in
     subst (λ (ids : List ℕ). AreLive c.args.blocks.now.memory ids) (sym (operands_are g at.After-top-operands))
-    (own_are_live c.args.number c.args.blocks.now (taken_ids c.args.op c.args.track.now.cells) c.requires.own)
+    (own_are_live c.args.turn.number c.args.blocks.now (taken_ids c.args.op c.args.track.now.cells) c.requires.own)
 
 pub exchange_at-requires-clause-own : goal.exchange_at-requires-clause-own
 exchange_at-requires-clause-own g c =
-    subst (λ (ids : List ℕ). AreOwn c.args.number c.args.blocks.now ids)
+    subst (λ (ids : List ℕ). AreOwn c.args.turn.number c.args.blocks.now ids)
     (sym (operands_are g (goal.at.exchange_at-requires-clause-own g c).After-top-operands)) c.requires.own
 
 reused : (g : Over) (c : goal.After-exchange_at g) →
-    HasExchanged Second c.args.number (taken_ids c.args.op c.args.track.now.cells) c.in-Some.id
+    HasExchanged Second c.args.turn.number (taken_ids c.args.op c.args.track.now.cells) c.in-Some.id
     c.args.words.now c.args.blocks.now c.exchange_at.new.self
 reused g c =
     released_and_placed (record {
       only_free = c.releases_only_free.ensures;
       only_their_job = c.releases_change_only_their_job.ensures;
-    }) Second c.args.number (taken_ids c.args.op c.args.track.now.cells) c.top-operands.result.now
+    }) Second c.args.turn.number (taken_ids c.args.op c.args.track.now.cells) c.top-operands.result.now
     c.in-Some.id
     c.args.words.now c.args.blocks.now c.exchange_at.new.self refl c.exchange_at.ensures.fresh.0
     c.exchange_at.ensures.fresh.1 (operands_are g (goal.at.returns-in-Some-clause-held g c).After-top-operands)
@@ -97,7 +97,7 @@ returns-in-Some-clause-held g c =
     held_whatever (record {
       only_free = c.releases_only_free.ensures;
       only_their_job = c.releases_change_only_their_job.ensures;
-    }) c.args.rule c.args.number (taken_ids c.args.op c.args.track.now.cells) c.in-Some.id c.args.words.now
+    }) c.args.turn.rule c.args.turn.number (taken_ids c.args.op c.args.track.now.cells) c.in-Some.id c.args.words.now
     c.args.blocks.now c.exchange_at.new.self c.requires.own (reused g c)
 
 pub returns-in-Some-clause-count : goal.returns-in-Some-clause-count
@@ -110,36 +110,37 @@ returns-in-Some-clause-numbers g c = (reused g c).numbers
 
 pub place-id-requires-clause-room : goal.place-id-requires-clause-room
 place-id-requires-clause-room g c =
-    subst (λ (rule : Rule). held_under rule c.args.number c.args.op c.args.track.now.cells c.args.blocks.now
-    + length c.args.words.now ≤ words_of (grant_of c.args.blocks.now c.args.number)) c.in-First.is c.requires.room
+    subst (λ (rule : Rule). held_under rule c.args.turn.number c.args.op c.args.track.now.cells c.args.blocks.now
+    + length c.args.words.now ≤ words_of (grant_of c.args.blocks.now c.args.turn.number)) c.in-First.is c.requires.room
 
 pub release_all-requires-clause-own : goal.release_all-requires-clause-own
 release_all-requires-clause-own g c =
     let at = goal.at.release_all-requires-clause-own g c in
     let taken : List ℕ = taken_ids c.args.op c.args.track.now.cells in
-    let still = own_still c.args.number c.args.blocks.now c.place-id.new.blocks c.place-id.result c.args.words.now taken
+    let still = own_still c.args.turn.number c.args.blocks.now c.place-id.new.blocks c.place-id.result c.args.words.now
+    taken
     c.place-id.ensures.fresh.1 c.place-id.ensures.placed c.requires.own in
-    let own : AreOwn c.args.number c.place-id.new.blocks c.top-operands.result.now =
-    subst (λ (ids : List ℕ). AreOwn c.args.number c.place-id.new.blocks ids)
+    let own : AreOwn c.args.turn.number c.place-id.new.blocks c.top-operands.result.now =
+    subst (λ (ids : List ℕ). AreOwn c.args.turn.number c.place-id.new.blocks ids)
     (sym (operands_are g at.After-top-operands))
     still in
     λ id. omega (arith, own id)
 
 first : (g : Over) (c : goal.After-release_all g) →
-    HasExchanged c.args.rule c.args.number (taken_ids c.args.op c.args.track.now.cells) c.place-id.result
+    HasExchanged c.args.turn.rule c.args.turn.number (taken_ids c.args.op c.args.track.now.cells) c.place-id.result
     c.args.words.now c.args.blocks.now c.release_all.new.self
 first g c =
     placed_and_released (record {
       only_free = c.releases_only_free.ensures;
       only_their_job = c.releases_change_only_their_job.ensures;
-    }) c.args.rule c.args.number (taken_ids c.args.op c.args.track.now.cells) c.top-operands.result.now
+    }) c.args.turn.rule c.args.turn.number (taken_ids c.args.op c.args.track.now.cells) c.top-operands.result.now
     c.place-id.result
     c.args.words.now c.args.blocks.now c.place-id.new.blocks c.release_all.new.self c.in-First.is
     c.place-id.ensures.fresh.0 c.place-id.ensures.fresh.1 c.place-id.ensures.placed
     (operands_are g (goal.at.returns-in-First-clause-held g c).After-top-operands) c.release_all.ensures c.requires.own
 
 pub returns-in-First-clause-exchanged : goal.returns-in-First-clause-exchanged
-returns-in-First-clause-exchanged g c = (c.args.rule, (first g c).is)
+returns-in-First-clause-exchanged g c = (c.args.turn.rule, (first g c).is)
 
 pub returns-in-First-clause-held : goal.returns-in-First-clause-held
 returns-in-First-clause-held g c = (first g c).held
@@ -154,32 +155,34 @@ returns-in-First-clause-numbers g c = (first g c).numbers
 
 pub exchange-requires-clause-own : goal.exchange-requires-clause-own
 exchange-requires-clause-own g c =
-    subst (λ (ids : List ℕ). AreOwn c.args.number c.args.blocks.now ids)
+    subst (λ (ids : List ℕ). AreOwn c.args.turn.number c.args.blocks.now ids)
     (sym (operands_are g (goal.at.exchange-requires-clause-own g c).After-top-operands)) c.requires.own
 
 pub exchange-requires-clause-room : goal.exchange-requires-clause-room
 exchange-requires-clause-room g c =
-    subst (λ (ids : List ℕ). held_words c.args.number (with_releases ids c.args.blocks.now) + length c.args.words.now
-    ≤ words_of (grant_of c.args.blocks.now c.args.number))
+    subst (λ (ids : List ℕ). held_words c.args.turn.number (with_releases ids c.args.blocks.now) + length
+    c.args.words.now
+    ≤ words_of (grant_of c.args.blocks.now c.args.turn.number))
     (sym (operands_are g (goal.at.exchange-requires-clause-room g c).After-top-operands))
-    (subst (λ (rule : Rule). held_under rule c.args.number c.args.op c.args.track.now.cells c.args.blocks.now
-    + length c.args.words.now ≤ words_of (grant_of c.args.blocks.now c.args.number)) c.in-Second.is c.requires.room)
+    (subst (λ (rule : Rule). held_under rule c.args.turn.number c.args.op c.args.track.now.cells c.args.blocks.now
+    + length c.args.words.now ≤ words_of (grant_of c.args.blocks.now c.args.turn.number)) c.in-Second.is
+    c.requires.room)
 
 second : (g : Over) (c : goal.After-exchange g) →
-    HasExchanged c.args.rule c.args.number (taken_ids c.args.op c.args.track.now.cells) c.exchange.result
+    HasExchanged c.args.turn.rule c.args.turn.number (taken_ids c.args.op c.args.track.now.cells) c.exchange.result
     c.args.words.now c.args.blocks.now c.exchange.new.self
 second g c =
     released_and_placed (record {
       only_free = c.releases_only_free.ensures;
       only_their_job = c.releases_change_only_their_job.ensures;
-    }) c.args.rule c.args.number (taken_ids c.args.op c.args.track.now.cells) c.top-operands.result.now
+    }) c.args.turn.rule c.args.turn.number (taken_ids c.args.op c.args.track.now.cells) c.top-operands.result.now
     c.exchange.result
     c.args.words.now c.args.blocks.now c.exchange.new.self c.in-Second.is c.exchange.ensures.fresh.0
     c.exchange.ensures.fresh.1 (operands_are g (goal.at.returns-in-Second-clause-held g c).After-top-operands)
     c.exchange.ensures.exchanged c.requires.own
 
 pub returns-in-Second-clause-exchanged : goal.returns-in-Second-clause-exchanged
-returns-in-Second-clause-exchanged g c = (c.args.rule, (second g c).is)
+returns-in-Second-clause-exchanged g c = (c.args.turn.rule, (second g c).is)
 
 pub returns-in-Second-clause-held : goal.returns-in-Second-clause-held
 returns-in-Second-clause-held g c = (second g c).held

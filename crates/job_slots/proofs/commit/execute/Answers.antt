@@ -7,16 +7,18 @@ use Rattle.job_slots.specs.Executions.{IsExecuted, CanExecute}
 use Rattle.job_slots.proofs.Executed.{executed_past}
 use Rattle.job_slots.proofs.commit.execute.Given.{Over}
 use Rattle.job_slots.proofs.commit.execute.Goals as goal
-use Rattle.job_slots.proofs.commit.execute.Goals.{After-used-used, After-go_past}
+use Rattle.job_slots.proofs.commit.execute.Goals.{After-used-used, After-advance}
 
 -- what is known of the instruction
 can : (g : Over) (c : goal.After-used-used g) →
-    CanExecute c.args.number c.args.blocks.now (ruled c.args.rule c.args.job.now) c.args.track.now c.args.op c.args.flag
-    c.args.first.now c.args.second.now
+    CanExecute c.args.turn.number c.args.blocks.now (ruled c.args.turn.rule c.args.job.now) c.args.track.now
+    c.args.made.op c.args.made.flag
+    c.args.made.first.now c.args.made.second.now
 can g c =
-    c.steps_execute.ensures c.args.number c.args.blocks.now (ruled c.args.rule c.args.job.now) c.args.track.now
-    c.args.op c.args.flag c.args.first.now c.args.second.now c.requires.flying c.requires.verified
-    c.used-used.ensures.tidy c.requires.answered
+    c.steps_execute.ensures c.args.turn.number c.args.blocks.now (ruled c.args.turn.rule c.args.job.now)
+    c.args.track.now
+    c.args.made.op c.args.made.flag c.args.made.first.now c.args.made.second.now c.requires.flying c.requires.verified
+    c.used-used.ensures.tidy c.requires.made.answered
 
 pub settle-results-requires-clause-two : goal.settle-results-requires-clause-two
 settle-results-requires-clause-two g c =
@@ -31,40 +33,53 @@ pub settle-results-requires-clause-can : goal.settle-results-requires-clause-can
 settle-results-requires-clause-can g c =
     (can g (goal.at.settle-results-requires-clause-can g c).After-used-used).can_settle
 
-pub go_past-requires-clause-can : goal.go_past-requires-clause-can
-go_past-requires-clause-can g c = (can g (goal.at.go_past-requires-clause-can g c).After-used-used).goes_past
+pub advance-requires-clause-budget : goal.advance-requires-clause-budget
+advance-requires-clause-budget g c =
+    (can g (goal.at.advance-requires-clause-budget g c).After-used-used).goes_past.unspent
 
-pub go_past-requires-clause-given : goal.go_past-requires-clause-given
-go_past-requires-clause-given g c = omega (
+pub advance-requires-clause-deep : goal.advance-requires-clause-deep
+advance-requires-clause-deep g c =
+    (can g (goal.at.advance-requires-clause-deep g c).After-used-used).goes_past.deep
+
+pub advance-requires-clause-cells : goal.advance-requires-clause-cells
+advance-requires-clause-cells g c =
+    (can g (goal.at.advance-requires-clause-cells g c).After-used-used).goes_past.cells
+
+pub advance-requires-clause-calls : goal.advance-requires-clause-calls
+advance-requires-clause-calls g c =
+    (can g (goal.at.advance-requires-clause-calls g c).After-used-used).goes_past.follows
+
+pub advance-requires-clause-given : goal.advance-requires-clause-given
+advance-requires-clause-given g c = omega (
   arith,
   ap length c.as_slice.ensures,
   c.settle-results.ensures.settled.1.given,
 )
 
 -- the track goes past as if what is held and needed counted
-counted : (g : Over) (c : goal.After-go_past g) →
-    Advances c.args.job.now.verified c.args.op c.args.flag c.as_slice.result.now
-    (held_under c.args.rule c.args.number c.args.op c.args.track.now.cells c.args.blocks.now
-    + length c.args.first.now + length c.args.second.now) c.args.track.now c.go_past.new.track
+counted : (g : Over) (c : goal.After-advance g) →
+    Advances c.args.job.now.verified c.args.made.op c.args.made.flag c.as_slice.result.now
+    (held_under c.args.turn.rule c.args.turn.number c.args.made.op c.args.track.now.cells c.args.blocks.now
+    + length c.args.made.first.now + length c.args.made.second.now) c.args.track.now c.advance.new.self
 counted g c =
-    let past = c.go_past.ensures in
+    let past = c.advance.ensures in
     record {
       limits = past.limits;
       cells = past.cells;
       frames = past.frames;
       executed = past.executed;
-      peak = past.peak ∙ c.requires.words;
+      peak = past.peak ∙ c.requires.made.counted;
     }
 
 -- the instruction is executed
-executed : (g : Over) (c : goal.After-go_past g) →
-    IsExecuted c.args.number c.args.blocks.now c.settle-results.new.blocks (ruled c.args.rule c.args.job.now)
-    c.args.track.now c.go_past.new.track
+executed : (g : Over) (c : goal.After-advance g) →
+    IsExecuted c.args.turn.number c.args.blocks.now c.settle-results.new.blocks (ruled c.args.turn.rule c.args.job.now)
+    c.args.track.now c.advance.new.self
 executed g c =
     executed_past (can g (goal.at.returns-clause-after g c).After-used-used) c.settle-results.ensures.settled.1 refl
-    (subst (λ (ids : List ℕ). Advances c.args.job.now.verified c.args.op c.args.flag ids
-    (held_under c.args.rule c.args.number c.args.op c.args.track.now.cells c.args.blocks.now
-    + length c.args.first.now + length c.args.second.now) c.args.track.now c.go_past.new.track)
+    (subst (λ (ids : List ℕ). Advances c.args.job.now.verified c.args.made.op c.args.made.flag ids
+    (held_under c.args.turn.rule c.args.turn.number c.args.made.op c.args.track.now.cells c.args.blocks.now
+    + length c.args.made.first.now + length c.args.made.second.now) c.args.track.now c.advance.new.self)
     c.as_slice.ensures (counted g c))
 
 pub returns-clause-after : goal.returns-clause-after

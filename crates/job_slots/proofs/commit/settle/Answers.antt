@@ -3,7 +3,7 @@ use Rattle.job_slots.proofs.Operands.{deep_enough}
 use Rattle.job_slots.proofs.commit.settle.Goals as goal
 
 pub exchange-requires-clause-deep : goal.exchange-requires-clause-deep
-exchange-requires-clause-deep g c = deep_enough c.args.op _ c.requires.can.deep
+exchange-requires-clause-deep g c = deep_enough c.args.made.op _ c.requires.can.deep
 
 pub returns-in-len1-clause-settled : goal.returns-in-len1-clause-settled
 returns-in-len1-clause-settled g c = (

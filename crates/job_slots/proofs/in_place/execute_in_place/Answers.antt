@@ -21,17 +21,18 @@ use Rattle.job_slots.proofs.in_place.execute_in_place.Goals as goal
 use Rattle.job_slots.proofs.in_place.execute_in_place.Goals.{
   After-top-operands,
   After-release_all,
-  After-go_past,
+  After-advance,
   In-Ok,
 }
 
 operands_are : (g : Over) (c : goal.After-top-operands g) →
-    c.top-operands.result.now ≡ taken_ids c.args.op c.args.track.now.cells
+    c.top-operands.result.now ≡ taken_ids c.args.placement.op c.args.track.now.cells
 operands_are g c =
     c.top-operands.ensures
     ∙ (ap (λ (ks : List Kind). top_entries (length ks) (reverse c.cells.result.now)) c.operand_kinds.ensures
-    ∙ (ap (λ (ids : List ℕ). top_entries (operand_count c.args.op) (reverse ids)) c.cells.ensures
-    ∙ ap (λ (ids : List ℕ). top_entries (operand_count c.args.op) ids) (reverse-reverse c.args.track.now.cells)))
+    ∙ (ap (λ (ids : List ℕ). top_entries (operand_count c.args.placement.op) (reverse ids)) c.cells.ensures
+    ∙ ap (λ (ids : List ℕ). top_entries (operand_count c.args.placement.op) ids)
+    (reverse-reverse c.args.track.now.cells)))
 
 pub place_with-requires-clause-room : goal.place_with-requires-clause-room
 place_with-requires-clause-room g c = omega (arith, c.requires.placeable.room, ap words_of c.requires.grant)
@@ -39,13 +40,13 @@ place_with-requires-clause-room g c = omega (arith, c.requires.placeable.room, a
 pub place_with-requires-clause-few : goal.place_with-requires-clause-few
 place_with-requires-clause-few g c =
     let at = goal.at.place_with-requires-clause-few g c in
-    let top = take (operand_count c.args.op) c.args.track.now.cells in
+    let top = take (operand_count c.args.placement.op) c.args.track.now.cells in
     omega (
       arith,
       ap length (operands_are g at.After-top-operands),
       length-reverse top,
-      length-take (operand_count c.args.op) c.args.track.now.cells,
-      few_operands c.args.op,
+      length-take (operand_count c.args.placement.op) c.args.track.now.cells,
+      few_operands c.args.placement.op,
     )
 
 pub place_with-requires-clause-live : goal.place_with-requires-clause-live
@@ -55,41 +56,46 @@ place_with-requires-clause-live g c =
 
 pub place_with-requires-clause-can : goal.place_with-requires-clause-can
 place_with-requires-clause-can g c =
-    subst (λ (ids : List ℕ). CanCompute c.args.op (map (words_at c.args.blocks.now.memory) ids) c.args.placement.len)
+    subst (λ (ids : List ℕ). CanCompute c.args.placement.op (map (words_at c.args.blocks.now.memory) ids)
+    c.args.placement.len)
     (sym (operands_are g (goal.at.place_with-requires-clause-can g c).After-top-operands)) c.requires.placeable.can
 
 -- the words that were written are the result
 result_is : (g : Over) (c : In-Ok g) →
-    IsResult c.args.op (map (words_at c.args.blocks.now.memory) (taken_ids c.args.op c.args.track.now.cells))
+    IsResult c.args.placement.op (map (words_at c.args.blocks.now.memory)
+    (taken_ids c.args.placement.op c.args.track.now.cells))
     c.in-Ok.ensures.placed.words
 result_is g c =
-    subst (λ (ids : List ℕ). IsResult c.args.op (map (words_at c.args.blocks.now.memory) ids)
+    subst (λ (ids : List ℕ). IsResult c.args.placement.op (map (words_at c.args.blocks.now.memory) ids)
     c.in-Ok.ensures.placed.words) (operands_are g (goal.at.In-Ok g c).After-top-operands) c.in-Ok.ensures.placed.so
 
 can : (g : Over) (c : In-Ok g) →
-    CanExecute c.args.number c.args.blocks.now (ruled c.args.rule c.args.job.now) c.args.track.now c.args.op
+    CanExecute c.args.turn.number c.args.blocks.now (ruled c.args.turn.rule c.args.job.now) c.args.track.now
+    c.args.placement.op
     c.args.placement.flag c.in-Ok.ensures.placed.words []
 can g c =
-    c.steps_execute.ensures c.args.number c.args.blocks.now (ruled c.args.rule c.args.job.now) c.args.track.now
-    c.args.op c.args.placement.flag c.in-Ok.ensures.placed.words [] c.requires.flying c.requires.verified
+    c.steps_execute.ensures c.args.turn.number c.args.blocks.now (ruled c.args.turn.rule c.args.job.now)
+    c.args.track.now
+    c.args.placement.op c.args.placement.flag c.in-Ok.ensures.placed.words [] c.requires.flying c.requires.verified
     c.used-used.ensures.tidy
-    (answered c.results_have_needed_lengths.ensures (ruled c.args.rule c.args.job.now) c.args.number c.args.blocks.now
-    c.args.track.now c.args.op c.args.placement c.requires.placeable c.in-Ok.ensures.placed.words (result_is g c))
+    (answered c.results_have_needed_lengths.ensures (ruled c.args.turn.rule c.args.job.now) c.args.turn.number
+    c.args.blocks.now
+    c.args.track.now c.args.placement c.requires.placeable c.in-Ok.ensures.placed.words (result_is g c))
 
 pub release_all-requires-clause-own : goal.release_all-requires-clause-own
 release_all-requires-clause-own g c =
     let at = goal.at.release_all-requires-clause-own g c in
     let placed = c.in-Ok.ensures.placed in
-    let taken : List ℕ = taken_ids c.args.op c.args.track.now.cells in
-    let still = own_still c.args.number c.args.blocks.now c.place_with.new.self c.in-Ok.id placed.words taken
+    let taken : List ℕ = taken_ids c.args.placement.op c.args.track.now.cells in
+    let still = own_still c.args.turn.number c.args.blocks.now c.place_with.new.self c.in-Ok.id placed.words taken
     placed.empty
     placed.placed (can g at.In-Ok).can_settle.own in
-    subst (λ (ids : List ℕ). AreOwn c.args.number c.place_with.new.self ids)
+    subst (λ (ids : List ℕ). AreOwn c.args.turn.number c.place_with.new.self ids)
     (sym (operands_are g at.After-top-operands))
     still
 
 replaced : (g : Over) (c : goal.After-release_all g) →
-    HasReplaced c.args.rule c.args.number (taken_ids c.args.op c.args.track.now.cells) c.in-Ok.id
+    HasReplaced c.args.turn.rule c.args.turn.number (taken_ids c.args.placement.op c.args.track.now.cells) c.in-Ok.id
     c.in-Ok.ensures.placed.words c.args.blocks.now c.release_all.new.self
 replaced g c =
     let at = goal.at.After-release_all g c in
@@ -97,7 +103,8 @@ replaced g c =
     placed_then_released (record {
       only_free = c.releases_only_free.ensures;
       only_their_job = c.releases_change_only_their_job.ensures;
-    }) c.args.rule c.args.number (taken_ids c.args.op c.args.track.now.cells) c.top-operands.result.now c.in-Ok.id
+    }) c.args.turn.rule c.args.turn.number (taken_ids c.args.placement.op c.args.track.now.cells)
+    c.top-operands.result.now c.in-Ok.id
     placed.words c.args.blocks.now c.place_with.new.self c.release_all.new.self placed.in_range placed.empty
     placed.placed
     (operands_are g at.After-top-operands) c.release_all.ensures (can g at.In-Ok).can_settle.own
@@ -106,44 +113,58 @@ pub overflow_add-held : goal.overflow_add-held
 overflow_add-held g c =
     omega (arith, c.requires.placeable.room, c.held-held.ensures.value, c.args.job.now.limits.words_in_range)
 
-pub go_past-requires-clause-can : goal.go_past-requires-clause-can
-go_past-requires-clause-can g c = (can g (goal.at.go_past-requires-clause-can g c).In-Ok).goes_past
+pub advance-requires-clause-budget : goal.advance-requires-clause-budget
+advance-requires-clause-budget g c =
+    (can g (goal.at.advance-requires-clause-budget g c).In-Ok).goes_past.unspent
 
-pub go_past-requires-clause-given : goal.go_past-requires-clause-given
-go_past-requires-clause-given g c = sym c.requires.placeable.one
+pub advance-requires-clause-deep : goal.advance-requires-clause-deep
+advance-requires-clause-deep g c =
+    (can g (goal.at.advance-requires-clause-deep g c).In-Ok).goes_past.deep
 
-executed : (g : Over) (c : goal.After-go_past g) →
-    IsExecuted c.args.number c.args.blocks.now c.release_all.new.self (ruled c.args.rule c.args.job.now)
-    c.args.track.now c.go_past.new.track
+pub advance-requires-clause-cells : goal.advance-requires-clause-cells
+advance-requires-clause-cells g c =
+    (can g (goal.at.advance-requires-clause-cells g c).In-Ok).goes_past.cells
+
+pub advance-requires-clause-calls : goal.advance-requires-clause-calls
+advance-requires-clause-calls g c =
+    (can g (goal.at.advance-requires-clause-calls g c).In-Ok).goes_past.follows
+
+pub advance-requires-clause-given : goal.advance-requires-clause-given
+advance-requires-clause-given g c = sym c.requires.placeable.one
+
+executed : (g : Over) (c : goal.After-advance g) →
+    IsExecuted c.args.turn.number c.args.blocks.now c.release_all.new.self (ruled c.args.turn.rule c.args.job.now)
+    c.args.track.now c.advance.new.self
 executed g c =
-    let at = goal.at.After-go_past g c in
+    let at = goal.at.After-advance g c in
     let placed = c.in-Ok.ensures.placed in
-    let old : ℕ = held_words c.args.number c.args.blocks.now in
-    let new : ℕ = held_words c.args.number c.release_all.new.self in
-    let held : ℕ = held_under c.args.rule c.args.number c.args.op c.args.track.now.cells c.args.blocks.now in
+    let old : ℕ = held_words c.args.turn.number c.args.blocks.now in
+    let new : ℕ = held_words c.args.turn.number c.release_all.new.self in
+    let held : ℕ = held_under c.args.turn.rule c.args.turn.number c.args.placement.op c.args.track.now.cells
+    c.args.blocks.now in
     let here = replaced g at.After-release_all in
     let before : c.held-held.result + c.args.placement.len ≡ old + length placed.words =
     omega (arith, c.held-held.ensures.value, placed.long) in
     let words : c.words_by-words.result ≡ held + length placed.words =
     c.words_by-words.ensures
-    ∙ (ap (λ (n : ℕ). words_by c.args.rule n c.held.result) before
-    ∙ (ap (λ (n : ℕ). words_by c.args.rule (old + length placed.words) n) c.held.ensures.value ∙ here.counted)) in
+    ∙ (ap (λ (n : ℕ). words_by c.args.turn.rule n c.held.result) before
+    ∙ (ap (λ (n : ℕ). words_by c.args.turn.rule (old + length placed.words) n) c.held.ensures.value ∙ here.counted)) in
     let all : c.words_by-words.result ≡ held + length placed.words + 0 = omega (arith, words) in
-    executed_past {form = c.args.rule} (can g at.In-Ok) (record {
+    executed_past {form = c.args.turn.rule} (can g at.In-Ok) (record {
       given = sym c.requires.placeable.one;
       settled = here.is;
     }) refl
-    (subst (λ (n : ℕ). Advances c.args.job.now.verified c.args.op c.args.placement.flag (c.in-Ok.id ∷ []) n
-    c.args.track.now c.go_past.new.track) all c.go_past.ensures)
+    (subst (λ (n : ℕ). Advances c.args.job.now.verified c.args.placement.op c.args.placement.flag (c.in-Ok.id ∷ []) n
+    c.args.track.now c.advance.new.self) all c.advance.ensures)
 
 pub returns-in-Ok-clause-after : goal.returns-in-Ok-clause-after
-returns-in-Ok-clause-after g c = (executed g (goal.at.returns-in-Ok-clause-after g c).After-go_past).after
+returns-in-Ok-clause-after g c = (executed g (goal.at.returns-in-Ok-clause-after g c).After-advance).after
 
 pub returns-in-Ok-clause-others : goal.returns-in-Ok-clause-others
-returns-in-Ok-clause-others g c = (executed g (goal.at.returns-in-Ok-clause-others g c).After-go_past).others
+returns-in-Ok-clause-others g c = (executed g (goal.at.returns-in-Ok-clause-others g c).After-advance).others
 
 pub returns-in-Err-clause-fault : goal.returns-in-Err-clause-fault
 returns-in-Err-clause-fault g c =
-    ap (λ (ids : List ℕ). value_fault c.args.op (map (words_at c.args.blocks.now.memory) ids))
+    ap (λ (ids : List ℕ). value_fault c.args.placement.op (map (words_at c.args.blocks.now.memory) ids))
     (sym (operands_are g (goal.at.returns-in-Err-clause-fault g c).After-top-operands))
     ∙ c.in-Err.ensures.fault

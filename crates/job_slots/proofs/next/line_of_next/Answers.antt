@@ -4,7 +4,7 @@ use Rattle.job_slots.proofs.next.line_of_next.Goals as goal
 
 pub returns : goal.returns
 returns g c =
-    let job = ruled c.args.rule c.args.job.now in
+    let job = ruled c.args.turn.rule c.args.job.now in
     let track = c.args.track.now in
     let run = c.requires.running in
     let can = can_begin c.steps_can_begin.ensures _ job track run c.requires.verified in

@@ -19,12 +19,14 @@ returns-then-executed-limits g c =
     let limits : c.limits.result ≡ track.limits = c.limits.ensures ∙ sym run.at.limits in
     let spent : track.executed ≡ track.limits.budget =
     sym c.executed.ensures ∙ (c.if-executed-limits.true ∙ ap (λ (l : Limits). l.budget) limits) in
-    ap is_some (budget_end (ruled c.args.rule c.args.job.now) track run.state run.running run.at spent)
+    ap is_some (budget_end (ruled c.args.turn.rule c.args.job.now) track run.state run.running run.at spent)
 
 pub words_with-words-requires-clause-few : goal.words_with-words-requires-clause-few
 words_with-words-requires-clause-few g c =
-    let few = few_held c.steps_can_begin.ensures c.args.number c.args.blocks.now (ruled c.args.rule c.args.job.now)
-    c.args.track.now c.requires.running c.requires.verified c.args.op c.args.list.now c.requires.next c.requires.list
+    let few = few_held c.steps_can_begin.ensures c.args.turn.number c.args.blocks.now
+    (ruled c.args.turn.rule c.args.job.now)
+    c.args.track.now c.requires.running c.requires.verified c.args.plain.op c.args.plain.list.now c.requires.next
+    c.requires.list
     c.requires.no_operands c.reached.ensures c.held_is_counted.ensures c.used-used.ensures.tidy in
     omega (arith, few, c.args.track.now.limits.words_in_range)
 
@@ -37,30 +39,34 @@ unspent g c same =
 -- the fault that was found is that at the words that count
 fault_is : (g : Over) (c : After-memory_fault g) →
     let track = c.args.track.now in
-    memory_fault track.limits c.args.op (words_with c.args.list.now (held_words c.args.number c.args.blocks.now))
-    (depth_after c.args.op (length track.cells)) (length track.frames) ≡ c.memory_fault.result
+    memory_fault track.limits c.args.plain.op (words_with c.args.plain.list.now
+    (held_words c.args.turn.number c.args.blocks.now))
+    (depth_after c.args.plain.op (length track.cells)) (length track.frames) ≡ c.memory_fault.result
 fault_is g c =
     let track = c.args.track.now in
-    ap (λ words. memory_fault track.limits c.args.op words (depth_after c.args.op (length track.cells))
+    ap (λ words. memory_fault track.limits c.args.plain.op words (depth_after c.args.plain.op (length track.cells))
     (length track.frames)) (sym c.words_with-words.ensures) ∙ sym c.memory_fault.ensures
 
 pub returns-in-Some : goal.returns-in-Some
 returns-in-Some g c =
     let at = (goal.at.returns-in-Some g c).After-memory_fault in
-    ends_by_fault c.steps_can_begin.ensures c.args.number c.args.blocks.now (ruled c.args.rule c.args.job.now)
-    c.args.track.now c.requires.running c.requires.verified c.args.op c.args.list.now c.requires.next c.requires.list
+    ends_by_fault c.steps_can_begin.ensures c.args.turn.number c.args.blocks.now (ruled c.args.turn.rule c.args.job.now)
+    c.args.track.now c.requires.running c.requires.verified c.args.plain.op c.args.plain.list.now c.requires.next
+    c.requires.list
     c.requires.no_operands c.reached.ensures c.held_is_counted.ensures c.used-used.ensures.tidy (unspent g at)
     (ap is_some (fault_is g at ∙ c.in-Some.is))
 
 pub returns-in-None : goal.returns-in-None
 returns-in-None g c =
     let at = (goal.at.returns-in-None g c).After-memory_fault in (
-      goes_on c.steps_can_begin.ensures c.args.number c.args.blocks.now (ruled c.args.rule c.args.job.now)
-          c.args.track.now c.requires.running c.requires.verified c.args.op c.args.list.now c.requires.next c.requires.list
+      goes_on c.steps_can_begin.ensures c.args.turn.number c.args.blocks.now (ruled c.args.turn.rule c.args.job.now)
+          c.args.track.now c.requires.running c.requires.verified c.args.plain.op c.args.plain.list.now c.requires.next
+          c.requires.list
           c.requires.no_operands c.reached.ensures c.held_is_counted.ensures c.used-used.ensures.tidy (unspent g at)
           (fault_is g at ∙ c.in-None.is),
       rw c.words_with-words.ensures
-          (counts c.steps_can_begin.ensures c.args.number c.args.blocks.now (ruled c.args.rule c.args.job.now)
-          c.args.track.now c.requires.running c.requires.verified c.args.op c.args.list.now c.requires.next c.requires.list
+          (counts c.steps_can_begin.ensures c.args.turn.number c.args.blocks.now (ruled c.args.turn.rule c.args.job.now)
+          c.args.track.now c.requires.running c.requires.verified c.args.plain.op c.args.plain.list.now c.requires.next
+          c.requires.list
           c.requires.no_operands c.reached.ensures c.held_is_counted.ensures c.used-used.ensures.tidy),
     )

@@ -1,4 +1,4 @@
-use Rattle.std.proofs.Common.{◌≡◌, ◌-◌, length, get_or, ap, sym, refl, ◌∙◌, subst, arith, map}
+use Rattle.std.proofs.Common.{◌≡◌, ◌-◌, length, ap, sym, refl, ◌∙◌, subst, arith, map}
 use Rattle.std.proofs.lemmas.List.{length-map, with_items_is}
 use Rattle.std.specs.Arc.{arc_value}
 use Rattle.std.specs.Vec.{with_items}
@@ -12,7 +12,7 @@ use Rattle.job_machine.proofs.Admitting.{HasNext, has_next, granted_ok, admitted
 use Rattle.job_machine.proofs.TurnLemmas.{task_read, turn_shows, turn_sound}
 use Rattle.job_machine.proofs.machine.Machine.admit.Given.{Over}
 use Rattle.job_machine.proofs.machine.Machine.admit.Goals as goal
-use Rattle.job_machine.proofs.machine.Machine.admit.Goals.{After-next_admission-next, In-Admitted, After-admit-arg-1}
+use Rattle.job_machine.proofs.machine.Machine.admit.Goals.{After-next_admission-next, In-Admitted, After-job_at}
 
 pub next_admission-next-requires-clause-slots : goal.next_admission-next-requires-clause-slots
 next_admission-next-requires-clause-slots g c =
@@ -86,60 +86,42 @@ index_mut-slot-requires g c =
     let here = own g at.In-Admitted (answer g at.After-next_admission-next) in
     omega (arith, here.first, here.within, c.self.invariant.slots_are, c.self.inside.slots.ok)
 
-pub offset_bounds-jobs-place : goal.offset_bounds-jobs-place
-offset_bounds-jobs-place g c =
-    let at = goal.at.offset_bounds-jobs-place g c in
+pub job_at-requires : goal.job_at-requires
+job_at-requires g c =
+    let at = goal.at.job_at-requires g c in
     let here = own g at.In-Admitted (answer g at.After-next_admission-next) in
-    omega (
-      arith,
-      here.within,
-      ap length (c.as_slice-jobs.ensures.value ∙ ap (λ v. v.items) c.deref-2.ensures),
-      length-map (arc_value c.self.inside.jobs).items (ruled c.self.inside.rule),
-    )
-
-pub bounds-jobs-place : goal.bounds-jobs-place
-bounds-jobs-place g c =
-    let at = goal.at.bounds-jobs-place g c in
-    let here = own g at.In-Admitted (answer g at.After-next_admission-next) in
-    omega (
-      arith,
-      here.first,
-      here.within,
-      ap length (c.as_slice-jobs.ensures.value ∙ ap (λ v. v.items) c.deref-2.ensures),
-      length-map (arc_value c.self.inside.jobs).items (ruled c.self.inside.rule),
-    )
+    omega (arith, here.first, here.within, length-map (arc_value c.self.inside.jobs).items (ruled c.self.inside.rule))
 
 -- it has the turn
-turn : (g : Over) (c : goal.After-admit-arg-1 g) →
+turn : (g : Over) (c : goal.After-job_at g) →
     IsAdmitted c.self.inside.blocks (map (ruled c.self.inside.rule) (arc_value c.self.inside.jobs).items)
     c.self.inside.slots.items c.self.inside.passes.items c.in-Admitted.job →
     HasNext c.self.inside.blocks (map (ruled c.self.inside.rule) (arc_value c.self.inside.jobs).items)
     c.self.inside.slots.items c.self.inside.passes.items c.args.self.now c.in-Admitted.job (c.in-Admitted.job - 1)
-    (ruled c.self.inside.rule c.index-jobs-place.result) c.index_mut-slot.result.now
+    (ruled c.self.inside.rule c.job_at.result.now) c.index_mut-slot.result.now
 turn g c next =
     let rule = c.self.inside.rule in
     let jobs = (arc_value c.self.inside.jobs).items in
-    let jobs_are = c.as_slice-jobs.ensures.value ∙ ap (λ v. v.items) c.deref-2.ensures in
     let place = c.in-Admitted.job - 1 in
-    let job = c.index-jobs-place.result in
+    let job = c.job_at.result.now in
     has_next c.in-Admitted.job place (ruled rule job) c.index_mut-slot.result.now c.self.invariant c.self.view_is
     next refl
-    (task_read rule jobs place job (c.index-jobs-place.is ∙ ap (λ js. get_or js place job) jobs_are))
+    (task_read rule jobs place job c.job_at.ensures)
     c.index_mut-slot.ensures.value
 
 pub admit-granted-requires-clause-shows : goal.admit-granted-requires-clause-shows
 admit-granted-requires-clause-shows g c =
     let at = goal.at.admit-granted-requires-clause-shows g c in
     turn_shows c.self.invariant
-    (turn g at.After-admit-arg-1 (next g at.In-Admitted (answer g at.After-next_admission-next))).turn
+    (turn g at.After-job_at (next g at.In-Admitted (answer g at.After-next_admission-next))).turn
 
 pub admit-granted-requires-clause-waits : goal.admit-granted-requires-clause-waits
 admit-granted-requires-clause-waits g c =
     let at = goal.at.admit-granted-requires-clause-waits g c in
-    (turn g at.After-admit-arg-1 (next g at.In-Admitted (answer g at.After-next_admission-next))).waits
+    (turn g at.After-job_at (next g at.In-Admitted (answer g at.After-next_admission-next))).waits
 
 -- the passes that are left
-late : (g : Over) (c : goal.After-admit-arg-1 g) →
+late : (g : Over) (c : goal.After-job_at g) →
     (with_items c.self.inside.passes c.pass_before.new.passes).items
     ≡ passes_before (c.in-Admitted.job - 1) (standings_of c.self.inside.slots.items) c.self.inside.passes.items
 late g c =
@@ -157,9 +139,9 @@ late g c =
 pub invariant_of-self : goal.invariant_of-self
 invariant_of-self g c =
     let at = goal.at.invariant_of-self g c in
-    let has = turn g at.After-admit-arg-1 (next g at.In-Admitted (answer g at.After-next_admission-next)) in
+    let has = turn g at.After-job_at (next g at.In-Admitted (answer g at.After-next_admission-next)) in
     admitted_sound c.admission_laws.ensures.passed c.admission_laws.ensures.few _
-    (with_items c.self.inside.passes c.pass_before.new.passes).items c.self.invariant has (late g at.After-admit-arg-1)
+    (with_items c.self.inside.passes c.pass_before.new.passes).items c.self.invariant has (late g at.After-job_at)
     (turn_sound c.turn_laws.ensures.others c.self.invariant has.turn c.admit-granted.ensures.others
     c.admit-granted.ensures.shows)
 
@@ -170,9 +152,9 @@ returns-clause-answer g c =
 pub returns-clause-state : goal.returns-clause-state
 returns-clause-state g c =
     let at = goal.at.returns-clause-state g c in
-    let has = turn g at.After-admit-arg-1 (next g at.In-Admitted (answer g at.After-next_admission-next)) in
+    let has = turn g at.After-job_at (next g at.In-Admitted (answer g at.After-next_admission-next)) in
     admitted_state c.turn_laws.ensures.changed c.admission_laws.ensures.passed c.admit-granted.new.blocks
     c.admit-granted.new.self (with_items c.self.inside.passes c.pass_before.new.passes).items c.self.view_is has
     c.admit-granted.ensures.others.memory.room
     (granted_ok c.admit-granted.result c.admit-granted.ensures.not_now has.room c.admit-granted.ensures.admitted)
-    (late g at.After-admit-arg-1)
+    (late g at.After-job_at)

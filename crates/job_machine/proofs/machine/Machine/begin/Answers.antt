@@ -1,84 +1,53 @@
-use Rattle.std.proofs.Common.{◌<◌, length, get_or, ap, ◌∙◌, arith, map}
-use Rattle.std.proofs.lemmas.List.{length-map}
+use Rattle.std.proofs.Common.{arith, map}
 use Rattle.std.specs.Arc.{arc_value}
 use Rattle.job_steps.specs.States.{ruled}
-use Rattle.job_machine.proofs.TurnLemmas.{HasTurn, has_turn, task_read, within_jobs, turn_shows, turn_sound, begins_in}
+use Rattle.job_machine.proofs.TurnLemmas.{HasTurn, IsLent, is_lent, turn_shows, turn_sound, begins_in}
 use Rattle.job_machine.proofs.TurnLemmas.{begun_state}
 use Rattle.job_machine.proofs.machine.Machine.begin.Given.{Over}
 use Rattle.job_machine.proofs.machine.Machine.begin.Goals as goal
-use Rattle.job_machine.proofs.machine.Machine.begin.Goals.{In-Some, After-begin-arg-1}
+use Rattle.job_machine.proofs.machine.Machine.begin.Goals.{In-Some, After-job_at}
 
 -- the place is that of a job
-within : (g : Over) (c : goal.In-Some g) → c.in-Some.place < length (arc_value c.self.inside.jobs).items
-within g c =
-    omega (
-      arith,
-      within_jobs c.self.inside.blocks (map (ruled c.self.inside.rule) (arc_value c.self.inside.jobs).items)
-          c.self.inside.slots.items c.args.self.now c.args.job c.in-Some.place c.place.result
-          c.self.invariant c.self.view_is c.place.ensures c.in-Some.is,
-      length-map (arc_value c.self.inside.jobs).items (ruled c.self.inside.rule),
-    )
+lent : (g : Over) (c : goal.In-Some g) →
+    IsLent c.self.inside.rule (arc_value c.self.inside.jobs).items c.self.inside.slots.items c.args.self.now
+    c.args.job c.in-Some.place
+lent g c =
+    is_lent c.self.inside.blocks (arc_value c.self.inside.jobs).items c.self.inside.slots.items c.args.self.now
+    c.args.job c.in-Some.place c.place.result c.self.invariant c.self.view_is c.place.ensures c.in-Some.is
 
 pub index_mut-slot-requires : goal.index_mut-slot-requires
 index_mut-slot-requires g c =
-    omega (
-      arith,
-      within g (goal.at.index_mut-slot-requires g c).In-Some,
-      c.self.invariant.slots_are,
-      c.self.inside.slots.ok,
-      length-map (arc_value c.self.inside.jobs).items (ruled c.self.inside.rule),
-    )
+    omega (arith, (lent g (goal.at.index_mut-slot-requires g c).In-Some).among_slots, c.self.inside.slots.ok)
 
-pub offset_bounds-jobs-place : goal.offset_bounds-jobs-place
-offset_bounds-jobs-place g c =
-    omega (
-      arith,
-      within g (goal.at.offset_bounds-jobs-place g c).In-Some,
-      ap length (c.as_slice-jobs.ensures.value ∙ ap (λ v. v.items) c.deref.ensures),
-    )
-
-pub bounds-jobs-place : goal.bounds-jobs-place
-bounds-jobs-place g c =
-    omega (
-      arith,
-      within g (goal.at.bounds-jobs-place g c).In-Some,
-      ap length (c.as_slice-jobs.ensures.value ∙ ap (λ v. v.items) c.deref.ensures),
-    )
+pub job_at-requires : goal.job_at-requires
+job_at-requires g c = (lent g (goal.at.job_at-requires g c).In-Some).among_jobs
 
 -- the job has the turn
-turn : (g : Over) (c : goal.After-begin-arg-1 g) →
+turn : (g : Over) (c : goal.After-job_at g) →
     HasTurn (map (ruled c.self.inside.rule) (arc_value c.self.inside.jobs).items) c.self.inside.slots.items
     c.args.self.now c.args.job c.in-Some.place
-    (ruled c.self.inside.rule c.index-jobs-place.result) c.index_mut-slot.result.now
+    (ruled c.self.inside.rule c.job_at.result.now) c.index_mut-slot.result.now
 turn g c =
-    let rule = c.self.inside.rule in
-    let jobs = (arc_value c.self.inside.jobs).items in
-    let jobs_are = c.as_slice-jobs.ensures.value ∙ ap (λ v. v.items) c.deref.ensures in
-    let job = c.index-jobs-place.result in
-    has_turn c.self.inside.blocks (map (ruled rule) jobs) c.self.inside.slots.items c.args.self.now
-    c.args.job c.in-Some.place c.place.result (ruled rule job) c.index_mut-slot.result.now c.self.invariant
-    c.self.view_is
-    c.place.ensures c.in-Some.is
-    (task_read rule jobs c.in-Some.place job (c.index-jobs-place.is ∙ ap (λ js. get_or js c.in-Some.place job)
-    jobs_are))
-    c.index_mut-slot.ensures.value
+    (is_lent c.self.inside.blocks (arc_value c.self.inside.jobs).items c.self.inside.slots.items c.args.self.now
+    c.args.job c.in-Some.place c.place.result c.self.invariant c.self.view_is c.place.ensures c.in-Some.is).turn
+    c.job_at.result.now c.index_mut-slot.result.now c.job_at.ensures c.index_mut-slot.ensures.value
 
 pub begin-requires : goal.begin-requires
-begin-requires g c = turn_shows c.self.invariant (turn g (goal.at.begin-requires g c).After-begin-arg-1)
+begin-requires g c = turn_shows c.self.invariant (turn g (goal.at.begin-requires g c).After-job_at)
 
 pub invariant_of-self : goal.invariant_of-self
 invariant_of-self g c =
-    turn_sound c.turn_laws.ensures.others c.self.invariant (turn g (goal.at.invariant_of-self g c).After-begin-arg-1)
+    turn_sound c.turn_laws.ensures.others c.self.invariant (turn g (goal.at.invariant_of-self g c).After-job_at)
     c.begin.ensures.others c.begin.ensures.shows
 
 pub returns-clause-answer : goal.returns-clause-answer
 returns-clause-answer g c =
-    begins_in c.args.desk c.begin.result (turn g (goal.at.returns-clause-answer g c).After-begin-arg-1)
+    begins_in c.args.desk c.begin.result (turn g (goal.at.returns-clause-answer g c).After-job_at)
     c.begin.ensures.answer
 
 pub returns-clause-state : goal.returns-clause-state
 returns-clause-state g c =
     begun_state c.turn_laws.ensures.changed c.turn_laws.ensures.passes c.self.inside.blocks c.begin.new.blocks
     c.begin.new.self c.self.view_is
-    (turn g (goal.at.returns-clause-state g c).After-begin-arg-1) c.begin.ensures.others.memory.room c.begin.result
+    (turn g (goal.at.returns-clause-state g c).After-job_at) c.begin.ensures.others.memory.room c.begin.result
     c.begin.ensures.standing

@@ -24,29 +24,30 @@ live g c = sym (ap (λ (s : SlotState). s.status) c.self.view_is) ∙ c.in-Live.
 
 pub ticket_of-requires-clause-has_grant : goal.ticket_of-requires-clause-has_grant
 ticket_of-requires-clause-has_grant g c =
-    has_grant c.args.number c.args.blocks.now (ruled c.args.rule c.args.job.now) c.args.self.now c.requires
+    has_grant c.args.turn.number c.args.blocks.now (ruled c.args.turn.rule c.args.job.now) c.args.self.now c.requires
     (live g (goal.at.ticket_of-requires-clause-has_grant g c).In-Live)
 
 -- ---- the job ends
 
 halts : (g : Over) (c : goal.In-Err g) →
-    early_end_at (ruled c.args.rule c.args.job.now) c.args.self.now.trace.executed ≡ Some c.in-Err.halted.ending
+    early_end_at (ruled c.args.turn.rule c.args.job.now) c.args.self.now.trace.executed ≡ Some c.in-Err.halted.ending
 halts g c =
-    subst (λ (s : SlotState). early_end_at (ruled c.args.rule c.args.job.now) s.trace.executed ≡ Some
+    subst (λ (s : SlotState). early_end_at (ruled c.args.turn.rule c.args.job.now) s.trace.executed ≡ Some
     c.in-Err.halted.ending)
     c.self.view_is c.in-Err.ensures.0
 
 pub end-requires-clause-ending : goal.end-requires-clause-ending
 end-requires-clause-ending g c =
     let at = goal.at.end-requires-clause-ending g c in
-    ends c.early_ends_end.ensures c.args.number c.args.blocks.now (ruled c.args.rule c.args.job.now) c.args.self.now
+    ends c.early_ends_end.ensures c.args.turn.number c.args.blocks.now (ruled c.args.turn.rule c.args.job.now)
+    c.args.self.now
     c.in-Err.halted.ending c.requires (live g at.In-Live) (halts g at.In-Err)
 
 pub returns-in-Err-clause-answer : goal.returns-in-Err-clause-answer
 returns-in-Err-clause-answer g c =
     let at = goal.at.returns-in-Err-clause-answer g c in
     let next =
-    next_of c.args.number c.args.blocks.now (ruled c.args.rule c.args.job.now) c.args.self.now
+    next_of c.args.turn.number c.args.blocks.now (ruled c.args.turn.rule c.args.job.now) c.args.self.now
     (Some c.in-Err.halted.ending) c.requires
     (live g at.In-Live) (halts g at.In-Err) in
     let enough : c.args.job.now.limits.words ≤ c.args.desk =
@@ -56,31 +57,36 @@ returns-in-Err-clause-answer g c =
 pub returns-in-Err-clause-standing : goal.returns-in-Err-clause-standing
 returns-in-Err-clause-standing g c =
     let at = goal.at.returns-in-Err-clause-standing g c in
-    stands_ended c.args.number c.args.blocks.now (ruled c.args.rule c.args.job.now) c.args.self.now c.end.new.self
+    stands_ended c.args.turn.number c.args.blocks.now (ruled c.args.turn.rule c.args.job.now) c.args.self.now
+    c.end.new.self
     c.in-Err.halted.ending c.requires (live g at.In-Live) (halts g at.In-Err) c.end.ensures.ended
 
 -- ---- the step begins
 
 asked : (g : Over) (c : goal.In-Ok g) →
-    IsAskedOf c.args.number c.args.desk (ruled c.args.rule c.args.job.now) c.args.self.now.trace.executed c.in-Ok.ticket
+    IsAskedOf c.args.turn.number c.args.desk (ruled c.args.turn.rule c.args.job.now) c.args.self.now.trace.executed
+    c.in-Ok.ticket
 asked g c =
-    subst (λ (s : SlotState). IsAskedOf c.args.number c.args.desk (ruled c.args.rule c.args.job.now) s.trace.executed
+    subst (λ (s : SlotState). IsAskedOf c.args.turn.number c.args.desk (ruled c.args.turn.rule c.args.job.now)
+    s.trace.executed
     c.in-Ok.ticket)
     c.self.view_is c.in-Ok.ensures
 
 pub returns-in-Ok-clause-answer : goal.returns-in-Ok-clause-answer
 returns-in-Ok-clause-answer g c =
     let at = goal.at.returns-in-Ok-clause-answer g c in
-    is_ticket c.args.number c.args.desk c.args.blocks.now (ruled c.args.rule c.args.job.now) c.args.self.now
+    is_ticket c.args.turn.number c.args.desk c.args.blocks.now (ruled c.args.turn.rule c.args.job.now) c.args.self.now
     c.in-Ok.ticket c.requires
     (live g at.In-Live) (asked g at.In-Ok) (omega (arith, ap (λ (l : Limits). l.words) c.limits.ensures))
 
 pub returns-in-Ok-clause-shows : goal.returns-in-Ok-clause-shows
 returns-in-Ok-clause-shows g c =
     let at = goal.at.returns-in-Ok-clause-shows g c in
-    subst (λ (s : SlotState). Shows c.args.number c.args.blocks.now (ruled c.args.rule c.args.job.now) (flying s))
+    subst (λ (s : SlotState). Shows c.args.turn.number c.args.blocks.now (ruled c.args.turn.rule c.args.job.now)
+    (flying s))
     (sym c.self.view_is)
-    (shows_flying c.args.number c.args.blocks.now (ruled c.args.rule c.args.job.now) c.args.self.now c.requires
+    (shows_flying c.args.turn.number c.args.blocks.now (ruled c.args.turn.rule c.args.job.now) c.args.self.now
+    c.requires
     (live g at.In-Live)
     (asked g at.In-Ok).goes_on)
 
@@ -88,6 +94,7 @@ pub returns-in-Ok-clause-standing : goal.returns-in-Ok-clause-standing
 returns-in-Ok-clause-standing g c =
     let at = goal.at.returns-in-Ok-clause-standing g c in
     ap (λ (s : SlotState). InFlight s.trace.executed) c.self.view_is
-    ∙ stands_flying c.args.number c.args.blocks.now (ruled c.args.rule c.args.job.now) c.args.self.now c.requires
+    ∙ stands_flying c.args.turn.number c.args.blocks.now (ruled c.args.turn.rule c.args.job.now) c.args.self.now
+    c.requires
     (live g at.In-Live)
     (asked g at.In-Ok).goes_on

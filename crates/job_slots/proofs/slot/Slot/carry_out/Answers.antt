@@ -6,7 +6,8 @@ use Rattle.job_slots.proofs.slot.Slot.carry_out.Given.{Over}
 use Rattle.job_slots.proofs.slot.Slot.carry_out.Goals as goal
 
 carried : (g : Over) (c : goal.After-go_on g) →
-    IsCommitted c.args.number (ruled c.args.rule c.args.job.now) c.args.self.now c.execute.new.blocks c.go_on.result
+    IsCommitted c.args.turn.number (ruled c.args.turn.rule c.args.job.now) c.args.self.now c.execute.new.blocks
+    c.go_on.result
     c.go_on.new.self
 carried g c =
     let mid : SlotState = record {
@@ -14,10 +15,12 @@ carried g c =
       trace = c.execute.new.track;
       outcome = c.self.inside.outcome;
     } in
-    let executed = executed_inside c.args.number (ruled c.args.rule c.args.job.now) c.args.self.now c.self.inside.track
+    let executed = executed_inside c.args.turn.number (ruled c.args.turn.rule c.args.job.now) c.args.self.now
+    c.self.inside.track
     c.execute.new.track c.args.blocks.now _ (ap (λ (s : SlotState). s.trace) c.self.view_is)
     c.execute.ensures.after c.execute.ensures.limits c.execute.ensures.others c.execute.ensures.same_grant in
-    committed c.reached.ensures c.end_is_own.ensures c.args.number (ruled c.args.rule c.args.job.now) c.args.self.now
+    committed c.reached.ensures c.end_is_own.ensures c.args.turn.number (ruled c.args.turn.rule c.args.job.now)
+    c.args.self.now
     c.args.blocks.now _ c.requires.shows c.requires.flying mid executed
     c.go_on.result c.go_on.new.self (record { done = c.go_on.ensures.done; ended = c.go_on.ensures.ended })
 

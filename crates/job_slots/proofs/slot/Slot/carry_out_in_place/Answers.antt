@@ -11,11 +11,12 @@ use Rattle.job_slots.proofs.slot.Slot.carry_out_in_place.Goals.{After-go_on}
 
 pub execute_in_place-requires-clause-placeable : goal.execute_in_place-requires-clause-placeable
 execute_in_place-requires-clause-placeable g c =
-    subst (λ (s : SlotState). IsPlaceable (ruled c.args.rule c.args.job.now) c.args.number c.args.blocks.now s.trace
-    c.args.op c.args.placement) (sym c.self.view_is) c.requires.placeable
+    subst (λ (s : SlotState). IsPlaceable (ruled c.args.turn.rule c.args.job.now) c.args.turn.number c.args.blocks.now
+    s.trace
+    c.args.placement) (sym c.self.view_is) c.requires.placeable
 
 carried : (g : Over) (c : goal.After-go_on g) →
-    IsCommitted c.args.number (ruled c.args.rule c.args.job.now) c.args.self.now c.execute_in_place.new.blocks
+    IsCommitted c.args.turn.number (ruled c.args.turn.rule c.args.job.now) c.args.self.now c.execute_in_place.new.blocks
     c.go_on.result c.go_on.new.self
 carried g c =
     let mid : SlotState = record {
@@ -23,11 +24,13 @@ carried g c =
       trace = c.execute_in_place.new.track;
       outcome = c.self.inside.outcome;
     } in
-    let executed = executed_inside c.args.number (ruled c.args.rule c.args.job.now) c.args.self.now c.self.inside.track
+    let executed = executed_inside c.args.turn.number (ruled c.args.turn.rule c.args.job.now) c.args.self.now
+    c.self.inside.track
     c.execute_in_place.new.track c.args.blocks.now _ (ap (λ (s : SlotState). s.trace) c.self.view_is)
     c.in-Ok.ensures.after c.execute_in_place.ensures.limits c.in-Ok.ensures.others
     c.execute_in_place.ensures.same_grant in
-    committed c.reached.ensures c.end_is_own.ensures c.args.number (ruled c.args.rule c.args.job.now) c.args.self.now
+    committed c.reached.ensures c.end_is_own.ensures c.args.turn.number (ruled c.args.turn.rule c.args.job.now)
+    c.args.self.now
     c.args.blocks.now _ c.requires.shows c.requires.flying mid executed
     c.go_on.result c.go_on.new.self (record { done = c.go_on.ensures.done; ended = c.go_on.ensures.ended })
 
@@ -52,5 +55,6 @@ returns-in-Err-clause-unchanged g c =
 
 pub returns-in-Err-clause-fault : goal.returns-in-Err-clause-fault
 returns-in-Err-clause-fault g c =
-    subst (λ (s : SlotState). value_fault c.args.op (operands_in c.args.blocks.now c.args.op s.trace.cells)
+    subst (λ (s : SlotState). value_fault c.args.placement.op (operands_in c.args.blocks.now c.args.placement.op
+    s.trace.cells)
     ≡ Some c.in-Err.fault) c.self.view_is c.in-Err.ensures.fault

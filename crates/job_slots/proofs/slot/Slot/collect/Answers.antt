@@ -8,7 +8,7 @@ use Rattle.job_slots.proofs.slot.Slot.collect.Goals as goal
 
 pub let_go-requires-clause-holds : goal.let_go-requires-clause-holds
 let_go-requires-clause-holds g c =
-    subst (λ (s : SlotState). HoldSomeStack (own_slots c.args.number c.args.blocks.now) s.trace.cells)
+    subst (λ (s : SlotState). HoldSomeStack (own_slots c.args.turn.number c.args.blocks.now) s.trace.cells)
     (sym c.in_ok-store.ensures.stored)
-    (ended_holds c.args.number c.args.blocks.now (ruled c.args.rule c.args.job.now) c.args.self.now c.requires
+    (ended_holds c.args.turn.number c.args.blocks.now (ruled c.args.turn.rule c.args.job.now) c.args.self.now c.requires
     (sym (ap (λ (s : SlotState). s.status) c.self.view_is) ∙ c.in-Ended.is))

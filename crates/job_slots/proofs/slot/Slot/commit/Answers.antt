@@ -9,11 +9,11 @@ use Rattle.job_slots.proofs.slot.Slot.commit.Goals.{After-line_of_next-line}
 -- ---- a value fault
 
 fault_ends_job : (g : Over) (c : goal.After-line_of_next-line g) →
-    FaultCommits c.args.number (ruled c.args.rule c.args.job.now) c.args.self.now c.in-Err.fault
+    FaultCommits c.args.turn.number (ruled c.args.turn.rule c.args.job.now) c.args.self.now c.in-Err.fault
     c.line_of_next-line.result
 fault_ends_job g c =
-    fault_commits c.others_are_ready.ensures c.end_is_own.ensures c.args.number c.args.blocks.now
-    (ruled c.args.rule c.args.job.now)
+    fault_commits c.others_are_ready.ensures c.end_is_own.ensures c.args.turn.number c.args.blocks.now
+    (ruled c.args.turn.rule c.args.job.now)
     c.args.self.now c.args.filled.now c.self.inside.track c.in-Err.fault c.line_of_next-line.result c.requires.shows
     c.requires.flying c.requires.fits (ap (λ (s : SlotState). s.trace) c.self.view_is) c.in-Err.ensures
     c.line_of_next-line.ensures
@@ -30,6 +30,7 @@ returns-in-Err-clause-answer g c = (
 
 pub returns-in-Err-clause-standing : goal.returns-in-Err-clause-standing
 returns-in-Err-clause-standing g c =
-    ended_standing c.args.number (ruled c.args.rule c.args.job.now) (standing_of c.args.self.now) c.end.new.self
+    ended_standing c.args.turn.number (ruled c.args.turn.rule c.args.job.now) (standing_of c.args.self.now)
+    c.end.new.self
     c.end.ensures.ended
     (fault_ends_job g (goal.at.returns-in-Err-clause-standing g c).After-line_of_next-line).next

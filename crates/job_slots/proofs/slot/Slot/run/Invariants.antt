@@ -5,7 +5,7 @@ use Rattle.job_slots.proofs.slot.Slot.run.Given as goal
 
 abbrev pub invariant-loop-blocks : goal.invariant-loop-blocks
 invariant-loop-blocks g l =
-    IsOnRun l.number (ruled l.rule l.job) l.fn.self l.fn.blocks l.self l.blocks × (l.desk ≡ l.fn.desk)
+    IsOnRun l.turn.number (ruled l.turn.rule l.job) l.fn.self l.fn.blocks l.self l.blocks × (l.desk ≡ l.fn.desk)
 
 abbrev pub decreases-loop-blocks : goal.decreases-loop-blocks
 decreases-loop-blocks g l = l.job.limits.budget - l.self.trace.executed
