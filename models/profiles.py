@@ -1,17 +1,18 @@
 """What `vjobs-why --json` has to print of each job of a batch, from the second writing."""
 import json
-from collections import Counter
+from collections import Counter, defaultdict
 from typing import Any
 
 import batches
 import runs
 from faults import Fault
+from instructions import kinds_of
 from notes import GREATEST_WORDS, note_of
 from reader import Function
 from runs import Limits
 
-# The most columns of the words over time.
-MOST_COLUMNS = 2048
+# The most columns of the words over time, and the most chains of functions.
+MOST_COLUMNS, MOST_CHAINS = 2048, 4096
 GREATEST_CELLS, GREATEST_CALLS, GREATEST_BUDGET = 4096, 1024, 1_000_000_000
 # What a run within wide limits may execute beside four times what the job did, or what the job did if its budget ended
 # it.
@@ -22,21 +23,45 @@ LONGEST_RUN = 3_000
 UNKNOWN = "unknown"
 
 
+class Work:
+    """How many instructions were executed, and how many elements their operands and results had."""
+
+    def __init__(self) -> None:
+        self.instructions, self.elements = 0, 0
+
+    def add(self, elements: int) -> None:
+        self.instructions, self.elements = self.instructions + 1, self.elements + elements
+
+    def shown(self) -> dict[str, int]:
+        return {"instructions": self.instructions, "elements": self.elements}
+
+
+def counts_of(item: Any) -> tuple[int, int]:
+    """How many operands and results an instruction has whose elements count: not those that are only moved."""
+    if item.what == "Vector":
+        kinds = kinds_of(item.word, item.kind)
+        return len(kinds.operands), len(kinds.results)
+    return int(item.what == "If"), int(item.what == "Const")
+
+
 class Counted(runs.Run):
     """A run that counts how often each line is executed, and knows after which instruction it first had its peak.
 
-    Of each instruction it keeps the words that it held and needed, those that were held after it, and its line. It also
-    knows the line that was next last, the most entries and calls, and for each path of functions that run inside one
-    another how often its last function was called and how many instructions it executed. A function that runs already
-    goes on in its path."""
+    Of each instruction it keeps the words that it held and needed, those that were held after it, its line and its
+    function. It also knows the line that was next last, the most entries and calls, and what lines and functions
+    executed. For each path of functions that run inside one another it knows how often its last function was called and
+    what it executed. A function that runs already goes on in its path."""
 
     def __init__(self, *job: Any) -> None:
         super().__init__(*job)
-        self.times: Counter = Counter()
         self.peak_at, self.last, self.cells, self.most_calls = 0, 0, 0, 1
-        self.samples: list[tuple[int, int, int]] = []
+        self.samples: list[tuple[int, int, int, str]] = []
         self.active: list[tuple[str, ...]] = [("MAIN",)]
-        self.paths: dict[tuple[str, ...], list[int]] = {("MAIN",): [1, 0]}
+        self.paths: dict[tuple[str, ...], tuple[list[int], Work]] = {}
+        self.lines: defaultdict[int, Work] = defaultdict(Work)
+        self.own: defaultdict[str, Work] = defaultdict(Work)
+        self.whole: defaultdict[str, Work] = defaultdict(Work)
+        self.path_of(("MAIN",))[0][0] = 1
 
     def executes(self, operands: int = 0, need_words: int = 0) -> None:
         super().executes(operands, need_words)
@@ -46,11 +71,11 @@ class Counted(runs.Run):
     def step(self) -> None:
         item, executed, peak, calls = self.calls[-1][0], self.executed, self.peak, len(self.calls)
         self.item, self.last, self.moves = item, item.line, item.what == "Move"
+        operands, results = counts_of(item)
+        read = self.elements(operands)
         super().step()
-        self.times[item.line] += self.executed - executed
-        self.paths[self.active[-1]][1] += self.executed - executed
         if self.executed > executed:
-            self.samples.append((self.demand, runs.held(self.stack) if self.calls else 0, item.line))
+            self.count(item.line, read + self.elements(results))
         if self.peak > peak:
             self.peak_at = self.executed
         self.cells, self.most_calls = max(self.cells, len(self.stack)), max(self.most_calls, len(self.calls))
@@ -59,17 +84,37 @@ class Counted(runs.Run):
         elif len(self.calls) > calls:
             self.enter(item.word)
 
+    def elements(self, count: int) -> int:
+        """The elements of the entries at the top, this many of them."""
+        return sum(len(entry.words) for entry in self.stack[len(self.stack) - count :])
+
+    def path_of(self, path: tuple[str, ...]) -> tuple[list[int], Work]:
+        return self.paths.setdefault(path, ([0], Work()))
+
+    def count(self, line: int, elements: int) -> None:
+        """Counts an instruction that was executed, by its line, its function, those that are active, and its path."""
+        name = self.active[-1][-1]
+        self.samples.append((self.demand, runs.held(self.stack) if self.calls else 0, line, name))
+        whole = [self.whole[active] for active in {path[-1] for path in self.active}]
+        for work in (self.lines[line], self.own[name], self.path_of(self.active[-1])[1], *whole):
+            work.add(elements)
+
     def enter(self, name: str) -> None:
         path = self.active[-1]
         path = path[: path.index(name) + 1] if name in path else (*path, name)
         self.active.append(path)
-        self.paths.setdefault(path, [0, 0])[0] += 1
+        self.path_of(path)[0][0] += 1
+
+    def called(self, name: str) -> int:
+        """How often a function was called."""
+        return sum(calls[0] for path, (calls, _) in self.paths.items() if path[-1] == name)
 
     def chains(self, functions: list[Function]) -> list[list[int]]:
         """For each path the place of the path around it, that of its function, and its counts."""
         names = [function.name for function in functions]
         places = {path: place for place, path in enumerate(self.paths)}
-        return [[places.get(path[:-1], 0), names.index(path[-1]), *counts] for path, counts in self.paths.items()]
+        return [[places.get(path[:-1], 0), names.index(path[-1]), *calls, work.instructions, work.elements]
+                for path, (calls, work) in self.paths.items()]
 
 
 def shown(line: bytes) -> str:
@@ -84,7 +129,13 @@ def shown_code(functions: list[Function], first: int, text: bytes) -> dict[str, 
     return {"first": first, "lines": [shown(line) for line in text.split(b"\n")[: max(last - first + 1, 0)]]}
 
 
-def columns_of(samples: list[tuple[int, int, int]], functions: list[Function]) -> dict[str, Any]:
+def most_often(names: list[str], functions: list[Function]) -> int:
+    """The place of the function that is there most often, the first of them in the code."""
+    counts = Counter(names)
+    return max(range(len(functions)), key=lambda place: (counts[functions[place].name], -place))
+
+
+def columns_of(samples: list[tuple[int, int, int, str]], functions: list[Function]) -> dict[str, Any]:
     """The words over time: the columns are of the least power of 2 of instructions of which few enough are enough."""
     each = 1
     while len(samples) > MOST_COLUMNS * each:
@@ -94,10 +145,11 @@ def columns_of(samples: list[tuple[int, int, int]], functions: list[Function]) -
     lines = [max(part, key=lambda sample: sample[0])[2] for part in parts]
     return {
         "each": each,
-        "most": [max(most for most, _, _ in part) for part in parts],
-        "least": [min(least for _, least, _ in part) for part in parts],
+        "most": [max(most for most, *_ in part) for part in parts],
+        "least": [min(least for _, least, *_ in part) for part in parts],
         "line": lines,
         "function": [sum(function.line <= line for function in functions) - 1 for line in lines],
+        "ran": [most_often([name for *_, name in part], functions) for part in parts],
     }
 
 
@@ -155,12 +207,13 @@ def profile(functions: list[Function], limits: Limits, is_second: bool) -> dict[
             {
                 "name": function.name,
                 "line": function.line,
-                # A line that two functions share counts in both.
-                "instructions": sum(job.times[line] for line in range(function.line, function.items[-1].line + 1)),
+                "calls": job.called(function.name),
+                **job.own[function.name].shown(),
+                "with_callees": job.whole[function.name].shown(),
             }
             for function in functions
         ],
-        "lines": [[line, times] for line, times in sorted(job.times.items()) if times],
+        "lines": [[line, work.instructions, work.elements] for line, work in sorted(job.lines.items())],
         "columns": columns_of(job.samples, functions),
         "calls": job.chains(functions),
     }
@@ -185,6 +238,11 @@ def profiles(data: bytes) -> list[dict[str, Any]] | None:
     return found
 
 
+def sums(chains: list[list[int]]) -> list[int]:
+    """The calls, instructions and elements of all chains."""
+    return [sum(chain[place] for chain in chains) for place in (2, 3, 4)]
+
+
 def differences(shown: str, data: bytes) -> list[str]:
     """The jobs of a batch that are shown otherwise than the second writing has them, by the members that it works out."""
     wanted = profiles(data)
@@ -195,4 +253,9 @@ def differences(shown: str, data: bytes) -> list[str]:
         return [f"{len(found)} of {len(wanted)} jobs are shown"]
     wanted = [{member: value for member, value in want.items() if value != UNKNOWN} for want in wanted]
     found = [{member: got.get(member) for member in want} for got, want in zip(found, wanted)]
+    for got, want in zip(found, wanted):
+        if len(want.get("calls", [])) > MOST_CHAINS:
+            # What has no chain of its own is in rests, each in a chain.
+            named = [chain for chain in got["calls"] if chain[1] < len(want["functions"])]
+            got["calls"], want["calls"] = [len(named), *sums(got["calls"])], [MOST_CHAINS, *sums(want["calls"])]
     return [f"shown as {got}, and not as {want}" for got, want in zip(found, wanted) if got != want]

@@ -25,8 +25,20 @@ LEAST = re.compile(r"it returns: JOB (.+) (\d+) (\d+) (\d+) (\d+)$", re.M)
 LISTED = 40
 
 
+def many_chains(depth: int) -> bytes:
+    """A job with two functions at each depth, each of which calls both of the next one."""
+    names = [f"{side}_{level}" for level in range(depth) for side in ("left", "right")]
+    inner = [f"CALL left_{level}\nCALL right_{level}\n" if level < depth else "" for level in range(depth + 1)]
+    bodies = "".join(f"FUNC {name}\nCONST INT 1\n+ INT\n{inner[place // 2 + 1]}RET\n"
+                     for place, name in enumerate(names))
+    signatures = "".join(f"{name} (INT) -> (INT)\n" for name in names)
+    return (f"JOB chains 64 16 64 1000000\nSIGNATURES\nMAIN () -> (INT)\n{signatures}CODE\nFUNC MAIN\nCONST INT 1\n"
+            f"{inner[0]}RET\n{bodies}END\n").encode()
+
+
 def stored() -> Iterator[tuple[str, bytes]]:
     """The name of each batch, and its bytes."""
+    yield "more chains than there may be", many_chains(12)
     for path in sorted((DATA / "examples").glob("*.vcode")):
         yield path.stem, path.read_bytes()
     for path in sorted((DATA / "tables").iterdir()):

@@ -70,6 +70,47 @@ def budget() -> str:
             "CALL again\nRET\nFUNC again\nCOPY 1 0\nCONST INT (1 1 1)\n+ INT\nCALL again\nPOP 1 0\nRET\nEND\n")
 
 
+def narrow() -> str:
+    """A job whose names are as long as they may be, and whose numbers are long. The long names have no place to break."""
+    name = "a_name_" + 57 * "x"
+    return (f"JOB {name} 1000 100 100 1000000000\nSIGNATURES\nMAIN () -> (INT)\n{name} (INT) -> (INT)\nCODE\nFUNC MAIN\n"
+            f"CONST INT 300000\nCALL {name}\nRET\nFUNC {name}\n"
+            + "COPY 1 0\nCONST INT 0\n> INT\nIF\nCONST INT 1\n- INT\n" + f"CALL {name}\nENDIF\nRET\nEND\n")
+
+
+def many(count: int = 24) -> str:
+    """Many jobs, some of which have a fault."""
+    return "".join(f"JOB job_{place} 64 16 4 100\nSIGNATURES\nMAIN () -> (INT)\nCODE\nFUNC MAIN\nCONST INT {place}\n"
+                   f"CONST INT {place % 5}\n/ INT\nRET\nEND\n" for place in range(1, count + 1))
+
+
+def far() -> str:
+    """A job that wants much more than its limit."""
+    return ("JOB far 8 16 4 100\nSIGNATURES\nMAIN () -> (INT)\nCODE\nFUNC MAIN\nCONST INT 7\nCONST INT 1000\nMAKE_SEGDES\n"
+            "DIST INT\nRET\nEND\n")
+
+
+def tall() -> str:
+    """A job with more lines of code than a page shows, of which few are executed, and with a fault in their middle."""
+    functions = [f"part_{place}" for place in range(40)]
+    signatures = "".join(f"{name} (INT) -> (INT)\n" for name in functions)
+    bodies = "".join(f"FUNC {name}\n" + 70 * "CONST INT 1\n+ INT\n" + ("CONST INT 0\n/ INT\n" if name == "part_20" else "")
+                     + "RET\n" for name in functions)
+    return (f"JOB tall 64 16 4 100000\nSIGNATURES\nMAIN () -> (INT)\n{signatures}CODE\nFUNC MAIN\nCONST INT 1\n"
+            f"CALL part_1\nCALL part_20\nRET\n{bodies}END\n")
+
+
+def chains(depth: int) -> str:
+    """A job with two functions at each depth, each of which calls both of the next one."""
+    names = [f"{side}_{level}" for level in range(depth) for side in ("left", "right")]
+    signatures = "".join(f"{name} (INT) -> (INT)\n" for name in names)
+    step = "CONST INT 1\n+ INT\n"
+    inner = [f"CALL left_{level + 1}\nCALL right_{level + 1}\n" if level + 1 < depth else "" for level in range(depth)]
+    bodies = "".join(f"FUNC {name}\n{step}{inner[place // 2]}RET\n" for place, name in enumerate(names))
+    return (f"JOB chains 64 16 64 1000000\nSIGNATURES\nMAIN () -> (INT)\n{signatures}CODE\nFUNC MAIN\nCONST INT 1\n"
+            f"CALL left_0\nCALL right_0\nRET\n{bodies}END\n")
+
+
 def batches() -> dict[str, bytes]:
     """Each batch with the name of its page."""
     examples = TOP / "examples"
@@ -78,4 +119,6 @@ def batches() -> dict[str, bytes]:
     found["budget"] = budget().encode()
     found["attacks"] = attacks().encode("latin1")
     found["long"] = long_run(28, 5).encode()
+    found |= {"narrow": narrow().encode(), "many": many().encode(), "far": far().encode(), "tall": tall().encode(),
+              "chains": chains(12).encode()}
     return found

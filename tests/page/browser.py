@@ -12,6 +12,11 @@ from typing import Any
 
 # How long an answer may take.
 SECONDS = 30
+# Opens all jobs of a page.
+OPEN = """[...document.querySelectorAll('article > details')].forEach((part) => {
+  part.open = true;
+  part.dispatchEvent(new Event('toggle'));
+})"""
 
 
 class Browser:
@@ -90,7 +95,8 @@ class Browser:
 
 
 class Page:
-    """A page that was opened at a width, light or dark. `said` is what the console has, `asked` what was asked for."""
+    """A page that was opened at a width, light or dark, all of whose jobs are open then. `drawn` is how many jobs were
+    drawn before that, `said` is what the console has, `asked` what was asked for."""
 
     def __init__(self, browser: Browser, url: str, width: int, scheme: str) -> None:
         self.browser = browser
@@ -104,6 +110,8 @@ class Page:
         browser.events.clear()
         self.ask("Page.navigate", url=url)
         browser.wait_for("Page.loadEventFired", self.session)
+        self.drawn = self.run("document.querySelectorAll('.sheet').length")
+        self.run(OPEN)
         self.run("new Promise((done) => requestAnimationFrame(() => setTimeout(done, 50)))")
 
     def ask(self, method: str, **parameters: Any) -> dict:

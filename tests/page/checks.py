@@ -31,11 +31,42 @@ ELEMENTS = """(() => {
       || (name === 'href' && !/^#job-\\d+(-line-\\d+)?$/.test(value))).map(({name, value}) => `${name}=${value}`))};
 })()"""
 TAGS = set("""html head meta title style body noscript main script article header h1 h2 small span section pre p code dl dt dd
-b div i details summary table caption thead tbody tr th td a ul li nav svg path line text circle rect g input output""".split())
+b div i details summary table caption thead tbody tr th td a ul li nav svg path line text circle rect g input output button
+label""".split())
+# The most jobs that are drawn as a page is opened, and the most lines of code that it shows.
+MOST_OPEN, MOST_ROWS = 8, 5_000
 FOCUSABLE = """(() => {
-  const all = [...document.querySelectorAll('a[href], summary, input, [tabindex="0"]')].filter((element) => element.checkVisibility());
-  all.forEach((element) => { element.dataset.wanted = 1; });
+  const all = [...document.querySelectorAll('a[href], summary, input, button, [tabindex="0"]')].filter((element) => element.checkVisibility());
+  const is_unpicked = (element) => element.type === 'radio' && !element.checked;
+  all.filter((element) => !is_unpicked(element)).forEach((element) => { element.dataset.wanted = 1; });
   return [all.length, [...document.querySelectorAll('.scroll')].filter((element) => element.tabIndex !== 0).length];
+})()"""
+# Links that lead nowhere, last lines that aren't in sight, and texts of drawings that aren't within them.
+PLACES = """(() => {
+  const links = [...document.querySelectorAll('a')].filter(({hash}) => !document.getElementById(hash.slice(1)));
+  const lines = [...document.querySelectorAll('tr.last')].filter((line) => {
+    const own = line.getBoundingClientRect(), box = line.closest('.scroll').getBoundingClientRect();
+    return own.top < box.top || own.bottom > box.bottom + 1;
+  });
+  const texts = [...document.querySelectorAll('.words svg .strong, .words svg .alarm')].filter((text) => {
+    const {x, y, width} = text.getBBox(), {width: all} = text.ownerSVGElement.viewBox.baseVal;
+    const bottom = Number(text.ownerSVGElement.querySelector('.grid').getAttribute('y1'));
+    return x < 54 || x + width > all || y < 0 || y > bottom - 6;
+  });
+  return [...links.map(({hash}) => `a link leads to ${hash}`), ...lines.map((line) => `out of sight is ${line.textContent}`),
+    ...texts.map((text) => `over an edge is ${text.textContent}`)];
+})()"""
+# The numbers of functions and chains when elements are counted.
+BY_ELEMENTS = """(() => {
+  const show = (value) => document.querySelectorAll(`.units input[value=${value}]`).forEach((input) => {
+    input.checked = true;
+    input.dispatchEvent(new Event('change'));
+  });
+  show('elements');
+  const rows = (part, name) => [...part.querySelectorAll(`.${name} tbody tr`)].map((row) => [...row.cells].map((cell) => cell.textContent));
+  const found = [...document.querySelectorAll('article')].map((part) => [rows(part, 'code'), rows(part, 'functions'), rows(part, 'calls')]);
+  show('instructions');
+  return found;
 })()"""
 CONTRAST = """(() => {
   const parts = (colour) => {
@@ -99,13 +130,33 @@ def differ(what: str, shown: object, wanted: object) -> Iterator[str]:
         yield f"{what}: shown is {str(shown)[:300]}, wanted {str(wanted)[:300]}"
 
 
-def calls_of(job: dict) -> list[tuple]:
-    """The name, the calls, the instructions and those with calls, of each chain."""
-    whole = [chain[3] for chain in job["calls"]]
+def calls_of(job: dict, unit: int = 3) -> list[tuple]:
+    """The name, the calls, the instructions or elements and those with calls, of each chain."""
+    whole = [chain[unit] for chain in job["calls"]]
     for place in range(len(whole) - 1, 0, -1):
         whole[job["calls"][place][0]] += whole[place]
-    return sorted((job["functions"][place]["name"], calls, own, every)
-                  for (_, place, calls, own), every in zip(job["calls"], whole))
+    names = [*(each["name"] for each in job["functions"]), "(more)"]
+    return sorted((names[chain[1]], chain[2], chain[unit], every) for chain, every in zip(job["calls"], whole))
+
+
+def functions_of(job: dict, unit: str) -> list[tuple]:
+    """Of each function its name, its line, its calls, what it did itself, and its shares alone and with its calls."""
+    whole = job["instructions"] if unit == "instructions" else sum(each[unit] for each in job["functions"])
+    whole = max(whole, 1)
+    return sorted((each["name"], each["line"], each["calls"], each[unit], share(each[unit], whole),
+                   share(each["with_callees"][unit], whole)) for each in job["functions"])
+
+
+def share(part: int, whole: int) -> str:
+    return "<0.1%" if 0 < 100 * part / whole < .1 else f"{100 * part / whole:.1f}%"
+
+
+def read_functions(rows: list[list[str]]) -> list[tuple]:
+    return sorted((name, number(line), number(calls), number(own), *shares) for name, line, calls, own, *shares in rows)
+
+
+def read_calls(rows: list[list[str]]) -> list[tuple]:
+    return sorted((name.lstrip("\xa0"), *map(number, numbers[:3])) for name, *numbers in rows)
 
 
 def words_of(job: dict) -> list[tuple]:
@@ -124,11 +175,9 @@ def counts(shown: dict, job: dict) -> Iterator[str]:
     cards = [tuple(map(number, re.findall(r"[\d,]+", card)[:2])) for card in shown["cards"]]
     yield from differ("limits", cards, [(job["used"][member], job["limits"][member]) for member in members])
     times = [(number(line), number(count)) for line, count, _ in shown["code"] if count]
-    yield from differ("lines", times, [tuple(line) for line in job["lines"]])
-    functions = sorted((name, number(line), number(own)) for name, line, _, own, *_ in shown["functions"])
-    yield from differ("functions", functions,
-                      sorted((each["name"], each["line"], each["instructions"]) for each in job["functions"]))
-    calls = sorted((name.lstrip("\xa0"), *map(number, numbers[:3])) for name, *numbers in shown["calls"])
+    yield from differ("lines", times, [(line, times) for line, times, _ in job["lines"]])
+    yield from differ("functions", read_functions(shown["functions"]), functions_of(job, "instructions"))
+    calls = read_calls(shown["calls"])
     yield from differ("calls", calls, calls_of(job))
     yield from differ("their sum", sum(own for _, _, own, _ in calls), job["instructions"])
     if f"after {job['instructions']:,} instructions" not in shown["head"]:
@@ -153,6 +202,16 @@ def columns(shown: dict, job: dict) -> Iterator[str]:
     yield from differ("crosses", shown["crosses"], int(job["end"].startswith("MEMORY M1")))
 
 
+def elements_counted(page: Page, wanted: Wanted) -> Iterator[str]:
+    """What is wrong with the numbers when elements are counted."""
+    for (code, functions, calls), job in zip(page.run(BY_ELEMENTS), wanted.jobs):
+        if "functions" in job:
+            counts = [(number(line), number(count)) for line, count, _ in code if count]
+            yield from differ("lines", counts, [(line, elements) for line, _, elements in job["lines"]])
+            yield from differ("functions", read_functions(functions), functions_of(job, "elements"))
+            yield from differ("calls", read_calls(calls), calls_of(job, 4))
+
+
 def numbers(page: Page, wanted: Wanted) -> Iterator[str]:
     articles = page.run(READ)
     yield from differ("jobs", [[each["name"], each["end"]] for each in articles], [[job["name"], job["end"]] for job in wanted.jobs])
@@ -161,6 +220,8 @@ def numbers(page: Page, wanted: Wanted) -> Iterator[str]:
             yield f"job {job['job']}: no line {carets}"
         first = job["code"]["first"]
         lines = [[str(first + place), wanted.lines[first + place - 1]] for place in range(len(job["code"]["lines"]))]
+        if len(lines) > MOST_ROWS:
+            lines = [line for line in lines if line[0] in {row[0] for row in shown["code"]}]
         yield from differ(f"code of job {job['job']}", [[line, text.rstrip()] for line, _, text in shown["code"]],
                           [[line, text.rstrip()] for line, text in lines])
         if "limits" in job:
@@ -181,6 +242,17 @@ def width(page: Page, _: Wanted) -> Iterator[str]:
     whole, window = page.run("[document.documentElement.scrollWidth, innerWidth]")
     if whole > window:
         yield f"it is {whole} pixels wide in a window of {window}"
+    if cut := page.run("[...document.querySelectorAll('.functions .scroll')].filter((part) => part.scrollWidth > part.clientWidth).length"):
+        yield f"{cut} tables of functions are cut"
+
+
+def places(page: Page, _: Wanted) -> Iterator[str]:
+    yield from page.run(PLACES)
+
+
+def light(page: Page, _: Wanted) -> Iterator[str]:
+    if page.drawn > MOST_OPEN:
+        yield f"it draws {page.drawn} jobs at once"
 
 
 def keyboard(page: Page, wanted: Wanted) -> Iterator[str]:
@@ -215,7 +287,7 @@ def printing(page: Page, _: Wanted) -> Iterator[str]:
 
 
 CHECKS: list[Callable[[Page, Wanted], Iterator[str]]] = [
-    numbers, drawings, elements, width, contrast, keyboard, printing, console, requests]
+    numbers, elements_counted, drawings, elements, width, places, light, contrast, keyboard, printing, console, requests]
 
 # Those that depend on the width or the colours.
 CHECKS_OF_LOOKS = [check for check in CHECKS if check not in (keyboard, printing)]

@@ -38,7 +38,11 @@ BROKEN = {
     "drawings": [("draw('g', {class: 'bars'}, bars)", "[]"), ("scroll('calls', table(", "scroll('calls', String(")],
     "elements": [('<main id="jobs">', '<img alt="one"><main id="jobs">'),
                  ("document.createTextNode(child)", "(document.createRange().createContextualFragment(child))")],
+    "elements_counted": [("line: (row) => row[2]", "line: (row) => row[1]"), ("each.with_callees[unit]", "each.with_callees.instructions")],
     "width": [("* { box-sizing", "body { min-width: 900px; } * { box-sizing")],
+    "places": [("'#' + line_id(job, line)", "'#job-1-line-0'"), ("x = Math.max(left + 4,", "x = Math.min(4,"),
+               ("  if (box) box.scrollTop = ", "  if (box) box.scrollTop = 9e6 + ")],
+    "light": [("MOST_OPEN = 8", "MOST_OPEN = 64")],
     "contrast": [("--dim: #59616b", "--dim: #99a1ab"), ("['#4477aa', '#fff']", "['#4477aa', '#000']")],
     "keyboard": [("tabindex: 0, role", "role"), ("input.addEventListener('input'", "input.addEventListener('other'")],
     "printing": [("  .scroll { max-height: none;", "  .scroll { max-height: 40px;")],
@@ -108,11 +112,12 @@ def made_up(folder: Path, name: str, page: Path, wanted: Wanted, end: dict) -> t
     count, size = 300, 2
     most = [10 + (place * 7) % 23 for place in range(count)]
     most[150] = job["peak"]
-    job["columns"] = {"each": size, "most": most, "least": [words // 2 for words in most],
-                      "function": [place * len(job["functions"]) // count for place in range(count)]}
+    places = [place * len(job["functions"]) // count for place in range(count)]
+    job["columns"] = {"each": size, "most": most, "least": [words // 2 for words in most], "function": places,
+                      "ran": places}
     instructions = size * count - 1
     job["used"] = dict(job["used"], budget=instructions)
-    job["calls"] = [[*chain[:3], chain[3] + (instructions - job["instructions"] if place == 0 else 0)]
+    job["calls"] = [[*chain[:3], chain[3] + (instructions - job["instructions"] if place == 0 else 0), chain[4]]
                     for place, chain in enumerate(job["calls"])]
     job["instructions"], job["peak_at"] = instructions, size * 150 + 1
     text = page.read_text()
@@ -128,7 +133,7 @@ def broken_pages(browser: Browser, folder: Path, pages: dict[str, tuple[Path, Wa
     found = []
     for check, changes in BROKEN.items():
         tries = [changes] if check == "requests" else [[change] for change in changes]
-        page, wanted = pages["attacks" if check == "elements" else "columns"]
+        page, wanted = pages[{"elements": "attacks", "light": "many"}.get(check, "columns")]
         for number, change in enumerate(tries):
             text = page.read_text()
             for old, new in change:

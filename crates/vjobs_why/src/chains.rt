@@ -1,28 +1,32 @@
 //! The functions of a run that run inside one another.
 
+use crate::tally::{Before, Count};
 use job_profile::Run;
 use std::alloc::{AllocError, Global};
 
-/// The most chains. A function that would begin one more counts in the chain that called it.
+/// The most chains of functions. Those that would begin one more count in the rest of the chain that called them.
 const MOST_CHAINS: usize = 4_096;
 
 /// A chain of functions that run inside one another: its innermost function, the chain without it, how often that
-/// function was called there, and how many instructions it executed itself. The chain of `MAIN` alone is its own outer
-/// chain.
+/// function was called there, and what it executed itself. The chain of `MAIN` alone is its own outer chain.
+///
+/// The rest of a chain has the number of functions in place of a function. It stands for all functions that ran in that
+/// chain and have no chain of their own.
 #[derive(Clone, Copy, Drop)]
 pub struct Chain {
     pub outer: usize,
     pub function: usize,
     pub calls: u64,
-    pub count: u64,
+    pub count: Count,
 }
 
 /// The chains of a run, that of `MAIN` alone first, and the chain of each active call, the innermost last.
 ///
 /// Each chain has a row, which has for each function the chain in which it goes on if it is called there: for one that
 /// runs in the chain already the chain up to it, and for one that was called from the chain the chain with it. So a
-/// call takes one look, however deep it is. Each chain comes after its outer chain. So in a row the chains of functions
-/// that run already are those up to the row's own chain, and those of others come after it.
+/// call takes one look, however deep it is. The last of the row is the rest of the chain. Each chain comes after its
+/// outer chain. So in a row the chains of functions that run already are those up to the row's own chain, and those of
+/// others come after it.
 #[derive(Drop)]
 pub struct Chains {
     alloc: Global,
@@ -49,7 +53,7 @@ impl Chains {
             chains: Vec::new(alloc),
             calls: Vec::new(alloc),
             functions,
-            rows: vec![in alloc; None; functions]?,
+            rows: vec![in alloc; None; functions.saturating_add(1)]?,
         };
         let main = chains.push_chain(0, innermost(run))?;
         chains.enter(main)?;
@@ -72,7 +76,7 @@ impl Chains {
     /// The index of a function in the row of the chain at a place.
     fn index(&self, place: usize, function: usize) -> usize {
         place
-            .saturating_mul(self.functions)
+            .saturating_mul(self.functions.saturating_add(1))
             .saturating_add(function)
     }
 
@@ -94,7 +98,7 @@ impl Chains {
 
     /// Adds a row of a chain inside the chain at a place: the functions that run in it.
     fn push_row(&mut self, outer: usize) -> Result<(), AllocError> {
-        let (begin, end) = (self.index(outer, 0), self.index(outer, self.functions));
+        let (begin, end) = (self.index(outer, 0), self.index(outer.saturating_add(1), 0));
         let row = self.rows.get(begin..end).unwrap_or(&[]);
         let mut row = row.to_vec(self.alloc)?;
         for entry in row.iter_mut() {
@@ -112,24 +116,29 @@ impl Chains {
             outer,
             function,
             calls: 0,
-            count: 0,
+            count: Count::NONE,
         })?;
         self.note(place, function, place);
         self.note(outer, function, place);
         Ok(place)
     }
 
-    /// The place of the chain of a function that is called in the chain at a place. One that runs already goes on in
-    /// its chain, so that a recursion is one chain. A chain that is missing is added, unless there are too many.
-    fn inner(&mut self, outer: usize, function: usize) -> Result<usize, AllocError> {
+    /// The place of the chain of a function inside the chain at a place, which is added if it is missing.
+    fn inside(&mut self, outer: usize, function: usize) -> Result<usize, AllocError> {
         if let Some(place) = self.known(outer, function) {
             return Ok(place);
         }
-        if self.chains.len() >= MOST_CHAINS {
-            return Ok(outer);
-        }
         self.push_row(outer)?;
         self.push_chain(outer, function)
+    }
+
+    /// The place of the chain of a function that is called in the chain at a place. One that runs already goes on in
+    /// its chain, so that a recursion is one chain. If a chain is missing and there are too many, it is the rest.
+    fn inner(&mut self, outer: usize, function: usize) -> Result<usize, AllocError> {
+        if self.chains.len() < MOST_CHAINS || self.known(outer, function).is_some() {
+            return self.inside(outer, function);
+        }
+        self.inside(outer, self.functions)
     }
 
     /// Counts a call in the chain at a place, which is the innermost then.
@@ -147,28 +156,21 @@ impl Chains {
         self.enter(place)
     }
 
-    /// Counts an instruction of the innermost call.
-    fn count(&mut self) {
-        let place = self.place();
-        if let Some(chain) = self.chains.get_mut(place) {
-            chain.count = chain.count.saturating_add(1);
-        }
-    }
-
-    /// Follows a run by one step, before which it had executed this many instructions and had this many calls.
-    pub fn follow(
+    /// Counts an instruction that a run has executed, whose operands and results have this many elements.
+    pub fn count(
         &mut self,
-        executed: u64,
-        calls: usize,
+        before: Before,
+        elements: u64,
         run: &Run<Global>,
     ) -> Result<(), AllocError> {
-        if run.executed() > executed {
-            self.count();
+        let place = self.place();
+        if let Some(chain) = self.chains.get_mut(place) {
+            chain.count.add(elements);
         }
-        if run.calls() > calls {
+        if run.calls() > before.calls {
             return self.call(innermost(run));
         }
-        if run.calls() < calls {
+        if run.calls() < before.calls {
             self.calls.pop();
         }
         Ok(())

@@ -1,6 +1,7 @@
 //! The command line.
 
 use crate::selection::{Selection, line_range};
+use clap::parser::ValueSource;
 use clap::{Arg, ArgAction, ArgMatches, Command, value_parser};
 use program_words::{Program, WordsFault, help_of, matches_of};
 use std::alloc::{AllocError, Global};
@@ -22,8 +23,17 @@ pub enum Look {
     Steps(Selection),
     /// The words over time, what held the most, and what its functions and lines did: all lines, or the first of them.
     Profile { all: bool },
-    /// How many instructions its functions executed, by the functions that run inside one another.
-    Folded,
+    /// What its functions executed, by the functions that run inside one another.
+    Folded(Unit),
+}
+
+/// What is counted of what functions execute.
+#[derive(Clone, Copy, Drop)]
+pub enum Unit {
+    /// The instructions.
+    Instructions,
+    /// The elements of their operands and results.
+    Elements,
 }
 
 /// How jobs are to be shown.
@@ -98,6 +108,21 @@ fn html_option<'a>(alloc: Global) -> Arg<'a> {
     Arg::new(alloc, "html").long("html").value_name("OUT").help(
         "Writes a page for a browser that shows this data to OUT; - is standard output",
     )
+}
+
+/// The units of the option for stacks of functions.
+const UNITS: &[&str] = &["instructions", "elements"];
+
+/// The option for stacks of functions.
+fn folded_option<'a>(alloc: Global) -> Arg<'a> {
+    Arg::new(alloc, "folded")
+        .long("folded")
+        .value_name("UNIT")
+        .num_args(0..=1)
+        .require_equals(true)
+        .default_missing_value("instructions")
+        .value_parser(UNITS)
+        .help("Shows instructions or elements by stacks of functions, for flame graph tools")
 }
 
 /// An option without a value.
@@ -182,11 +207,7 @@ fn with_profiles<'a>(alloc: Global, command: Command<'a>) -> Result<Command<'a>,
                 "Shows the same as data, an object for each job",
             ))?
             .arg(html_option(alloc))?
-            .arg(flag_option(
-                alloc,
-                "folded",
-                "Shows instructions by stacks of functions, for flame graph tools",
-            ))?,
+            .arg(folded_option(alloc))?,
     )
 }
 
@@ -247,7 +268,7 @@ fn selection_of(matches: &ArgMatches<'_>) -> Result<Selection, &'static str> {
     })
 }
 
-/// What is to be shown of a job: the first of the options that was given, or why its value can't be taken.
+/// What is to be shown of a job, or why the value of an option can't be taken.
 fn look_of(matches: &ArgMatches<'_>) -> Result<Look, &'static str> {
     if let Some(count) = number(matches, "after") {
         return Ok(Look::After(count));
@@ -263,27 +284,102 @@ fn look_of(matches: &ArgMatches<'_>) -> Result<Look, &'static str> {
             all: matches.get_flag("all"),
         });
     }
-    if matches.get_flag("folded") {
-        return Ok(Look::Folded);
+    match matches.get_str("folded") {
+        Some("elements") => Ok(Look::Folded(Unit::Elements)),
+        Some(_) => Ok(Look::Folded(Unit::Instructions)),
+        None => Ok(Look::End),
     }
-    Ok(Look::End)
 }
 
-/// How jobs are to be shown: texts before data, data before a page, and a page before stacks of functions.
-fn form_of(alloc: Global, matches: &ArgMatches<'_>, look: Look) -> Result<Form, AllocError> {
-    if let Look::End | Look::Folded = look {
-        if matches.get_flag("json") {
-            return Ok(Form::Data);
-        }
-        if let Some(file) = matches.get_str("html") {
-            return Ok(Form::Page(String::from_str(alloc, file)?));
+/// The options that change what another one shows, and that one.
+const PARTS: &[(&str, &str)] = &[
+    ("from", "steps"),
+    ("to", "steps"),
+    ("lines", "steps"),
+    ("every", "steps"),
+    ("first", "steps"),
+    ("last", "steps"),
+    ("all", "profile"),
+];
+
+/// The options one of which is given at most, and whether it looks for the least limits.
+const LOOKS: &[(&str, bool)] = &[
+    ("after", false),
+    ("at", false),
+    ("steps", false),
+    ("profile", false),
+    ("json", true),
+    ("html", true),
+    ("folded", false),
+];
+
+/// Whether an option is given.
+fn is_given(matches: &ArgMatches<'_>, name: &str) -> bool {
+    matches!(matches.value_source(name), Some(ValueSource::CommandLine))
+}
+
+/// An option that is given without the one that it belongs to, and that one.
+fn lonely(matches: &ArgMatches<'_>) -> Option<(&'static str, &'static str)> {
+    for (part, whole) in PARTS {
+        if is_given(matches, part) && !is_given(matches, whole) {
+            return Some((*part, *whole));
         }
     }
-    Ok(Form::Texts(look))
+    None
+}
+
+/// Two options that are given and can't be used together.
+fn clash(matches: &ArgMatches<'_>) -> Option<(&'static str, &'static str)> {
+    let mut other = None;
+    if is_given(matches, "no-least") {
+        other = Some("no-least");
+    }
+    for (look, has_least) in LOOKS {
+        if is_given(matches, look) {
+            match other {
+                Some("no-least") if *has_least => {}
+                Some(other) => return Some((other, *look)),
+                None => {}
+            }
+            other = Some(*look);
+        }
+    }
+    None
+}
+
+/// Why the options that are given can't be used so, if they can't.
+fn misuse(alloc: Global, matches: &ArgMatches<'_>) -> Result<Option<String>, AllocError> {
+    if let Some((part, whole)) = lonely(matches) {
+        let text = format!(in alloc; "vjobs-why: --{part} needs --{whole}\n")?;
+        return Ok(Some(text));
+    }
+    match clash(matches) {
+        Some((first, second)) => {
+            let text = format!(in alloc;
+                "vjobs-why: --{first} and --{second} can't be used together\n"
+            )?;
+            Ok(Some(text))
+        }
+        None => Ok(None),
+    }
+}
+
+/// How jobs are to be shown.
+fn form_of(alloc: Global, matches: &ArgMatches<'_>, look: Look) -> Result<Form, AllocError> {
+    if matches.get_flag("json") {
+        return Ok(Form::Data);
+    }
+    match matches.get_str("html") {
+        Some(file) => Ok(Form::Page(String::from_str(alloc, file)?)),
+        None => Ok(Form::Texts(look)),
+    }
 }
 
 /// What was matched.
 fn asked_of(alloc: Global, matches: &ArgMatches<'_>) -> Result<Line, WordsFault> {
+    if let Some(text) = misuse(alloc, matches)? {
+        return Err(WordsFault::Refused(text));
+    }
     let look = match look_of(matches) {
         Ok(look) => look,
         Err(reason) => {

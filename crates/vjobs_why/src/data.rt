@@ -3,11 +3,13 @@
 use crate::chains::Chains;
 use crate::end::{End, Ending};
 use crate::lines::{Lines, printable};
-use crate::meanings::job_meaning;
-use crate::profile::{function_places, functions_of, last_line_of, lines_of};
-use crate::survey::Survey;
+use crate::meanings::{batch_meaning, job_meaning};
+use crate::profile::{FunctionHead, function_places, functions_of, last_line_of, lines_of};
+use crate::spans::Spans;
+use crate::survey::{Counts, Survey};
+use crate::tally::{Count, FunctionTally, Tally};
 use crate::wide::Work;
-use batch_reader::JobFault;
+use batch_reader::{BatchFault, JobFault};
 use job_profile::{Column, Columns, Profile};
 use std::alloc::{AllocError, Global};
 use std::fmt::Write;
@@ -92,20 +94,57 @@ fn push_limits(text: &mut String, member: &str, limits: Limits) -> Result<(), Al
     push_amounts(text, member, amounts)
 }
 
+/// Adds two members for what was executed, the first of which comes right after an opening bracket or a comma.
+fn push_count(text: &mut String, count: Count) -> Result<(), AllocError> {
+    let (instructions, elements) = (count.instructions, count.elements);
+    write!(
+        text,
+        "\"instructions\":{instructions},\"elements\":{elements}"
+    )?;
+    Ok(())
+}
+
+/// Adds the object of a function.
+fn push_function(
+    text: &mut String,
+    function: &FunctionHead,
+    tally: FunctionTally,
+) -> Result<(), AllocError> {
+    let (line, calls) = (function.line, tally.calls);
+    text.push_str("{\"name\":")?;
+    push_quoted(text, function.name.as_str())?;
+    write!(text, ",\"line\":{line},\"calls\":{calls},")?;
+    push_count(text, tally.own)?;
+    text.push_str(",\"with_callees\":{")?;
+    push_count(text, tally.whole)?;
+    text.push_str("}}")
+}
+
+/// Adds the objects of functions.
+fn push_function_list(
+    text: &mut String,
+    functions: &[FunctionHead],
+    tally: &Tally,
+) -> Result<(), AllocError> {
+    for (place, function) in functions.iter().enumerate() {
+        push_comma(text, place)?;
+        push_function(text, function, tally.function(place))?;
+    }
+    Ok(())
+}
+
 /// Adds the member for the functions.
 fn push_functions(
     text: &mut String,
     alloc: Global,
     profile: &Profile<Global>,
+    tally: &Tally,
 ) -> Result<(), AllocError> {
     text.push_str(",\"functions\":[")?;
-    for (place, function) in functions_of(alloc, profile)?.iter().enumerate() {
-        push_comma(text, place)?;
-        let (line, count) = (function.line, function.instructions);
-        text.push_str("{\"name\":")?;
-        push_quoted(text, function.name.as_str())?;
-        write!(text, ",\"line\":{line},\"instructions\":{count}}}")?;
-    }
+    let functions = functions_of(alloc, profile)?;
+    let pushed = push_function_list(text, &functions, tally);
+    drop(functions);
+    pushed?;
     text.push(']')
 }
 
@@ -114,12 +153,14 @@ fn push_lines(
     text: &mut String,
     alloc: Global,
     profile: &Profile<Global>,
+    tally: &Tally,
 ) -> Result<(), AllocError> {
     text.push_str(",\"lines\":[")?;
     for (place, count) in lines_of(alloc, profile)?.iter().enumerate() {
         push_comma(text, place)?;
         let (line, times) = (count.line, count.times);
-        write!(text, "[{line},{times}]")?;
+        let elements = tally.line(line).elements;
+        write!(text, "[{line},{times},{elements}]")?;
     }
     text.push(']')
 }
@@ -179,12 +220,15 @@ fn push_columns(
     text: &mut String,
     alloc: Global,
     columns: &Columns<Global>,
+    counts: &Counts,
 ) -> Result<(), AllocError> {
     let (each, list) = columns.columns();
     write!(text, ",\"columns\":{{\"each\":{each}")?;
     push_most(text, alloc, list)?;
     push_least(text, alloc, list)?;
     push_places(text, alloc, columns)?;
+    let places = counts.bands.places(alloc)?;
+    push_numbers(text, "ran", &places)?;
     text.push('}')
 }
 
@@ -193,13 +237,9 @@ fn push_calls(text: &mut String, chains: &Chains) -> Result<(), AllocError> {
     text.push_str(",\"calls\":[")?;
     for (place, chain) in chains.chains().iter().enumerate() {
         push_comma(text, place)?;
-        let (outer, function, calls, count) = (
-            chain.outer,
-            chain.function,
-            chain.calls,
-            chain.count,
-        );
-        write!(text, "[{outer},{function},{calls},{count}]")?;
+        let (outer, function, calls) = (chain.outer, chain.function, chain.calls);
+        let (own, elements) = (chain.count.instructions, chain.count.elements);
+        write!(text, "[{outer},{function},{calls},{own},{elements}]")?;
     }
     text.push(']')
 }
@@ -228,17 +268,17 @@ fn push_code(
     text.push_str("]}")
 }
 
-/// Adds the members for the refusal of a job at a line, and ends its object.
+/// Adds the members for a refusal at a line by a fault of this name and this meaning, and ends the object.
 fn push_refusal(
     text: &mut String,
     alloc: Global,
     lines: &Lines,
     line: u64,
-    fault: JobFault,
+    fault: &str,
+    meaning: &str,
 ) -> Result<(), AllocError> {
-    let word = fault.text();
-    write!(text, ",\"end\":\"REFUSED {word}\",\"line\":{line}")?;
-    push_note(text, job_meaning(fault))?;
+    write!(text, ",\"end\":\"REFUSED {fault}\",\"line\":{line}")?;
+    push_note(text, meaning)?;
     let first = line.saturating_sub(LINES_BESIDE).max(1);
     let last = line.saturating_add(LINES_BESIDE).min(lines.count());
     push_code(text, alloc, lines, first, last)?;
@@ -256,7 +296,33 @@ pub fn refusal_object(
 ) -> Result<String, AllocError> {
     let mut text = String::new(alloc);
     push_job(&mut text, alloc, place, name)?;
-    push_refusal(&mut text, alloc, lines, line, fault)?;
+    push_refusal(
+        &mut text,
+        alloc,
+        lines,
+        line,
+        fault.text(),
+        job_meaning(fault),
+    )?;
+    Ok(text)
+}
+
+/// The object of a batch that was refused as a whole at a line for a fault.
+pub fn batch_refusal_object(
+    alloc: Global,
+    lines: &Lines,
+    line: u64,
+    fault: BatchFault,
+) -> Result<String, AllocError> {
+    let mut text = String::from_str(alloc, "{\"job\":null,\"name\":null")?;
+    push_refusal(
+        &mut text,
+        alloc,
+        lines,
+        line,
+        fault.text(),
+        batch_meaning(fault),
+    )?;
     Ok(text)
 }
 
@@ -264,7 +330,7 @@ pub fn refusal_object(
 fn push_peak(text: &mut String, survey: &Survey) -> Result<(), AllocError> {
     let end = survey.end();
     let (executed, peak) = (end.executed, end.words);
-    let (after, last) = (survey.profile().peak_after(), survey.last_line);
+    let (after, last) = (survey.profile().peak_after(), survey.last_line());
     write!(
         text,
         ",\"instructions\":{executed},\"peak\":{peak},\"peak_at\":{after},\"last\":{last}"
@@ -301,6 +367,36 @@ pub fn push_told(text: &mut String, told: &Told) -> Result<(), AllocError> {
     text.push('}')
 }
 
+/// The columns at which the last instruction that was next begins and ends in its line, if it is a part of what is shown.
+fn last_columns(
+    alloc: Global,
+    lines: &Lines,
+    survey: &Survey,
+) -> Result<Option<(usize, usize)>, AllocError> {
+    let Some(last) = survey.last else {
+        return Ok(None);
+    };
+    let program = survey.profile().run().job().verified().program();
+    let spans = Spans::of(alloc, lines, program)?;
+    match spans.at(last.function, last.place) {
+        Some(word) => Ok(lines.columns(last.line, spans.first, word)),
+        None => Ok(None),
+    }
+}
+
+/// Adds the member for the columns of the last instruction, if they are known.
+fn push_carets(
+    text: &mut String,
+    alloc: Global,
+    lines: &Lines,
+    survey: &Survey,
+) -> Result<(), AllocError> {
+    if let Some((begin, end)) = last_columns(alloc, lines, survey)? {
+        write!(text, ",\"carets\":[{begin},{end}]")?;
+    }
+    Ok(())
+}
+
 /// Adds the members for what was counted of a job.
 fn push_counts(
     text: &mut String,
@@ -308,11 +404,11 @@ fn push_counts(
     lines: &Lines,
     survey: &Survey,
 ) -> Result<(), AllocError> {
-    let profile = survey.profile();
-    push_functions(text, alloc, profile)?;
-    push_lines(text, alloc, profile)?;
-    push_columns(text, alloc, &survey.columns)?;
-    push_calls(text, &survey.chains)?;
+    let (profile, counts) = (survey.profile(), &survey.counts);
+    push_functions(text, alloc, profile, &counts.tally)?;
+    push_lines(text, alloc, profile, &counts.tally)?;
+    push_columns(text, alloc, &survey.columns, counts)?;
+    push_calls(text, &counts.chains)?;
     let program = profile.run().job().verified().program();
     push_code(
         text,
@@ -333,6 +429,7 @@ fn push_members(
 ) -> Result<(), AllocError> {
     push_job(text, alloc, place, survey.profile().run().job().name())?;
     push_end(text, survey)?;
+    push_carets(text, alloc, lines, survey)?;
     push_counts(text, alloc, lines, survey)
 }
 

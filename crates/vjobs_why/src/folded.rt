@@ -1,7 +1,9 @@
-//! The instructions of a job by the functions that run inside one another, as flame graph tools take them.
+//! What a job executed by the functions that run inside one another, as flame graph tools take it.
 
 use crate::chains::Chains;
+use crate::command::Unit;
 use crate::lines::printable;
+use crate::tally::{Before, Count};
 use job_profile::Run;
 use job_steps::Job;
 use std::alloc::{AllocError, Global};
@@ -19,13 +21,25 @@ fn name_of(alloc: Global, name: &[u8]) -> Result<String, AllocError> {
     Ok(text)
 }
 
-/// The names of the functions of a job.
+/// What the rest of a chain is called.
+const REST: &[u8] = b"(more)";
+
+/// The names of the functions of a job, and that of the rest of a chain.
 fn names_of(alloc: Global, job: &Job<Global>) -> Result<Vec<String>, AllocError> {
     let mut names = Vec::new(alloc);
     for function in job.verified().program().functions() {
         names.push(name_of(alloc, function.name())?)?;
     }
+    names.push(name_of(alloc, REST)?)?;
     Ok(names)
+}
+
+/// The number of a count in this unit.
+fn number_of(count: Count, unit: Unit) -> u64 {
+    match unit {
+        Unit::Instructions => count.instructions,
+        Unit::Elements => count.elements,
+    }
 }
 
 /// A chain among the chains around one: its place, and where its names end.
@@ -108,7 +122,7 @@ impl Stack {
         }
     }
 
-    /// The line for this number of instructions.
+    /// The line for this number of instructions or elements.
     fn line(&self, count: u64) -> Result<Vec<u8>, AllocError> {
         let mut line = self.text.to_vec(self.alloc)?;
         let end = format!(in self.alloc; " {count}\n")?;
@@ -127,13 +141,17 @@ fn name_at(names: &[String], place: usize) -> &str {
 
 /// Executes and counts the next instruction; true if the job goes on.
 fn step(chains: &mut Chains, run: &mut Run<Global>) -> Result<bool, AllocError> {
-    let (executed, calls) = (run.executed(), run.calls());
+    let Some(before) = Before::of(run) else {
+        return Ok(false);
+    };
     let goes_on = run.step();
-    chains.follow(executed, calls, run)?;
+    if let Some(elements) = before.elements(run) {
+        chains.count(before, elements, run)?;
+    }
     Ok(goes_on)
 }
 
-/// Runs a job to its end, and counts its instructions by chains.
+/// Runs a job to its end, and counts what it executes by chains.
 fn run_out(chains: &mut Chains, run: &mut Run<Global>) -> Result<(), AllocError> {
     for _ in 0..=MOST_BUDGET {
         if !step(chains, run)? {
@@ -143,13 +161,14 @@ fn run_out(chains: &mut Chains, run: &mut Run<Global>) -> Result<(), AllocError>
     Ok(())
 }
 
-/// Prints a line for each chain of functions that executed an instruction itself: their names, and how many.
-fn print_chains(rt: &HostRuntime, chains: &Chains, names: &[String]) -> io::Result<()> {
+/// Prints a line for each chain of functions that executed something itself: their names, and how much.
+fn print_chains(rt: &HostRuntime, chains: &Chains, names: &[String], unit: Unit) -> io::Result<()> {
     let mut stack = Stack::new(rt.alloc());
     for (place, chain) in chains.chains().iter().enumerate() {
         stack.take(chains, names, place)?;
-        if chain.count > 0 {
-            rt.stdout().write_all(&stack.line(chain.count)?)?;
+        let number = number_of(chain.count, unit);
+        if number > 0 {
+            rt.stdout().write_all(&stack.line(number)?)?;
         }
     }
     Ok(())
@@ -163,17 +182,17 @@ fn chains_of(alloc: Global, run: &mut Run<Global>) -> Result<Chains, AllocError>
 }
 
 /// Prints the lines of a run that has executed nothing, which goes to its end.
-fn print_run(rt: &HostRuntime, run: &mut Run<Global>) -> io::Result<()> {
+fn print_run(rt: &HostRuntime, run: &mut Run<Global>, unit: Unit) -> io::Result<()> {
     let names = names_of(rt.alloc(), run.job())?;
     let chains = chains_of(rt.alloc(), run)?;
-    print_chains(rt, &chains, names.as_slice())
+    print_chains(rt, &chains, names.as_slice(), unit)
 }
 
-/// Runs a job, and prints a line for each chain of functions that executed an instruction itself: their names, and how
-/// many.
-pub fn print_folded(rt: &HostRuntime, rule: Rule, job: Job<Global>) -> io::Result<()> {
+/// Runs a job, and prints a line for each chain of functions that executed something itself: their names, and how many
+/// instructions or elements.
+pub fn print_folded(rt: &HostRuntime, rule: Rule, job: Job<Global>, unit: Unit) -> io::Result<()> {
     let mut run = Run::new(rt.alloc(), rule, job)?;
-    let printed = print_run(rt, &mut run);
+    let printed = print_run(rt, &mut run, unit);
     drop(run);
     printed
 }

@@ -307,6 +307,16 @@ fn count_before(function: &Function<Global>, place: usize, number: u64) -> usize
     count
 }
 
+/// How many instructions of this line are in the functions before a place.
+fn count_earlier(program: &Program<Global>, place: usize, number: u64) -> usize {
+    let mut count: usize = 0;
+    for function in program.functions().iter().take(place) {
+        let before = count_before(function, function.line_count(), number);
+        count = count.saturating_add(before);
+    }
+    count
+}
+
 /// The first place where the kinds of a function don't fit, unless the walk is given up before that. It is the function
 /// of this place in the program.
 fn misfit_in(
@@ -330,10 +340,11 @@ fn misfit_in(
         let callee = callee_kinds(program, signatures, place, at);
         if let Some(clash) = walk.step(&line, gives, callee)? {
             let line = line.number;
+            let earlier = count_earlier(program, place, line);
             return Ok(Some(Misfit {
                 function: place,
                 line,
-                before: count_before(function, at, line),
+                before: count_before(function, at, line).saturating_add(earlier),
                 stack: mem::replace(&mut walk.stack, Vec::new(walk.alloc)),
                 clash,
             }));

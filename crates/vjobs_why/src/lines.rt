@@ -139,6 +139,24 @@ impl Lines {
         String::from_str(alloc, code_of(line.as_str()))
     }
 
+    /// A word of a line as it may be shown, whose first byte and the byte after whose last are at these places of the
+    /// lines from `first` on; the code of the line if that isn't a part of what is shown of it.
+    pub fn word(
+        &self,
+        alloc: Global,
+        number: u64,
+        first: u64,
+        word: Word,
+    ) -> Result<String, AllocError> {
+        match self.columns(number, first, word) {
+            Some((begin, end)) => {
+                let bytes = self.bytes(number).unwrap_or(&[]);
+                printable(alloc, bytes.get(begin..end).unwrap_or(&[]))
+            }
+            None => self.code(alloc, number),
+        }
+    }
+
     /// Prints a line with its number, unless it is empty.
     fn print(&self, rt: &HostRuntime, number: u64) -> io::Result<()> {
         let line = self.line(rt.alloc(), number)?;
@@ -175,7 +193,7 @@ impl Lines {
     }
 
     /// The columns of a line at which a word of the lines from `first` on begins and ends.
-    fn columns(&self, number: u64, first: u64, word: Word) -> Option<(usize, usize)> {
+    pub fn columns(&self, number: u64, first: u64, word: Word) -> Option<(usize, usize)> {
         let (line, origin) = (self.begin(number)?, self.begin(first)?);
         let begin = origin.checked_add(word.begin)?.checked_sub(line)?;
         let end = origin.checked_add(word.end)?.checked_sub(line)?;

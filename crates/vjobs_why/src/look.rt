@@ -9,11 +9,13 @@ use crate::memory_notes::memory_note;
 use crate::operands::operand_names;
 use crate::profile::{Shown, print_profile};
 use crate::reasons::reason;
+use crate::spans::Spans;
 use crate::stack::{print_calls, print_stack};
 use crate::steps::show_steps;
 use crate::survey::Survey;
 use crate::watch::Watch;
 use crate::wide::{Course, MOST_BEFORE, Wide, Work, run_wide};
+use job_profile::Run;
 use job_steps::Job;
 use std::alloc::{AllocError, Global};
 use std::io;
@@ -31,10 +33,12 @@ pub struct Batch<'a> {
     pub tries_least: bool,
 }
 
-/// An instruction that was executed, and what there was after it.
+/// An instruction that was executed, by its place in its function and its line, and what there was after it.
 #[derive(Clone, Copy, Drop)]
 pub struct Step {
     number: u64,
+    function: usize,
+    place: usize,
     pub line: u64,
     entries: usize,
     held: usize,
@@ -50,11 +54,28 @@ fn names_from_top(alloc: Global, op: Op) -> Result<Vec<&'static str>, AllocError
     Ok(turned)
 }
 
-/// Prints where a run is, with a note at its next line.
-fn print_place(rt: &HostRuntime, batch: Batch<'_>, watch: &Watch, note: &str) -> io::Result<()> {
-    match watch.next() {
-        Some(next) => batch.lines.print_around(rt, next.line, note),
-        None => Ok(()),
+/// Where the instructions of the job of a run are.
+pub fn spans_of(alloc: Global, batch: Batch<'_>, watch: &Watch) -> Result<Spans, AllocError> {
+    let program = watch.run().job().verified().program();
+    Spans::of(alloc, batch.lines, program)
+}
+
+/// Prints where a run is, with a note at its next instruction.
+fn print_place(
+    rt: &HostRuntime,
+    batch: Batch<'_>,
+    spans: &Spans,
+    watch: &Watch,
+    note: &str,
+) -> io::Result<()> {
+    let Some(next) = watch.next() else {
+        return Ok(());
+    };
+    match spans.next(watch.run()) {
+        Some(word) => batch
+            .lines
+            .print_word(rt, next.line, spans.first, word, note),
+        None => batch.lines.print_around(rt, next.line, note),
     }
 }
 
@@ -120,12 +141,21 @@ fn print_course(rt: &HostRuntime, name: &[u8], course: Course) -> io::Result<()>
     }
 }
 
+/// The function of the next instruction of a run, and its place there.
+pub fn place_of(run: &Run<Global>) -> (usize, usize) {
+    match run.frames().last() {
+        Some(frame) => (frame.function, frame.place),
+        None => (0, 0),
+    }
+}
+
 /// Executes the next instruction. `None` if it isn't executed, since it ends the job, or if there is none.
 pub fn step_of(watch: &mut Watch) -> Result<Option<Step>, AllocError> {
     let before = watch.run().executed();
     let Some(next) = watch.next() else {
         return Ok(None);
     };
+    let (function, place) = place_of(watch.run());
     watch.step()?;
     let number = watch.run().executed();
     if number == before {
@@ -133,6 +163,8 @@ pub fn step_of(watch: &mut Watch) -> Result<Option<Step>, AllocError> {
     }
     Ok(Some(Step {
         number,
+        function,
+        place,
         line: next.line,
         entries: watch.run().depth(),
         held: watch.run().held(),
@@ -144,11 +176,19 @@ pub fn print_head(rt: &HostRuntime) -> io::Result<()> {
     println!(rt; "       step     line  entries       held  instruction")
 }
 
+/// The text of an instruction that was executed, or the code of its line.
+fn text_of(alloc: Global, lines: &Lines, spans: &Spans, step: Step) -> Result<String, AllocError> {
+    match spans.at(step.function, step.place) {
+        Some(word) => lines.word(alloc, step.line, spans.first, word),
+        None => lines.code(alloc, step.line),
+    }
+}
+
 /// Prints an instruction that was executed.
-pub fn print_step(rt: &HostRuntime, batch: Batch<'_>, step: Step) -> io::Result<()> {
+pub fn print_step(rt: &HostRuntime, batch: Batch<'_>, spans: &Spans, step: Step) -> io::Result<()> {
     let (number, line, entries, held) = (step.number, step.line, step.entries, step.held);
-    let code = batch.lines.code(rt.alloc(), line)?;
-    println!(rt; "  {number:>9} {line:>8} {entries:>8} {held:>10}  {code}")
+    let text = text_of(rt.alloc(), batch.lines, spans, step)?;
+    println!(rt; "  {number:>9} {line:>8} {entries:>8} {held:>10}  {text}")
 }
 
 /// Executes this many instructions, which are there.
@@ -200,21 +240,27 @@ fn print_ending(rt: &HostRuntime, ending: Ending, count: u64) -> io::Result<()> 
 fn print_before(
     rt: &HostRuntime,
     batch: Batch<'_>,
+    spans: &Spans,
     watch: &Watch,
     ending: Ending,
     wide: Option<Wide>,
 ) -> io::Result<()> {
     let note = note_of(rt.alloc(), watch, ending, wide)?;
-    print_place(rt, batch, watch, note.as_str())?;
+    print_place(rt, batch, spans, watch, note.as_str())?;
     print_picture(rt, watch)
 }
 
 /// Prints the last instructions of a job.
-fn print_steps(rt: &HostRuntime, batch: Batch<'_>, steps: &[Step]) -> io::Result<()> {
+fn print_steps(
+    rt: &HostRuntime,
+    batch: Batch<'_>,
+    spans: &Spans,
+    steps: &[Step],
+) -> io::Result<()> {
     println!(rt; "\nthe last instructions")?;
     print_head(rt)?;
     for step in steps {
-        print_step(rt, batch, *step)?;
+        print_step(rt, batch, spans, *step)?;
     }
     Ok(())
 }
@@ -230,8 +276,9 @@ fn print_last(
     let count = end.steps.min(LAST);
     watch.go_to(end.steps.saturating_sub(count))?;
     let steps = steps_of(rt.alloc(), watch, count)?;
-    print_before(rt, batch, watch, end.ending, wide)?;
-    print_steps(rt, batch, &steps)
+    let spans = spans_of(rt.alloc(), batch, watch)?;
+    print_before(rt, batch, &spans, watch, end.ending, wide)?;
+    print_steps(rt, batch, &spans, &steps)
 }
 
 /// How a job goes on within the widest limits if a limit ended it and this is to be tried, and the job.
@@ -308,14 +355,15 @@ fn print_state(rt: &HostRuntime, batch: Batch<'_>, watch: &Watch) -> io::Result<
     }
     let peak = watch.run().peak();
     println!(rt; "after {executed} instructions, with a peak of {peak} words")?;
-    print_place(rt, batch, watch, "is next")?;
+    let spans = spans_of(rt.alloc(), batch, watch)?;
+    print_place(rt, batch, &spans, watch, "is next")?;
     print_picture(rt, watch)
 }
 
 /// Shows what was asked for of a run that has executed nothing.
 fn show_run(rt: &HostRuntime, batch: Batch<'_>, watch: &mut Watch, look: Look) -> io::Result<()> {
     match look {
-        Look::End | Look::Profile { .. } | Look::Folded | Look::Steps(_) => Ok(()),
+        Look::End | Look::Profile { .. } | Look::Folded(_) | Look::Steps(_) => Ok(()),
         Look::After(count) => {
             watch.go_to(count)?;
             print_state(rt, batch, watch)
@@ -479,7 +527,7 @@ fn show_named(rt: &HostRuntime, batch: Batch<'_>, job: Job<Global>, look: Look) 
         Look::End => print_end(rt, batch, job),
         Look::Profile { all } => show_profile(rt, batch, job, all),
         Look::Steps(selection) => show_steps(rt, batch, job, selection),
-        Look::After(_) | Look::At { .. } | Look::Folded => show_state(rt, batch, job, look),
+        Look::After(_) | Look::At { .. } | Look::Folded(_) => show_state(rt, batch, job, look),
     }
 }
 
@@ -491,8 +539,8 @@ pub fn show(
     job: Job<Global>,
     look: Look,
 ) -> io::Result<()> {
-    if let Look::Folded = look {
-        return print_folded(rt, batch.rule, job);
+    if let Look::Folded(unit) = look {
+        return print_folded(rt, batch.rule, job, unit);
     }
     match print_name(rt, place, job.name()) {
         Ok(()) => show_named(rt, batch, job, look),

@@ -1,6 +1,7 @@
 //! Shows why a job of a batch ended, and what there was on the way.
 #![tactic(auto)]
 
+mod bands;
 mod batch_notes;
 mod chains;
 mod command;
@@ -28,6 +29,7 @@ mod reasons;
 mod refusals;
 mod selection;
 mod signature_notes;
+mod spans;
 mod stack;
 mod steps;
 mod survey;
@@ -40,7 +42,7 @@ mod words;
 use batch_notes::{batch_of, print_batch_note};
 use batch_reader::{Batch, BatchFault, Entry, Fate, JobEntries, JobEntry};
 use command::{Asked, Form, Line, Look, VjobsWhy, read_line};
-use data::refusal_object;
+use data::{batch_refusal_object, refusal_object};
 use failure::Failure;
 use files::{read_batch, write_text};
 use lines::Lines;
@@ -71,7 +73,7 @@ fn show_entry(
     match fate {
         Fate::Ready(job) => show(rt, batch, place, job, look),
         Fate::Refused(line, fault) => match look {
-            Look::Folded => Ok(()),
+            Look::Folded(_) => Ok(()),
             _ => print_refused(rt, batch.lines, place, name.as_slice(), line, fault),
         },
     }
@@ -214,14 +216,30 @@ fn print_batch_fault(
     print_batch_note(rt, lines, line, fault)
 }
 
-/// Shows why a batch is refused as a whole. Answers the exit status.
+/// Prints as data why a batch is refused as a whole.
+fn print_batch_object(
+    rt: &HostRuntime,
+    lines: &Lines,
+    line: u64,
+    fault: BatchFault,
+) -> io::Result<()> {
+    let object = batch_refusal_object(rt.alloc(), lines, line, fault)?;
+    println!(rt; "{object}")
+}
+
+/// Shows why a batch is refused as a whole, as data or as a text. Answers the exit status.
 fn show_refused(
     rt: &HostRuntime,
     lines: &Lines,
     line: u64,
     fault: BatchFault,
+    form: &Form,
 ) -> Result<u8, Failure> {
-    match print_batch_fault(rt, lines, line, fault) {
+    let printed = match form {
+        Form::Data => print_batch_object(rt, lines, line, fault),
+        Form::Texts(_) | Form::Page(_) => print_batch_fault(rt, lines, line, fault),
+    };
+    match printed {
         Ok(()) => Ok(1),
         Err(error) => Err(Failure::of_output(rt.alloc(), error)),
     }
@@ -244,7 +262,7 @@ fn show_ready(
 /// Shows what was asked for of a batch of these lines. Answers the exit status.
 fn show_lines(rt: &HostRuntime, lines: &Lines, asked: &Asked) -> Result<u8, Failure> {
     match batch_of(rt.alloc(), lines.text())? {
-        Batch::Refused(line, fault) => show_refused(rt, lines, line, fault),
+        Batch::Refused(line, fault) => show_refused(rt, lines, line, fault, &asked.form),
         Batch::Jobs(rule, entries) => {
             let batch = look::Batch {
                 rule,

@@ -12,7 +12,7 @@ const HEAD: &str = r#"<!DOCTYPE html>
 <meta charset="utf-8">
 <meta http-equiv="Content-Security-Policy"
  content="default-src 'none'; base-uri 'none'; form-action 'none'; style-src 'unsafe-inline';
- script-src 'sha256-rEa7wsNFNqEbJYVVUHWCkok3/uHKm0QOVeC840XM8V0='">
+ script-src 'sha256-ET90+I5qTosvrj/acE1WpGgfO/QZF8eo0iD1gpofaEg='">
 <meta name="viewport" content="width=device-width, initial-scale=1">
 <title>vjobs-why</title>
 <style>

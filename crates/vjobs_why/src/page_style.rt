@@ -17,9 +17,14 @@ body { margin: 0; background: var(--back); color: var(--text); font: 15px/1.5 sy
 main, noscript { display: block; max-width: 1560px; margin: 0 auto; padding: 16px clamp(10px, 2vw, 32px); }
 a { color: inherit; }
 :focus-visible { outline: 3px solid var(--focus); outline-offset: 2px; }
-nav ul { display: flex; flex-wrap: wrap; gap: 4px 18px; margin: 0 0 12px; padding: 0; list-style: none; }
-article + article { margin-top: 40px; border-top: 2px solid var(--edge); padding-top: 16px; }
-header { display: flex; flex-wrap: wrap; align-items: baseline; gap: 4px 14px; margin: 4px 0 14px; }
+nav { margin-bottom: 18px; }
+nav h2 { display: inline-block; margin-right: 10px; }
+nav .end { white-space: nowrap; padding: 0 8px; font-size: .9em; }
+button { border: 1px solid var(--edge); border-radius: 6px; background: var(--code); color: inherit; font: inherit; padding: 1px 10px; }
+article + article { margin-top: 18px; border-top: 2px solid var(--edge); padding-top: 8px; }
+article > details { margin: 0; }
+article > details > summary { color: inherit; font-size: 1rem; list-style-position: outside; margin-left: 18px; }
+header { display: inline-flex; flex-wrap: wrap; align-items: baseline; gap: 4px 14px; margin: 4px 0 10px; vertical-align: top; }
 h1 { margin: 0; font-size: 1.5rem; overflow-wrap: anywhere; }
 h2 { margin: 0 0 8px; font-size: 1.05rem; }
 h2 small, .dim { color: var(--dim); font-weight: normal; font-size: .9rem; }
@@ -32,11 +37,11 @@ h2 small, .dim { color: var(--dim); font-weight: normal; font-size: .9rem; }
 .cards b { font-size: 1.25rem; }
 .bar { height: 5px; margin-top: 6px; border-radius: 3px; background: var(--edge); overflow: hidden; }
 .bar i { display: block; height: 100%; background: var(--accent); print-color-adjust: exact; }
-.sheet, .side { display: grid; grid-template-columns: minmax(0, 1fr); gap: 14px; }
+.sheet, .side, .counted { display: grid; grid-template-columns: minmax(0, 1fr); gap: 14px; }
+.units { display: flex; flex-wrap: wrap; gap: 2px 14px; }
 .heard { position: absolute; width: 1px; height: 1px; overflow: hidden; clip-path: inset(50%); }
 @media (min-width: 1000px) {
-  .sheet { grid-template-columns: minmax(0, 3fr) minmax(0, 2fr); align-items: start; }
-  .wide { grid-column: 1 / -1; }
+  .counted { grid-template-columns: minmax(0, 3fr) minmax(0, 2fr); align-items: start; }
 }
 pre, code, td.text { font: 13px/1.5 ui-monospace, "DejaVu Sans Mono", monospace; }
 pre { margin: 0; padding: 10px 12px; border-radius: 6px; background: var(--code); white-space: pre-wrap; overflow-wrap: anywhere; }
@@ -54,9 +59,12 @@ svg .alarm { fill: var(--bad); font-weight: 600; }
 svg .strong { font-weight: 600; }
 svg .peak { fill: var(--card); stroke: var(--text); stroke-width: 2; }
 svg .cursor { stroke: var(--text); stroke-width: 1; }
+svg .area { fill: var(--accent); }
+svg .pale { fill-opacity: .45; }
 svg path, svg rect, .swatch { print-color-adjust: exact; }
 svg .bars rect { stroke: var(--card); stroke-width: 1; }
 .legend { display: flex; flex-wrap: wrap; gap: 2px 16px; margin: 6px 0 0; padding: 0; list-style: none; font-size: .9rem; }
+.legend li { min-width: 0; overflow-wrap: anywhere; }
 .swatch { display: inline-block; width: 11px; height: 11px; margin-right: 6px; border-radius: 2px; }
 .pick { display: flex; flex-wrap: wrap; align-items: center; gap: 2px 12px; margin-top: 6px; font-size: .9rem; }
 .pick { padding: 0 14px 0 54px; }
@@ -75,6 +83,13 @@ td.number, th.number { text-align: right; white-space: nowrap; }
 td.text { white-space: pre; width: 99%; }
 td.name { min-width: 7.5em; overflow-wrap: anywhere; }
 td.name a { display: inline-block; max-width: calc(100% - 20px); vertical-align: top; }
+@media (max-width: 500px) {
+  section { padding: 10px; }
+  .functions .line { display: none; }
+  .functions table { font-size: .8rem; }
+  td, th, .functions td, .functions th { padding-inline: 3px; }
+  td.name { min-width: 4.5em; }
+}
 tr.never td { color: var(--dim); }
 tr.last td { background: color-mix(in srgb, var(--bad) 16%, transparent); }
 tr.last.good td { background: color-mix(in srgb, var(--good) 16%, transparent); }
@@ -89,7 +104,7 @@ td.heat { print-color-adjust: exact; }
   body { font-size: 11px; }
   pre, code, td.text { font-size: 10px; }
   .scroll { max-height: none; overflow: visible; }
-  .pick, nav { display: none; }
+  .pick, .units, nav { display: none; }
   .cards > div, section { break-inside: avoid; }
   section.code { break-inside: auto; }
   tr { break-inside: avoid; }

@@ -17,12 +17,11 @@ const MOST_LINES: usize = 20;
 /// The most lines that are shown of what they hold.
 const MOST_HOLDERS: usize = 12;
 
-/// A function of a job: its name, the line of its `FUNC`, and how many instructions of its lines were executed.
+/// A function of a job: its name, and the line of its `FUNC`.
 #[derive(Drop)]
-pub struct FunctionCount {
+pub struct FunctionHead {
     pub name: String,
     pub line: u64,
-    pub instructions: u64,
 }
 
 /// A line of a job, and how often it was executed.
@@ -58,14 +57,12 @@ pub fn last_line_of(program: &Program<Global>) -> u64 {
 pub fn functions_of(
     alloc: Global,
     profile: &Profile<Global>,
-) -> Result<Vec<FunctionCount>, AllocError> {
+) -> Result<Vec<FunctionHead>, AllocError> {
     let mut functions = Vec::new(alloc);
     for function in profile.run().job().verified().program().functions() {
-        let line = function.line();
-        functions.push(FunctionCount {
+        functions.push(FunctionHead {
             name: printable(alloc, function.name())?,
-            line,
-            instructions: profile.instructions(line as usize, line_count(function) as usize),
+            line: function.line(),
         })?;
     }
     Ok(functions)
@@ -114,12 +111,12 @@ fn sorted_functions(
     alloc: Global,
     profile: &Profile<Global>,
     tally: &Tally,
-) -> Result<Vec<(FunctionCount, FunctionTally)>, AllocError> {
+) -> Result<Vec<(FunctionHead, FunctionTally)>, AllocError> {
     let mut rows = Vec::new(alloc);
     for (place, function) in functions_of(alloc, profile)?.into_iter().enumerate() {
         rows.push((function, tally.function(place)))?;
     }
-    rows.sort_by_key(|row| u64::MAX - row.0.instructions)?;
+    rows.sort_by_key(|row| u64::MAX - row.1.own.instructions)?;
     Ok(rows)
 }
 
@@ -132,15 +129,15 @@ fn print_share(rt: &HostRuntime, part: u64, whole: u64) -> io::Result<()> {
 /// Prints a function of a job that executed `whole` instructions.
 fn print_function(
     rt: &HostRuntime,
-    function: &FunctionCount,
+    function: &FunctionHead,
     tally: FunctionTally,
     whole: u64,
 ) -> io::Result<()> {
     let (calls, most, line) = (tally.calls, tally.most, function.line);
     let name = function.name.as_str();
     print!(rt; "  {calls:>10}")?;
-    print_share(rt, function.instructions, whole)?;
-    print_share(rt, tally.whole, whole)?;
+    print_share(rt, tally.own.instructions, whole)?;
+    print_share(rt, tally.whole.instructions, whole)?;
     println!(rt; " {most:>12} {line:>8}  {name}")
 }
 

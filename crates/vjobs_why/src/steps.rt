@@ -1,8 +1,9 @@
 //! The instructions of a job that were executed, one by one.
 
 use crate::end::with_job;
-use crate::look::{Batch, Step, print_head, print_step, step_of};
+use crate::look::{Batch, Step, print_head, print_step, spans_of, step_of};
 use crate::selection::{Picker, Selection};
+use crate::spans::Spans;
 use crate::watch::Watch;
 use job_steps::Job;
 use std::alloc::{AllocError, Global};
@@ -28,12 +29,13 @@ fn count_chosen(watch: &mut Watch, selection: Selection) -> Result<u64, AllocErr
 fn print_listed(
     rt: &HostRuntime,
     batch: Batch<'_>,
+    spans: &Spans,
     step: Step,
     picker: Picker,
     total: u64,
 ) -> io::Result<()> {
     if picker.is_listed(total) {
-        return print_step(rt, batch, step);
+        return print_step(rt, batch, spans, step);
     }
     match picker.left_out(total) {
         Some(count) => println!(rt; "  .. and {count} more"),
@@ -51,6 +53,7 @@ fn print_chosen(
 ) -> io::Result<()> {
     println!(rt; "step by step")?;
     print_head(rt)?;
+    let spans = spans_of(rt.alloc(), batch, watch)?;
     let mut picker = Picker::new(selection);
     let before = selection.from.saturating_sub(1);
     watch.go_to(before)?;
@@ -59,7 +62,7 @@ fn print_chosen(
             break;
         };
         if picker.takes(step.line) {
-            print_listed(rt, batch, step, picker, total)?;
+            print_listed(rt, batch, &spans, step, picker, total)?;
         }
         if picker.is_done() {
             break;

@@ -1,28 +1,58 @@
 //! One run of a job, with all that is counted on the way.
 
+use crate::bands::Bands;
 use crate::chains::Chains;
 use crate::end::{End, end_of};
+use crate::tally::{Before, Tally};
 use job_profile::{Columns, Profile, Run};
 use job_steps::Job;
 use std::alloc::{AllocError, Global};
 use vcode_base::Rule;
 use vcode_base::limits::MOST_BUDGET;
 
-/// A run of a job: how many instructions lead to the last state before its end, the line of the last instruction that
-/// was next, its words and counts, and its chains of functions.
+/// What is counted of a run: what its functions and lines did, its chains of functions, and which functions ran most.
+#[derive(Drop)]
+pub struct Counts {
+    pub tally: Tally,
+    pub chains: Chains,
+    pub bands: Bands,
+}
+
+/// A run of a job: how many instructions lead to the last state before its end, the last instruction that was next, its
+/// words, and its counts.
 #[derive(Drop)]
 pub struct Survey {
     steps: u64,
-    pub last_line: u64,
+    pub last: Option<Before>,
     pub columns: Columns<Global>,
-    pub chains: Chains,
+    pub counts: Counts,
 }
 
-/// The number of the line that is next; that of an earlier one if the run is over.
-fn next_number(run: &Run<Global>, earlier: u64) -> u64 {
-    match run.next_line() {
-        Some(line) => line.number,
-        None => earlier,
+impl Counts {
+    /// The counts of a run that has executed nothing.
+    fn new(alloc: Global, run: &Run<Global>) -> Result<Counts, AllocError> {
+        Ok(Counts {
+            tally: Tally::new(alloc, run)?,
+            chains: Chains::new(alloc, run)?,
+            bands: Bands::new(alloc, run),
+        })
+    }
+
+    /// Counts a step of a run, if it was executed, after which columns are of `each` instructions.
+    fn follow(
+        &mut self,
+        alloc: Global,
+        before: Before,
+        each: u64,
+        run: &Run<Global>,
+    ) -> Result<(), AllocError> {
+        let Some(elements) = before.elements(run) else {
+            return Ok(());
+        };
+        self.tally.count(before, elements, run)?;
+        self.chains.count(before, elements, run)?;
+        self.bands
+            .count(alloc, before.function, run.executed(), each)
     }
 }
 
@@ -30,17 +60,25 @@ impl Survey {
     /// The survey of a job that has executed nothing.
     fn new(alloc: Global, rule: Rule, job: Job<Global>) -> Result<Survey, AllocError> {
         let columns = Columns::new(alloc, rule, job)?;
-        match Chains::new(alloc, columns.profile().run()) {
-            Ok(chains) => Ok(Survey {
+        match Counts::new(alloc, columns.profile().run()) {
+            Ok(counts) => Ok(Survey {
                 steps: 0,
-                last_line: 0,
+                last: None,
                 columns,
-                chains,
+                counts,
             }),
             Err(error) => {
                 drop(columns);
                 Err(error)
             }
+        }
+    }
+
+    /// The line of the last instruction that was next.
+    pub fn last_line(&self) -> u64 {
+        match self.last {
+            Some(last) => last.line,
+            None => 0,
         }
     }
 
@@ -50,13 +88,15 @@ impl Survey {
     }
 
     /// Executes and counts the next instruction; true if the job goes on.
-    fn step(&mut self) -> Result<bool, AllocError> {
-        let run = self.profile().run();
-        let (executed, calls) = (run.executed(), run.calls());
-        self.last_line = next_number(run, self.last_line);
+    fn step(&mut self, alloc: Global) -> Result<bool, AllocError> {
+        let Some(before) = Before::of(self.profile().run()) else {
+            return Ok(false);
+        };
+        self.last = Some(before);
         let goes_on = self.columns.step()?;
-        self.chains
-            .follow(executed, calls, self.columns.profile().run())?;
+        let (each, _) = self.columns.columns();
+        self.counts
+            .follow(alloc, before, each, self.columns.profile().run())?;
         if goes_on {
             self.steps = self.steps.saturating_add(1);
         }
@@ -74,19 +114,20 @@ impl Survey {
     }
 
     /// Executes and counts all instructions.
-    fn run_out(&mut self) -> Result<(), AllocError> {
+    fn run_out(&mut self, alloc: Global) -> Result<(), AllocError> {
         for _ in 0..=MOST_BUDGET {
-            if !self.step()? {
+            if !self.step(alloc)? {
                 break;
             }
         }
+        self.counts.tally.leave_all();
         self.columns.collect()
     }
 
     /// The survey of a job that has run to its end.
     pub fn of(alloc: Global, rule: Rule, job: Job<Global>) -> Result<Survey, AllocError> {
         let mut survey = Survey::new(alloc, rule, job)?;
-        match survey.run_out() {
+        match survey.run_out(alloc) {
             Ok(()) => Ok(survey),
             Err(error) => {
                 drop(survey);
