@@ -1,13 +1,15 @@
 #!/usr/bin/env python3
-"""Measures the forms of docs/COMPILING.md: bench/compiling.py [PROGRAM]
+"""Measures the forms of docs/COMPILING.md, and prints the table of the page: bench/compiling.py [PROGRAM]
 
 A form is a function of examples/idioms.vcode or examples/forms.vcode. For n of 1, 100 and 20,000 elements it prints the
 instructions of a call and the words that are held and needed at most, operands included. Then it prints nanoseconds of
 processor time an element: the least of several runs with many calls, without that of runs with none. Segments have ten
-elements, or one where the name says so. PROGRAM is the path of vjobs, and bin/vjobs if it isn't given.
+elements, or one where the row says so. `repeated` and `until_done` take n turns, and `merged` puts n elements beside n
+others. PROGRAM is the path of vjobs, and bin/vjobs if it isn't given.
 """
 import re
 import sys
+from pathlib import Path
 
 from steps import TOP, Load, batch, executed, run
 
@@ -20,10 +22,13 @@ FILES = [TOP / "examples" / name for name in ("idioms.vcode", "forms.vcode")]
 # The signature and the code of each function, by its name.
 Functions = dict[str, tuple[str, list[str]]]
 
-# The forms, with the names of their operands. Those of a row do the same. What merged, long_constant, checked, repeated
-# and until_done cost depends on their data.
+# The forms, with the names of their operands. Those of a row do the same. The lengths of long_constant are in its code.
 ROWS = [
+    ["constant P"],
+    ["total S10 P10"],
     ["conditional x flags P", "written_over x flags P"],
+    ["read_in_branch x chosen10 S10 flags10"],
+    ["merged x S10 evens10 P10 x S10 odds10 P10 both10"],
     ["filter_nested x S10 flags10 one10", "kept_sequences x S10 flags10 one10 P10"],
     ["filter x flags S10"],
     ["into_loop x10 S10", "into_loop x rows"],
@@ -42,7 +47,15 @@ ROWS = [
     ["by_bit x ones10 S10"],
     ["distinct x S10"],
     ["two_levels S10 P10"],
+    ["checked trues"],
+    ["repeated none turns"],
+    ["until_done turns twenty"],
 ]
+
+
+# The kinds of the operands that aren't INT.
+KINDS = {"P": "SEGDES", "S10": "SEGDES", "rows": "SEGDES", "one10": "SEGDES", "both10": "SEGDES", "flags": "BOOL",
+         "trues": "BOOL"}
 
 
 def counted(n: int) -> list[str]:
@@ -53,8 +66,13 @@ def filled(number: int, n: int) -> list[str]:
     return [f"CONST INT {number}", *counted(n), "DIST INT"]
 
 
-def numbers(n: int) -> list[str]:
-    return ["CONST INT 0", "CONST INT 1", *counted(n), "INDEX"]
+def numbers(n: int, start: int = 0, stride: int = 1) -> list[str]:
+    return [f"CONST INT {start}", f"CONST INT {stride}", *counted(n), "INDEX"]
+
+
+def flags(n: int) -> list[str]:
+    """Every second number, in an order that no processor learns."""
+    return [*numbers(n), *filled(7_919, n), "* INT", *filled(1_009, n), "% INT", *filled(2, n), "% INT", "I_TO_B"]
 
 
 def operand(name: str, n: int) -> tuple[list[str], str]:
@@ -63,16 +81,19 @@ def operand(name: str, n: int) -> tuple[list[str], str]:
     if name.endswith("10") and name[:-2] in ("x", "zeros", "ones", "flags", "P", "rows"):
         return operand(name[:-2], tenth)
     code = {
-        "x": numbers(n), "zeros": filled(0, n), "ones": filled(1, n), "P": counted(n),
+        "x": numbers(n), "zeros": filled(0, n), "ones": filled(1, n), "P": counted(n), "flags": flags(n),
+        "none": ["CONST INT 0"], "turns": [f"CONST INT {n}"], "twenty": ["CONST INT 20"],
         "rows": [*filled(1, n), "MAKE_SEGDES"],
-        "one10": counted(tenth),
+        "trues": [*filled(1, n), "I_TO_B"],
+        "one10": counted(tenth), "both10": counted(2 * tenth),
+        "evens10": numbers(tenth, 0, 2), "odds10": numbers(tenth, 1, 2),
         "S10": [*filled(n // tenth, tenth), "MAKE_SEGDES"],
         "inside10": [*numbers(n), *filled(n // tenth, n), "% INT"],
-        # Every second number, in an order that no processor learns.
-        "flags": [*numbers(n), *filled(7_919, n), "* INT", *filled(1_009, n), "% INT", *filled(2, n), "% INT",
-                  "I_TO_B"],
+        # A zero for each flag that is T.
+        "chosen10": ["CONST INT 0", *flags(tenth), "B_TO_I", *counted(tenth), "+_REDUCE INT", "MAKE_SEGDES",
+                     "DIST INT"],
     }[name]
-    return code, {"P": "SEGDES", "S10": "SEGDES", "rows": "SEGDES", "one10": "SEGDES", "flags": "BOOL"}.get(name, "INT")
+    return code, KINDS.get(name, "INT")
 
 
 def functions() -> Functions:
@@ -93,7 +114,7 @@ def load(form: str, n: int, rounds: int, all_functions: Functions) -> Load:
     results = signature.split("->")[1].strip(" ()").split()
     code = [f"COPY {len(made)} 0", f"CALL {name}", f"POP {len(results)} 0"]
     kinds = " ".join(kind for _, kind in made)
-    called = [name, *re.findall(r"CALL (\S+)", "\n".join(all_functions[name][1]))]
+    called = dict.fromkeys([name, *re.findall(r"CALL (\S+)", "\n".join(all_functions[name][1]))])
     begin = [line for lines, _ in made for line in lines]
     return Load(name, rounds, kinds, begin, len(made), code, [all_functions[it] for it in called])
 
@@ -116,15 +137,22 @@ def measured(program: list[str], form: str, n: int, all_functions: Functions) ->
     return instructions, words, (least[0] - least[1]) / many.rounds / n * 1e9
 
 
+def shown(instructions: int, words: int, nanoseconds: float) -> str:
+    return f"{instructions:,}; {words:,}; " + (f"{nanoseconds:,.0f}" if nanoseconds >= 20 else f"{nanoseconds:.1f}")
+
+
 def main() -> None:
-    program = [sys.argv[1] if sys.argv[1:] else str(TOP / "bin" / "vjobs"), "--workers", "1"]
+    path = Path(sys.argv[1]) if sys.argv[1:] else TOP / "bin" / "vjobs"
+    if not path.is_file():
+        sys.exit(f"there is no {path}: `make` builds it, and `make fast CRATE=vjobs` bin/unproved/vjobs")
+    program = [str(path), "--workers", "1"]
     all_functions = functions()
-    print(f"{'form':24}" + "".join(f"{f'n = {n:,}':>34}" for n in SIZES))
-    print(f"{'':24}" + f"{'instructions':>14}{'words':>9}{'ns/element':>11}" * len(SIZES))
+    print("| Form | n = 1: instructions; words; ns |", *(f"n = {n:,} |" for n in SIZES[1:]))
+    print("|---" * (1 + len(SIZES)) + "|")
     for form in (form for row in ROWS for form in row):
-        cells = [measured(program, form, n, all_functions) for n in SIZES]
-        name = form.split()[0] + (", of 1" if form.endswith("rows") else "")
-        print(f"{name:24}" + "".join(f"{i:14}{w:9}{t:11.2f}" for i, w, t in cells), flush=True)
+        name = f"`{form.split()[0]}`" + (", segments of one" if form.endswith("rows") else "")
+        cells = [shown(*measured(program, form, n, all_functions)) for n in SIZES]
+        print("|", " | ".join([name, *cells]), "|", flush=True)
 
 
 if __name__ == "__main__":

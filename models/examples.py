@@ -4,7 +4,8 @@ program in Python.
 
     python3 models/examples.py
 
-Each function that docs/COMPILING.md shows has to be one of the examples, word for word.
+Each function that docs/COMPILING.md shows has to be one of the examples, word for word. The page also says how many
+lines the files of the compiler have.
 
 The modules of this folder follow the rules of the language. The program beside an example, as `examples/histogram.py`,
 doesn't know them.
@@ -18,6 +19,7 @@ from pathlib import Path
 from batches import report
 
 TOP = Path(__file__).resolve().parent.parent
+PAGE = TOP / "docs" / "COMPILING.md"
 REGION = 1_048_576
 KINDS = ("INT", "BOOL", "SEGDES")
 
@@ -39,14 +41,22 @@ def differences(batch: Path) -> Iterator[str]:
 
 def blocks_that_differ(batches: list[Path]) -> Iterator[str]:
     codes = "".join(batch.read_text() for batch in batches)
-    for block in re.findall(r"^FUNC .*?^RET$", (TOP / "docs" / "COMPILING.md").read_text(), re.M | re.S):
+    for block in re.findall(r"^FUNC .*?^RET$", PAGE.read_text(), re.M | re.S):
         if block not in codes:
             yield f"docs/COMPILING.md: {block.split()[1]} isn't in an example"
 
 
+def lengths_that_differ() -> Iterator[str]:
+    for name, said in re.findall(r"^\| `(\w+\.py)` \| (\d+) \|", PAGE.read_text(), re.M):
+        lines = len((TOP / "examples" / "compiler" / name).read_text().splitlines())
+        if lines != int(said):
+            yield f"docs/COMPILING.md: {name} has {lines} lines"
+
+
 def main() -> None:
     batches = sorted((TOP / "examples").glob("*.vcode"))
-    found = [difference for batch in batches for difference in differences(batch)] + [*blocks_that_differ(batches)]
+    found = [difference for batch in batches for difference in differences(batch)]
+    found += [*blocks_that_differ(batches), *lengths_that_differ()]
     print(*found, f"examples: {len(batches)} batches, {len(found)} differences", sep="\n")
     sys.exit(bool(found))
 

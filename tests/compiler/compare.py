@@ -21,7 +21,7 @@ sys.path.append(str(TOP / "models"))
 from compile import compiled  # noqa: E402
 from evaluator import Evaluator, Faulted, TooLong  # noqa: E402
 from programs import random_program  # noqa: E402
-from run import PROGRAMS, reported, result_of, run  # noqa: E402
+from run import program, reported, result_of, run  # noqa: E402
 
 LIMITS = "1048576 4096 1024 3000000"
 # A batch has at most so many jobs, and bytes.
@@ -40,7 +40,7 @@ def wanted(text: str, data: list[object]) -> object:
 
 
 def report_of(batch: str) -> str:
-    if (PROGRAMS / "vjobs").is_file():
+    if program("vjobs"):
         return run("vjobs", batch, "--workers", "1")
     return str(import_module("batches").report(batch.encode(), 1_048_576)[0])
 

@@ -1,4 +1,5 @@
-"""Runs a program of the compiler's source language directly, on Python's own lists: what the compiled code must give."""
+"""Runs a program of the compiler's source language directly, on Python's own lists: the compiled code must give this.
+"""
 from __future__ import annotations
 
 import ast
@@ -51,8 +52,9 @@ def shifted_back(a: int, b: int) -> int:
 OPERATIONS: dict[type[ast.AST], Callable[[Any, Any], Any]] = {
     ast.Add: lambda a, b: a + b, ast.Sub: lambda a, b: a - b, ast.Mult: lambda a, b: a * b, ast.FloorDiv: quotient,
     ast.Mod: remainder, ast.LShift: shifted, ast.RShift: shifted_back, ast.BitAnd: lambda a, b: a & b,
-    ast.BitOr: lambda a, b: a | b, ast.BitXor: lambda a, b: a ^ b, ast.Lt: lambda a, b: a < b, ast.LtE: lambda a, b: a <= b,
-    ast.Gt: lambda a, b: a > b, ast.GtE: lambda a, b: a >= b, ast.Eq: lambda a, b: a == b, ast.NotEq: lambda a, b: a != b}
+    ast.BitOr: lambda a, b: a | b, ast.BitXor: lambda a, b: a ^ b, ast.Lt: lambda a, b: a < b,
+    ast.LtE: lambda a, b: a <= b, ast.Gt: lambda a, b: a > b, ast.GtE: lambda a, b: a >= b,
+    ast.Eq: lambda a, b: a == b, ast.NotEq: lambda a, b: a != b}
 
 
 def folded(choose: Callable[..., int], identity: int) -> Callable[..., int]:
@@ -84,8 +86,9 @@ def put(v: list[Any], pairs: list[tuple[int, Any]]) -> list[Any]:
 
 
 BUILT_IN: dict[str, Callable[..., Any]] = {
-    "len": len, "sum": sum, "prod": math.prod, "any": any, "all": all, "abs": abs, "int": int, "max": folded(max, -(2**63)),
-    "min": folded(min, 2**63 - 1), "range": ranged, "zip": zipped, "partition": cut, "put": put,
+    "len": len, "sum": sum, "prod": math.prod, "any": any, "all": all, "abs": abs, "int": int,
+    "max": folded(max, -(2**63)), "min": folded(min, 2**63 - 1), "range": ranged, "zip": zipped, "partition": cut,
+    "put": put,
     "enumerate": lambda v: list(enumerate(v)), "flatten": lambda rows: [it for row in rows for it in row],
     "accumulate": lambda v: [wrapped(sum(v[: place + 1])) for place in range(len(v))]}
 

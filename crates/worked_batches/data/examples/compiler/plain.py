@@ -3,6 +3,7 @@
 `PLAIN[name]` computes what `main` of programs/NAME.py gives, and `DATA[name]` makes its arguments: small ones for 1."""
 from __future__ import annotations
 
+import math
 import random
 from collections import Counter, deque
 from collections.abc import Callable
@@ -152,7 +153,11 @@ def sparse_transposed(rows: list[Row], width: int) -> list[Row]:
     return found
 
 
-@beside("matrix_product", lambda chance, size: ([numbers(chance, 4) for _ in range(3 * size)], [numbers(chance, 5) for _ in range(4)]))
+def matrix(chance: random.Random, rows: int, columns: int) -> list[list[int]]:
+    return [numbers(chance, columns) for _ in range(rows)]
+
+
+@beside("matrix_product", lambda chance, size: (matrix(chance, 3 * size, 4), matrix(chance, 4, 5)))
 def matrix_product(a: list[list[int]], b: list[list[int]]) -> list[list[int]]:
     return [[sum(x * y for x, y in zip(row, column)) for column in zip(*b)] for row in a]
 
@@ -168,7 +173,8 @@ def life(grid: list[list[int]], n: int) -> list[list[int]]:
 
 
 def formula(chance: random.Random) -> list[int]:
-    return [ord(it) for it in str(chance.randrange(999)) + "".join(chance.choice("+-*") + str(chance.randrange(99)) for _ in range(4))]
+    first, *others = chance.randrange(999), *((chance.choice("+-*"), chance.randrange(99)) for _ in range(4))
+    return [ord(it) for it in str(first) + "".join(f"{sign}{number}" for sign, number in others)]
 
 
 @beside("sums_of_text", lambda chance, size: ([formula(chance) for _ in range(3 * size)],))
@@ -225,9 +231,13 @@ def primes(n: int) -> list[int]:
 
 @beside("queens", lambda chance, size: (4 + size,))
 def queens(n: int) -> int:
+    def is_free(board: list[int], column: int) -> bool:
+        row = len(board)
+        return all(column != other and row - r != abs(column - other) for r, other in enumerate(board))
+
     boards: list[list[int]] = [[]]
-    for row in range(n):
-        boards = [[*it, c] for it in boards for c in range(n) if all(c != d and row - r != abs(c - d) for r, d in enumerate(it))]
+    for _ in range(n):
+        boards = [[*board, column] for board in boards for column in range(n) if is_free(board, column)]
     return len(boards)
 
 
@@ -256,8 +266,9 @@ def formulas_data(chance: random.Random, size: int) -> tuple[Any, ...]:
 def formulas(op: list[int], number: list[int], children: Graph, sheets: Graph) -> Graph:
     values = list(number)
     for node in reversed(range(len(op))):
-        for place, child in enumerate(children[node]):
-            values[node] = values[child] if place == 0 else values[node] + values[child] if op[node] == 1 else values[node] * values[child]
+        parts = [values[child] for child in children[node]]
+        if parts:
+            values[node] = sum(parts) if op[node] == 1 else math.prod(parts)
     return [[values[node] for node in sheet if values[node] > 0] for sheet in sheets]
 
 

@@ -2,7 +2,8 @@
 """Compiles a program, runs it, and shows its result and what each line of its source did: run.py PROGRAM [SIZE]
 
 PROGRAM is a name of programs/, which gets data of plain.py, SIZE times as much as the least; or the path of a file
-whose `main` has no parameters. The programs are bin/vjobs and bin/vjobs-why, or those of the folder VJOBS_PROGRAMS.
+whose `main` has no parameters. The programs are bin/vjobs and bin/vjobs-why, or those of the folder VJOBS_PROGRAMS; the
+names of crates do as well, as `make fast` gives them.
 """
 from __future__ import annotations
 
@@ -57,8 +58,15 @@ def reported(report: str) -> list[tuple[str, list[list[int]]]]:
     return found
 
 
-def run(program: str, batch: str, *options: str) -> str:
-    return subprocess.run([PROGRAMS / program, *options, "-"], input=batch, capture_output=True, text=True).stdout
+def program(name: str) -> Path | None:
+    """The path of a program, if it is there."""
+    return next((PROGRAMS / it for it in (name, name.replace("-", "_")) if (PROGRAMS / it).is_file()), None)
+
+
+def run(name: str, batch: str, *options: str) -> str:
+    if not (path := program(name)):
+        sys.exit(f"there is no {PROGRAMS / name}: `make all why` builds it, and `make fast` unproved")
+    return subprocess.run([path, *options, "-"], input=batch, capture_output=True, text=True).stdout
 
 
 def by_source_lines(batch: str) -> Counter[int]:
@@ -90,4 +98,7 @@ def main(name: str, size: str = "1") -> None:
 
 
 if __name__ == "__main__":
-    main(*sys.argv[1:])
+    try:
+        main(*sys.argv[1:])
+    except (OSError, SyntaxError) as fault:
+        sys.exit(f"run.py: {fault}")

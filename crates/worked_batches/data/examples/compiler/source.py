@@ -10,18 +10,9 @@ from __future__ import annotations
 import ast
 from collections.abc import Callable
 from dataclasses import dataclass
-from functools import cache
 from typing import Any, Generic, TypeVar, Union
 
-S = TypeVar("S")
 T = TypeVar("T")
-
-
-class SourceFault(Exception):
-    """What the compiler doesn't take, and its line."""
-
-    def __init__(self, node: ast.AST, text: str) -> None:
-        super().__init__(f"line {getattr(node, 'lineno', 0)}: {text}")
 
 
 @dataclass(frozen=True)
@@ -37,48 +28,23 @@ Tree = Union[T, List[T], "tuple[Tree[T], ...]"]
 Type = Tree[str]
 
 
-def mapped(change: Callable[[S], T], tree: Tree[S]) -> Tree[T]:
-    """The tree with each leaf changed, from the bottom of the stack up. A list adds a descriptor after the vectors of
-    its elements, so the parts of a tuple in a list share it."""
-    match tree:
+def mapped(change: Callable[..., T], *trees: Any) -> Tree[T]:
+    """A tree that is made leaf by leaf from trees of one type, from the bottom of the stack up. A list adds a
+    descriptor after the vectors of its elements, so the parts of a tuple in a list share it."""
+    match trees[0]:
         case List():
-            elements = mapped(change, tree.elements)
-            return List(elements, change(tree.segments))
+            elements = mapped(change, *(it.elements for it in trees))
+            return List(elements, change(*(it.segments for it in trees)))
         case tuple():
-            parts: tuple[Any, ...] = tree
-            return tuple(mapped(change, part) for part in parts)
-        case leaf:
-            return change(leaf)
+            return tuple(mapped(change, *parts) for parts in zip(*trees))
+    return change(*trees)
 
 
 def leaves(*trees: Tree[T]) -> tuple[T, ...]:
     """The kinds or vectors of trees, in the same order."""
     found: list[T] = []
-    for tree in trees:
-        mapped(found.append, tree)
+    mapped(found.append, trees)
     return tuple(found)
-
-
-def type_of(value: object) -> Type | None:
-    """The type of a constant; None if it has only empty lists, whose elements may have any."""
-    match value:
-        case str():
-            return List("INT", "SEGDES")
-        case list(elements):
-            found = [of for of in map(type_of, elements) if of]
-            return List(found[0], "SEGDES") if found else None
-        case tuple(parts):
-            found = [of for of in map(type_of, parts) if of]
-            return tuple(found) if len(found) == len(parts) else None
-    return "BOOL" if isinstance(value, bool) else "INT"
-
-
-def constant_of(node: ast.AST) -> Any:
-    """The value of an expression that is written as a constant; None of others."""
-    try:
-        return ast.literal_eval(node) if isinstance(node, (ast.Constant, ast.List, ast.Tuple, ast.UnaryOp)) else None
-    except ValueError:
-        return None
 
 
 def read_type(node: ast.expr | None) -> Type:
@@ -89,7 +55,7 @@ def read_type(node: ast.expr | None) -> Type:
             return List(read_type(element), "SEGDES")
         case ast.Subscript(ast.Name("tuple"), ast.Tuple(parts)):
             return tuple(map(read_type, parts))
-    raise SourceFault(node or ast.AST(), "no type of this language")
+    raise SyntaxError(f"line {getattr(node, 'lineno', 0)}: no type of this language")
 
 
 def names_in(node: ast.AST) -> set[str]:
@@ -117,40 +83,3 @@ def read_program(text: str) -> dict[str, Function]:
         for function in program.values():
             function.reaches.update(*(program[it].reaches for it in function.reaches & set(program)))
     return program
-
-
-# Built-in functions that are elementwise, and those that can't fault. More nodes of an expression aren't cheap.
-CHEAP_CALLS, MOST_NODES = {"len", "max", "min", "abs", "int"}, 16
-SAFE_CALLS = CHEAP_CALLS | {"sum", "prod", "any", "all", "enumerate", "flatten", "accumulate", "before"}
-
-
-def may_fault(node: ast.AST) -> bool:
-    """Whether this node, without those inside, may end the job, or may call a function that does."""
-    match node:
-        case ast.BinOp(_, ast.FloorDiv() | ast.Mod(), divisor):
-            return not constant_of(divisor)
-        case ast.BinOp(_, ast.LShift() | ast.RShift(), places):
-            return constant_of(places) not in range(64)
-        case ast.Call(ast.Name("range"), [ast.Call(ast.Name("len"))]):
-            return False
-        case ast.Call(ast.Name(name)):
-            return name not in SAFE_CALLS
-    return isinstance(node, ast.Subscript) and not isinstance(node.slice, ast.Slice)
-
-
-@cache
-def is_safe(node: ast.AST) -> bool:
-    """Whether an expression can't fault and calls no function of the program, so that it may be computed although the
-    source doesn't ask for it."""
-    return not any(map(may_fault, ast.walk(node)))
-
-
-def is_cheap(way: list[ast.stmt]) -> bool:
-    """Whether a body only returns what can't fault and takes a few elementwise instructions."""
-    match way:
-        case [ast.Return(ast.expr() as node), *_] if is_safe(node):
-            nodes = [it for it in ast.walk(node) if isinstance(it, ast.expr)]
-            calls = {ast.unparse(it.func) for it in nodes if isinstance(it, ast.Call)}
-            is_flat = calls <= CHEAP_CALLS and not any(isinstance(it, ast.ListComp) for it in nodes)
-            return is_flat and len(nodes) <= MOST_NODES
-    return False

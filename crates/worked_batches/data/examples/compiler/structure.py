@@ -10,37 +10,28 @@ from __future__ import annotations
 from collections import ChainMap
 from collections.abc import Callable
 from dataclasses import dataclass
-from itertools import accumulate, count, repeat
+from functools import partial
+from itertools import accumulate
 from typing import Any
 
 from source import List, Tree, Type, leaves, mapped
 
 
-@dataclass(frozen=True)
+@dataclass(eq=False)
 class Vector:
-    number: int
     kind: str
 
 
 Vectors = tuple[Vector, ...]
 Values = Tree[Vector]
-Move = Callable[[Vector], Vector]
 # Where items are put: their places, and the descriptor of the items. The places count within its segments.
 Spot = tuple[Vector, Vector]
 # A list of a constant has at most so many elements.
 MOST_CONSTANT = 65_536
-KINDS_LEFT = {"<": "BOOL", "<=": "BOOL", ">": "BOOL", ">=": "BOOL", "=": "BOOL", "!=": "BOOL", "I_TO_B": "BOOL",
-              "B_TO_I": "INT", "INDEX": "INT", "LENGTHS": "INT", "MAKE_SEGDES": "SEGDES"}
+# The kinds of the results that an instruction doesn't name.
+KINDS_LEFT = dict.fromkeys(("<", "<=", ">", ">=", "=", "!=", "I_TO_B"), "BOOL")
+KINDS_LEFT |= {"B_TO_I": "INT", "INDEX": "INT", "LENGTHS": "INT", "MAKE_SEGDES": "SEGDES"}
 INVERSE = {"MAKE_SEGDES": "LENGTHS", "LENGTHS": "MAKE_SEGDES"}
-
-
-@dataclass
-class Block:
-    """The steps of a function, or of a part of an IF; what they leave; and the operands of the function."""
-
-    steps: list[Step]
-    results: Vectors
-    operands: Vectors = ()
 
 
 @dataclass
@@ -51,8 +42,8 @@ class Step:
     results: Vectors
     # It may fault, or it calls, so it is executed even if nothing uses its results.
     must_run: bool
-    # The parts of an IF, which leave equal kinds.
-    parts: tuple[Block, ...] = ()
+    # The parts of an IF: their steps and results, which have equal kinds.
+    parts: tuple[tuple[list[Step], Vectors], ...] = ()
 
 
 @dataclass(eq=False)
@@ -66,36 +57,30 @@ class Level:
     places: Vector | None = None
 
 
-@dataclass
-class Value:
-    tree: Values
-    level: Level
+# Values of each iteration of a level.
+Value = tuple[Values, Level]
 
 
 def kinds_of(tree: Values) -> Type:
-    return mapped(lambda it: it.kind, tree)
+    return mapped(lambda vector: str(vector.kind), tree)
 
 
 class Structure:
     """The steps of a function, as they are added."""
 
     def __init__(self) -> None:
-        self.numbers, self.line = count(), 0
-        self.steps: list[Step] = []
+        self.line, self.steps = 0, list[Step]()
         # The results of the steps that needn't be repeated here.
         self.known: ChainMap[tuple[str, Vectors], Vectors] = ChainMap()
         self.one = self.step("MAKE_SEGDES", self.step("CONST INT 1"))
         self.top = Level(0, self.one, self.one)
-
-    def vector(self, kind: str) -> Vector:
-        return Vector(next(self.numbers), kind)
 
     def results(self, code: str, *operands: Vector, must_run: bool = False) -> Vectors:
         """The results of a step, which is added if it isn't known."""
         if (code, operands) not in self.known:
             word, *more = code.split(maxsplit=2)
             kinds = [more[0], "SEGDES"] if word == "PACK" else [KINDS_LEFT.get(word) or more[0]]
-            self.known[code, operands] = found = tuple(map(self.vector, kinds))
+            self.known[code, operands] = found = tuple(map(Vector, kinds))
             self.steps.append(Step(self.line, code, operands, found, must_run))
             if word in INVERSE:
                 self.known[INVERSE[word], found] = operands
@@ -106,7 +91,7 @@ class Structure:
 
     def call(self, name: str, operands: Vectors, result: Type) -> Values:
         """Calls a function. What was known before is forgotten, so that it isn't kept on the stack in the call."""
-        found, self.known = mapped(self.vector, result), ChainMap()
+        found, self.known = mapped(Vector, result), ChainMap()
         self.steps.append(Step(self.line, f"CALL {name}", operands, leaves(found), True))
         return found
 
@@ -116,9 +101,9 @@ class Structure:
         for way in ways:
             self.steps, self.known = [], known.new_child()
             here, tree = self.known, way()
-            parts.append(Block(self.steps, leaves(tree)))
+            parts.append((self.steps, leaves(tree)))
             known = known if self.known is here else ChainMap()
-        found, must_run = mapped(self.vector, kinds_of(tree)), any(it.must_run for part in parts for it in part.steps)
+        found, must_run = mapped(Vector, kinds_of(tree)), any(it.must_run for inner, _ in parts for it in inner)
         self.steps, self.known = [*steps, Step(self.line, "IF", (flag,), leaves(found), must_run, tuple(parts))], known
         return found
 
@@ -129,22 +114,19 @@ class Structure:
         constant = self.constant(kind, [number])
         return constant if whole is self.one else self.step(f"DIST {kind}", constant, whole)
 
+    def runs(self, starts: Vector, segments: Vector, whole: Vector, stride: int = 1) -> Vector:
+        """The numbers from each start on, as many as each segment has. The whole has an item for each segment."""
+        return self.step("INDEX", starts, self.fill(whole, stride), segments)
+
     def index(self, whole: Vector, start: int = 0, stride: int = 1) -> Vector:
         """The numbers from the start on, one for each item of a whole."""
-        return self.step("INDEX", self.fill(self.one, start), self.fill(self.one, stride), whole)
-
-    def runs(self, starts: Vector, segments: Vector, whole: Vector) -> Vector:
-        """The numbers from each start on, as many as each segment has. The whole has an item for each segment."""
-        return self.step("INDEX", starts, self.fill(whole, 1), segments)
-
-    def lengths(self, segments: Vector) -> Vector:
-        return self.step("LENGTHS", segments)
+        return self.runs(self.fill(self.one, start), whole, self.one, stride)
 
     def total(self, inner: Vector, outer: Vector) -> Vector:
         """A descriptor over two levels: the elements of all inner segments that belong to each outer one."""
         if outer is self.one:
             return inner
-        return self.step("MAKE_SEGDES", self.step("+_REDUCE INT", self.lengths(inner), outer))
+        return self.step("MAKE_SEGDES", self.step("+_REDUCE INT", self.step("LENGTHS", inner), outer))
 
     def between(self, outer: Level, inner: Level) -> Vector:
         """The iterations of the inner level that belong to each one of the outer level."""
@@ -162,29 +144,17 @@ class Structure:
         words = " ".join("FT"[it] if kind == "BOOL" else str(ord(it) if isinstance(it, str) else it) for it in numbers)
         return self.step(f"CONST {kind} {words if len(numbers) == 1 else f'({words})'}")
 
-    def literal(self, of: Type, values: list[Any]) -> Values:
-        """Constant values of a type."""
-        match of:
-            case List(element, _):
-                elements = self.literal(element, [it for value in values for it in value])
-                return List(elements, self.constant("SEGDES", list(map(len, values))))
-            case tuple(parts):
-                return tuple(self.literal(part, [value[place] for value in values]) for place, part in enumerate(parts))
-        return self.constant(of, values)
-
-    # Items are taken from places.
-
-    def taken(self, code: str, *operands: Vector, must_run: bool = False) -> Move:
+    def taken(self, code: str, *operands: Vector, must_run: bool = False) -> Callable[[Vector], Vector]:
         return lambda it: self.step(f"{code} {it.kind}", it, *operands, must_run=must_run)
 
-    def items(self, tree: Values, move: Move, source: Vector, target: Vector) -> Values:
+    def items(self, tree: Values, move: Callable[[Vector], Vector], source: Vector, target: Vector) -> Values:
         """Moves values. `move` takes a vector of words from the source to the target, which are one segment of all
         values before and after. Of lists it takes the lengths and starts; then the elements are taken."""
         match tree:
             case tuple(parts):
                 return tuple(self.items(part, move, source, target) for part in parts)
             case List(elements, segments):
-                lengths = self.lengths(segments)
+                lengths = self.step("LENGTHS", segments)
                 taken, starts = move(lengths), move(self.step("+_SCAN INT", lengths, source))
                 found = self.step("MAKE_SEGDES", taken)
                 places = self.runs(starts, found, target)
@@ -196,10 +166,11 @@ class Structure:
 
     def into(self, value: Value, level: Level) -> Values:
         """Values of an outer level, once for each iteration of an inner one."""
-        tree, source, move = value.tree, self.one, self.taken("DIST", level.whole)
-        if value.level is level:
+        tree, own = value
+        if own is level:
             return tree
-        if value.level is not self.top and level.outer:
+        source, move = self.one, self.taken("DIST", level.whole)
+        if own is not self.top and level.outer:
             tree, source, move = self.into(value, level.outer), level.outer.whole, self.taken("DIST", level.segments)
             if level.places:
                 move = self.taken("BPERMUTE", level.places, source, level.whole)
@@ -212,41 +183,31 @@ class Structure:
             move = self.taken("BPERMUTE", place, of.segments, self.between(at, level), must_run=True)
         return self.items(of.elements, move, self.total(of.segments, at.whole), level.whole)
 
-    # Items are put to places.
-
-    def put(self, vectors: list[Vector], spots: list[Spot], target: Vector, whole: Vector, under: Any) -> Vector:
-        """Words, each vector at its spot of the target, over the vector `under` or zeros."""
-        kind = vectors[0].kind
-        found: Vector = under or self.step(f"DIST {kind}", self.fill(whole, 0, kind), target)
-        for vector, (places, source) in zip(vectors, spots):
-            found = self.step(f"DPERMUTE {kind}", vector, places, found, source, target)
-        return found
-
-    def merged(self, trees: list[Any], spots: list[Spot], target: Vector, whole: Vector, under: Any = None) -> Values:
-        """Puts values together. The whole has an item for each segment of the target. Of lists it puts the lengths
-        together; these say where each list begins; and then it puts the elements there."""
-        if isinstance(trees[0], tuple):
-            columns = zip(zip(*trees), under or repeat(None))
-            return tuple(self.merged(list(column), spots, target, whole, own) for column, own in columns)
-        if isinstance(trees[0], Vector):
-            return self.put(trees, spots, target, whole, under)
-        lengths = self.put([self.lengths(it.segments) for it in trees], spots, target, whole, under and under.segments)
+    def merged(self, trees: Any, spots: list[Spot], target: Vector, whole: Vector, under: Any = None) -> Values:
+        """Puts values together, over those of the tree `under` or zeros. The whole has an item for each segment of the
+        target. Of lists it puts the lengths together; these say where each list begins; and then it puts the elements
+        there."""
+        match trees[0]:
+            case tuple():
+                columns = enumerate(zip(*trees))
+                return tuple(self.merged(it, spots, target, whole, under and under[place]) for place, it in columns)
+            case Vector(kind):
+                found: Vector = under or self.step(f"DIST {kind}", self.fill(whole, 0, kind), target)
+                for vector, (places, source) in zip(trees, spots):
+                    found = self.step(f"DPERMUTE {kind}", vector, places, found, source, target)
+                return found
+        own = [self.step("LENGTHS", it.segments) for it in trees]
+        [lengths] = leaves(self.merged(own, spots, target, whole, under and under.segments))
         segments, items, inner = self.step("MAKE_SEGDES", lengths), self.total(target, whole), []
         begin = self.step("+_SCAN INT", lengths, items)
         for it, (places, source) in zip(trees, spots):
-            own, each = self.step("BPERMUTE INT", begin, places, target, source), self.total(source, whole)
-            inner.append((self.runs(own, it.segments, each), self.total(it.segments, each)))
+            starts, each = self.step("BPERMUTE INT", begin, places, target, source), self.total(source, whole)
+            inner.append((self.runs(starts, it.segments, each), self.total(it.segments, each)))
         return List(self.merged([it.elements for it in trees], inner, self.total(segments, items), self.one), segments)
 
-    def appended(self, lists: list[List[Vector]], level: Level) -> Values:
+    def appended(self, lists: list[Any], level: Level) -> Values:
         """Lists, one after another in each iteration."""
-        ends = list(accumulate((self.lengths(it.segments) for it in lists), lambda a, b: self.step("+ INT", a, b)))
+        ends = list(accumulate((self.step("LENGTHS", it.segments) for it in lists), partial(self.step, "+ INT")))
         segments, begins = self.step("MAKE_SEGDES", ends[-1]), [self.fill(level.whole), *ends[:-1]]
         spots = [(self.runs(begin, it.segments, level.whole), it.segments) for it, begin in zip(lists, begins)]
         return List(self.merged([it.elements for it in lists], spots, segments, level.whole), segments)
-
-    def listed(self, trees: list[Values], level: Level) -> Values:
-        """A list of these elements in each iteration."""
-        segments = self.step("MAKE_SEGDES", self.fill(level.whole, len(trees)))
-        spots = [(self.index(level.whole, place, len(trees)), level.whole) for place in range(len(trees))]
-        return List(self.merged(trees, spots, self.total(segments, level.whole), self.one), segments)
