@@ -21,6 +21,13 @@ GREATEST_SIZE = 2**64 - 1
 # Sizes round those of machine words.
 SIZES = [0, 1, 2, 12, 63, 64, 65, 127, 128, 129, 200, 1000]
 WORDS = [*range(-9, 90), LEAST, GREATEST]
+# The sets of ranges that a memory keeps, how many ranges are in a set, and the longest of them.
+SETS, WAYS, LONGEST_KEPT = 16, 4, 1024
+
+
+def set_of(length: int) -> range:
+    """Where the ranges of a set are kept."""
+    return range(length % SETS * WAYS, length % SETS * WAYS + WAYS)
 
 
 class Words:
@@ -86,12 +93,16 @@ class Holes(Words):
 
 
 class Memory(Words):
-    """A word of a block is the number of the block, with its index in it. A block of one word has no word here."""
+    """A word of a block is the number of the block, with its index in it. A block of one word has no word here. A range
+    that is freed is kept for the next block of its length. The ranges whose lengths leave the same rest are a set: if
+    it is full, one of them is given to the holes. All are before blocks move."""
 
     def __init__(self, size: int, most: int) -> None:
         super().__init__(size)
         self.most, self.moved, self.placed = most, 0, 0
         self.blocks: dict[int, tuple[int, list[int]]] = {}
+        self.kept: list[tuple[int, int] | None] = [None] * SETS * WAYS
+        self.next = 0
 
     def make_room(self, length: int) -> None:
         """Moves blocks until so many words lie together, as each kind of memory does."""
@@ -110,23 +121,59 @@ class Memory(Words):
         if len(words) > self.free():
             return "full"
         before = list(self.words)
-        if len(words) > 1 and self.lowest_fit(len(words)) is None:
-            self.make_room(len(words))
-        self.moved = sum(word is not None and word != old for word, old in zip(before, self.words))
         if len(words) > 1:
-            self.put(self.lowest_fit(len(words)), [(self.placed, index) for index in range(len(words))])
+            place = self.place_for(len(words))
+            self.moved = sum(isinstance(word, tuple) and word != now for word, now in zip(before, self.words))
+            self.put(place, [(self.placed, index) for index in range(len(words))])
+        else:
+            self.moved = 0
         self.blocks[self.placed] = owner, list(words)
         self.placed += 1
         return f"block {self.placed - 1}"
 
+    def place_for(self, length: int) -> int | None:
+        """The place of a new block: that of a range of this length that is kept, or else the lowest hole."""
+        for index in set_of(length):
+            place, kept = self.kept[index] or (0, 0)
+            if kept == length:
+                self.give_back(index)
+                return place
+        if self.lowest_fit(length) is None:
+            self.give_all_back()
+        if self.lowest_fit(length) is None:
+            self.make_room(length)
+        return self.lowest_fit(length)
+
+    def keep(self, place: int, length: int) -> None:
+        indices = set_of(length)
+        index = next((index for index in indices if self.kept[index] is None), indices[self.next % WAYS])
+        self.next = index + 1
+        self.give_back(index)
+        self.kept[index] = place, length
+        self.put(place, ["kept"] * length)
+
+    def give_back(self, index: int) -> None:
+        place, length = self.kept[index] or (0, 0)
+        self.put(place, [None] * length)
+        self.kept[index] = None
+
+    def give_all_back(self) -> None:
+        for index in range(SETS * WAYS):
+            self.give_back(index)
+
     def free_block(self, number: int) -> str:
         if number not in self.blocks:
             return "refused"
-        del self.blocks[number]
-        self.words = [None if word is not None and word[0] == number else word for word in self.words]
+        length = len(self.blocks.pop(number)[1])
+        if length > 1:
+            place = self.words.index((number, 0))
+            self.put(place, [None] * length)
+            if length <= LONGEST_KEPT:
+                self.keep(place, length)
         return "freed"
 
     def pack(self) -> str:
+        self.give_all_back()
         taken = [word for word in self.words if word is not None]
         self.words = taken + [None] * (len(self.words) - len(taken))
         return "packed"
@@ -349,6 +396,15 @@ SLIDES = ["place 1 0 0", "place 1 1 1", "place 1 2 2", "free 0", "place 1 3 3 3 
 ONES = ["place 1 1", "place 2 2 2", "place 3 3", "place 4 4", "free 0", "place 5 5 5", "free 2", "place 6 6 6",
         "words 1", "words 3", "free 1", "place 7 7", "place 8 8", "place 9 9", "words 4", "words 5", "free 4", "pack",
         "words 3", "words 5"]
+# Two of four blocks are freed. The next block gets the words of that which was freed first, not the lowest. So three
+# blocks move for four words. Two more are freed, and the holes get their words before a block moves.
+KEEPS = ["place 1 1 1", "place 2 2 2", "place 3 3 3", "place 4 4 4", "free 2", "free 0", "place 5 5 5",
+         "place 6 6 6 6 6", "words 1", "words 3", "words 4", "words 5", "free 3", "free 1", "place 7 7 7 7 7",
+         "words 4", "words 5", "words 6"]
+# Five of seven blocks are freed. Of the ranges that are kept the lowest then goes to the holes, and the next block gets
+# the highest. It moves with the last of the seven for twelve words.
+CROWDS = [*(f"place {number}{2 * f' {number}'}" for number in range(7)), *(f"free {number}" for number in range(1, 6)),
+          "place 7 7 7", f"place 8{12 * ' 8'}", "words 0", "words 6", "words 7", "words 8"]
 # Blocks of no words in a memory of none.
 EMPTIES = ["place 3", "place 4", "words 0", "free 0", "place 5 0", "pack", "words 1"]
 
@@ -363,6 +419,8 @@ def chosen_rows() -> Iterator[str]:
                               ("As wide as all holes together", "70 10", WIDENS),
                               ("More slides than the region has words", "8 4", SLIDES),
                               ("Blocks of one word", "4 4", ONES),
+                              ("Ranges that are kept", "10 6", KEEPS),
+                              ("More ranges than are kept", "24 8", CROWDS),
                               ("No words", "0 2", EMPTIES)]:
         for memory in MEMORIES:
             yield from ["", f"# {told}: {memory}.", f"{memory} {sizes}", *rows]

@@ -1,8 +1,11 @@
 -- Lemmas on the free words of a region.
-use Rattle.std.proofs.Common.{◌≡◌, ℕ, zero, suc, ◌+◌, ◌-◌, ◌<◌, ◌≤◌, Bool, true, false, List, ◌++◌, length, take}
-use Rattle.std.proofs.Common.{drop, replicate, refl, ap, ◌∙◌, arith, length-append}
+use Rattle.std.proofs.Common.{◌≡◌, ◌⊎◌, ℕ, zero, suc, ◌+◌, ◌-◌, ◌<◌, ◌≤◌, Bool, true, false, List, ◌++◌, length, take}
+use Rattle.std.proofs.Common.{drop, replicate, inl, inr, refl, sym, ap, ◌∙◌, arith, length-append}
+use Rattle.std.proofs.lemmas.Bool.{cases_lt}
 use Rattle.std.proofs.lemmas.List.{append-nil, take-append-drop, get_or_append_left, get_or-append_right, get_or-take}
 use Rattle.std.proofs.lemmas.List.{get_or-drop, get_or-replicate, length-take-le, length-drop, length-replicate}
+use Rattle.std.proofs.lemmas.List.Sums.{count_by-le-length}
+use Rattle.holes.specs.Laws.{NoMoreHolesThanWords}
 use Rattle.holes.specs.FreeWords.{is_free, set_range, free_from, hole_count, hole_count_after, front_run, widest}
 
 -- the words before a range and those of the range
@@ -50,6 +53,56 @@ is_free-set_behind free place len word value fits behind =
     front behind
     ∙ (get_or-drop (place + len) free (word - (place + len)) false
     ∙ ap (is_free free) there)
+
+-- a word is in a range or outside
+pub in_or_out : (place len word : ℕ) → ((place ≤ word) × (word < place + len)) ⊎ (place ≤ word → word < place + len → ⊥)
+in_or_out place len word =
+    elim (cases_lt word place) [
+      | inl before ↦ inr (λ from to. omega arith)
+      | inr from ↦ elim (cases_lt word (place + len)) [
+        | inl to ↦ inl (from, to)
+        | inr behind ↦ inr (λ from to. omega arith)
+      ]
+    ]
+
+-- a word outside a range stays as it was
+pub is_free-outside : (free : List Bool) (place len word : ℕ) (value : Bool) → place + len ≤ length free
+    → (place ≤ word → word < place + len → ⊥) → is_free (set_range free place len value) word ≡ is_free free word
+is_free-outside free place len word value fits outside =
+    elim (cases_lt word place) [
+      | inl before ↦ is_free-set_before free place len word value fits before
+      | inr from ↦ elim (cases_lt word (place + len)) [
+        | inl below ↦ absurd (outside from below)
+        | inr behind ↦ is_free-set_behind free place len word value fits behind
+      ]
+    ]
+
+-- a word that has the value that a range gets keeps it
+pub is_free-still : (free : List Bool) (place len word : ℕ) (value : Bool) → place + len ≤ length free
+    → is_free free word ≡ value → is_free (set_range free place len value) word ≡ value
+is_free-still free place len word value fits h =
+    elim (in_or_out place len word) [
+      | inl here ↦ is_free-set_inside free place len word value fits here.0 here.1
+      | inr outside ↦ is_free-outside free place len word value fits outside ∙ h
+    ]
+
+-- words that are alike stay so
+pub is_free-set_alike : (xs ys : List Bool) (place len word : ℕ) (value : Bool) → place + len ≤ length xs
+    → place + len ≤ length ys → is_free xs word ≡ is_free ys word
+    → is_free (set_range xs place len value) word ≡ is_free (set_range ys place len value) word
+is_free-set_alike xs ys place len word value fx fy same =
+    elim (in_or_out place len word) [
+      | inl here ↦
+          is_free-set_inside xs place len word value fx here.0 here.1
+          ∙ sym (is_free-set_inside ys place len word value fy here.0 here.1)
+      | inr outside ↦
+          is_free-outside xs place len word value fx outside
+          ∙ (same ∙ sym (is_free-outside ys place len word value fy outside))
+    ]
+
+-- there is room for one more hole
+pub has_room : NoMoreHolesThanWords → (free : List Bool) (most : ℕ) → length free < most → hole_count free < most
+has_room law free most room = omega (arith, law free, count_by-le-length (λ word. word) free, room)
 
 -- an empty range
 pub set_range-nothing : (free : List Bool) (place : ℕ) (value : Bool) → set_range free place 0 value ≡ free

@@ -6,7 +6,7 @@ pub mod LayoutLemmas
 pub mod BlocksLemmas
 pub mod FreeLemmas
 pub mod PackLemmas
-pub mod BesideLemmas
+pub mod PlacesLemmas
 pub mod RegionLemmas
 pub mod SlideLemmas
 pub mod FrontLemmas

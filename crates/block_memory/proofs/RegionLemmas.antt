@@ -1,14 +1,14 @@
 -- Lemmas on the blocks and the holes of a region: what a block that comes, goes or moves leaves.
-use Rattle.std.proofs.Common.{◌≡◌, ℕ, ℤ, zero, suc, ◌+◌, ◌-◌, ◌<◌, ◌≤◌, true, false, List, [], ◌∷◌, length, replicate}
+use Rattle.std.proofs.Common.{◌≡◌, ℕ, ℤ, zero, suc, ◌+◌, ◌-◌, ◌<◌, ◌≤◌, true, false, List, [], ◌∷◌, length, map}
 use Rattle.std.proofs.Common.{slice_set, Option, Some, None, is_some, IsSome, inl, inr, refl, sym, ap, subst, ◌∙◌}
-use Rattle.std.proofs.Common.{arith}
+use Rattle.std.proofs.Common.{replicate, arith}
 use Rattle.std.proofs.lemmas.Bool.{cases_eq, cases_lt}
-use Rattle.std.proofs.lemmas.List.{map-set, length-map, length-set, length-replicate, get_or-replicate}
+use Rattle.std.proofs.lemmas.List.{map-set, length-map, length-replicate, get_or-replicate}
 use Rattle.std.proofs.lemmas.List.Folds.{sum_by-replicate}
 use Rattle.std.proofs.lemmas.List.Sums.{sum_by-cons, sum_by-set, get_or-le-sum_by}
-use Rattle.holes.specs.FreeWords.{Region, is_free, NoneFree, set_range, given_to, free_from, widest, hole_count}
-use Rattle.holes.specs.Laws.{OneHoleMoreThanRanges}
-use Rattle.block_memory.specs.Content.{Block, no_blocks, IsLive, used_words, with_block, without_block}
+use Rattle.holes.specs.FreeWords.{Region, is_free, NoneFree, set_range, given_to, free_from, widest}
+use Rattle.block_memory.specs.Content.{Block, no_blocks, IsLive, block_at, used_words, with_block, without_block}
+use Rattle.block_memory.specs.Placing.{IsPlacedWith}
 use Rattle.block_memory.specs.Content.{words_of as content_words_of, words_at as content_words_at}
 use Rattle.block_memory.specs.Content.{Content, owner_of as content_owner_of, owner_at as content_owner_at}
 use Rattle.block_memory.specs.Table.{value_at}
@@ -23,7 +23,7 @@ use Rattle.block_memory.proofs.LayoutLemmas.{Covers-by, AreApart-set, AreWithin-
 use Rattle.block_memory.proofs.LayoutLemmas.{block_at-content_of, words_at-content_of, is_some-content_of}
 use Rattle.block_memory.proofs.FreeLemmas.{length-set_range, is_free-set_inside, length-free_from, set_range-nothing}
 use Rattle.block_memory.proofs.FreeLemmas.{is_free-from_before, is_free-from_behind, widest-free_from}
-use Rattle.block_memory.proofs.BesideLemmas.{is_free-still_taken, is_free-outside, room_for_hole}
+use Rattle.block_memory.proofs.FreeLemmas.{is_free-still, is_free-outside}
 
 -- a region with no block
 no_value : (most n : ℕ) → value_at {T = PlacedBlock} (replicate most None) n ≡ None
@@ -36,7 +36,7 @@ content_of-empty zero = refl
 content_of-empty (suc most) = ap (λ c. None ∷ c) (content_of-empty most)
 
 pub IsRegion-empty : (size most : ℕ) → IsRegion (record { size = size; slots = replicate most None })
-    (record { free = replicate size true; most = most + 2 }) 0
+    (record { free = replicate size true; most = size + 1 }) 0
 IsRegion-empty size most =
     record {
       cover = record {
@@ -49,7 +49,7 @@ IsRegion-empty size most =
       };
       within = λ n p there. absurd (None≢Some p (sym (no_value most n) ∙ there));
       same_size = length-replicate size true;
-      room = let long = length-replicate {A = Option PlacedBlock} most None in omega arith;
+      room = let long = length-replicate size true in omega arith;
       counted = let all = sum_by-replicate covered_of most None in omega (arith, all);
       fits = omega arith;
     }
@@ -59,7 +59,7 @@ IsRegion-empty size most =
 
 -- a memory with no block
 pub IsPackedRegion-empty : (size most : ℕ) → IsPackedRegion (record { size = size; slots = replicate most None })
-    (record { free = replicate size true; most = most + 2 }) 0 0
+    (record { free = replicate size true; most = size + 1 }) 0 0
 IsPackedRegion-empty size most =
     record {
       region = IsRegion-empty size most;
@@ -108,9 +108,7 @@ IsRegion-packed before now holes used r size content within packed counted =
       };
       within = within;
       same_size = long ∙ (r.same_size ∙ sym size);
-      room = let same : length now.slots ≡ length before.slots =
-          sym (length-map now.slots block_of) ∙ (ap length content ∙ length-map before.slots block_of) in let room =
-          r.room in omega arith;
+      room = omega (arith, long, r.room);
       counted = counted;
       fits = let f = r.fits in omega arith;
     }
@@ -151,7 +149,7 @@ module _ (layout : Layout) (holes : Region) (used n : ℕ) (new_block : PlacedBl
                   is_free-set_inside h.before.free new_block.place new_block.len word false inside_free here.1.0
                   here.1.1
               | inr other ↦
-                  is_free-still_taken h.before.free new_block.place new_block.len word inside_free
+                  is_free-still h.before.free new_block.place new_block.len word false inside_free
                   (h.region.cover.covered k word other.1)
             ]);
         others = λ word below taken. covered_now word below taken;
@@ -196,8 +194,11 @@ module _ (layout : Layout) (holes : Region) (used n : ℕ) (new_block : PlacedBl
             ap (λ (r : Region). length r.free) h.taken
             ∙ (length-set_range h.before.free new_block.place new_block.len false inside_free
             ∙ h.region.same_size);
-        room = let same = length-set layout.slots n (Some new_block) in let most =
-            ap (λ (r : Region). r.most) h.taken in let room = h.region.room in omega (arith, same, most, room);
+        room =
+            let same = length-set_range h.before.free new_block.place new_block.len false inside_free in
+            let long = ap (λ (r : Region). length r.free) h.taken in
+            let most = ap (λ (r : Region). r.most) h.taken in
+            omega (arith, same, long, most, h.region.room);
         counted =
             let change = sum_by-set covered_of layout.slots n (Some new_block) None within in
             let was : covered_of (value_at layout.slots n) ≡ 0 = ap covered_of empty in
@@ -303,7 +304,7 @@ module _ (layout : Layout) (holes : Region) (used n : ℕ) (p : PlacedBlock) (r 
         cover = cover_without;
         within = AreWithin-set_none layout.slots layout.size n in_range r.within;
         same_size = length-set_range holes.free p.place p.len true inside ∙ r.same_size;
-        room = let same = length-set layout.slots n None in let room = r.room in omega (arith, same, room);
+        room = omega (arith, length-set_range holes.free p.place p.len true inside, r.room);
         counted =
             let change = sum_by-set covered_of layout.slots n None None in_range in
             let was : covered_of (value_at layout.slots n) ≡ p.len = ap covered_of there in
@@ -330,21 +331,19 @@ pub record IsLeaving (layout : Layout) (holes : Region) (used n place len : ℕ)
   pub within : place + len ≤ length holes.free
   pub less : len ≤ used
   pub none_free : NoneFree holes.free place len
-  pub room : hole_count holes.free < holes.most
   pub region : IsRegion (with_slot layout n None) (given_to holes place len) (used - len)
 
-pub is_leaving : OneHoleMoreThanRanges → (layout : Layout) (holes : Region) (used n place len : ℕ)
+pub is_leaving : (layout : Layout) (holes : Region) (used n place len : ℕ)
     → IsRegion layout holes used
     → IsLive (content_of layout.slots) n → place ≡ place_at layout.slots n → len ≡ covered_at layout.slots n
     → IsLeaving layout holes used n place len
-is_leaving law layout holes used n place len r live here long =
+is_leaving layout holes used n place len r live here long =
     let p = the_block layout.slots n (slot_there layout.slots n live) in
     rw (here ∙ ap place_of p.1, long ∙ ap covered_of p.1)
     (record {
       within = inside layout holes used n p.0 r p.1;
       less = less_covered layout holes used n p.0 r p.1;
       none_free = none_free layout holes used n p.0 r p.1;
-      room = room_for_hole law layout.size holes.most layout.slots holes.free r.same_size r.within r.cover r.room;
       region = IsRegion-remove layout holes used n p.0 r p.1;
     })
 
@@ -390,15 +389,15 @@ pub record IsFreed (layout : Layout) (holes : Region) (covered used n place len 
   pub memory : IsPackedRegion (with_slot layout n None) (given_to holes place len) (covered - len) (used - words)
   pub without_room : len ≡ 0 → IsPackedRegion (with_slot layout n None) holes covered (used - words)
 
-pub is_freed : OneHoleMoreThanRanges → (layout : Layout) (holes : Region) (covered used n place len words : ℕ)
+pub is_freed : (layout : Layout) (holes : Region) (covered used n place len words : ℕ)
     → IsPackedRegion layout holes covered used → IsLive (content_of layout.slots) n → place ≡ place_at layout.slots n
     → len ≡ covered_at layout.slots n → words ≡ length (words_at layout.slots n)
     → IsFreed layout holes covered used n place len words
-is_freed law layout holes covered used n place len words r live here covers long =
+is_freed layout holes covered used n place len words r live here covers long =
     let p = the_block layout.slots n (slot_there layout.slots n live) in
     let gone = used-remove layout holes covered n p.0 r.region p.1 in
     let size : words ≡ length p.0.words = long ∙ ap (λ o. length (words_of o)) p.1 in
-    let leaving = is_leaving law layout holes covered n place len r.region live here covers in
+    let leaving = is_leaving layout holes covered n place len r.region live here covers in
     let counted : used - words ≡ used_words (content_of (slice_set layout.slots n None)) =
     omega (arith, gone, size, r.counted) in
     let fits = r.fits in
@@ -488,7 +487,7 @@ module _ (layout : Layout) (holes : Region) (used n : ℕ) (p : PlacedBlock) (ne
         within = AreWithin-set layout.slots layout.size n rewritten its_number r.within
             (let w = r.within n p there in (w.0, omega (arith, w.1, long)));
         same_size = r.same_size;
-        room = let same = length-set layout.slots n (Some rewritten) in let room = r.room in omega (arith, same, room);
+        room = r.room;
         counted =
             let change = sum_by-set covered_of layout.slots n (Some rewritten) None its_number in
             let was : covered_of (value_at layout.slots n) ≡ p.len = ap covered_of there in
@@ -544,4 +543,26 @@ can_rewrite layout holes used n new r live same =
           ∙ (content_rewritten layout holes used n p.0 new r p.1 long
           ∙ ap (λ (k : ℕ). let c : Content = with_block (content_of layout.slots) n
           (record { owner = k; words = new }) in c) (sym owner));
+    }
+
+-- the lists that a writer of a new block is lent
+pub lent_lists : (slots : List (Option PlacedBlock)) (content : Content) (lent : List ℕ)
+    → content_of slots ≡ content → map (words_at slots) lent ≡ map (content_words_at content) lent
+lent_lists slots content lent same =
+    (λ i. map (λ n. sym (words_at-content_of slots n) i) lent)
+    ∙ ap (λ (k : Content). map (content_words_at k) lent) same
+
+-- a block that was put is one that was placed, with words of which this is so
+pub placed_with : (slots : List (Option PlacedBlock)) (content : Content) (n len : ℕ) (b : PlacedBlock)
+    (is : List ℤ → Type 0) → content_of slots ≡ content → n < length slots → value_at slots n ≡ None
+    → length b.words ≡ len → is b.words
+    → IsPlacedWith content (content_of (slice_set slots n (Some b))) n b.owner len is
+placed_with slots content n len b is same within empty long so =
+    record {
+      words = b.words;
+      in_range = omega (arith, within, length-map slots block_of, ap length same);
+      empty = ap (λ (k : Content). block_at k n) (sym same) ∙ (block_at-content_of slots n ∙ ap block_of empty);
+      long = long;
+      so = so;
+      placed = rw (← same) (content_of-put slots n b);
     }

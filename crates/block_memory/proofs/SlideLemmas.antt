@@ -5,7 +5,6 @@ use Rattle.std.proofs.lemmas.Bool.{cases_eq, cases_lt, cases_Bool, false≢true}
 use Rattle.std.proofs.lemmas.List.{set-set, set-get_or, length-set, get_or-drop}
 use Rattle.holes.specs.FreeWords.{Region, is_free, AllFree, NoneFree, taken_from, given_to, IsHole, IsLowestFit}
 use Rattle.holes.specs.FreeWords.{front_run, widest}
-use Rattle.holes.specs.Laws.{OneHoleMoreThanRanges}
 use Rattle.block_memory.specs.Table.{value_at}
 use Rattle.block_memory.specs.Layout.{PlacedBlock, Layout, IsClear, place_of, covered_of}
 use Rattle.block_memory.specs.Layout.{place_at, covered_at, with_slot, block_at_place, layout_after_move}
@@ -170,14 +169,14 @@ pub record IsSliding (layout : Layout) (holes : Region) (used n place len : ℕ)
   pub leaving : IsLeaving layout holes used n place len
   pub wide : len ≤ widest (given_to holes place len).free
 
-module _ (law : OneHoleMoreThanRanges) (layout : Layout) (holes : Region) (used n place len : ℕ)
+module _ (layout : Layout) (holes : Region) (used n place len : ℕ)
     (r : IsRegion layout holes used) (some : IsSome (value_at layout.slots n))
     (here : place ≡ place_at layout.slots n)
     (long : len ≡ covered_at layout.slots n) where
   pub is_sliding : IsSliding layout holes used n place len
   is_sliding =
       let leaving =
-      is_leaving law layout holes used n place len r (is_some-content_of layout.slots n ∙ some) here long in
+      is_leaving layout holes used n place len r (is_some-content_of layout.slots n ∙ some) here long in
       record {
         leaving = leaving;
         wide = widest-ge (given_to holes place len).free place len

@@ -6,5 +6,6 @@ pub mod Layout
 pub mod BlocksInside
 pub mod BlocksWritten
 pub mod Region
+pub mod Places
 pub mod Writing
 pub mod Placing

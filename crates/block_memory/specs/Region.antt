@@ -38,7 +38,7 @@ pub record IsRegion (layout : Layout) (holes : Region) (covered_count : ℕ) : T
   pub cover : CoverRegion layout.slots holes.free
   pub within : AreWithin layout.slots layout.size
   pub same_size : length holes.free ≡ layout.size
-  pub room : holes.most ≡ length layout.slots + 2
+  pub room : length holes.free < holes.most
   pub counted : covered_count ≡ covered_words layout.slots
   pub fits : covered_count ≤ layout.size
 

@@ -11,6 +11,7 @@ mod blocks;
 mod memory;
 mod pack;
 mod packing;
+mod places;
 mod plain;
 mod region;
 mod slide;

@@ -1,8 +1,8 @@
 //! Moving the blocks of a region together.
-ghost use Rattle.std.specs.Prelude.{◌≡◌, ◌+◌, ◌-◌, ◌<◌, ◌≤◌, length};
-ghost use Rattle.holes.specs.FreeWords.{free_from, NoneFree, hole_count, given_to};
+ghost use Rattle.std.specs.Prelude.{◌≡◌};
+ghost use Rattle.holes.specs.FreeWords.{free_from};
 ghost use Rattle.block_memory.specs.Layout.{content_of, covered_words};
-ghost use Rattle.block_memory.specs.Region.{AreWithin, ArePacked, IsRegion, HasRoom};
+ghost use Rattle.block_memory.specs.Region.{AreWithin, ArePacked, IsRegion};
 
 use crate::blocks::Blocks;
 use crate::packing::{MoveCounts, Packing};
@@ -74,50 +74,4 @@ impl Packing for WholePacking {
             None => unreachable!(),
         }
     }
-}
-
-/// Takes the words for a block of `len` words from the lowest hole that has them, and answers the place of the first.
-/// If none has, blocks move first, and what moves is counted.
-#[inline(always)]
-pub(crate) fn take_room<P: Packing, A: Allocator>(
-    blocks: &mut Blocks<A>,
-    holes: &mut Holes<A>,
-    covered: usize,
-    len: usize,
-    counts: &mut MoveCounts,
-) -> usize
-    requires region { IsRegion blocks.old holes.old covered }
-    requires fits { covered + len ≤ blocks.old.size }
-    ensures size { blocks.new.size ≡ blocks.old.size }
-    ensures content { content_of blocks.new.slots ≡ content_of blocks.old.slots }
-    ensures room { HasRoom blocks.new holes.new covered result len }
-{
-    counts.last = 0;
-    if len == 0 {
-        return 0;
-    }
-    match holes.take(len) {
-        Some(place) => place,
-        None => P::make_room(blocks, holes, covered, len, counts),
-    }
-}
-
-/// Gives the words of the region that a block covered back to the holes, and counts them off.
-#[inline(never)]
-pub(crate) fn give_room<A: Allocator>(
-    holes: &mut Holes<A>,
-    covered: &mut usize,
-    place: usize,
-    len: usize,
-)
-    requires less { len ≤ covered.old }
-    requires some { 1 ≤ len }
-    requires within { place + len ≤ length holes.old.free }
-    requires none_free { NoneFree holes.old.free place len }
-    requires room { hole_count holes.old.free < holes.old.most }
-    ensures given { holes.new ≡ given_to holes.old place len }
-    ensures counted { covered.new ≡ covered.old - len }
-{
-    holes.give(place, len);
-    *covered -= len;
 }

@@ -8,12 +8,12 @@ ghost use Rattle.block_memory.specs.Placing.{IsPlacedWith};
 
 use crate::blocks::Blocks;
 use crate::memory::{BlockId, LendingMemory, MOST_BLOCKS, NoRoom, RewritableMemory, VectorMemory};
-use crate::pack::{WholePacking, give_room, pack_region, take_room};
+use crate::pack::WholePacking;
 use crate::packing::{MoveCounts, Packing};
+use crate::places::Places;
 use crate::slide::SlidingPacking;
 use crate::writer::{MOST_LENT, Writer};
-use holes::laws::one_hole_more_than_ranges;
-use holes::{Holes, LONGEST_REGION};
+use holes::LONGEST_REGION;
 use std::alloc::{AllocError, Allocator};
 use std::marker::{Model, PhantomData};
 
@@ -22,15 +22,16 @@ use std::marker::{Model, PhantomData};
 /// words are first used.
 ///
 /// A block lies in a row of words, and a block of no words covers none. If a hole is wide enough, `place` costs the
-/// words of the block and a look for the hole. `free` costs giving the words back to the holes, however many blocks
-/// there are. [`RegionMemory`] and [`SlidingMemory`] say what `place` does else.
+/// words of the block and a look for the hole, or for the words of a block of its length that was freed lately. `free`
+/// costs keeping the words or giving them back to the holes, however many blocks there are. [`RegionMemory`] and
+/// [`SlidingMemory`] say what `place` does else.
 ///
 /// A block of one word lies in the word of its number, and covers no word of the region. It counts as every other in
 /// what is used and in what fits: as many words of the region stay free for it.
 #[derive(Drop)]
 pub struct PackedRegion<P, A: Allocator> {
     blocks: Blocks<A>,
-    holes: Holes<A>,
+    places: Places<A>,
     // The words of all blocks.
     used: usize,
     // Those of them that lie in the region.
@@ -61,9 +62,9 @@ impl<P, A: Allocator> Model for PackedRegion<P, A> {
     ghost Value = { RegionState };
 
     ghost view = { λ m. record
-        { room = m.blocks.size; content = content_of m.blocks.slots; free = m.holes.free; moved = m.counts.last } };
+        { room = m.blocks.size; content = content_of m.blocks.slots; free = m.places.free; moved = m.counts.last } };
 
-    ghost invariant = { λ m. IsPackedRegion m.blocks m.holes m.covered m.used };
+    ghost invariant = { λ m. IsPackedRegion m.blocks m.places m.covered m.used };
 }
 
 impl<P: Packing, A: Allocator> PackedRegion<P, A> {
@@ -82,10 +83,10 @@ impl<P: Packing, A: Allocator> PackedRegion<P, A> {
         ensures moved { IfOk result (λ m. m.moved ≡ 0) }
     {
         let blocks = Blocks::new(alloc.clone()?, size, most_blocks)?;
-        let holes = Holes::new(alloc, size, most_blocks + 2)?;
+        let places = Places::new(alloc, size)?;
         Ok(PackedRegion {
             blocks,
-            holes,
+            places,
             used: 0,
             covered: 0,
             counts: MoveCounts { last: 0, slid: 0 },
@@ -125,13 +126,9 @@ impl<P: Packing, A: Allocator> PackedRegion<P, A> {
     {
         let _size = self.blocks.size();
         let len = words.len();
-        let place = take_room::<P, A>(
-            &mut self.blocks,
-            &mut self.holes,
-            self.covered,
-            len,
-            &mut self.counts,
-        );
+        let place = self
+            .places
+            .take_room::<P>(&mut self.blocks, self.covered, len, &mut self.counts);
         let number = self.blocks.put(owner, place, words);
         self.used += len;
         self.covered += len;
@@ -192,13 +189,9 @@ impl<P: Packing, A: Allocator> PackedRegion<P, A> {
             return self.put_word_with(owner, lent, writer);
         }
         let _size = self.blocks.size();
-        let place = take_room::<P, A>(
-            &mut self.blocks,
-            &mut self.holes,
-            self.covered,
-            len,
-            &mut self.counts,
-        );
+        let place = self
+            .places
+            .take_room::<P>(&mut self.blocks, self.covered, len, &mut self.counts);
         let (number, written) = self.blocks.put_with(owner, place, len, lent, writer);
         self.used += len;
         self.covered += len;
@@ -241,18 +234,13 @@ impl<P: Packing, A: Allocator> VectorMemory for PackedRegion<P, A> {
 
     #[inline(always)]
     fn free(&mut self, id: BlockId) {
-        one_hole_more_than_ranges();
         let freed = self.blocks.remove(id.number());
         self.used -= freed.words;
         if freed.covered == 0 {
             return;
         }
-        give_room(
-            &mut self.holes,
-            &mut self.covered,
-            freed.place,
-            freed.covered,
-        );
+        self.covered -= freed.covered;
+        self.places.give(freed.place, freed.covered);
     }
 
     #[inline(always)]
@@ -276,7 +264,7 @@ impl<P: Packing, A: Allocator> VectorMemory for PackedRegion<P, A> {
         ensures same_room { self.new.room ≡ self.old.room }
         ensures one_hole { hole_count self.new.free ≤ 1 }
     {
-        pack_region(&mut self.blocks, &mut self.holes, self.covered);
+        self.places.pack(&mut self.blocks, self.covered);
         self.counts.slid = 0;
     }
 

@@ -9,7 +9,7 @@ use crate::blocks::Blocks;
 use crate::pack::WholePacking;
 use crate::packing::{MoveCounts, Packing};
 use holes::Holes;
-use holes::laws::one_hole_more_than_ranges;
+use holes::laws::no_more_holes_than_words;
 use std::alloc::Allocator;
 
 // Moves a block down to the front of the lowest hole, if a hole reaches up to it, and answers how many words moved.
@@ -34,7 +34,7 @@ fn slide_down<A: Allocator>(
     if place == front {
         return 0;
     }
-    one_hole_more_than_ranges();
+    no_more_holes_than_words();
     holes.give(place, len);
     match holes.take(len) {
         Some(to) => blocks.slide(number, to),

@@ -1,12 +1,10 @@
-use Rattle.std.proofs.Common.{rules, w64, Fits, ◌≡◌, ℕ, ℤ, ◌+◌, ◌≤◌, List, length, map, sym, ap, ◌∙◌, subst, arith}
+use Rattle.std.proofs.Common.{rules, w64, Fits, ◌≡◌, ℕ, ℤ, ◌+◌, ◌≤◌, List, map, sym, ap, ◌∙◌, subst, arith}
 use Rattle.std.specs.Prelude.{MatchResult}
-use Rattle.std.proofs.lemmas.List.{length-map}
-use Rattle.block_memory.specs.Content.{Content, block_at, words_at, used_words}
-use Rattle.block_memory.specs.Layout.{PlacedBlock, block_of, content_of, words_at as layout_words_at}
+use Rattle.block_memory.specs.Content.{words_at, used_words}
+use Rattle.block_memory.specs.Layout.{PlacedBlock, content_of, words_at as layout_words_at}
 use Rattle.block_memory.specs.Region.{RegionState, IsPackedRegion}
 use Rattle.block_memory.specs.Placing.{IsPlacedWith}
-use Rattle.block_memory.proofs.LayoutLemmas.{block_at-content_of, words_at-content_of}
-use Rattle.block_memory.proofs.RegionLemmas.{HasRoom-bare, IsPackedRegion-put, content_of-put, covered_fits}
+use Rattle.block_memory.proofs.RegionLemmas.{HasRoom-bare, IsPackedRegion-put, covered_fits, lent_lists, placed_with}
 use Rattle.block_memory.proofs.region.PackedRegion.put_with.Given.{Over}
 use Rattle.block_memory.proofs.region.PackedRegion.put_with.Goals as goal
 use Rattle.block_memory.proofs.region.PackedRegion.put_with.Goals.{After-take_room-place, After-new-id, in-Ok}
@@ -21,8 +19,7 @@ lists : (g : Over) (c : goal.After-take_room-place g) →
     map (layout_words_at c.take_room-place.new.blocks.slots) c.args.lent.now
     ≡ map (words_at c.args.self.now.content) c.args.lent.now
 lists g c =
-    (λ i. map (λ n. sym (words_at-content_of c.take_room-place.new.blocks.slots n) i) c.args.lent.now)
-    ∙ ap (λ (k : Content). map (words_at k) c.args.lent.now) (same g c)
+    lent_lists c.take_room-place.new.blocks.slots c.args.self.now.content c.args.lent.now (same g c)
 
 fits : (g : Over) (c : goal.After-take_room-place g) →
     c.self.inside.used + c.args.len ≤ c.take_room-place.new.blocks.size
@@ -39,13 +36,13 @@ take_room-place-requires-clause-fits g c =
       arith,
       room,
       c.self.invariant.counted,
-      covered_fits here.blocks here.holes here.covered here.used c.self.invariant.region c.self.invariant.counted,
+      covered_fits here.blocks here.places here.covered here.used c.self.invariant.region c.self.invariant.counted,
     )
 
 pub put_with-number-requires-clause-bare : goal.put_with-number-requires-clause-bare
 put_with-number-requires-clause-bare g c =
     let room = c.take_room-place in
-    HasRoom-bare room.new.blocks room.new.holes c.self.inside.covered room.result c.args.len room.ensures.room
+    HasRoom-bare room.new.blocks room.new.self c.self.inside.covered room.result c.args.len room.ensures.room
 
 pub put_with-number-requires-clause-can : goal.put_with-number-requires-clause-can
 put_with-number-requires-clause-can g c =
@@ -63,7 +60,7 @@ overflow_add-self-2 g c =
       room,
       c.self.invariant.counted,
       c.size-size.ensures,
-      covered_fits here.blocks here.holes here.covered here.used c.self.invariant.region c.self.invariant.counted,
+      covered_fits here.blocks here.places here.covered here.used c.self.invariant.region c.self.invariant.counted,
     )
 
 pub invariant_of-self : goal.invariant_of-self
@@ -74,9 +71,9 @@ invariant_of-self g c =
     let within = fits g (goal.at.invariant_of-self g c).After-take_room-place in
     let block : PlacedBlock =
     record { owner = c.args.owner; place = room.result; len = c.args.len; words = put.0 } in
-    subst (λ (k : ℕ). IsPackedRegion c.put_with-number.new.self room.new.holes (here.covered + c.args.len)
+    subst (λ (k : ℕ). IsPackedRegion c.put_with-number.new.self room.new.self (here.covered + c.args.len)
     (here.used + k)) put.1.0
-    (rw put.1.2 (IsPackedRegion-put room.new.blocks room.new.holes here.covered here.used c.put_with-number.result.0
+    (rw put.1.2 (IsPackedRegion-put room.new.blocks room.new.self here.covered here.used c.put_with-number.result.0
     block room.ensures.room (c.self.invariant.counted ∙ ap used_words (sym room.ensures.content))
     c.put_with-number.ensures.in_range c.put_with-number.ensures.vacant (omega (arith, within, put.1.0))
     (omega (arith, put.1.0))))
@@ -86,23 +83,12 @@ with_words : (g : Over) (c : goal.After-new-id g) (is : List ℤ → Type 0) →
     IsPlacedWith c.args.self.now.content (content_of c.put_with-number.new.self.slots) c.new-id.result c.args.owner
     c.args.len is
 with_words g c is so =
-    let put = c.put_with-number.ensures.put in
-    let slots = c.take_room-place.new.blocks.slots in
-    let content : content_of slots ≡ c.args.self.now.content =
-    c.take_room-place.ensures.content ∙ ap (λ (m : RegionState). m.content) c.self.view_is in
-    rw c.new-id.ensures (record {
-      words = put.0;
-      in_range = omega (arith, c.put_with-number.ensures.in_range, length-map slots block_of, ap length content);
-      empty =
-          ap (λ (k : Content). block_at k c.put_with-number.result.0) (sym content)
-          ∙ (block_at-content_of slots c.put_with-number.result.0 ∙ ap block_of c.put_with-number.ensures.vacant);
-      long = put.1.0;
-      so = so;
-      placed =
-          rw (put.1.2, ← content)
-          (content_of-put slots c.put_with-number.result.0
-          (record { owner = c.args.owner; place = c.take_room-place.result; len = c.args.len; words = put.0 }));
-    })
+    let e = c.put_with-number.ensures in
+    rw (c.new-id.ensures, e.put.1.2) (placed_with c.take_room-place.new.blocks.slots c.args.self.now.content
+    c.put_with-number.result.0 c.args.len
+    (record { owner = c.args.owner; place = c.take_room-place.result; len = c.args.len; words = e.put.0 }) is
+    (c.take_room-place.ensures.content ∙ ap (λ (m : RegionState). m.content) c.self.view_is) e.in_range e.vacant
+    e.put.1.0 so)
 
 -- what the writer answered
 told : (g : Over) (c : goal.After-new-id g) → MatchResult c.put_with-number.result.1
@@ -110,14 +96,12 @@ told : (g : Over) (c : goal.After-new-id g) → MatchResult c.put_with-number.re
     c.put_with-number.ensures.put.0)
     (λ fault. g.W.Writer.faults c.args.writer.now (map (words_at c.args.self.now.content) c.args.lent.now) fault)
 told g c =
-    let content = c.take_room-place.ensures.content ∙ ap (λ (m : RegionState). m.content) c.self.view_is in
-    let same_lists : map (layout_words_at c.take_room-place.new.blocks.slots) c.args.lent.now
-    ≡ map (words_at c.args.self.now.content) c.args.lent.now =
-    (λ i. map (λ n. sym (words_at-content_of c.take_room-place.new.blocks.slots n) i) c.args.lent.now)
-    ∙ ap (λ (k : Content). map (words_at k) c.args.lent.now) content in
     subst (λ ws. MatchResult c.put_with-number.result.1
     (λ _. g.W.Writer.writes c.args.writer.now ws c.put_with-number.ensures.put.0)
-    (λ fault. g.W.Writer.faults c.args.writer.now ws fault)) same_lists c.put_with-number.ensures.put.1.1
+    (λ fault. g.W.Writer.faults c.args.writer.now ws fault))
+    (lent_lists c.take_room-place.new.blocks.slots c.args.self.now.content c.args.lent.now
+    (c.take_room-place.ensures.content ∙ ap (λ (m : RegionState). m.content) c.self.view_is))
+    c.put_with-number.ensures.put.1.1
 
 pub returns-clause-placed : goal.returns-clause-placed
 returns-clause-placed g c =

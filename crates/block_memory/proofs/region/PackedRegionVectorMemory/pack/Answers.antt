@@ -3,4 +3,4 @@ use Rattle.block_memory.proofs.region.PackedRegionVectorMemory.pack.Goals as goa
 
 pub returns-clause-one_hole : goal.returns-clause-one_hole
 returns-clause-one_hole g c =
-    rw c.pack_region.ensures.packed (hole_count-free_from c.self.inside.covered c.pack_region.new.blocks.size)
+    rw c.pack.ensures.packed (hole_count-free_from c.self.inside.covered c.pack.new.blocks.size)
