@@ -57,6 +57,7 @@ try-compiler: ## PROGRAM=name SIZE=n: compiles a program of examples/compiler, a
 ## Check
 test: ## all tests, tables and examples, unproved; WITHIN=180: as far as they come in 180 seconds
 	.ci/try $(if $(WITHIN),--within $(WITHIN))
+	python3 -B bench/compiling.py --check
 	python3 -B tests/compiler/compare.py 200
 
 names: ## that each name exists that pages, comments and wrong bodies use; what pages say of contracts

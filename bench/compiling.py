@@ -1,22 +1,30 @@
 #!/usr/bin/env python3
-"""Measures the forms of docs/COMPILING.md, and prints the table of the page: bench/compiling.py [PROGRAM]
+"""Measures the forms of docs/COMPILING.md, and prints the table of the page: compiling.py [--page | --check] [PROGRAM]
 
 A form is a function of examples/idioms.vcode or examples/forms.vcode. For n of 1, 100 and 20,000 elements it prints the
 instructions of a call and the words that are held and needed at most, operands included. Then it prints nanoseconds of
 processor time an element: the least of several runs with many calls, without that of runs with none. Segments have ten
 elements, or one where the row says so. `repeated` and `until_done` take n turns, and `merged` puts n elements beside n
 others. PROGRAM is the path of vjobs, and bin/vjobs if it isn't given.
+
+--page writes the table into the page. --check times nothing: it compares the instructions and words of the page with
+those of PROGRAM, or with those of models/ at 1 and 100 elements if the program isn't there.
 """
+import argparse
 import re
 import sys
+from importlib import import_module
 from pathlib import Path
 
-from steps import TOP, Load, batch, executed, run
+from steps import TOP, Load, batch, run
 
+PAGE = TOP / "docs" / "COMPILING.md"
 SIZES = (1, 100, 20_000)
 RUNS = 3
 # About how many elements a load goes through.
 WORK = 1_000_000
+# A batch has at most so many jobs.
+MOST_JOBS = 64
 FILES = [TOP / "examples" / name for name in ("idioms.vcode", "forms.vcode")]
 
 # The signature and the code of each function, by its name.
@@ -34,7 +42,7 @@ ROWS = [
     ["into_loop x10 S10", "into_loop x rows"],
     ["element_of_outer x inside10 S10 S10", "element_of_outer x zeros rows rows"],
     ["sequence_into_loop x S10 P P10 rows10 P10"],
-    ["element_of_nested x S10 rows10 zeros10 P10 P10", "cell x S10 rows10 zeros10 zeros10 P10 P10"],
+    ["element_of_nested x S10 rows10 zeros10 P10 P10", "cell x S10 rows10 zeros10 zeros10 P10"],
     ["append x S10 x S10 P10"],
     ["reversed x S10 P10"],
     ["pair x x P"],
@@ -51,8 +59,9 @@ ROWS = [
     ["repeated none turns"],
     ["until_done turns twenty"],
 ]
-
-
+FORMS = [form for row in ROWS for form in row]
+# For a run of `steps.py` whose text is there.
+NO_LOAD = Load("", 0, "", [], 0, [])
 # The kinds of the operands that aren't INT.
 KINDS = {"P": "SEGDES", "S10": "SEGDES", "rows": "SEGDES", "one10": "SEGDES", "both10": "SEGDES", "flags": "BOOL",
          "trues": "BOOL"}
@@ -119,40 +128,88 @@ def load(form: str, n: int, rounds: int, all_functions: Functions) -> Load:
     return Load(name, rounds, kinds, begin, len(made), code, [all_functions[it] for it in called])
 
 
-def measured(program: list[str], form: str, n: int, all_functions: Functions) -> tuple[int, int, float]:
-    """The instructions of a call, the most words, and nanoseconds an element."""
-    once, many = (load(form, n, rounds, all_functions) for rounds in (1, max(1, WORK // (n + 40))))
-    texts = [(many, many.rounds), (many, 0), (once, 1), (once, 0)]
-    least: dict[int, float] = {}
-    reports: dict[int, bytes | None] = {}
-    for _ in range(RUNS):
-        for place, (it, rounds) in enumerate(texts):
-            seconds, reports[place] = run(program, it, batch(it, rounds))
-            least[place] = min(seconds, least.get(place, seconds))
-    if None in reports.values():
-        sys.exit(f"{form} doesn't return for {n}")
-    # A round also calls it, returns from it, and copies and drops its operands.
-    instructions = executed(reports[2]) - executed(reports[3]) - 5
-    words = max(int(line.split()[3]) for line in reports[2].decode().splitlines() if line.startswith("USED"))
-    return instructions, words, (least[0] - least[1]) / many.rounds / n * 1e9
+def report_of(program: list[str], text: str) -> str:
+    if program:
+        report = run(program, NO_LOAD, text)[1] or b""
+        return report.decode()
+    # Before this folder, which has a module of the same name as one of models/.
+    sys.path.insert(0, str(TOP / "models"))
+    return import_module("batches").report(text.encode(), 1_048_576)[0]
 
 
-def shown(instructions: int, words: int, nanoseconds: float) -> str:
-    return f"{instructions:,}; {words:,}; " + (f"{nanoseconds:,.0f}" if nanoseconds >= 20 else f"{nanoseconds:.1f}")
+def counts(program: list[str], sizes: tuple[int, ...], all_functions: Functions) -> dict[tuple[str, int], str]:
+    """The instructions of a call of each form at each size, and the most words."""
+    cases = [(form, n) for form in FORMS for n in sizes]
+    jobs = [batch(load(*case, 1, all_functions), rounds) for case in cases for rounds in (1, 0)]
+    used: list[tuple[int, int]] = []
+    for start in range(0, len(jobs), MOST_JOBS):
+        report = report_of(program, "".join(jobs[start : start + MOST_JOBS]))
+        ends = re.findall(r" RETURNED\nUSED (\d+) instructions (\d+) words", report)
+        if len(ends) != len(jobs[start : start + MOST_JOBS]):
+            sys.exit(f"some forms don't return:\n{report}")
+        used += [(int(instructions), int(words)) for instructions, words in ends]
+    # A round also calls the form, returns from it, and copies and drops its operands.
+    return {case: f"{once[0] - never[0] - 5:,}; {once[1]:,}"
+            for case, once, never in zip(cases, used[::2], used[1::2])}
+
+
+def nanoseconds(program: list[str], form: str, n: int, all_functions: Functions) -> str:
+    """Of one thread for each element."""
+    many = load(form, n, max(1, WORK // (n + 40)), all_functions)
+    all_rounds, none = ([run(program, many, text)[0] for _ in range(RUNS)]
+                        for text in (batch(many, many.rounds), batch(many, 0)))
+    found = (min(all_rounds) - min(none)) / many.rounds / n * 1e9
+    return f"{found:,.0f}" if found >= 20 else f"{found:.1f}"
+
+
+def name_of(form: str) -> str:
+    return f"`{form.split()[0]}`" + (", segments of one" if form.endswith("rows") else "")
+
+
+def table(program: list[str]) -> list[str]:
+    all_functions = functions()
+    counted_cells = counts(program, SIZES, all_functions)
+    lines = ["| Form | n = 1: instructions; words; ns | " + " | ".join(f"n = {n:,}" for n in SIZES[1:]) + " |",
+             "|---" * (1 + len(SIZES)) + "|"]
+    for form in FORMS:
+        cells = [f"{counted_cells[form, n]}; {nanoseconds(program, form, n, all_functions)}" for n in SIZES]
+        lines.append(f"| {' | '.join([name_of(form), *cells])} |")
+        print(lines[-1], file=sys.stderr, flush=True)
+    return lines
+
+
+def table_of_page() -> str:
+    return re.search(r"^\| Form \|.*\n(\|.*\n)+", PAGE.read_text(), re.M)[0]
+
+
+def differences(program: list[str]) -> list[str]:
+    """The cells of the page that say other instructions or words."""
+    rows = [line.strip("| ").split(" | ") for line in table_of_page().splitlines()[2:]]
+    said = {(name, n): cell.rpartition("; ")[0] for name, *cells in rows for n, cell in zip(SIZES, cells)}
+    found = counts(program, SIZES if program else SIZES[:2], functions())
+    cells = [(name_of(form), n, said.pop((name_of(form), n), None), count) for (form, n), count in found.items()]
+    left = [f"{name} at {n:,}: no such form" for name, n in said if program or n in SIZES[:2]]
+    return left + [f"{name} at {n:,}: {old}, and it is {new}" for name, n, old, new in cells if old != new]
 
 
 def main() -> None:
-    path = Path(sys.argv[1]) if sys.argv[1:] else TOP / "bin" / "vjobs"
-    if not path.is_file():
-        sys.exit(f"there is no {path}: `make` builds it, and `make fast CRATE=vjobs` bin/unproved/vjobs")
-    program = [str(path), "--workers", "1"]
-    all_functions = functions()
-    print("| Form | n = 1: instructions; words; ns |", *(f"n = {n:,} |" for n in SIZES[1:]))
-    print("|---" * (1 + len(SIZES)) + "|")
-    for form in (form for row in ROWS for form in row):
-        name = f"`{form.split()[0]}`" + (", segments of one" if form.endswith("rows") else "")
-        cells = [shown(*measured(program, form, n, all_functions)) for n in SIZES]
-        print("|", " | ".join([name, *cells]), "|", flush=True)
+    parser = argparse.ArgumentParser()
+    parser.add_argument("--page", action="store_true")
+    parser.add_argument("--check", action="store_true")
+    parser.add_argument("program", type=Path, nargs="?", default=TOP / "bin" / "vjobs")
+    words = parser.parse_args()
+    program = [str(words.program), "--workers", "1"] if words.program.is_file() else []
+    if words.check:
+        found = differences(program)
+        print(*found, f"forms: {len(FORMS)}, {len(found)} cells of the page differ", sep="\n")
+        sys.exit(bool(found))
+    if not program:
+        sys.exit(f"there is no {words.program}: `make` builds it, and `make fast CRATE=vjobs` bin/unproved/vjobs")
+    lines = "\n".join([*table(program), ""])
+    if words.page:
+        PAGE.write_text(PAGE.read_text().replace(table_of_page(), lines))
+    else:
+        print(lines, end="")
 
 
 if __name__ == "__main__":

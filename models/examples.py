@@ -10,11 +10,15 @@ lines the files of the compiler have.
 The modules of this folder follow the rules of the language. The program beside an example, as `examples/histogram.py`,
 doesn't know them.
 """
+import ast
+import io
 import re
 import subprocess
 import sys
 from collections.abc import Iterator
 from pathlib import Path
+from token import COMMENT, DEDENT, ENDMARKER, INDENT, NEWLINE, NL
+from tokenize import generate_tokens
 
 from batches import report
 
@@ -46,11 +50,26 @@ def blocks_that_differ(batches: list[Path]) -> Iterator[str]:
             yield f"docs/COMPILING.md: {block.split()[1]} isn't in an example"
 
 
+def code_lines(text: str) -> int:
+    """The lines of a Python program without blank lines, comments and docstrings."""
+    blank = {COMMENT, NL, NEWLINE, INDENT, DEDENT, ENDMARKER}
+    tokens = [it for it in generate_tokens(io.StringIO(text).readline) if it.type not in blank]
+    lines = {line for it in tokens for line in range(it.start[0], it.end[0] + 1)}
+    for node in ast.walk(ast.parse(text)):
+        if isinstance(node, (ast.Module, ast.ClassDef, ast.FunctionDef)) and ast.get_docstring(node):
+            lines -= set(range(node.body[0].lineno, node.body[0].end_lineno + 1))
+    return len(lines)
+
+
 def lengths_that_differ() -> Iterator[str]:
-    for name, said in re.findall(r"^\| `(\w+\.py)` \| (\d+) \|", PAGE.read_text(), re.M):
-        lines = len((TOP / "examples" / "compiler" / name).read_text().splitlines())
-        if lines != int(said):
-            yield f"docs/COMPILING.md: {name} has {lines} lines"
+    page, texts = PAGE.read_text(), []
+    for name, said in re.findall(r"^\| `(\w+\.py)` \| (\d+) \|", page, re.M):
+        texts.append((TOP / "examples" / "compiler" / name).read_text())
+        if len(texts[-1].splitlines()) != int(said):
+            yield f"docs/COMPILING.md: {name} has {len(texts[-1].splitlines())} lines"
+    every, code = sum(len(it.splitlines()) for it in texts), sum(map(code_lines, texts))
+    if f"These are {every} lines, {code} of them without blank lines" not in page:
+        yield f"docs/COMPILING.md: the compiler has {every} lines, {code} of them code"
 
 
 def main() -> None:

@@ -37,7 +37,7 @@ SLIPS = {
     "an index into another iteration's list": (
         "structure.py", "of.segments, self.between(at, level), must_run",
         "self.total(of.segments, at.whole), level.whole, must_run"),
-    "a row read past its end": ("library.py", 'self.check(self.step("AND BOOL", *is_good))', "pass"),
+    "a row read past its end": ("library.py", '"Quotient(a, int(0 <= a and a < b))"', '"a"'),
     "lists merged at the other's places": (
         "structure.py", "begin, places, target, source)", "begin, spots[0][0], target, source)"),
     "append that forgets what is before": (
@@ -51,7 +51,7 @@ SLIPS = {
     "a quotient that is rounded to 0": ("library.py", '"c - int((a - c * b ^ b) < 0 and a - c * b != 0)"', '"c"'),
     "no test for an iteration left": (
         "compile.py", "if not is_loop or self.version[0] not in function.reaches:", "if True:"),
-    "zip of lists of different lengths": ("library.py", "if it.segments is not segments:", "if False:"),
+    "zip of lists of different lengths": ("library.py", "if it.segments is not segments", "if False"),
     "a filter that keeps the lengths": (
         "compile.py", "_, body, segments = self.branch(", "_, body, _ = self.branch("),
 }

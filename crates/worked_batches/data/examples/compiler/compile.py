@@ -15,7 +15,7 @@ from itertools import chain, groupby, repeat, takewhile
 from pathlib import Path
 from typing import Any
 
-from library import OTHER_WORDS, REDUCTIONS, Library, constant_of, is_cheap, is_safe, simpler, type_of
+from library import OTHER_WORDS, Library, constant_of, is_cheap, is_safe, simpler, type_of
 from source import Function, List, Type, leaves, mapped, names_in, read_program, read_type
 from structure import Level, Spot, Step, Value, Values, Vector, Vectors, kinds_of
 
@@ -111,14 +111,14 @@ class Flattening(Library):
                 return self.subscript(inner, place, variables, level)
             case ast.Call(ast.Name(name), nodes) if name in self.program:
                 return self.call_of(name, [self.value(it, variables, level) for it in nodes], level), level
-            case ast.Call(ast.Name(name), nodes) if name in OTHER_WORDS and (len(nodes) > 1 or name not in REDUCTIONS):
-                return self.in_other_words(name, level, *(self.value(it, variables, level) for it in nodes))
+            case ast.Call(ast.Name(name), nodes) if (form := f"{name}({', '.join('abc'[:len(nodes)])})") in OTHER_WORDS:
+                return self.in_other_words(form, level, *(self.value(it, variables, level) for it in nodes))
             case ast.Call(ast.Name(name), nodes):
                 return self.built_in(name, list(map(here, nodes)), level), level
         raise self.fault("no expression of this language")
 
-    def in_other_words(self, name: str, level: Level, *values: Value) -> Value:
-        node = ast.parse(OTHER_WORDS[name], mode="eval").body
+    def in_other_words(self, form: str, level: Level, *values: Value) -> Value:
+        node = ast.parse(OTHER_WORDS[form], mode="eval").body
         ast.increment_lineno(node, self.line - 1)
         return self.value(node, dict(zip("abc", values)), level)
 
@@ -127,7 +127,7 @@ class Flattening(Library):
             rows = self.value(of.value, variables, level)
             if isinstance(rows[0], List) and isinstance(rows[0].elements, List):
                 places = [self.value(it, variables, level) for it in (of.slice, place)]
-                return self.in_other_words("Cell", level, rows, *places)
+                return self.in_other_words("Cell(a, b, c)", level, rows, *places)
         tree, own = self.value(of, variables, level)
         match tree:
             case List():
@@ -266,12 +266,12 @@ class Emission:
     def fetch(self, wanted: Vectors, live: Live, source: int) -> None:
         """Brings vectors to the top: those that are there for the last time stay, and neighbours on the stack that are
         all used again, or all used for the last time, take one motion."""
-        moves = [it not in live and it not in wanted[place + 1 :] for place, it in enumerate(wanted)]
+        moves = [it not in live and it not in wanted[:place] for place, it in enumerate(wanted)]
         done = max(size for size in range(len(wanted) + 1)
                    if all(moves[:size]) and self.stack[len(self.stack) - size :] == list(wanted[:size]))
         while done < len(wanted):
             start, code = self.stack.index(wanted[done]), "CPOP" if moves[done] else "COPY"
-            neighbours = zip(self.stack[start : len(self.stack) - done], wanted[done:], moves[done:])
+            neighbours = zip(self.stack[start:], wanted[done:], moves[done:])
             size = len(list(takewhile(lambda it: it[0] == it[1] and it[2] == moves[done], neighbours)))
             self.line(f"{code} {size} {len(self.stack) - start - size}", source)
             group = self.stack[start : start + size]

@@ -6,25 +6,32 @@ import ast
 from functools import cache, partial, reduce
 from typing import Any
 
-from source import List, Type, mapped
+from source import List, Type, leaves, mapped
 from structure import Level, Structure, Values, Vector, kinds_of
 
-# What is one instruction: on numbers or truth values, and on lists of them.
-ELEMENTWISE = {"Sub": "-", "Mult": "*", "Quotient": "/", "Rest": "%", "LShift": "LSHIFT", "RShift": "RSHIFT",
-               "BitAnd": "AND", "BitOr": "OR", "BitXor": "XOR", "Not": "NOT", "Invert": "NOT", "Lt": "<", "LtE": "<=",
-               "Gt": ">", "GtE": ">=", "Eq": "=", "NotEq": "!="}
-REDUCTIONS = {"sum": "+_REDUCE INT", "prod": "*_REDUCE INT", "max": "MAX_REDUCE INT", "min": "MIN_REDUCE INT",
-              "any": "OR_REDUCE BOOL", "all": "AND_REDUCE BOOL"}
+# What is one instruction, by the kinds of its operands. `Quotient` and `Rest` are those of the machine.
+INSTRUCTIONS = {
+    "INT INT": {"Sub": "- INT", "Mult": "* INT", "Quotient": "/ INT", "Rest": "% INT", "LShift": "LSHIFT INT",
+                "RShift": "RSHIFT INT", "BitAnd": "AND INT", "BitOr": "OR INT", "BitXor": "XOR INT", "Lt": "< INT",
+                "LtE": "<= INT", "Gt": "> INT", "GtE": ">= INT", "Eq": "= INT", "NotEq": "!= INT"},
+    "BOOL BOOL": {"BitAnd": "AND BOOL", "BitOr": "OR BOOL", "BitXor": "XOR BOOL", "NotEq": "XOR BOOL"},
+    "INT": {"Invert": "NOT INT"},
+    "BOOL": {"Not": "NOT BOOL", "int": "B_TO_I"},
+    "INT SEGDES": {"sum": "+_REDUCE INT", "prod": "*_REDUCE INT", "max": "MAX_REDUCE INT", "min": "MIN_REDUCE INT"},
+    "BOOL SEGDES": {"any": "OR_REDUCE BOOL", "all": "AND_REDUCE BOOL"}}
 FAULTING = {"Quotient", "Rest", "LShift", "RShift"}
-# What is said in other words of the source, by the operands a, b and c. The machine rounds quotients to 0: `FloorDiv`
-# and `Mod` round down. `Cell` is a[b][c], without a copy of the inner list.
+# What is said in other words of the source. The machine rounds quotients to 0: `FloorDiv` and `Mod` round down. `Cell`
+# is a[b][c], without a copy of the inner list, and `Within` is a if it is the place of one of b elements.
 OTHER_WORDS = {
-    "USub": "0 - a", "abs": "0 - a if a < 0 else a", "max": "a if a > b else b", "min": "a if a < b else b",
-    "FloorDiv": "Floor(a, b, Quotient(a, b))", "Floor": "c - int((a - c * b ^ b) < 0 and a - c * b != 0)",
-    "Mod": "Raised(Rest(a, b), b)", "Raised": "a + b if (a ^ b) < 0 and a != 0 else a",
-    "enumerate": "zip(range(len(a)), a)", "reversed": "[a[len(a) - 1 - i] for i in range(len(a))]",
-    "accumulate": "[x + y for x, y in zip(Before(a), a)]",
-    "Cell": "flatten(a)[Before([len(x) for x in a])[b] + Within(c, [len(x) for x in a][b])]"}
+    "USub(a)": "0 - a", "abs(a)": "0 - a if a < 0 else a",
+    "max(a, b)": "a if a > b else b", "min(a, b)": "a if a < b else b",
+    "FloorDiv(a, b)": "Floor(a, b, Quotient(a, b))",
+    "Floor(a, b, c)": "c - int((a - c * b ^ b) < 0 and a - c * b != 0)",
+    "Mod(a, b)": "Raised(Rest(a, b), b)", "Raised(a, b)": "a + b if (a ^ b) < 0 and a != 0 else a",
+    "enumerate(a)": "zip(range(len(a)), a)", "reversed(a)": "[a[len(a) - 1 - i] for i in range(len(a))]",
+    "accumulate(a)": "[x + y for x, y in zip(Before(a), a)]",
+    "Cell(a, b, c)": "flatten(a)[Before([len(x) for x in a])[b] + Within(c, [len(x) for x in a][b])]",
+    "Within(a, b)": "Quotient(a, int(0 <= a and a < b))"}
 # Functions that are elementwise, and others that can't fault. More nodes of an expression aren't cheap.
 CHEAP_CALLS, MOST_NODES = {"len", "max", "min", "abs", "int"}, 16
 SAFE_CALLS = CHEAP_CALLS | {"sum", "prod", "any", "all", "enumerate", "flatten", "accumulate", "Before"}
@@ -138,25 +145,20 @@ class Library(Structure):
 
     def built_in(self, name: str, trees: list[Any], level: Level) -> Values:
         """An operator or a built-in function of these operands."""
-        are_alike = len(set(map(kinds_of, trees))) == 1
+        kinds, are_alike = " ".join(leaves(*map(kinds_of, trees))), len(set(map(kinds_of, trees))) == 1
+        if name in INSTRUCTIONS.get(kinds, {}):
+            return self.step(INSTRUCTIONS[kinds][name], *leaves(*trees), must_run=name in FAULTING)
         match name, trees:
             case "Add", [List(), *_] if are_alike:
                 return self.appended(trees, level)
             case "Add", [Vector("INT") as first, *rest] if are_alike:
                 return reduce(partial(self.step, "+ INT"), rest, first)
-            case "Eq" | "NotEq", [Vector("BOOL"), Vector("BOOL")]:
-                found = self.step("XOR BOOL", *trees)
-                return self.step("NOT BOOL", found) if name == "Eq" else found
-            case _, [Vector(kind), *_] if are_alike and name in ELEMENTWISE:
-                return self.step(f"{ELEMENTWISE[name]} {kind}", *trees, must_run=name in FAULTING)
+            case "Eq", [Vector("BOOL"), Vector("BOOL")]:
+                return self.step("NOT BOOL", self.step("XOR BOOL", *trees))
             case "sum", [List(Vector("BOOL") as flags, segments)]:
                 return self.step("+_REDUCE INT", self.step("B_TO_I", flags), segments)
-            case _, [List(Vector() as words, segments)] if name in REDUCTIONS:
-                return self.step(REDUCTIONS[name], words, segments)
             case "len", [List(_, segments)]:
                 return self.step("LENGTHS", segments)
-            case "int", [Vector("BOOL") as flag]:
-                return self.step("B_TO_I", flag)
             case "flatten", [List(List(elements, inner), outer)]:
                 return List(elements, self.total(inner, outer))
             case "Before", [List(Vector("INT") as words, segments)]:
@@ -168,10 +170,8 @@ class Library(Structure):
                 segments = self.step("MAKE_SEGDES", self.step("- INT", end, start), must_run=True)
                 return List(self.runs(start, segments, level.whole), segments)
             case "zip", [List(_, segments), *_] if all(isinstance(it, List) for it in trees):
-                for it in trees:
-                    if it.segments is not segments:
-                        lengths = self.step("LENGTHS", segments), self.step("LENGTHS", it.segments)
-                        self.check(self.step("= INT", *lengths))
+                for other in (it.segments for it in trees if it.segments is not segments):
+                    self.check(self.step("= INT", self.step("LENGTHS", segments), self.step("LENGTHS", other)))
                 return List(tuple(it.elements for it in trees), segments)
             case "partition", [List(elements, segments), List(Vector("INT") as sizes, outer)]:
                 self.check(self.step("= INT", self.step("LENGTHS", segments), self.step("+_REDUCE INT", sizes, outer)))
@@ -180,10 +180,6 @@ class Library(Structure):
                 def put(old: Vector, it: Vector) -> Vector:
                     return self.step(f"DPERMUTE {old.kind}", it, places, old, source, target, must_run=True)
                 return List(mapped(put, elements, new), target)
-            case "Within", [Vector() as place, Vector() as length]:
-                is_good = self.step(">= INT", place, self.fill(level.whole)), self.step("< INT", place, length)
-                self.check(self.step("AND BOOL", *is_good))
-                return place
         raise self.fault("no function of this language, or of other types")
 
     def listed(self, trees: list[Values], level: Level) -> Values:
