@@ -282,6 +282,8 @@ class Emission:
 def compiled(text: str, data: list[object], name: str, file: str = "", limits: str = LIMITS) -> str:
     """A job: MAIN, which puts the data on the stack, and the versions of functions that are called."""
     program, start, versions = read_program(text), Library(), list[Version]([("main", None)])
+    if "main" not in program:
+        raise SyntaxError("there is no function main")
     main = program["main"]
     operands = leaves(*(start.literal(of, [it]) for of, it in zip(main.parameters.values(), data)))
     found = start.call("main", operands, main.result)

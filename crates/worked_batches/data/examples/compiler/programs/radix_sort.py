@@ -1,4 +1,4 @@
-"""Sorts numbers from 0 on, bit by bit from the lowest: one PERMUTE a bit."""
+"""Sorts numbers from 0 on, bit by bit from the lowest: one DPERMUTE a bit."""
 
 
 def by_bit(v: list[int], bit: int) -> list[int]:
