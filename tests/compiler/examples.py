@@ -1,5 +1,8 @@
 #!/usr/bin/env python3
-"""Compares the results of the compiler's example programs with those of plain Python: examples.py [SIZE]"""
+"""Compares the results of the compiler's example programs with those of plain Python: examples.py [SIZE]
+
+If vjobs-kinds is there, it has to find the signatures that the compiler writes.
+"""
 from __future__ import annotations
 
 import random
@@ -13,12 +16,16 @@ sys.path.insert(0, str(TOP / "examples" / "compiler"))
 from compare import given, report_of  # noqa: E402
 from compile import compiled  # noqa: E402
 from plain import DATA, PLAIN  # noqa: E402
-from run import HERE, reported  # noqa: E402
+from run import HERE, program, reported, run  # noqa: E402
 
 
 def difference(name: str, size: int) -> str:
     text, data = (HERE / "programs" / f"{name}.py").read_text(), DATA[name](random.Random(size), size)
-    [(end, vectors)] = reported(report_of("BATCH 2\n" + compiled(text, list(data), name)))
+    job = compiled(text, list(data), name)
+    signatures, code = job.partition("SIGNATURES\n")[2].split("CODE\n")
+    if program("vjobs-kinds") and run("vjobs-kinds", code.removesuffix("END\n")) != signatures:
+        return f"{name}: vjobs-kinds finds other signatures"
+    [(end, vectors)] = reported(report_of("BATCH 2\n" + job))
     found, wanted = given(text, end, vectors), PLAIN[name](*data)
     return "" if found == wanted else f"{name}: {end}, {str(found)[:200]} in place of {str(wanted)[:200]}"
 
