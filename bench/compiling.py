@@ -7,8 +7,9 @@ processor time an element: the least of several runs with many calls, without th
 elements, or one where the row says so. `repeated` and `until_done` take n turns, and `merged` puts n elements beside n
 others. PROGRAM is the path of vjobs, and bin/vjobs if it isn't given.
 
---page writes the table into the page. --check times nothing: it compares the instructions and words of the page with
-those of PROGRAM, or with those of models/ at 1 and 100 elements if the program isn't there.
+--page writes the table into the page, and the constant time of an instruction, which follows from it. --check times
+nothing: it compares the instructions and words of the page with those of PROGRAM, or with those of models/ at 1 and 100
+elements if the program isn't there.
 """
 import argparse
 import re
@@ -20,9 +21,9 @@ from steps import TOP, Load, batch, run
 
 PAGE = TOP / "docs" / "COMPILING.md"
 SIZES = (1, 100, 20_000)
-RUNS = 3
+RUNS = 5
 # About how many elements a load goes through.
-WORK = 1_000_000
+WORK = 3_000_000
 # A batch has at most so many jobs.
 MOST_JOBS = 64
 FILES = [TOP / "examples" / name for name in ("idioms.vcode", "forms.vcode")]
@@ -42,7 +43,7 @@ ROWS = [
     ["into_loop x10 S10", "into_loop x rows"],
     ["element_of_outer x inside10 S10 S10", "element_of_outer x zeros rows rows"],
     ["sequence_into_loop x S10 P P10 rows10 P10"],
-    ["element_of_nested x S10 rows10 zeros10 P10 P10", "cell x S10 rows10 zeros10 zeros10 P10"],
+    ["element_of_nested x S10 rows10 zeros10 P10 P10", "cell x S10 rows10 zeros10 zeros10 P10 P10"],
     ["append x S10 x S10 P10"],
     ["reversed x S10 P10"],
     ["pair x x P"],
@@ -153,29 +154,37 @@ def counts(program: list[str], sizes: tuple[int, ...], all_functions: Functions)
             for case, once, never in zip(cases, used[::2], used[1::2])}
 
 
-def nanoseconds(program: list[str], form: str, n: int, all_functions: Functions) -> str:
+def nanoseconds(program: list[str], form: str, n: int, all_functions: Functions) -> float:
     """Of one thread for each element."""
     many = load(form, n, max(1, WORK // (n + 40)), all_functions)
     all_rounds, none = ([run(program, many, text)[0] for _ in range(RUNS)]
                         for text in (batch(many, many.rounds), batch(many, 0)))
-    found = (min(all_rounds) - min(none)) / many.rounds / n * 1e9
-    return f"{found:,.0f}" if found >= 20 else f"{found:.1f}"
+    return max(0, min(all_rounds) - min(none)) / many.rounds / n * 1e9
+
+
+def shown(time: float) -> str:
+    return f"{time:,.0f}" if time >= 20 else f"{time:.1f}"
 
 
 def name_of(form: str) -> str:
     return f"`{form.split()[0]}`" + (", segments of one" if form.endswith("rows") else "")
 
 
-def table(program: list[str]) -> list[str]:
+def table(program: list[str]) -> tuple[list[str], str]:
+    """The lines of the table; and from what to what a single element takes for each instruction of a form, with the
+    five around it."""
     all_functions = functions()
     counted_cells = counts(program, SIZES, all_functions)
+    constant: list[float] = []
     lines = ["| Form | n = 1: instructions; words; ns | " + " | ".join(f"n = {n:,}" for n in SIZES[1:]) + " |",
              "|---" * (1 + len(SIZES)) + "|"]
     for form in FORMS:
-        cells = [f"{counted_cells[form, n]}; {nanoseconds(program, form, n, all_functions)}" for n in SIZES]
+        times = [nanoseconds(program, form, n, all_functions) for n in SIZES]
+        cells = [f"{counted_cells[form, n]}; {shown(time)}" for n, time in zip(SIZES, times)]
+        constant.append(times[0] / (int(counted_cells[form, 1].split(";")[0].replace(",", "")) + 5))
         lines.append(f"| {' | '.join([name_of(form), *cells])} |")
         print(lines[-1], file=sys.stderr, flush=True)
-    return lines
+    return lines, f"{min(constant):.0f} to {max(constant):.0f} ns"
 
 
 def table_of_page() -> str:
@@ -205,11 +214,12 @@ def main() -> None:
         sys.exit(bool(found))
     if not program:
         sys.exit(f"there is no {words.program}: `make` builds it, and `make fast CRATE=vjobs` bin/unproved/vjobs")
-    lines = "\n".join([*table(program), ""])
+    lines, constant = table(program)
     if words.page:
-        PAGE.write_text(PAGE.read_text().replace(table_of_page(), lines))
+        text = PAGE.read_text().replace(table_of_page(), "\n".join([*lines, ""]))
+        PAGE.write_text(re.sub(r"(?<=constant time of an instruction is )\d+ to \d+ ns", constant, text))
     else:
-        print(lines, end="")
+        print(*lines, f"constant time of an instruction: {constant}", sep="\n")
 
 
 if __name__ == "__main__":

@@ -1,7 +1,8 @@
 #!/usr/bin/env python3
 """Compares the results of the compiler's example programs with those of plain Python: examples.py [SIZE]
 
-If vjobs-kinds is there, it has to find the signatures that the compiler writes.
+If vjobs-kinds is there, it has to find the signatures that the compiler writes. If vjobs-why is there, the profile by
+source lines has to have all instructions.
 """
 from __future__ import annotations
 
@@ -16,16 +17,19 @@ sys.path.insert(0, str(TOP / "examples" / "compiler"))
 from compare import given, report_of  # noqa: E402
 from compile import compiled  # noqa: E402
 from plain import DATA, PLAIN  # noqa: E402
-from run import HERE, program, reported, run  # noqa: E402
+from run import HERE, by_source_lines, program, reported, run  # noqa: E402
 
 
 def difference(name: str, size: int) -> str:
     text, data = (HERE / "programs" / f"{name}.py").read_text(), DATA[name](random.Random(size), size)
-    job = compiled(text, list(data), name)
-    signatures, code = job.partition("SIGNATURES\n")[2].split("CODE\n")
+    batch = "BATCH 2\n" + compiled(text, list(data), name)
+    signatures, code = batch.partition("SIGNATURES\n")[2].split("CODE\n")
     if program("vjobs-kinds") and run("vjobs-kinds", code.removesuffix("END\n")) != signatures:
         return f"{name}: vjobs-kinds finds other signatures"
-    [(end, vectors)] = reported(report_of("BATCH 2\n" + job))
+    report = report_of(batch)
+    if program("vjobs-why") and f"\nUSED {by_source_lines(batch)[0].total()} instructions" not in report:
+        return f"{name}: the profile has other instructions"
+    [(end, vectors)] = reported(report)
     found, wanted = given(text, end, vectors), PLAIN[name](*data)
     return "" if found == wanted else f"{name}: {end}, {str(found)[:200]} in place of {str(wanted)[:200]}"
 

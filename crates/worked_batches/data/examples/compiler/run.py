@@ -69,13 +69,15 @@ def run(name: str, batch: str, *options: str) -> str:
     return subprocess.run([path, *options, "-"], input=batch, capture_output=True, text=True).stdout
 
 
-def by_source_lines(batch: str) -> Counter[int]:
-    """How many instructions each line of the source executed, by the comments behind the code."""
-    lines, found = batch.splitlines(), Counter[int]()
-    for number, times in json.loads(run("vjobs-why", batch, "--json", "--no-least"))["lines"]:
-        place = re.search(r"\{@ .*:(\d+)\}", lines[number - 1])
-        found[int(place[1]) if place else 0] += times
-    return found
+def by_source_lines(batch: str) -> tuple[Counter[int], Counter[int]]:
+    """How many instructions each line of the source executed, by the comments behind the code; and their elements."""
+    lines, executed, elements = batch.splitlines(), Counter[int](), Counter[int]()
+    for number, times, each in json.loads(run("vjobs-why", batch, "--json", "--no-least")).get("lines", []):
+        found = re.search(r"\{@ .*:(\d+)\}", lines[number - 1])
+        place = int(found[1]) if found else 0
+        executed[place] += times
+        elements[place] += each
+    return executed, elements
 
 
 def main(name: str, size: str = "1") -> None:
@@ -90,11 +92,11 @@ def main(name: str, size: str = "1") -> None:
         print(str(value)[:MOST_SHOWN])
         if name in PLAIN and value != PLAIN[name](*data):
             sys.exit("plain Python gives another result")
-    executed = by_source_lines(batch)
-    print(f"\n{'instructions':>12} {'share':>6}  line")
+    executed, elements = by_source_lines(batch)
+    print(f"\n{'instructions':>12} {'share':>6} {'elements':>10}  line")
     for line, times in executed.most_common(MOST_LINES):
         what = text.splitlines()[line - 1] if line else "MAIN, the RETs, and what functions begin with"
-        print(f"{times:12} {times / executed.total():6.1%} {line:5}  {what}")
+        print(f"{times:12} {times / executed.total():6.1%} {elements[line]:10} {line:5}  {what}")
 
 
 if __name__ == "__main__":
