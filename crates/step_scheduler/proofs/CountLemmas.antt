@@ -482,6 +482,26 @@ continues_after others event other old new kept new_is = record {
   no_less = let same = ap executed_sum new_is ∙ others old kept event other in omega (arith, same);
 }
 
+-- after a finish, whatever it answers
+pub continues_finished : FinishesRaise → (job : ℕ) (old new : MachineState) → IsKept old → (answer : Finished) →
+    new ≡ after_finished answer old (machine_after (Finish job) old) → Continues old new
+continues_finished law job old new kept answer is = record {
+  rule = ap (λ (m : MachineState). m.rule) is ∙ same_rule answer;
+  tasks = ap (λ (m : MachineState). m.tasks) is ∙ same_tasks answer;
+  no_less = let r = raises law job old new kept answer is in
+      let fewer = r.no_fewer in let sum = r.sum_is in omega (arith, fewer, sum);
+}
+  where
+    same_rule : (answer : Finished) → (after_finished answer old (machine_after (Finish job) old)).rule ≡ old.rule
+    same_rule finished.Done = refl
+    same_rule finished.Ended = refl
+    same_rule finished.Stale = refl
+
+    same_tasks : (answer : Finished) → (after_finished answer old (machine_after (Finish job) old)).tasks ≡ old.tasks
+    same_tasks finished.Done = refl
+    same_tasks finished.Ended = refl
+    same_tasks finished.Stale = refl
+
 -- after events
 pub continues_by : EventsKeepCounts → (old new : MachineState) → IsKept old → Leads old new → Continues old new
 continues_by keep old new kept leads =

@@ -16,6 +16,9 @@ const NEAR: u64 = 131_072;
 /// The sum under the lock from which on the older half of what was seen is forgotten.
 const MOST: u64 = 4_194_304;
 
+/// A step counts once more each time that its operands have this number of words.
+const ONCE_MORE: u64 = 1_024;
+
 /// What the latest steps took under the lock and outside it, and what they would have taken on one thread that carries
 /// out each in one go, in units of about the time in which a word is copied.
 ///
@@ -26,6 +29,8 @@ pub(crate) struct Estimate {
     inside: u64,
     outside: u64,
     alone: u64,
+    /// How many steps were seen, a long one counted as several. None is forgotten.
+    steps: u64,
 }
 
 impl Estimate {
@@ -35,22 +40,30 @@ impl Estimate {
             inside: 0,
             outside: 0,
             alone: 0,
+            steps: 0,
         }
     }
 
-    /// Adds a step. Its operands have `words` words together, and the longest has `longest`. Its results are taken to
-    /// be as long as that one.
-    pub(crate) fn add(&mut self, op: Op, words: usize, longest: usize) {
-        let inside = inside_weight(words as u64, longest as u64);
-        let outside = weight(op).saturating_mul(longest as u64);
+    /// Adds a step, and answers how many words its operands have. Its results are taken to be as long as the longest.
+    pub(crate) fn add<A: Allocator>(&mut self, ticket: &Ticket<A>) -> u64 {
+        let (words, longest) = operand_words(ticket);
+        let inside = inside_weight(words, longest);
+        let outside = weight(ticket.op()).saturating_mul(longest);
         self.inside = self.inside.saturating_add(inside);
         self.outside = self.outside.saturating_add(outside);
         self.alone = self
             .alone
             .saturating_add(outside)
-            .saturating_add(longest as u64)
+            .saturating_add(longest)
             .saturating_add(FIXED_ALONE);
+        self.steps = self.steps.saturating_add(1 + words / ONCE_MORE);
         self.forget();
+        words
+    }
+
+    /// How many steps were seen, a long one counted as several.
+    pub(crate) fn steps(&self) -> u64 {
+        self.steps
     }
 
     /// Forgets the older half of what was seen, if that is much.
@@ -79,6 +92,27 @@ impl Estimate {
         self.inside.saturating_mul(3) <= within
             && whole.saturating_mul(3) <= within.saturating_mul(workers as u64)
     }
+
+    /// Whether this number of workers takes at most three quarters of the time of one thread alone, and at most two
+    /// thirds of it under the lock. The first steps of a job are shorter than later ones.
+    pub(crate) fn is_promising(&self, workers: usize) -> bool {
+        let whole = self.inside.saturating_add(self.outside);
+        let within = self.alone.saturating_mul(3);
+        self.inside.saturating_mul(3) <= self.alone.saturating_mul(2)
+            && whole.saturating_mul(4) <= within.saturating_mul(workers as u64)
+    }
+}
+
+/// The words of all operands of a step, and of the longest.
+fn operand_words<A: Allocator>(ticket: &Ticket<A>) -> (u64, u64) {
+    let mut words = 0u64;
+    let mut longest = 0;
+    for place in 0..ticket.operand_count() {
+        let len = ticket.operand(place).len() as u64;
+        words = words.saturating_add(len);
+        longest = longest.max(len);
+    }
+    (words, longest)
 }
 
 /// What a step takes under the lock, which copies its operands, and results as long as the longest of them.

@@ -5,30 +5,32 @@ ghost use Rattle.vcode_base.specs.declared.limits.TheConstants.{MOST_BUDGET, MOS
 ghost use Rattle.step_scheduler.specs.Tallies.{Continues, executed_sum};
 
 use crate::counts::{count_laws, executed_in_all};
-use job_machine::{Admission, Desk, Machine, Status};
+use crate::estimate::Estimate;
+use job_machine::{Admission, Begun, Desk, Finished, Machine, Status, compute};
 use std::alloc::Allocator;
 
-/// The jobs of a machine that were admitted and aren't collected.
-#[derive(Clone, Copy)]
-enum Underway {
-    Nobody,
-    /// The job of this number alone.
-    One(usize),
-    Several,
+/// How many steps of a job are looked at, a long one counted as several, unless it is over before.
+const LOOKED_AT: u64 = 128;
+
+/// How many steps of all jobs are looked at.
+const MOST_LOOKED_AT: u64 = 192;
+
+/// Whether the steps that were looked at show that this number of workers is to be started.
+fn show_that_pay(seen: &Estimate, workers: usize) -> bool {
+    seen.steps() >= LOOKED_AT && seen.is_promising(workers)
 }
 
-/// Which jobs were admitted and aren't collected.
-fn admitted<A: Allocator>(machine: &Machine<A>) -> Underway {
-    let mut found = Underway::Nobody;
+/// The first of the jobs that were admitted and aren't collected, and how many these are.
+fn underway<A: Allocator>(machine: &Machine<A>) -> (Option<usize>, usize) {
+    let mut first = None;
+    let mut count = 0usize;
     for place in 0..machine.jobs() {
         if let Some(Status::Live | Status::InFlight | Status::Ended) = machine.status(place + 1) {
-            if let Underway::One(_) = found {
-                return Underway::Several;
-            }
-            found = Underway::One(place + 1);
+            first = first.or(Some(place + 1));
+            count = count.saturating_add(1);
         }
     }
-    found
+    (first, count)
 }
 
 /// Admits the next job, if one can be admitted.
@@ -57,49 +59,143 @@ fn runs_to_its_end<A: Allocator + Clone>(
     machine.run_job(job, desk).is_ok()
 }
 
-/// Runs one job after another, as long as no second one can run beside it; true if two can run.
-fn runs_until_two<A: Allocator + Clone>(machine: &mut Machine<A>, desk: &mut Desk<A>) -> bool
-    requires { All (λ task. task.limits.words ≤ desk.old) machine.old.tasks }
+/// Takes the next step of a job as a worker does, and adds it to what was seen. Answers whether the job goes on.
+fn takes_step<A: Allocator + Clone>(
+    machine: &mut Machine<A>,
+    job: usize,
+    desk: Desk<A>,
+    seen: &mut Estimate,
+) -> (bool, Desk<A>)
     ensures continues { Continues machine.old machine.new }
-    ensures desk { desk.new ≡ desk.old }
+    ensures desk { result.1 ≡ desk }
 {
-    // Each turn admits a job or collects one.
-    for _ in 0..2 * machine.jobs() + 1 {
-        let found = admitted(machine);
-        if let Underway::Several = found {
-            return true;
+    count_laws();
+    let _jobs = machine.jobs();
+    match machine.begin(job, desk) {
+        Begun::Began(ticket) => {
+            let _ = seen.add(&ticket);
+            let _jobs = machine.jobs();
+            let (finished, desk) = machine.finish_own(compute(ticket));
+            (finished == Finished::Done, desk)
         }
+        Begun::Ended(desk) | Begun::NotReady(desk) | Begun::SmallDesk(desk) => (false, desk),
+    }
+}
+
+/// Collects a job, if it has ended and memory is there.
+fn collect<A: Allocator + Clone>(machine: &mut Machine<A>, job: usize)
+    ensures { Continues machine.old machine.new }
+{
+    count_laws();
+    let _jobs = machine.jobs();
+    let _ = machine.collect(job);
+}
+
+/// Carries out the first steps of a job, and collects it if it is over.
+fn look_at<A: Allocator + Clone>(
+    machine: &mut Machine<A>,
+    job: usize,
+    desk: Desk<A>,
+    seen: &mut Estimate,
+) -> Desk<A>
+    ensures continues { Continues machine.old machine.new }
+    ensures desk { result ≡ desk }
+{
+    let mut desk = desk;
+    let end = seen.steps().saturating_add(LOOKED_AT).min(MOST_LOOKED_AT);
+    for _ in 0..LOOKED_AT {
+        if seen.steps() >= end {
+            return desk;
+        }
+        let (goes_on, same) = takes_step(machine, job, desk, seen);
+        desk = same;
+        if !goes_on {
+            collect(machine, job);
+            return desk;
+        }
+    }
+    desk
+}
+
+/// Looks at one job after another of those that were admitted, until that shows that workers pay, or is enough.
+fn look<A: Allocator + Clone>(
+    machine: &mut Machine<A>,
+    desk: Desk<A>,
+    seen: &mut Estimate,
+    workers: usize,
+) -> Desk<A>
+    ensures continues { Continues machine.old machine.new }
+    ensures desk { result ≡ desk }
+{
+    let mut desk = desk;
+    for place in 0..machine.jobs() {
+        if seen.steps() >= MOST_LOOKED_AT || show_that_pay(seen, workers) {
+            return desk;
+        }
+        desk = look_at(machine, place + 1, desk, seen);
+    }
+    desk
+}
+
+/// Runs jobs until workers are to be started, or until it is known that they aren't; true if they are.
+fn runs_until_workers_pay<A: Allocator + Clone>(
+    machine: &mut Machine<A>,
+    desk: Desk<A>,
+    workers: usize,
+    is_open: bool,
+) -> (bool, Desk<A>)
+    requires { All (λ task. task.limits.words ≤ desk) machine.old.tasks }
+    ensures continues { Continues machine.old machine.new }
+    ensures desk { result.1 ≡ desk }
+{
+    let mut desk = desk;
+    let mut seen = Estimate::new();
+    // Each turn admits a job, collects one, or looks at those that were admitted.
+    for _ in 0..3 * machine.jobs() + 3 {
         if let Admission::Admitted(_) = admit_next(machine) {
             continue;
         }
-        let Underway::One(job) = found else {
-            return false;
+        let (Some(first), count) = underway(machine) else {
+            return (false, desk);
         };
-        if !runs_to_its_end(machine, job, desk) {
-            return false;
+        let crew = workers.min(count);
+        if count == 1 {
+            if !runs_to_its_end(machine, first, &mut desk) {
+                return (false, desk);
+            }
+        } else if !is_open || show_that_pay(&seen, crew) {
+            return (true, desk);
+        } else if seen.steps() >= MOST_LOOKED_AT {
+            return (false, desk);
+        } else {
+            desk = look(machine, desk, &mut seen, crew);
         }
     }
-    false
+    (false, desk)
 }
 
-/// Runs jobs on this thread until two can run beside one another, and none if there is only one worker: how many
+/// Runs jobs on this thread until workers are to be started, and none if there is only one worker: how many
 /// instructions that has executed, and whether workers are to be started.
+///
+/// A job that can't run beside another one is run to its end. If two can run so and each step is to pass the gate, that
+/// is to start them. If the gate is open, the first steps of jobs are looked at, which show whether workers pay.
 pub(crate) fn run_first<A: Allocator + Clone>(
     machine: &mut Machine<A>,
-    desk: &mut Desk<A>,
+    desk: Desk<A>,
     workers: usize,
-) -> (u64, bool)
-    requires { All (λ task. task.limits.words ≤ desk.old) machine.old.tasks }
+    is_open: bool,
+) -> (u64, bool, Desk<A>)
+    requires { All (λ task. task.limits.words ≤ desk) machine.old.tasks }
     ensures rule { machine.new.rule ≡ machine.old.rule }
     ensures jobs { machine.new.tasks ≡ machine.old.tasks }
     ensures counted { executed_sum machine.new ≡ executed_sum machine.old + result.0 }
     ensures within { result.0 ≤ MOST_JOBS * MOST_BUDGET }
-    ensures desk { desk.new ≡ desk.old }
+    ensures desk { result.2 ≡ desk }
 {
     if workers == 1 {
-        return (0, false);
+        return (0, false, desk);
     }
     let before = executed_in_all(machine);
-    let starts = runs_until_two(machine, desk);
-    (executed_in_all(machine) - before, starts)
+    let (starts, desk) = runs_until_workers_pay(machine, desk, workers, is_open);
+    (executed_in_all(machine) - before, starts, desk)
 }

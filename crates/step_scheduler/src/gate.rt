@@ -9,6 +9,13 @@ pub trait Gate {
     /// isn't called if each job is with one worker at a time, or left open by the one that had it. So a gate that
     /// counts can show that it is so.
     fn refused(&self, _job: usize) {}
+
+    /// Whether steps may go round this gate, since it does nothing. If so, the calling thread carries out the first
+    /// steps of jobs itself, which pass no gate. If not, it starts workers as soon as two jobs can run beside one
+    /// another.
+    fn is_open(&self) -> bool {
+        false
+    }
 }
 
 /// A gate that does nothing.
@@ -17,4 +24,8 @@ pub struct NoGate;
 
 impl Gate for NoGate {
     fn between(&self, _job: usize, _step: u64) {}
+
+    fn is_open(&self) -> bool {
+        true
+    }
 }

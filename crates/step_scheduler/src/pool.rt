@@ -5,16 +5,13 @@ use job_machine::{Machine, Status, Ticket};
 use std::alloc::{AllocError, Allocator};
 
 /// The words of operands from which on a step is long enough to wake a worker beside it.
-const LARGE: usize = 4_096;
+const LARGE: u64 = 4_096;
 
 /// A worker is woken if it would find work, counting this percentage of the time under the lock.
 const TO_WAKE: u64 = 55;
 
-/// After this number of steps it is decided whether the workers go on.
+/// After this number of steps, a long one counted as several, it is decided whether the workers go on.
 const TO_DECIDE: u64 = 1_000;
-
-/// A step counts once more each time that its operands have this number of words.
-const ONCE_MORE: u64 = 1_024;
 
 /// A worker stays awake if it finds work, counting this percentage of the time under the lock.
 const TO_STAY: u64 = 45;
@@ -43,8 +40,7 @@ pub(crate) struct WorkerPool<A: Allocator> {
     waiting: usize,
     /// How many jobs were admitted and aren't collected.
     admitted: usize,
-    /// How many steps were begun, a long one counted as several.
-    begun: u64,
+    /// What the steps take that were begun.
     estimate: Estimate,
 }
 
@@ -81,7 +77,6 @@ impl<A: Allocator> WorkerPool<A> {
             workers,
             waiting,
             admitted,
-            begun: 0,
             estimate: Estimate::new(),
         })
     }
@@ -151,7 +146,7 @@ impl<A: Allocator> WorkerPool<A> {
     /// so if steps are short, if they compute little for the words that they copy, or if there is one job to run. It
     /// is never so of a small batch.
     pub(crate) fn hands_back(&self) -> bool {
-        self.begun >= TO_DECIDE && !self.estimate.pays(self.workers.min(self.runnable()))
+        self.estimate.steps() >= TO_DECIDE && !self.estimate.pays(self.workers.min(self.runnable()))
     }
 
     /// How many workers are to be started: no more than there are jobs.
@@ -171,9 +166,7 @@ impl<A: Allocator> WorkerPool<A> {
     /// Takes account of a step that has begun, and answers whether a sleeper is to be rung: the step is long, somebody
     /// sleeps, there may be a job to go on with, and one more worker would find work.
     pub(crate) fn rings(&mut self, ticket: &Ticket<A>) -> bool {
-        let (words, longest) = operand_words(ticket);
-        self.estimate.add(ticket.op(), words, longest);
-        self.begun = self.begun.saturating_add(1 + words as u64 / ONCE_MORE);
+        let words = self.estimate.add(ticket);
         if words < LARGE || self.asleep <= self.rung || (self.full && self.open.is_empty()) {
             return false;
         }
@@ -189,16 +182,4 @@ impl<A: Allocator> WorkerPool<A> {
     pub(crate) fn has_too_many(&self) -> bool {
         self.awake > 1 && !self.estimate.feeds_more_than(self.awake, TO_STAY)
     }
-}
-
-/// The words of all operands of a step, and of the longest.
-fn operand_words<A: Allocator>(ticket: &Ticket<A>) -> (usize, usize) {
-    let mut words = 0usize;
-    let mut longest = 0;
-    for place in 0..ticket.operand_count() {
-        let len = ticket.operand(place).len();
-        words = words.saturating_add(len);
-        longest = longest.max(len);
-    }
-    (words, longest)
 }

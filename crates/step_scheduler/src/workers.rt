@@ -25,10 +25,14 @@ use std::thread::Threads;
 /// Runs all jobs of a machine on at most `workers` threads, 1 to 16, and collects them.
 ///
 /// Steps that have begun are given up first. The calling thread runs one job after another itself, until two jobs can
-/// run beside one another. Then it starts workers, as many as there are jobs left at most. So it runs all jobs if one
-/// worker is asked for. A worker that can't be started, or that memory is refused to, is missed. If after about a
-/// thousand steps the calling thread alone would take less time, as for short steps, the workers end. What they leave
-/// is run out on the calling thread, without calls of the gate.
+/// run beside one another. Then it carries out the first steps of jobs, without calls of the gate. If they show that
+/// workers take less time than this thread alone, it starts workers, as many as there are jobs left at most. If not, as
+/// for short steps, it runs all jobs, and so it does if one worker is asked for. If the gate isn't
+/// [open](Gate::is_open), it starts workers as soon as two jobs can run beside one another.
+///
+/// A worker that can't be started, or that memory is refused to, is missed. If after about a thousand steps the calling
+/// thread alone would take less time, the workers end. What they leave is run out on the calling thread, without calls
+/// of the gate.
 ///
 /// The machine that comes back has the rule and the jobs of the one that was given, in order, all collected. The tally
 /// has a number for each worker, 0 if it wasn't started; they and the caller's add up to the instructions that the jobs
@@ -60,19 +64,48 @@ where
     ensures never_mixed { IsErrOf result RunFault.Mixed → ⊥ }
 {
     let mut machine = machine;
-    let mut desk = Desk::new(alloc, machine.most_words())?;
-    let (first, starts) = run_first(&mut machine, &mut desk, workers);
-    let blank = Blank::new(workers as u64 + 1);
-    let (mut machine, workers) = run_threads::<Brand, A, R, G>(
-        rt, alloc, machine, workers, starts, gate, blank,
-    )?;
+    let desk = Desk::new(alloc, machine.most_words())?;
+    let (first, starts, desk) = run_first(&mut machine, desk, workers, gate.is_open());
+    let (mut machine, workers) = run_shared(rt, alloc, machine, workers, starts, gate)?;
     let rest = run_out(&mut machine, desk)?;
     let caller = first + rest;
     Ok((machine, Tally { workers, caller }))
 }
 
-/// Gives up the steps that have begun, and lets workers run the machine's jobs, if they are to be started: the machine
-/// that they leave, and how many instructions each of them has executed.
+/// Lets workers run the machine's jobs, if they are to be started: the machine that they leave, and how many
+/// instructions each of them has executed.
+///
+/// # Errors
+///
+/// [`AllocError`] if memory for the pool, for the workers' shares or for their counts was refused.
+fn run_shared<A, R, G>(
+    rt: &R,
+    alloc: A,
+    machine: Machine<A>,
+    workers: usize,
+    starts: bool,
+    gate: &G,
+) -> Result<(Machine<A>, Vec<u64, A>), AllocError>
+where
+    A: Allocator + Copy + Send + Sync,
+    R: Threads + Wait + Sync,
+    G: Gate + Sync,
+    requires workers { workers ≤ MOST_WORKERS }
+    ensures rule { IfOk result (λ left. left.0.rule ≡ machine.rule) }
+    ensures tasks { IfOk result (λ left. left.0.tasks ≡ machine.tasks) }
+    ensures workers { IfOk result (λ left. vec_len left.1 ≡ workers) }
+    ensures counted { IfOk result (λ left. executed_sum left.0 ≡ executed_sum machine + sum left.1.items) }
+{
+    if !starts {
+        let counts = vec![in alloc; 0; workers]?;
+        return Ok((machine, counts));
+    }
+    let blank = Blank::new(workers as u64 + 1);
+    run_threads::<Brand, A, R, G>(rt, alloc, machine, workers, gate, blank)
+}
+
+/// Gives up the steps that have begun, and lets workers run the machine's jobs: the machine that they leave, and how
+/// many instructions each of them has executed.
 ///
 /// # Errors
 ///
@@ -82,7 +115,6 @@ fn run_threads<L, A, R, G>(
     alloc: A,
     machine: Machine<A>,
     workers: usize,
-    starts: bool,
     gate: &G,
     blank: Blank,
 ) -> Result<(Machine<A>, Vec<u64, A>), AllocError>
@@ -107,7 +139,7 @@ where
     count_laws();
     machine.recall_all();
     let pool = WorkerPool::new(alloc, &machine, workers)?;
-    let crew = if starts { pool.crew() } else { 0 };
+    let crew = pool.crew();
     let (book, mut all) = blank.open::<L>();
     let mut shares = split_shares(alloc, &mut all, workers)?;
     let shared = SharedMachine::new(GuardedMachine::new(machine, book), pool, words);

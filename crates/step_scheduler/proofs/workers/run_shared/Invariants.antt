@@ -1,5 +1,5 @@
 use Rattle.step_scheduler.specs.Tallies.{executed_sum}
-use Rattle.step_scheduler.proofs.workers.run_workers.Given as goal
+use Rattle.step_scheduler.proofs.workers.run_shared.Given as goal
 
 abbrev pub ghosts-run_threads-L-Ledger : goal.ghosts-run_threads-L-Ledger
 ghosts-run_threads-L-Ledger g a = record { name = a.blank.name; parts = a.blank.parts }
