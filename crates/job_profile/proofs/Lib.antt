@@ -3,6 +3,7 @@ pub mod Drawn
 pub mod First
 pub mod Lists
 pub mod Shown
+pub mod Stops
 pub mod Strips
 pub mod Turns
 pub mod Used

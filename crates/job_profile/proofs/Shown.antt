@@ -23,7 +23,7 @@ use Rattle.vcode_base.specs.declared.rule.Rule.{Rule}
 use Rattle.vcode_reader.specs.Trees.{Function}
 use Rattle.job_slots.specs.declared.status.Status.{Status}
 use Rattle.job_slots.specs.declared.status.Status.TheVariants.{Waiting, Live, InFlight, Ended, Collected}
-use Rattle.job_slots.specs.Answers.{demand_in, early_end_at, early_end_of, told_demand_in}
+use Rattle.job_slots.specs.Answers.{demand_in, early_end_at, early_end_of, told_demand_in, told_need_in}
 use Rattle.job_slots.specs.Laws.{ShownAreReached}
 use Rattle.job_slots.specs.Holdings.{Cell, AreAlike, HoldStack, entries_of}
 use Rattle.job_slots.specs.Slots.{SlotState, ShowsAs, IsRunningSlot, standing_of, standing_by}
@@ -247,6 +247,21 @@ told_at task blocks slot desk words r sound on view is =
     let h = running_at task blocks slot desk sound on in
     subst (λ (x : RunState). words ≡ told_demand_in x.task.rule (progress_of x)) view
     (is ∙ ap (told_demand_in task.rule) (h.run.running ∙ sym h.progress))
+
+-- what is answered of its results there, in the words of the contract
+pub need_at : (task : Task) (blocks : JobBlocks) (slot : SlotState) (desk words : ℕ) (r : RunState) →
+    IsSound task blocks slot desk → goes_on (progress_at task (standing_of slot)) ≡ true → run_by task slot ≡ r →
+    words ≡ told_need_in (state_after task slot.trace.executed) → words ≡ told_need_in (progress_of r)
+need_at task blocks slot desk words r sound on view is =
+    let h = running_at task blocks slot desk sound on in
+    subst (λ (x : RunState). words ≡ told_need_in (progress_of x)) view
+    (is ∙ ap told_need_in (h.run.running ∙ sym h.progress))
+
+-- nothing is needed once the run is over
+pub nothing_needed : (p : Progress) → goes_on p ≡ false → 0 ≡ told_need_in p
+nothing_needed (Running s) over = absurd (false≢true (sym over))
+nothing_needed (Over ending executed peak) over = refl
+nothing_needed Stuck over = refl
 
 -- nothing is asked once the run is over
 pub nothing_told : (rule : Rule) (p : Progress) → goes_on p ≡ false → 0 ≡ told_demand_in rule p

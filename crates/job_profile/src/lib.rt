@@ -14,12 +14,14 @@
 //! `specs/Strips.antt` when what is kept is that of the run.
 //!
 //! [`Uses`] follows a run and knows the most words, entries and calls so far, and the least limits of a job that
-//! returned. `specs/Used.antt` has the definitions.
+//! returned. `specs/Used.antt` has the definitions. It also goes on to the first state at which a [`Stop`] holds, which
+//! `specs/Stops.antt` defines.
 #![tactic(auto)]
 
 mod columns;
 mod profile;
 mod run;
+mod stop;
 mod strip;
 mod times;
 mod uses;
@@ -27,5 +29,6 @@ mod uses;
 pub use columns::Columns;
 pub use profile::Profile;
 pub use run::Run;
+pub use stop::Stop;
 pub use strip::{Column, MOST_COLUMNS};
 pub use uses::Uses;

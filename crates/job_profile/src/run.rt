@@ -5,7 +5,7 @@ ghost use Rattle.job_steps.specs.LeastLimits.{cells_in, calls_in};
 ghost use Rattle.job_steps.specs.Runs.{executed_count_in, peak_in, progress_from};
 ghost use Rattle.job_steps.specs.Standings.{held_in};
 ghost use Rattle.job_steps.specs.States.{ruled};
-ghost use Rattle.job_slots.specs.Answers.{demand_in, told_demand_in};
+ghost use Rattle.job_slots.specs.Answers.{demand_in, told_demand_in, told_need_in};
 ghost use Rattle.job_profile.specs.Walks.{AreSame, HasCome, StandAt, ending_at, ending_of, first_run, goes_on};
 ghost use Rattle.job_profile.specs.Walks.{lists_in, next_line_in, progress_of, tags_in};
 
@@ -177,6 +177,24 @@ impl<A: Allocator> Run<A> {
                 number: ONLY_JOB,
             };
             self.slot.demand(turn, &self.job, &self.blocks)
+        } else {
+            0
+        }
+    }
+
+    /// The words of the results of its next instruction, and 0 once its run is over.
+    ///
+    /// They are also 0 if the instruction's operands don't fit one another. If they are more than the greatest `u64`,
+    /// they are answered as that.
+    pub fn need(&self) -> usize
+        ensures { result ≡ told_need_in (progress_of self.now) }
+    {
+        if self.goes_on() {
+            let turn = Turn {
+                rule: self.rule,
+                number: ONLY_JOB,
+            };
+            self.slot.need(turn, &self.job, &self.blocks)
         } else {
             0
         }

@@ -5,14 +5,16 @@ ghost use Rattle.job_steps.specs.LeastLimits.{calls_in, cells_in};
 ghost use Rattle.job_steps.specs.Runs.{executed_count_in, peak_in, progress_from};
 ghost use Rattle.job_steps.specs.States.{ruled};
 ghost use Rattle.job_profile.specs.Walks.{HasCome, ending_at, ending_of, first_run, goes_on, progress_of};
+ghost use Rattle.job_profile.specs.Stops.{IsStopped};
 ghost use Rattle.job_profile.specs.Used.{AreLeast, HasNotReturned, most_so_far};
 
 use crate::run::Run;
+use crate::stop::{Stop, holds, left_after};
 use job_steps::Job;
 use job_steps::laws::{early_ends_end, never_stuck, others_are_ready, reached, used_are_least};
 use std::alloc::{AllocError, Allocator};
 use std::marker::Model;
-use vcode_base::{Limits, Outcome, Rule};
+use vcode_base::{Elements, Limits, Outcome, Rule};
 
 /// A run of one job alone, with the most entries that its stack had and the most calls that were active.
 ///
@@ -81,6 +83,28 @@ impl<A: Allocator> Uses<A> {
         self.cells = self.cells.max(self.run.depth());
         self.calls = self.calls.max(self.run.calls());
         goes_on
+    }
+
+    /// Executes instructions until a state at which it holds, after `skip` other states at which it does, from the
+    /// state of the run on. True if there is such a state; else the run is over.
+    pub fn run_to(&mut self, stop: &Stop<Elements<'_, u8>>, skip: u64) -> bool
+        ensures { IsStopped result stop.now skip self.old self.new }
+    {
+        never_stuck();
+        reached();
+        let _run = &self.run;
+        let budget = self.run().job().limits().budget;
+        let mut left = skip;
+        for _ in 0..budget + 1 {
+            match left_after(holds(self.run(), stop), left) {
+                Some(next) => left = next,
+                None => return true,
+            }
+            if !self.step() {
+                return false;
+            }
+        }
+        false
     }
 
     /// The run.

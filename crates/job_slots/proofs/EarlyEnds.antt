@@ -34,7 +34,7 @@ use Rattle.job_steps.specs.StepLaws.{CanBegin, StepsCanBegin, StepsCanAdvance}
 use Rattle.job_steps.specs.Tickets.{AreResults, CanAnswer, question_by}
 use Rattle.job_steps.specs.Tracks.{TrackState, IsAt, functions_of}
 use Rattle.job_slots.specs.Answers.{demand_before, demand_in, early_end_at, IsNext, IsEnding, CanAsk, told_demand}
-use Rattle.job_slots.specs.Answers.{told_demand_before, told_demand_in}
+use Rattle.job_slots.specs.Answers.{told_demand_before, told_demand_in, told_need_before, told_need_in}
 use Rattle.job_slots.specs.Commits.{CountsAs, held_under, taken_ids}
 use Rattle.job_slots.specs.Executions.{IsCounted, HeldIsCounted}
 use Rattle.job_slots.specs.declared.ticket.Needs.{Needs}
@@ -265,6 +265,18 @@ module _ (law : StepsCanBegin ℕ) (counted : HeldIsCounted) (number : ℕ) (blo
       (λ e. none-some _ (sym none ∙ budget_end task t run.state run.running run.at e)) in
       let both = no_ending line (shape op sources) _ (sym ending ∙ none) in
       (both.0, within_words t.limits op _ _ _ both.1)
+
+-- what is answered of the words of the next instruction's results
+pub need_is : StepsCanBegin ℕ → (number : ℕ) (blocks : JobBlocks) (task : Task) (t : TrackState ℕ)
+    (run : IsRunningSlot (own_slots number blocks) task t) → IsVerified task → (op : Op) (line : ℕ)
+    (sources : List (List ℤ)) → IsNext task t.executed op line sources →
+    told_demand (shape op sources) 0 (need_words (question_by op sources))
+    ≡ told_need_in (state_after task t.executed)
+need_is law number blocks task t run verified op line sources next =
+    let at_next = can_begin law (own_slots number blocks) task t run verified in
+    let asked = same_question task t run.state op line sources run.running at_next next in
+    ap (λ (q : Question). told_demand (shape q.op q.sources) 0 (need_words q)) (sym asked)
+    ∙ sym (ap told_need_in run.running ∙ ap (told_need_before run.state) at_next.calls)
 
 -- ---- if nothing ends the job
 

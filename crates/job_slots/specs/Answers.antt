@@ -83,6 +83,20 @@ told_demand_in rule (Running s) = told_demand_before rule s s.calls
 told_demand_in rule (Over ending executed peak) = 0
 told_demand_in rule Stuck = 0
 
+-- the words that are answered of the results of the next instruction of these calls
+abbrev pub told_need_before : State → List Active → ℕ
+told_need_before s [] = 0
+told_need_before s (call ∷ outer) =
+    let item = (next_item call).item in
+    told_demand (shape (op_of item) (sources_of item s.stack)) 0 (need_words (question_of item s.stack))
+
+-- the words of the results of the next instruction, whether it is executed or ends the job; 0 if its operands don't fit
+-- one another
+abbrev pub told_need_in : Progress → ℕ
+told_need_in (Running s) = told_need_before s s.calls
+told_need_in (Over ending executed peak) = 0
+told_need_in Stuck = 0
+
 abbrev pub early_end_of : Task → Progress → Option Ending
 early_end_of task (Running s) = early_end task s
 early_end_of task (Over ending executed peak) = None

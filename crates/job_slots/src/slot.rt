@@ -13,7 +13,7 @@ ghost use Rattle.job_steps.specs.Events.{next_standing};
 ghost use Rattle.job_steps.specs.Runs.{outcome, executed_count, peak, state_after};
 ghost use Rattle.job_steps.specs.Standings.{Live, InFlight, Ended};
 ghost use Rattle.job_steps.specs.States.{ruled};
-ghost use Rattle.job_slots.specs.Answers.{EndsByStep, demand_in, early_end_at, told_demand_in};
+ghost use Rattle.job_slots.specs.Answers.{EndsByStep, demand_in, early_end_at, told_demand_in, told_need_in};
 ghost use Rattle.job_slots.specs.Executions.{IsMade};
 ghost use Rattle.job_slots.specs.Lines.{HasNoOperands, IsListOfNext, IsOpOfNext};
 ghost use Rattle.job_slots.specs.declared.status.Status.TheVariants as status;
@@ -36,7 +36,7 @@ use crate::in_place::{Placement, execute_in_place, placement_of};
 use crate::next::{is_asked, line_of_next, next_at, next_line, read_next};
 use crate::status::Status;
 use crate::ticket::{
-    Halted, Plain, Ready, demand_of, ready_for, ticket_of, words_without_operands,
+    Halted, Plain, Ready, demand_of, need_of, ready_for, ticket_of, words_without_operands,
 };
 use crate::turn::Turn;
 use block_memory::BlockId;
@@ -127,6 +127,16 @@ impl<A: Allocator> Slot<A> {
             ≡ told_demand_in turn.rule (state_after (ruled turn.rule job.now) self.now.trace.executed) }
     {
         demand_of(turn, job, &self.track, blocks)
+    }
+
+    /// The words of the results of the next instruction of the job, which is live, or 0 if its operands don't fit one
+    /// another. If they are more than the greatest `u64`, they are answered as that.
+    pub fn need(&self, turn: Turn, job: &Job<A>, blocks: &JobMemory<A>) -> usize
+        requires shows { Shows turn.number blocks.now (ruled turn.rule job.now) self.now }
+        requires live { self.now.status ≡ status.Live }
+        ensures { result ≡ told_need_in (state_after (ruled turn.rule job.now) self.now.trace.executed) }
+    {
+        need_of(turn, job, &self.track, blocks)
     }
 
     /// How it ended, if it is collected.

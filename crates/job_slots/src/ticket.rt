@@ -16,6 +16,7 @@ ghost use Rattle.job_steps.specs.Steps.{ending_by, memory_fault};
 ghost use Rattle.job_steps.specs.Tickets.{question_by};
 ghost use Rattle.job_slots.specs.Slots.{IsRunningSlot};
 ghost use Rattle.job_slots.specs.Answers.{IsAskedOf, IsNext, demand_in, early_end_at, told_demand, told_demand_in};
+ghost use Rattle.job_slots.specs.Answers.{told_need_in};
 ghost use Rattle.job_slots.specs.Commits.{CountsAs, held_under};
 ghost use Rattle.job_slots.specs.Lines.{HasNoOperands, IsListOfNext, IsOpOfNext};
 ghost use Rattle.job_slots.specs.Needs.{AreFoundNeeds, IsReady, words_with};
@@ -240,6 +241,22 @@ pub(crate) fn demand_of<A: Allocator>(
     let op = next.op;
     let held = held_under(turn, track, blocks, op);
     demand_by(held, &next)
+}
+
+/// The words of the results of the next instruction of a job that runs, or 0 if its operands don't fit one another.
+pub(crate) fn need_of<A: Allocator>(
+    turn: Turn,
+    job: &Job<A>,
+    track: &Track<BlockId, A>,
+    blocks: &JobMemory<A>,
+) -> usize
+    requires running { IsRunningSlot (own_slots turn.number blocks.now) (ruled turn.rule job.now) track.now }
+    requires verified { IsVerified (ruled turn.rule job.now) }
+    ensures { result ≡ told_need_in (state_after (ruled turn.rule job.now) track.now.executed) }
+{
+    steps_can_begin::<BlockId>();
+    let next = read_next(turn, job, track, blocks);
+    demand_by(0, &next)
 }
 
 /// `held` words, and those of the results of an instruction, if its operands fit one another.
