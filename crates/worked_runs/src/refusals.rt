@@ -10,6 +10,7 @@ mod calls;
 mod copies;
 mod devices;
 mod failures;
+mod gates;
 mod greatest;
 mod heaps;
 mod machines;

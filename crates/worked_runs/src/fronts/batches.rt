@@ -6,6 +6,24 @@ use test_support::TWELVE_JOBS;
 /// The instructions that the two jobs of `test_support` execute.
 pub const EXECUTED_BY_TWO: [u64; 2] = [2, 4];
 
+/// Two jobs that divide a vector of 20,000 words by itself four times.
+pub const DIVISIONS: &[u8] = b"JOB one 80000 16 4 100\nSIGNATURES\nMAIN () -> ()\nCODE\nFUNC MAIN\n\
+    CONST INT 7\nCONST INT 20000\nMAKE_SEGDES\nDIST INT\n\
+    COPY 1 0\nCOPY 1 0\n/ INT\nPOP 1 0\nCOPY 1 0\nCOPY 1 0\n/ INT\nPOP 1 0\n\
+    COPY 1 0\nCOPY 1 0\n/ INT\nPOP 1 0\nCOPY 1 0\nCOPY 1 0\n/ INT\nPOP 1 0\n\
+    POP 1 0\nRET\nEND\n\
+    JOB two 80000 16 4 100\nSIGNATURES\nMAIN () -> ()\nCODE\nFUNC MAIN\n\
+    CONST INT 7\nCONST INT 20000\nMAKE_SEGDES\nDIST INT\n\
+    COPY 1 0\nCOPY 1 0\n/ INT\nPOP 1 0\nCOPY 1 0\nCOPY 1 0\n/ INT\nPOP 1 0\n\
+    COPY 1 0\nCOPY 1 0\n/ INT\nPOP 1 0\nCOPY 1 0\nCOPY 1 0\n/ INT\nPOP 1 0\n\
+    POP 1 0\nRET\nEND\n";
+
+/// The words of both together.
+pub const DIVISION_WORDS: usize = 160_000;
+
+/// The instructions that both execute.
+pub const EXECUTED_BY_DIVISIONS: u64 = 44;
+
 /// The twelve jobs after this line.
 ///
 /// # Errors

@@ -51,6 +51,17 @@ pub const REGION: usize = 64;
 
 /// A machine over 64 words with the jobs of a batch, by its rule.
 pub(crate) fn machine(alloc: Global, batch: &[u8]) -> Result<Machine<Global>, Fail> {
-    let (rule, jobs) = jobs(alloc, batch, REGION)?;
-    Ok(Machine::new(alloc, REGION, jobs, rule)?)
+    machine_over(alloc, batch, REGION)
+}
+
+/// The same over a region of `words` words.
+pub(crate) fn machine_over(
+    alloc: Global,
+    batch: &[u8],
+    words: usize,
+) -> Result<Machine<Global>, Fail>
+    requires { (1 ≤ words) × (words ≤ MOST_WORDS) }
+{
+    let (rule, jobs) = jobs(alloc, batch, words)?;
+    Ok(Machine::new(alloc, words, jobs, rule)?)
 }

@@ -7,7 +7,7 @@ use crate::fronts::batches::{SECOND_RULE, twelve_jobs_by};
 use crate::fronts::calls::Calls;
 use crate::fronts::machines::REGION;
 use crate::fronts::meeting::Meeting;
-use batch_front::{Device, FrontFault, Gate, NoGate, Options, Status, parse_schedule, run};
+use batch_front::{Device, FrontFault, Gate, Options, Status, parse_schedule, run};
 use std::alloc::Global;
 use std::process::Abort;
 use std::sync::Wait;
@@ -90,7 +90,7 @@ fn each_number_of_workers_gives_the_same_report(rt: HostRuntime) {
             rt.alloc(),
             TWELVE_JOBS,
             &options,
-            &NoGate,
+            &Calls::new(),
             REPORT_ON_TWELVE,
         );
     }
@@ -102,7 +102,7 @@ fn the_second_rule_has_its_report(rt: HostRuntime) -> Result<(), Fail> {
     let wanted = REPORT_BY_THE_SECOND_RULE;
     for workers in [1, 2, 16] {
         let options = options_of(workers);
-        reports(&rt, rt.alloc(), &batch, &options, &NoGate, wanted);
+        reports(&rt, rt.alloc(), &batch, &options, &Calls::new(), wanted);
     }
     Ok(())
 }

@@ -4,10 +4,11 @@ ghost use Rattle.std.specs.Prelude.{◌≤◌};
 ghost use Rattle.vcode_base.specs.declared.limits.TheConstants.{MOST_WORKERS};
 
 use crate::fronts::batches::{
-    EXECUTED_BY_THE_SECOND_RULE, EXECUTED_BY_TWELVE, EXECUTED_BY_TWO, SECOND_RULE, twelve_jobs_by,
+    DIVISION_WORDS, DIVISIONS, EXECUTED_BY_DIVISIONS, EXECUTED_BY_THE_SECOND_RULE,
+    EXECUTED_BY_TWELVE, EXECUTED_BY_TWO, SECOND_RULE, twelve_jobs_by,
 };
 use crate::fronts::calls::Calls;
-use crate::fronts::machines::machine;
+use crate::fronts::machines::{machine, machine_over};
 use crate::fronts::meeting::Meeting;
 use job_machine::{Admission, Begun, Desk, Filled, Finished, Machine, Status, compute};
 use std::alloc::Global;
@@ -180,7 +181,7 @@ fn workers_run_two<R>(
 where
     R: Abort + Threads + Wait + Sync,
 {
-    let (machine, tally) = ran(rt, alloc, machine, 2, &NoGate)?;
+    let (machine, tally) = ran(rt, alloc, machine, 2, &Calls::new())?;
     assert_eq!(rt; machine.executed(1), Some(EXECUTED_BY_TWO[0]));
     assert_eq!(rt; (by_workers(&tally), tally.caller), (6, 0));
     Ok(machine)
@@ -193,5 +194,26 @@ fn a_step_that_has_begun_is_given_up(rt: HostRuntime) -> Result<(), Fail> {
     let mut machine = workers_run_two(&rt, rt.alloc(), machine)?;
     let (finished, _) = machine.finish(filled);
     assert_eq!(rt; finished, Finished::Stale);
+    Ok(())
+}
+
+#[test]
+fn short_steps_start_no_worker(rt: HostRuntime) -> Result<(), Fail> {
+    let machine = machine(rt.alloc(), TWO_JOBS)?;
+    let (_, tally) = ran(&rt, rt.alloc(), machine, 2, &NoGate)?;
+    assert_eq!(rt;
+        (tally.workers.len(), by_workers(&tally), tally.caller),
+        (2, 0, 6)
+    );
+    Ok(())
+}
+
+#[test]
+fn long_steps_start_workers(rt: HostRuntime) -> Result<(), Fail> {
+    let machine = machine_over(rt.alloc(), DIVISIONS, DIVISION_WORDS)?;
+    let (_, tally) = ran(&rt, rt.alloc(), machine, 2, &NoGate)?;
+    let shared = by_workers(&tally);
+    assert!(rt; shared > 0);
+    assert_eq!(rt; shared.wrapping_add(tally.caller), EXECUTED_BY_DIVISIONS);
     Ok(())
 }

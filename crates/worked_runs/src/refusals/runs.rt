@@ -1,7 +1,8 @@
 //! Whole runs of the batch of twelve, of which each growth is refused in turn.
 
+use crate::refusals::gates::Closed;
 use crate::refusals::heaps::{Heap, MOST_GROWTHS};
-use batch_front::{Device, FrontFault, NoGate, Options, Status, run, run_alone};
+use batch_front::{Device, FrontFault, Options, Status, run, run_alone};
 use std::alloc::Global;
 use std::process::Abort;
 use std::sync::Wait;
@@ -36,7 +37,7 @@ where
 {
     let mut reader = Device::new(TWELVE_JOBS.as_bytes());
     let mut writer = Device::new(Vec::new(alloc));
-    let outcome = run(rt, heap, &mut reader, &mut writer, &options(), &NoGate);
+    let outcome = run(rt, heap, &mut reader, &mut writer, &options(), &Closed);
     (outcome, writer.into_inner())
 }
 

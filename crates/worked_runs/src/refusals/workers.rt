@@ -1,5 +1,6 @@
 //! Runs of a machine by two workers, of which each growth is refused in turn.
 
+use crate::refusals::gates::Closed;
 use crate::refusals::heaps::{Heap, MOST_GROWTHS};
 use crate::refusals::machines::{HeapMachine, machine};
 use crate::refusals::snapshots::both_have_returned;
@@ -7,7 +8,7 @@ use std::process::Abort;
 use std::sync::Wait;
 use std::test::Fail;
 use std::thread::Threads;
-use step_scheduler::{NoGate, RunFault, Tally, run_workers};
+use step_scheduler::{RunFault, Tally, run_workers};
 use test_support::{RefusingHeap, TWO_JOBS};
 
 /// The instructions that the two jobs execute.
@@ -36,7 +37,7 @@ where
 {
     let machine = machine(heap, TWO_JOBS)?;
     heap.refuse(growth);
-    match run_workers(rt, heap, machine, 2, &NoGate) {
+    match run_workers(rt, heap, machine, 2, &Closed) {
         Ok((machine, tally)) => {
             have_run(rt, &machine, &tally);
             Ok(Some(tally.caller))
