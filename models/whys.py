@@ -5,8 +5,8 @@ It takes the examples and the tables of `worked_batches`. Of each job the end, t
 the most words have to be those of the report of `vjobs`. Of each job that ran, what there is after a number of
 instructions, at a line and at each instruction is shown too: the counts have to be those that were asked for. If
 `vjobs-why` names a JOB line within which a job returns, the job has to return within it, and with any number of it one
-less it must not. What `--json` prints has to be what the second writing counts, for these batches and for as many
-random ones as are asked for (300 by default)."""
+less it must not. The states at which `--at` and `--when` stop, and what `--json` prints, have to be those of the second
+writing, for these batches and for as many random ones as are asked for (300 by default)."""
 import random
 import re
 import subprocess
@@ -14,6 +14,7 @@ import sys
 from collections.abc import Iterator
 
 import profiles
+import stops
 from random_batches import RandomBatches
 from tables import TOP, batches_of
 
@@ -160,6 +161,14 @@ def wrong_profiles(program: str, batch: bytes) -> Iterator[str]:
         yield from profiles.differences(shown, batch)
 
 
+def wrong_stops(program: str, batch: bytes, seed: int) -> Iterator[str]:
+    """What is wrong with the states at which the jobs of a batch stop."""
+    for options, wanted in stops.all_stops(batch, random.Random(seed)):
+        status, shown, said = run(program, batch, *options)
+        if status or said or not shown.startswith(wanted):
+            yield f"{' '.join(options)}: exit {status}: {said}{shown}, and not {wanted}"
+
+
 def random_ones(count: int, seed: int) -> Iterator[tuple[str, bytes]]:
     """The name of each random batch, and its bytes."""
     cases = RandomBatches(random.Random(seed))
@@ -172,8 +181,10 @@ def main(why: str, vjobs: str, count: int | str = 300, seed: int | str = 1) -> N
     batches = list(stored())
     for name, batch in batches:
         differences += [f"{name}: {text}" for text in (*wrong((why, vjobs), batch), *wrong_profiles(why, batch))]
-    for name, batch in random_ones(int(count), int(seed)):
-        differences += [f"{name}: {text}" for text in wrong_profiles(why, batch)]
+        differences += [f"{name}: {text}" for text in wrong_stops(why, batch, int(seed))]
+    for place, (name, batch) in enumerate(random_ones(int(count), int(seed))):
+        looked = (*wrong_profiles(why, batch), *wrong_stops(why, batch, int(seed) + place))
+        differences += [f"{name}: {text}" for text in looked]
     print(*differences, sep="\n", end="\n" if differences else "")
     print(f"whys: {len(batches)} batches and {count} random ones, {len(differences)} differences")
     sys.exit(bool(differences))

@@ -1,6 +1,7 @@
 //! The command line.
 
 use crate::selection::{Selection, line_range};
+use crate::stops::{Sought, place_sought, state_sought};
 use clap::parser::ValueSource;
 use clap::{Arg, ArgAction, ArgMatches, Command, value_parser};
 use program_words::{Program, WordsFault, help_of, matches_of};
@@ -11,14 +12,14 @@ use vcode_base::limits::MOST_BUDGET;
 const NAME: &str = "vjobs-why";
 
 /// What is to be shown of a job on a terminal.
-#[derive(Clone, Copy, Drop)]
+#[derive(Drop)]
 pub enum Look {
     /// How it ended.
     End,
     /// What there is after this number of instructions.
     After(u64),
-    /// What there is before a line is next for the K-th time.
-    At { line: u64, time: u64 },
+    /// What there is at a state that is looked for.
+    At(Sought),
     /// A line for each instruction of a selection.
     Steps(Selection),
     /// The words over time, what held the most, and what its functions and lines did: all lines, or the first of them.
@@ -96,11 +97,24 @@ fn lines_option<'a>(alloc: Global) -> Arg<'a> {
         .help("Of --steps only those on the lines A to B")
 }
 
-/// The option for a line.
+/// The option for a line or a function.
 fn at_option<'a>(alloc: Global) -> Arg<'a> {
-    Arg::new(alloc, "at").long("at").value_name("LINE[:K]").help(
-        "Shows what there is before LINE is next, for the first or the K-th time",
-    )
+    Arg::new(alloc, "at")
+        .long("at")
+        .value_name("PLACE[:K]")
+        .help(
+            "Shows what there is before line PLACE is next, or where function PLACE begins, the first or K-th time",
+        )
+}
+
+/// The option for a condition.
+fn when_option<'a>(alloc: Global) -> Arg<'a> {
+    Arg::new(alloc, "when")
+        .long("when")
+        .value_name("WHAT>N")
+        .help(
+            "Shows what there is when first words>N are held, entries>N are there, or makes>N words are to be made",
+        )
 }
 
 /// The option for the file of a page.
@@ -161,7 +175,8 @@ fn with_states<'a>(alloc: Global, command: Command<'a>) -> Result<Command<'a>, c
                 "N",
                 "Shows what there is after N instructions",
             ))?
-            .arg(at_option(alloc))?,
+            .arg(at_option(alloc))?
+            .arg(when_option(alloc))?,
     )
 }
 
@@ -233,22 +248,11 @@ fn number(matches: &ArgMatches<'_>, name: &str) -> Option<u64> {
     Some(u64::from(matches.get_one::<u32>(name)?))
 }
 
-/// The line and the time of `LINE[:K]`.
-fn line_and_time(text: &str) -> Option<Look> {
-    match text.split_once(':') {
-        Some((line, time)) => {
-            let (Ok(line), Ok(time)) = (line.parse::<u64>(), time.parse::<u64>()) else {
-                return None;
-            };
-            if time == 0 {
-                return None;
-            }
-            Some(Look::At { line, time })
-        }
-        None => match text.parse::<u64>() {
-            Ok(line) => Some(Look::At { line, time: 1 }),
-            Err(_) => None,
-        },
+/// The refusal of a command line for a reason.
+fn refusal(alloc: Global, reason: &str) -> WordsFault {
+    match format!(in alloc; "vjobs-why: {reason}\n") {
+        Ok(text) => WordsFault::Refused(text),
+        Err(_) => WordsFault::Memory,
     }
 }
 
@@ -268,16 +272,39 @@ fn selection_of(matches: &ArgMatches<'_>) -> Result<Selection, &'static str> {
     })
 }
 
+/// The state that is looked for, if there is one.
+fn sought_of(alloc: Global, matches: &ArgMatches<'_>) -> Result<Option<Sought>, WordsFault> {
+    if let Some(text) = matches.get_str("at") {
+        return match place_sought(alloc, text)? {
+            Some(sought) => Ok(Some(sought)),
+            None => Err(refusal(
+                alloc,
+                "--at takes LINE or FUNCTION, or one of these with :K",
+            )),
+        };
+    }
+    let Some(text) = matches.get_str("when") else {
+        return Ok(None);
+    };
+    match state_sought(text) {
+        Some(sought) => Ok(Some(sought)),
+        None => Err(refusal(alloc, "--when takes words>N, entries>N or makes>N")),
+    }
+}
+
 /// What is to be shown of a job, or why the value of an option can't be taken.
-fn look_of(matches: &ArgMatches<'_>) -> Result<Look, &'static str> {
+fn look_of(alloc: Global, matches: &ArgMatches<'_>) -> Result<Look, WordsFault> {
     if let Some(count) = number(matches, "after") {
         return Ok(Look::After(count));
     }
-    if let Some(text) = matches.get_str("at") {
-        return line_and_time(text).ok_or("--at takes LINE or LINE:K");
+    if let Some(sought) = sought_of(alloc, matches)? {
+        return Ok(Look::At(sought));
     }
     if matches.get_flag("steps") {
-        return Ok(Look::Steps(selection_of(matches)?));
+        return match selection_of(matches) {
+            Ok(selection) => Ok(Look::Steps(selection)),
+            Err(reason) => Err(refusal(alloc, reason)),
+        };
     }
     if matches.get_flag("profile") {
         return Ok(Look::Profile {
@@ -306,6 +333,7 @@ const PARTS: &[(&str, &str)] = &[
 const LOOKS: &[(&str, bool)] = &[
     ("after", false),
     ("at", false),
+    ("when", false),
     ("steps", false),
     ("profile", false),
     ("json", true),
@@ -380,13 +408,7 @@ fn asked_of(alloc: Global, matches: &ArgMatches<'_>) -> Result<Line, WordsFault>
     if let Some(text) = misuse(alloc, matches)? {
         return Err(WordsFault::Refused(text));
     }
-    let look = match look_of(matches) {
-        Ok(look) => look,
-        Err(reason) => {
-            let text = format!(in alloc; "vjobs-why: {reason}\n")?;
-            return Err(WordsFault::Refused(text));
-        }
-    };
+    let look = look_of(alloc, matches)?;
     let file = String::from_str(alloc, matches.get_str("file").unwrap_or("-"))?;
     Ok(Line::Show(Asked {
         file,

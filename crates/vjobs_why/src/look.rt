@@ -12,6 +12,7 @@ use crate::reasons::reason;
 use crate::spans::Spans;
 use crate::stack::{print_calls, print_stack};
 use crate::steps::show_steps;
+use crate::stops::show_sought;
 use crate::survey::Survey;
 use crate::watch::Watch;
 use crate::wide::{Course, MOST_BEFORE, Wide, Work, run_wide};
@@ -360,21 +361,15 @@ fn print_state(rt: &HostRuntime, batch: Batch<'_>, watch: &Watch) -> io::Result<
     print_picture(rt, watch)
 }
 
-/// Shows what was asked for of a run that has executed nothing.
-fn show_run(rt: &HostRuntime, batch: Batch<'_>, watch: &mut Watch, look: Look) -> io::Result<()> {
-    match look {
-        Look::End | Look::Profile { .. } | Look::Folded(_) | Look::Steps(_) => Ok(()),
-        Look::After(count) => {
-            watch.go_to(count)?;
-            print_state(rt, batch, watch)
-        }
-        Look::At { line, time } => {
-            if watch.go_to_line(line, time)? {
-                return print_state(rt, batch, watch);
-            }
-            println!(rt; "line {line} is not next {time} times")
-        }
-    }
+/// Prints what there is after this many instructions of a run that has executed nothing.
+fn print_after(
+    rt: &HostRuntime,
+    batch: Batch<'_>,
+    watch: &mut Watch,
+    count: u64,
+) -> io::Result<()> {
+    watch.go_to(count)?;
+    print_state(rt, batch, watch)
 }
 
 /// Prints how a job ended and its profile.
@@ -513,21 +508,28 @@ fn print_name(rt: &HostRuntime, place: u64, name: &[u8]) -> io::Result<()> {
     print!(rt; "JOB {place} {name} ")
 }
 
-/// Shows a state of a job, on the line of its name.
-fn show_state(rt: &HostRuntime, batch: Batch<'_>, job: Job<Global>, look: Look) -> io::Result<()> {
+/// Shows what there is after this many instructions of a job, on the line of its name.
+pub fn show_after(
+    rt: &HostRuntime,
+    batch: Batch<'_>,
+    job: Job<Global>,
+    count: u64,
+) -> io::Result<()> {
     let mut watch = Watch::new(rt.alloc(), batch.rule, job)?;
-    let shown = show_run(rt, batch, &mut watch, look);
+    let shown = print_after(rt, batch, &mut watch, count);
     drop(watch);
     shown
 }
 
 /// Shows what was asked for of a job, on the line of its name.
-fn show_named(rt: &HostRuntime, batch: Batch<'_>, job: Job<Global>, look: Look) -> io::Result<()> {
+fn show_named(rt: &HostRuntime, batch: Batch<'_>, job: Job<Global>, look: &Look) -> io::Result<()> {
     match look {
         Look::End => print_end(rt, batch, job),
-        Look::Profile { all } => show_profile(rt, batch, job, all),
-        Look::Steps(selection) => show_steps(rt, batch, job, selection),
-        Look::After(_) | Look::At { .. } | Look::Folded(_) => show_state(rt, batch, job, look),
+        Look::Profile { all } => show_profile(rt, batch, job, *all),
+        Look::Steps(selection) => show_steps(rt, batch, job, *selection),
+        Look::After(count) => show_after(rt, batch, job, *count),
+        Look::At(sought) => show_sought(rt, batch, job, sought),
+        Look::Folded(unit) => print_folded(rt, batch.rule, job, *unit),
     }
 }
 
@@ -537,10 +539,10 @@ pub fn show(
     batch: Batch<'_>,
     place: u64,
     job: Job<Global>,
-    look: Look,
+    look: &Look,
 ) -> io::Result<()> {
-    if let Look::Folded(unit) = look {
-        return print_folded(rt, batch.rule, job, unit);
+    if let Look::Folded(_) = look {
+        return show_named(rt, batch, job, look);
     }
     match print_name(rt, place, job.name()) {
         Ok(()) => show_named(rt, batch, job, look),

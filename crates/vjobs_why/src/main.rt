@@ -32,6 +32,7 @@ mod signature_notes;
 mod spans;
 mod stack;
 mod steps;
+mod stops;
 mod survey;
 mod tally;
 mod text_notes;
@@ -67,7 +68,7 @@ fn show_entry(
     batch: look::Batch<'_>,
     place: u64,
     entry: JobEntry<Global>,
-    look: Look,
+    look: &Look,
 ) -> io::Result<()> {
     let Entry { name, fate } = entry;
     match fate {
@@ -173,7 +174,7 @@ fn show_jobs(
     asked: &Asked,
 ) -> Result<bool, Failure> {
     match &asked.form {
-        Form::Texts(look) => match show_entries(rt, batch, entries, asked.job, *look) {
+        Form::Texts(look) => match show_entries(rt, batch, entries, asked.job, look) {
             Ok(found) => Ok(found),
             Err(error) => Err(Failure::of_output(rt.alloc(), error)),
         },
@@ -187,7 +188,7 @@ fn show_entries(
     batch: look::Batch<'_>,
     entries: JobEntries<Global>,
     job: Option<u64>,
-    look: Look,
+    look: &Look,
 ) -> io::Result<bool> {
     let mut place: u64 = 0;
     let mut found = job.is_none();

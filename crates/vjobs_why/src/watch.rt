@@ -150,25 +150,6 @@ impl Watch {
         Ok(())
     }
 
-    /// Executes instructions until this line is next for the time of this number, or none is left before the end. True
-    /// if the line is next.
-    pub fn go_to_line(&mut self, line: u64, time: u64) -> Result<bool, AllocError> {
-        let mut times: u64 = 0;
-        for _ in 0..u64::MAX {
-            let Some(next) = self.next() else {
-                return Ok(false);
-            };
-            if next.line == line {
-                times = times.saturating_add(1);
-                if times >= time {
-                    return Ok(true);
-                }
-            }
-            self.step()?;
-        }
-        Ok(false)
-    }
-
     /// The job.
     pub fn into_job(self) -> Job<Global> {
         self.uses.into_job()
