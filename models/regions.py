@@ -101,7 +101,7 @@ class Memory(Words):
         super().__init__(size)
         self.most, self.moved, self.placed = most, 0, 0
         self.blocks: dict[int, tuple[int, list[int]]] = {}
-        self.kept: list[tuple[int, int] | None] = [None] * SETS * WAYS
+        self.kept: list[tuple[int, int] | None] = [None for _ in range(SETS * WAYS)]
         self.next = 0
 
     def make_room(self, length: int) -> None:
