@@ -89,7 +89,8 @@ def calls_with(name: bytes) -> Iterator[Words]:
         [PACK, b"--out", name, b"none"], [PACK, b"--files-from", name], [PACK, value], [PACK, b"--most-entries", name],
         [SPLIT, b"--out", b"new", b"--", name], [SPLIT, b"--beside", b"--", name],
         [KINDS, b"--most-bytes", name, b"-"], [KINDS, b"--", name],
-        [WHY, b"--html", b"none/" + name, b"batch.vcode"], [WHY, b"--at", name, b"batch.vcode"], [WHY, b"--", name],
+        [WHY, b"--html", b"none/" + name, b"batch.vcode"], [WHY, b"--at", name + b":0", b"batch.vcode"],
+        [WHY, b"--", name],
     ]
     yield from others
 
@@ -106,6 +107,9 @@ def with_names() -> None:
                 fault(words, f"exit {ran.returncode}: {ran.stderr!r}")
             if is_text(name) and ran.stderr.count(b"\n") != other.stderr.count(b"\n"):
                 fault(words, f"not as many lines as with another name: {ran.stderr!r}")
+        looked = run([WHY, b"--at", name, b"batch.vcode"])
+        if looked and not is_shown(looked.stdout + looked.stderr):
+            fault([WHY, b"--at", name], looked.stdout + looked.stderr)
         if is_text(name) and b"/" not in name:
             as_file(name)
 

@@ -6,7 +6,7 @@ use job_profile::{Stop, Uses};
 use job_steps::Job;
 use std::alloc::{AllocError, Global};
 use std::io;
-use vcode_base::{Elements, Rule};
+use vcode_base::{Elements, Rule, is_visible};
 
 /// The name of the function with which a job begins.
 const MAIN: &str = "MAIN";
@@ -31,17 +31,25 @@ fn with_time(text: &str) -> Option<(&str, u64)> {
     }
 }
 
+/// Whether this may be the name of a function, as far as its bytes go. So a name that is printed shows nothing odd.
+fn is_name(text: &str) -> bool {
+    for byte in text.as_bytes() {
+        if !is_visible(*byte) {
+            return false;
+        }
+    }
+    !text.is_empty()
+}
+
 /// The state that is named by a line or a function, and the time after a colon. `None` if the text names none.
 pub fn place_sought(alloc: Global, text: &str) -> Result<Option<Sought>, AllocError> {
     let Some((place, time)) = with_time(text) else {
         return Ok(None);
     };
-    if place.is_empty() {
-        return Ok(None);
-    }
     let stop = match place.parse::<u64>() {
         Ok(line) => Stop::Line(line),
-        Err(_) => Stop::Call(String::from_str(alloc, place)?),
+        Err(_) if is_name(place) => Stop::Call(String::from_str(alloc, place)?),
+        Err(_) => return Ok(None),
     };
     Ok(Some(Sought { stop, time }))
 }
