@@ -17,6 +17,15 @@ OPEN = """[...document.querySelectorAll('article > details')].forEach((part) => 
   part.open = true;
   part.dispatchEvent(new Event('toggle'));
 })"""
+# Waits until each drawing is there, for five seconds at most. A browser paints them one after another, and not at once.
+DRAWN = """new Promise((done) => {
+  const look = (left) => {
+    const is_bare = [...document.querySelectorAll('.drawing')].some((place) => !place.firstChild);
+    if (is_bare && left) setTimeout(() => look(left - 1), 20);
+    else requestAnimationFrame(() => setTimeout(done, 50));
+  };
+  look(250);
+})"""
 
 
 class Browser:
@@ -112,10 +121,14 @@ class Page:
         browser.wait_for("Page.loadEventFired", self.session)
         self.drawn = self.run("document.querySelectorAll('.sheet').length")
         self.run(OPEN)
-        self.run("new Promise((done) => requestAnimationFrame(() => setTimeout(done, 50)))")
+        self.wait_for_drawings()
 
     def ask(self, method: str, **parameters: Any) -> dict:
         return self.browser.ask(method, self.session, **parameters)
+
+    def wait_for_drawings(self) -> None:
+        """A drawing is painted when the browser knows how wide it is."""
+        self.run(DRAWN)
 
     def run(self, code: str) -> Any:
         """The value of an expression on the page."""

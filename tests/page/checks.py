@@ -231,6 +231,7 @@ def numbers(page: Page, wanted: Wanted) -> Iterator[str]:
 
 
 def drawings(page: Page, wanted: Wanted) -> Iterator[str]:
+    page.wait_for_drawings()
     for shown, job in zip(page.run(READ), wanted.jobs):
         yield from differ("drawings", len(shown["drawings"]), ("calls" in job) + ("columns" in job))
         for drawing in shown["drawings"]:
