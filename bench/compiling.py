@@ -24,7 +24,7 @@ SIZES = (1, 100, 20_000)
 RUNS = 5
 # About how many elements a load goes through.
 WORK = 3_000_000
-# A batch has at most so many jobs.
+# The most jobs of a batch.
 MOST_JOBS = 64
 FILES = [TOP / "examples" / name for name in ("idioms.vcode", "forms.vcode")]
 
