@@ -19,12 +19,14 @@ use vcode_base::Limits;
 const LINES_BESIDE: u64 = 8;
 
 /// What is said of the end of a job: the note at its last line, the least limits within which it returns, or the work
-/// after which they were given up, and the words that its last instruction wanted in all, if these are known.
+/// after which they were given up, or how it ends within the widest limits and after how many instructions, and the
+/// words that its last instruction wanted in all, if these are known.
 #[derive(Drop)]
 pub struct Told {
     pub note: String,
     pub least: Option<Limits>,
     pub tried: Option<Work>,
+    pub widest: Option<(Ending, u64)>,
     pub wanted: Option<usize>,
 }
 
@@ -44,7 +46,7 @@ fn push_quoted(text: &mut String, value: &str) -> Result<(), AllocError> {
 }
 
 /// Adds a comma before each item of a list but the first.
-fn push_comma(text: &mut String, place: usize) -> Result<(), AllocError> {
+pub fn push_comma(text: &mut String, place: usize) -> Result<(), AllocError> {
     if place > 0 {
         text.push(',')?;
     }
@@ -166,7 +168,7 @@ fn push_lines(
 }
 
 /// Adds a member that is a list of numbers.
-fn push_numbers(text: &mut String, member: &str, numbers: &[usize]) -> Result<(), AllocError> {
+pub fn push_numbers(text: &mut String, member: &str, numbers: &[usize]) -> Result<(), AllocError> {
     write!(text, ",\"{member}\":[")?;
     for (place, number) in numbers.iter().enumerate() {
         push_comma(text, place)?;
@@ -348,9 +350,20 @@ fn push_end(text: &mut String, survey: &Survey) -> Result<(), AllocError> {
     push_amounts(text, "used", used)
 }
 
+/// Adds the member for how a job ends within the widest limits, if that is known and it doesn't return.
+fn push_widest(text: &mut String, widest: Option<(Ending, u64)>) -> Result<(), AllocError> {
+    let Some((ending, executed)) = widest else {
+        return Ok(());
+    };
+    write!(text, ",\"widest\":{{\"instructions\":{executed}")?;
+    push_ending(text, ending)?;
+    text.push('}')
+}
+
 /// Adds the members for what is said of the end of a job, and ends its object.
 pub fn push_told(text: &mut String, told: &Told) -> Result<(), AllocError> {
     push_note(text, told.note.as_str())?;
+    push_widest(text, told.widest)?;
     if let Some(wanted) = told.wanted {
         write!(text, ",\"wanted\":{wanted}")?;
     }

@@ -7,13 +7,14 @@ use crate::folded::print_folded;
 use crate::lines::{Lines, printable};
 use crate::memory_notes::memory_note;
 use crate::operands::operand_names;
+use crate::page_data::push_found;
 use crate::profile::{Shown, print_profile};
 use crate::reasons::reason;
 use crate::spans::Spans;
 use crate::stack::{print_calls, print_stack};
 use crate::steps::show_steps;
 use crate::stops::show_sought;
-use crate::survey::Survey;
+use crate::survey::{Again, Survey};
 use crate::watch::Watch;
 use crate::wide::{Course, MOST_BEFORE, Wide, Work, run_wide};
 use job_profile::Run;
@@ -433,6 +434,14 @@ fn tried_of(wide: Option<Wide>) -> Option<Work> {
     }
 }
 
+/// How a job ends within the widest limits and after how many instructions, if it doesn't return there.
+fn widest_of(wide: Option<Wide>) -> Option<(Ending, u64)> {
+    match wide?.course {
+        Course::Ends(Ending::Returned, ..) | Course::GoesOn(_) | Course::NotRun => None,
+        Course::Ends(ending, executed, _) => Some((ending, executed)),
+    }
+}
+
 /// The words that the last instruction of a job wanted, if they passed its limit.
 fn wanted_of(end: End, wide: Option<Wide>, limit: usize) -> Option<usize> {
     match (end.ending, wide) {
@@ -456,6 +465,7 @@ fn told_of(
         note: last_note(alloc, batch.rule, job, end, wide)?,
         least: least_of(end, wide),
         tried: tried_of(wide),
+        widest: widest_of(wide),
         wanted: wanted_of(end, wide, limit),
     })
 }
@@ -484,6 +494,18 @@ fn with_told(
     Ok(text)
 }
 
+/// The object of a job that is run again for a page, of which this is the text up to what is found then.
+fn with_found(
+    mut text: String,
+    alloc: Global,
+    batch: Batch<'_>,
+    job: Job<Global>,
+    again: Again,
+) -> Result<String, AllocError> {
+    let job = push_found(&mut text, alloc, batch.rule, job, again)?;
+    with_told(text, alloc, batch, job, again.end)
+}
+
 /// A job of this place as data.
 pub fn object_of(
     alloc: Global,
@@ -492,9 +514,9 @@ pub fn object_of(
     job: Job<Global>,
 ) -> Result<String, AllocError> {
     let survey = Survey::of(alloc, batch.rule, job)?;
-    let end = survey.end();
+    let again = survey.again();
     match job_object(alloc, batch.lines, place, &survey) {
-        Ok(text) => with_told(text, alloc, batch, survey.into_job(), end),
+        Ok(text) => with_found(text, alloc, batch, survey.into_job(), again),
         Err(error) => {
             drop(survey);
             Err(error)

@@ -2,13 +2,13 @@
 
 use crate::bands::Bands;
 use crate::chains::Chains;
-use crate::end::{End, end_of};
+use crate::end::{End, Ending, end_of};
 use crate::tally::{Before, Tally};
 use job_profile::{Columns, Profile, Run};
 use job_steps::Job;
 use std::alloc::{AllocError, Global};
-use vcode_base::Rule;
 use vcode_base::limits::MOST_BUDGET;
+use vcode_base::{MemoryFault, Rule};
 
 /// What is counted of a run: what its functions and lines did, its chains of functions, and which functions ran most.
 #[derive(Drop)]
@@ -26,6 +26,15 @@ pub struct Survey {
     pub last: Option<Before>,
     pub columns: Columns<Global>,
     pub counts: Counts,
+}
+
+/// What is looked at when a job that ended so is run again: what it holds before the instruction of this number, which
+/// is the one that the limit on words refused, or the first at the peak. Columns are of `each` instructions.
+#[derive(Clone, Copy, Drop)]
+pub struct Again {
+    pub end: End,
+    pub number: u64,
+    pub each: u64,
 }
 
 impl Counts {
@@ -101,6 +110,19 @@ impl Survey {
             self.steps = self.steps.saturating_add(1);
         }
         Ok(goes_on)
+    }
+
+    /// What is looked at when the job is run again.
+    pub fn again(&self) -> Again {
+        let end = self.end();
+        let (each, _) = self.columns.columns();
+        let number = match end.ending {
+            Ending::Memory(MemoryFault::Words, _) => end.steps.saturating_add(1),
+            Ending::Returned | Ending::Fault(..) | Ending::Memory(..) | Ending::Budget => {
+                self.profile().peak_after()
+            }
+        };
+        Again { end, number, each }
     }
 
     /// How the job ended.
