@@ -78,8 +78,8 @@ def narrow() -> str:
             + "COPY 1 0\nCONST INT 0\n> INT\nIF\nCONST INT 1\n- INT\n" + f"CALL {name}\nENDIF\nRET\nEND\n")
 
 
-def many(count: int = 24) -> str:
-    """Many jobs, some of which have a fault."""
+def many(count: int = 64) -> str:
+    """As many jobs as a batch may have, some of which have a fault."""
     return "".join(f"JOB job_{place} 64 16 4 100\nSIGNATURES\nMAIN () -> (INT)\nCODE\nFUNC MAIN\nCONST INT {place}\n"
                    f"CONST INT {place % 5}\n/ INT\nRET\nEND\n" for place in range(1, count + 1))
 
@@ -142,8 +142,8 @@ def batches() -> dict[str, bytes]:
              for name in ["quicksort", "four_ends", "reservation_too_small"]}
     found["budget"] = budget().encode()
     found["attacks"] = attacks().encode("latin1")
-    found["long"] = long_run(28, 5).encode()
-    found |= {"narrow": narrow().encode(), "many": many().encode(), "far": far().encode(), "tall": tall().encode(),
+    found["long"] = long_run(22, 5).encode()
+    found |= {"narrow": narrow().encode(), "sixty_four": many().encode(), "far": far().encode(), "tall": tall().encode(),
               "chains": chains(12).encode(),
               "entries": entries().encode(), "deep": deep().encode(), "many_values": many_values().encode()}
     return found

@@ -39,7 +39,7 @@ class Browser:
                  "--no-first-run",
                  "--disable-background-networking", "--disable-component-update", "--disable-sync", "--hide-scrollbars",
                  f"--user-data-dir={self.folder}", "--remote-debugging-pipe", "about:blank"]
-        shell = ["sh", "-c", f'exec "$@" 3<&{to_read} 4>&{to_write}', "sh", *words]
+        shell = ["bash", "-c", f'exec "$@" 3<&{to_read} 4>&{to_write}', "bash", *words]
         self.process = subprocess.Popen(shell, pass_fds=(to_read, to_write), stdin=subprocess.DEVNULL,
                                         stdout=subprocess.DEVNULL, stderr=subprocess.DEVNULL)
         os.close(to_read)
@@ -68,21 +68,29 @@ class Browser:
         message, _, self.rest = self.rest.partition(b"\0")
         return json.loads(message)
 
-    def ask(self, method: str, session: str | None = None, **parameters: Any) -> dict:
-        """The answer to a call. What happens before it comes is kept in `events`."""
+    def send(self, method: str, session: str | None = None, **parameters: Any) -> int:
+        """Makes a call, whose answer has this number."""
         self.count += 1
         call = {"id": self.count, "method": method, "params": parameters}
         if session:
             call["sessionId"] = session
         os.write(self.to_browser, json.dumps(call).encode() + b"\0")
+        return self.count
+
+    def answer(self, number: int) -> dict:
+        """The answer of a number. What comes before it is kept in `events`, other answers too."""
         until = time.monotonic() + SECONDS
         while message := self._message(until):
-            if message.get("id") == self.count:
+            if message.get("id") == number:
                 if "error" in message:
-                    raise RuntimeError(f"{method}: {message['error']}")
+                    raise RuntimeError(str(message["error"]))
                 return message["result"]
             self.events.append(message)
-        raise TimeoutError(f"no answer to {method}")
+        raise TimeoutError(f"no answer of number {number}")
+
+    def ask(self, method: str, session: str | None = None, **parameters: Any) -> dict:
+        """The answer to a call. What happens before it comes is kept in `events`."""
+        return self.answer(self.send(method, session, **parameters))
 
     def wait_for(self, method: str, session: str) -> None:
         """Waits until something has happened, which may be among what is kept."""
@@ -104,10 +112,11 @@ class Browser:
 
 
 class Page:
-    """A page that was opened at a width, light or dark, all of whose jobs are open then. `drawn` is how many jobs were
-    drawn before that, `said` is what the console has, `asked` what was asked for."""
+    """A page that was opened at a width, in light colours. All its jobs are open then if that is asked for. `drawn` is how
+    many jobs were drawn before that, `spent` how many seconds of a processor it took, `said` is what the console has,
+    `asked` what was asked for."""
 
-    def __init__(self, browser: Browser, url: str, width: int, scheme: str) -> None:
+    def __init__(self, browser: Browser, url: str, width: int, is_all: bool = True) -> None:
         self.browser = browser
         browser.events.clear()
         self.target = browser.ask("Target.createTarget", url="about:blank")["targetId"]
@@ -115,16 +124,30 @@ class Page:
         for domain in ["Page", "Runtime", "Log", "Network"]:
             self.ask(f"{domain}.enable")
         self.ask("Emulation.setDeviceMetricsOverride", width=width, height=1000, deviceScaleFactor=1, mobile=False)
-        self.ask("Emulation.setEmulatedMedia", features=[{"name": "prefers-color-scheme", "value": scheme}])
+        self.ask("Performance.enable", timeDomain="threadTicks")
+        self.take_colours("light")
         browser.events.clear()
+        before = self.work()
         self.ask("Page.navigate", url=url)
         browser.wait_for("Page.loadEventFired", self.session)
+        self.wait_for_drawings()
+        self.spent = self.work() - before
         self.drawn = self.run("document.querySelectorAll('.sheet').length")
-        self.run(OPEN)
+        if is_all:
+            self.run(OPEN)
         self.wait_for_drawings()
 
     def ask(self, method: str, **parameters: Any) -> dict:
         return self.browser.ask(method, self.session, **parameters)
+
+    def take_colours(self, scheme: str) -> None:
+        """Takes light or dark colours."""
+        self.ask("Emulation.setEmulatedMedia", features=[{"name": "prefers-color-scheme", "value": scheme}])
+
+    def work(self) -> float:
+        """How many seconds of a processor the page took so far."""
+        metrics = self.ask("Performance.getMetrics")["metrics"]
+        return next(each["value"] for each in metrics if each["name"] == "TaskDuration")
 
     def wait_for_drawings(self) -> None:
         """A drawing is painted when the browser knows how wide it is."""
@@ -137,10 +160,19 @@ class Page:
             raise RuntimeError(f"{code[:80]}: {answer['exceptionDetails']}")
         return answer["result"].get("value")
 
-    def press(self, key: str, code: int) -> None:
-        """Presses a key."""
-        for kind in ["rawKeyDown", "keyUp"]:
-            self.ask("Input.dispatchKeyEvent", type=kind, key=key, code=key, windowsVirtualKeyCode=code)
+    def press(self, key: str, code: int, times: int = 1) -> None:
+        """Presses a key. Of many presses only the answers to some are waited for."""
+        for count in range(times):
+            for kind in ["rawKeyDown", "keyUp"]:
+                last = self.browser.send("Input.dispatchKeyEvent", self.session, type=kind, key=key, code=key,
+                                         windowsVirtualKeyCode=code)
+            if count % 20 == 19 or count == times - 1:
+                self.browser.answer(last)
+
+    def pull(self, begin: tuple[float, float], end: tuple[float, float]) -> None:
+        """Pulls the pointer from one place to another."""
+        for kind, (x, y), buttons in [("mousePressed", begin, 1), ("mouseMoved", end, 1), ("mouseReleased", end, 0)]:
+            self.ask("Input.dispatchMouseEvent", type=kind, x=x, y=y, button="left", buttons=buttons, clickCount=1)
 
     def said(self) -> list[str]:
         """Errors and warnings of the console."""

@@ -2,7 +2,7 @@
 from __future__ import annotations
 
 import re
-from collections.abc import Callable, Iterator
+from collections.abc import Iterator
 from dataclasses import dataclass
 
 from browser import Page
@@ -16,8 +16,19 @@ READ = """(() => {
     least: part.querySelector('.ending p code')?.textContent ?? null,
     cards: [...part.querySelectorAll('.cards dd')].map((card) => card.textContent),
     code: rows(part, 'code'), functions: rows(part, 'functions'), calls: rows(part, 'calls'), words: rows(part, 'words'),
+    held: rows(part, 'held'), stack: rows(part, 'stack'), active: rows(part, 'active'), source: rows(part, 'source'),
+    levels: rows(part, 'levels'), remarks: Object.fromEntries([...part.querySelectorAll('section')].map((each) =>
+      [each.className, each.querySelector('h2').textContent])),
+    told: [...part.querySelectorAll('.ending p')].map((each) => each.textContent),
+    expected: part.querySelector('.ending pre.wide')?.textContent ?? null,
+    passed: [...part.querySelectorAll('.cards .passed dt')].map((each) => each.textContent),
+    left: [...part.querySelectorAll('.stack p, .active p, .held p')].map((each) => each.textContent),
+    narrow: part.querySelector('.calls > p')?.textContent ?? '', bars: part.querySelectorAll('.chain').length,
+    colours: [...part.querySelectorAll('.functions .swatch')].map((each) => each.style.background),
     marks: [...part.querySelectorAll('.words svg text')].map((text) => text.textContent),
+    level_marks: [...part.querySelectorAll('.levels svg text')].map((text) => text.textContent),
     crosses: part.querySelectorAll('.words svg .cross').length,
+    level_crosses: part.querySelectorAll('.levels svg .cross').length,
     drawings: [...part.querySelectorAll('svg')].map((svg) => ({shapes: svg.querySelectorAll('path, rect').length,
       height: svg.getBoundingClientRect().height, named: !!svg.querySelector('title'),
       table: !!svg.closest('section').querySelector('details table tbody tr')})),
@@ -33,27 +44,31 @@ ELEMENTS = """(() => {
 TAGS = set("""html head meta title style body noscript main script article header h1 h2 small span section pre p code dl dt dd
 b div i details summary table caption thead tbody tr th td a ul li nav svg path line text circle rect g input output button
 label""".split())
-# The most jobs that are drawn as a page is opened, and the most lines of code that it shows.
-MOST_OPEN, MOST_ROWS = 8, 5_000
+# The most jobs that are drawn as a page is opened, the most lines of code that it shows, and the most seconds of a
+# processor that opening it may take.
+MOST_OPEN, MOST_ROWS, MOST_SECONDS = 8, 5_000, 1.0
 FOCUSABLE = """(() => {
-  const all = [...document.querySelectorAll('a[href], summary, input, button, [tabindex="0"]')].filter((element) => element.checkVisibility());
+  const all = [...document.querySelectorAll('a[href], summary, input, button, [tabindex="0"]')]
+    .filter((element) => element.checkVisibility() && element.tabIndex >= 0 && !element.disabled);
+  document.addEventListener('focusin', ({target}) => { target.dataset.reached = 1; });
   const is_unpicked = (element) => element.type === 'radio' && !element.checked;
   all.filter((element) => !is_unpicked(element)).forEach((element) => { element.dataset.wanted = 1; });
   return [all.length, [...document.querySelectorAll('.scroll')].filter((element) => element.tabIndex !== 0).length];
 })()"""
 # Links that lead nowhere, last lines that aren't in sight, and texts of drawings that aren't within them.
 PLACES = """(() => {
-  const links = [...document.querySelectorAll('a')].filter(({hash}) => !document.getElementById(hash.slice(1)));
+  const links = [...document.querySelectorAll('a[href]')].map((link) => link.getAttribute('href'))
+    .filter((link) => !document.getElementById(link.slice(1)));
   const lines = [...document.querySelectorAll('tr.last')].filter((line) => {
     const own = line.getBoundingClientRect(), box = line.closest('.scroll').getBoundingClientRect();
     return own.top < box.top || own.bottom > box.bottom + 1;
   });
-  const texts = [...document.querySelectorAll('.words svg .strong, .words svg .alarm')].filter((text) => {
+  const texts = [...document.querySelectorAll('svg .strong, svg .alarm')].filter((text) => {
     const {x, y, width} = text.getBBox(), {width: all} = text.ownerSVGElement.viewBox.baseVal;
     const bottom = Number(text.ownerSVGElement.querySelector('.grid').getAttribute('y1'));
     return x < 54 || x + width > all || y < 0 || y > bottom - 6;
   });
-  return [...links.map(({hash}) => `a link leads to ${hash}`), ...lines.map((line) => `out of sight is ${line.textContent}`),
+  return [...links.map((link) => `a link leads to ${link}`), ...lines.map((line) => `out of sight is ${line.textContent}`),
     ...texts.map((text) => `over an edge is ${text.textContent}`)];
 })()"""
 # The numbers of functions and chains when elements are counted.
@@ -83,11 +98,12 @@ CONTRAST = """(() => {
   };
   const found = [];
   const look = (name, colour, back) => { if (ratio(over(parts(colour), back), back) < 4.5) found.push(name + ' ' + colour + ' on ' + back.map(Math.round)); };
-  for (const name of ['h1', 'h2', 'small', '.dim', '.end', 'td.text', 'tr.never td', 'tr.last td', 'pre', 'pre .note', 'p', 'dt', 'td.heat', 'summary', 'th', 'a', 'output']) {
+  for (const name of ['h1', 'h2', 'small', '.dim', '.end', 'td.text', 'tr.never td', 'tr.last td', 'pre', 'pre .note', 'p', 'dt', 'td.heat', 'summary', 'th', 'p a',
+    'td a', 'output', '.ended', 'td.values', 'code', '.made', 'button:enabled']) {
     for (const element of document.querySelectorAll(name)) look(name, getComputedStyle(element).color, back_of(element));
   }
-  for (const text of document.querySelectorAll('.words svg text')) look('text', getComputedStyle(text).fill, back_of(text.closest('section')));
-  for (const text of document.querySelectorAll('.flame g g text')) {
+  for (const text of document.querySelectorAll('.words svg text, .levels svg text')) look('text', getComputedStyle(text).fill, back_of(text.closest('section')));
+  for (const text of document.querySelectorAll('.flame .chain text')) {
     look('bar', getComputedStyle(text).fill, parts(getComputedStyle(text.previousElementSibling).fill).slice(0, 3));
   }
   return [...new Set(found)];
@@ -233,7 +249,8 @@ def numbers(page: Page, wanted: Wanted) -> Iterator[str]:
 def drawings(page: Page, wanted: Wanted) -> Iterator[str]:
     page.wait_for_drawings()
     for shown, job in zip(page.run(READ), wanted.jobs):
-        yield from differ("drawings", len(shown["drawings"]), ("calls" in job) + ("columns" in job))
+        yield from differ("drawings", len(shown["drawings"]), ("calls" in job) + ("columns" in job) + ("levels" in job))
+        yield from differ("colours of functions", len(set(shown["colours"])), len(job.get("functions", [])))
         for drawing in shown["drawings"]:
             if not drawing["named"] or not drawing["table"] or not drawing["shapes"] or drawing["height"] < 20:
                 yield f"job {job['job']}: a drawing without shapes, a name or a table: {drawing}"
@@ -260,9 +277,7 @@ def keyboard(page: Page, wanted: Wanted) -> Iterator[str]:
     count, shut = page.run(FOCUSABLE)
     if shut:
         yield f"{shut} regions that scroll can't be reached"
-    for _ in range(count):
-        page.press("Tab", 9)
-        page.run("{ document.activeElement.dataset.reached = 1; }")
+    page.press("Tab", 9, count)
     missed = page.run("document.querySelectorAll('[data-wanted]:not([data-reached])').length")
     if missed:
         yield f"{missed} of {count} elements can't be reached"
@@ -287,19 +302,6 @@ def printing(page: Page, _: Wanted) -> Iterator[str]:
         yield "the print is empty"
 
 
-CHECKS: list[Callable[[Page, Wanted], Iterator[str]]] = [
-    numbers, elements_counted, drawings, elements, width, places, light, contrast, keyboard, printing, console, requests]
-
-# Those that depend on the width or the colours.
-CHECKS_OF_LOOKS = [check for check in CHECKS if check not in (keyboard, printing)]
-
-
-def wrong(page: Page, wanted: Wanted, checks: list[Callable[[Page, Wanted], Iterator[str]]]) -> dict[str, list[str]]:
-    """What is wrong with a page, by the names of the checks."""
-    found = {}
-    for check in checks:
-        try:
-            found[check.__name__] = list(check(page, wanted))
-        except (RuntimeError, ValueError, KeyError, IndexError) as error:
-            found[check.__name__] = [f"it can't be checked: {error}"]
-    return found
+def cost(page: Page, _: Wanted) -> Iterator[str]:
+    if page.spent > MOST_SECONDS:
+        yield f"it takes {page.spent:.2f} seconds of a processor to be opened"

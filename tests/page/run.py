@@ -16,6 +16,9 @@ import subprocess
 import sys
 import tempfile
 import time
+from collections.abc import Callable
+from concurrent.futures import ThreadPoolExecutor
+from functools import partial
 from pathlib import Path
 from typing import Any, NoReturn
 
@@ -23,33 +26,15 @@ sys.dont_write_bytecode = True
 
 from batches import batches  # noqa: E402
 from browser import Browser, Page  # noqa: E402
-from checks import CHECKS, CHECKS_OF_LOOKS, Wanted, wrong  # noqa: E402
-from policy import policy_faults, with_hash  # noqa: E402
+from checks import Wanted  # noqa: E402
+from broken import MANY, changes, let_through  # noqa: E402
+from policy import policy_faults  # noqa: E402
+from suite import AS_OPENED, OF_COLOURS, OF_WIDTHS, ONCE, wrong  # noqa: E402
 
 INSTALL_SECONDS = 60
-WIDTHS, SCHEMES = [400, 1600], ["light", "dark"]
-# A change of the script of a page whose hash stays as it is, so that the script doesn't run.
-OTHER_SCRIPT = ("start();\n</script>", "start();\n\n</script>")
-# For each check a change of a page that it has to refuse: a text of the page, and what comes in its place.
-BROKEN = {
-    "numbers": [('"instructions":599', '"instructions":600'), ("number(part));\n  if", "number(part + 1));\n  if"),
-                ("number(column.least)", "number(column.most)"), ("function ending(job) {",
-                                                                  "function ending(job) {\n  job.note = '';")],
-    "drawings": [("draw('g', {class: 'bars'}, bars)", "[]"), ("scroll('calls', table(", "scroll('calls', String(")],
-    "elements": [('<main id="jobs">', '<img alt="one"><main id="jobs">'),
-                 ("document.createTextNode(child)", "(document.createRange().createContextualFragment(child))")],
-    "elements_counted": [("line: (row) => row[2]", "line: (row) => row[1]"), ("each.with_callees[unit]", "each.with_callees.instructions")],
-    "width": [("* { box-sizing", "body { min-width: 900px; } * { box-sizing")],
-    "places": [("'#' + line_id(job, line)", "'#job-1-line-0'"), ("x = Math.max(left + 4,", "x = Math.min(4,"),
-               ("  if (box) box.scrollTop = ", "  if (box) box.scrollTop = 9e6 + ")],
-    "light": [("MOST_OPEN = 8", "MOST_OPEN = 64")],
-    "contrast": [("--dim: #59616b", "--dim: #99a1ab"), ("['#4477aa', '#fff']", "['#4477aa', '#000']")],
-    "keyboard": [("tabindex: 0, role", "role"), ("input.addEventListener('input'", "input.addEventListener('other'")],
-    "printing": [("  .scroll { max-height: none;", "  .scroll { max-height: 40px;")],
-    "console": [("start();\n</script>", "start();\nmissing();\n</script>"), OTHER_SCRIPT],
-    "requests": [("default-src 'none'", "default-src *"),
-                 ('<main id="jobs">', '<img src="http://127.0.0.1:9/x.png"><main id="jobs">')],
-}
+# How many browsers work side by side.
+BROWSERS = 3
+WIDTHS = [400, 1600]
 
 
 def skip(why: str) -> NoReturn:
@@ -106,20 +91,8 @@ def page_of(program: str, folder: Path, name: str, batch: bytes) -> tuple[Path, 
     return page, wanted, faults + policy_faults(text.decode("latin1"))
 
 
-def made_up(folder: Path, name: str, page: Path, wanted: Wanted, end: dict) -> tuple[Path, Wanted]:
-    """The page of a job with columns and an end that were made up."""
-    job = {**wanted.jobs[0], **end}
-    count, size = 300, 2
-    most = [10 + (place * 7) % 23 for place in range(count)]
-    most[150] = job["peak"]
-    places = [place * len(job["functions"]) // count for place in range(count)]
-    job["columns"] = {"each": size, "most": most, "least": [words // 2 for words in most], "function": places,
-                      "ran": places}
-    instructions = size * count - 1
-    job["used"] = dict(job["used"], budget=instructions)
-    job["calls"] = [[*chain[:3], chain[3] + (instructions - job["instructions"] if place == 0 else 0), chain[4]]
-                    for place, chain in enumerate(job["calls"])]
-    job["instructions"], job["peak_at"] = instructions, size * 150 + 1
+def changed_page(folder: Path, name: str, page: Path, wanted: Wanted, job: dict) -> tuple[Path, Wanted]:
+    """The page with this job in place of its own."""
     text = page.read_text()
     begin = text.index("[\n", text.index('id="data"')) + 2
     data = json.dumps(job, separators=(",", ":")).replace("<", "\\u003c").replace("&", "\\u0026")
@@ -128,42 +101,66 @@ def made_up(folder: Path, name: str, page: Path, wanted: Wanted, end: dict) -> t
     return changed, Wanted([job], wanted.lines, wanted.carets)
 
 
-def broken_pages(browser: Browser, folder: Path, pages: dict[str, tuple[Path, Wanted]]) -> list[str]:
-    """The checks that don't refuse what was broken for them."""
-    found = []
-    for check, changes in BROKEN.items():
-        tries = [changes] if check == "requests" else [[change] for change in changes]
-        page, wanted = pages[{"elements": "attacks", "light": "many"}.get(check, "columns")]
-        for number, change in enumerate(tries):
-            text = page.read_text()
-            for old, new in change:
-                if old not in text:
-                    found.append(f"{check}: the page has no {old!r}")
-                text = text.replace(old, new)
-            broken = folder / f"broken-{check}-{number}.html"
-            broken.write_text(text if change == [OTHER_SCRIPT] else with_hash(text))
-            opened = Page(browser, broken.as_uri(), 400, "light")
-            refused = wrong(opened, wanted, [each for each in CHECKS if each.__name__ == check])[check]
-            opened.close()
-            print(f"a page that is broken is refused: {refused[0][:150]}" if refused
-                  else f"{check} {number}: not refused")
-            if not refused:
-                found.append(f"{check}: it doesn't refuse a page with {change[0][1]!r}")
-    return found
+def made_up(folder: Path, name: str, page: Path, wanted: Wanted, end: dict) -> tuple[Path, Wanted]:
+    """The page of a job with columns and an end that were made up."""
+    job = {**wanted.jobs[0], **end}
+    count, size = 300, 2
+    most = [10 + (place * 7) % 23 for place in range(count)]
+    most[150] = job["peak"]
+    places = [place * len(job["functions"]) // count for place in range(count)]
+    lines = [job["functions"][place]["line"] for place in places]
+    job["columns"] = {"each": size, "most": most, "least": [words // 2 for words in most], "line": lines,
+                      "function": places, "ran": places}
+    instructions = size * count - 1
+    job["used"] = dict(job["used"], budget=instructions)
+    job["calls"] = [[*chain[:3], chain[3] + (instructions - job["instructions"] if place == 0 else 0), chain[4]]
+                    for place, chain in enumerate(job["calls"])]
+    job["instructions"], job["peak_at"] = instructions, size * 150 + 1
+    return changed_page(folder, name, page, wanted, job)
+
+
+def with_state(folder: Path, page: Path, wanted: Wanted) -> tuple[Path, Wanted]:
+    """The page of a job with a stack and calls that were made up, of which some are left out, and with a source."""
+    job, line = dict(wanted.jobs[0]), wanted.jobs[0]["last"]
+    entry = {"kind": "INT", "length": 3, "line": line, "values": "5 0 -3"}
+    stack = [entry | {"name": "b"}, {**entry, "copy": 0}, entry | {"kind": "SEGDES", "total": 9, "length": 40, "left": 8}]
+    job.pop("results", None)
+    job |= {"most": {"entries": 3, "calls": 2, "values": 32},
+            "stack": {"entries": 40, "words": 46, "left": 37, "list": stack},
+            "active": {"calls": 5, "left": 3, "list": [[2, line, 1], [1, line, 2]]},
+            "source": {"files": ["<b>.py", "two.py"], "lines": [[0, 3, 7, 70, 5, "a <b> text"], [1, 1, 9, 80, 6, ""]],
+                       "marks": [[line, 0], [line + 1, 1]]}}
+    return changed_page(folder, "state", page, wanted, job)
+
+
+def pictured(opened: Page, pictures: Path, name: str) -> None:
+    """Keeps a picture of a page as it is."""
+    (pictures / f"{name}.png").write_bytes(base64.b64decode(opened.picture()))
+
+
+def checked_as_opened(browser: Browser, page: Path, wanted: Wanted, pictures: Path) -> list[str]:
+    """What is wrong with a page of many jobs as it is opened, with few of them drawn."""
+    opened = Page(browser, page.as_uri(), WIDTHS[1], is_all=False)
+    pictured(opened, pictures, page.stem)
+    print(f"{page.stem}: {opened.spent:.2f} seconds of a processor to open {len(wanted.jobs)} jobs")
+    faults = wrong(opened, wanted, AS_OPENED)
+    opened.close()
+    return [f"{page.stem}: {check}: {text}" for check, texts in faults.items() for text in texts[:5]]
 
 
 def checked(browser: Browser, page: Path, wanted: Wanted, pictures: Path) -> list[str]:
     """What is wrong with a page at each width, light and dark."""
     found = []
     for width in WIDTHS:
-        for scheme in SCHEMES:
-            opened = Page(browser, page.as_uri(), width, scheme)
-            picture = pictures / f"{page.stem}-{width}-{scheme}.png"
-            picture.write_bytes(base64.b64decode(opened.picture()))
-            is_first = (width, scheme) == (WIDTHS[0], SCHEMES[0])
-            for check, texts in wrong(opened, wanted, CHECKS if is_first else CHECKS_OF_LOOKS).items():
-                found += [f"{page.stem}, {width} pixels, {scheme}: {check}: {text}" for text in texts[:5]]
-            opened.close()
+        opened = Page(browser, page.as_uri(), width)
+        pictured(opened, pictures, f"{page.stem}-{width}-light")
+        checks = [*OF_WIDTHS, *OF_COLOURS, *(ONCE if width == WIDTHS[0] else [])]
+        faults = wrong(opened, wanted, checks)
+        opened.take_colours("dark")
+        pictured(opened, pictures, f"{page.stem}-{width}-dark")
+        faults |= {f"{check} in the dark": texts for check, texts in wrong(opened, wanted, OF_COLOURS).items()}
+        found += [f"{page.stem}, {width} pixels: {check}: {text}" for check, texts in faults.items() for text in texts[:5]]
+        opened.close()
     return found
 
 
@@ -186,37 +183,64 @@ def wrong_exits(program: str, folder: Path) -> list[str]:
     return found
 
 
-def test(browser: Browser, program: str, folder: Path, pictures: Path) -> list[str]:
-    """What is wrong with all pages."""
-    found = []
+def pages_of(program: str, folder: Path) -> tuple[dict[str, tuple[Path, Wanted]], list[str]]:
+    """All pages with what they have to show, and what is wrong with their texts."""
+    found: list[str] = []
     pages = {}
     for name, batch in batches().items():
         began = time.monotonic()
         page, wanted, faults = page_of(program, folder, name, batch)
         found += [f"{name}: {fault}" for fault in faults]
         pages[name] = page, wanted
-        count = sum(job.get("instructions", 0) for job in wanted.jobs)
-        print(f"{name}: {count:,} instructions, a page of {page.stat().st_size:,} bytes, {time.monotonic() - began:.1f} seconds")
-    found += wrong_exits(program, folder)
+        count, size = sum(job.get("instructions", 0) for job in wanted.jobs), page.stat().st_size
+        print(f"{name}: {count:,} instructions, a page of {size:,} bytes, {time.monotonic() - began:.1f} seconds")
     pages["columns"] = made_up(folder, "columns", *pages["quicksort"], {})
     pages["cross"] = made_up(folder, "cross", *pages["quicksort"], {"end": "MEMORY M1 WORDS", "line": 17, "wanted": 70})
-    found += broken_pages(browser, folder, pages)
-    for page, wanted in pages.values():
-        try:
-            found += checked(browser, page, wanted, pictures)
-        except TimeoutError as error:
-            if not browser.answers():
-                raise
-            found.append(f"{page.stem} doesn't answer: {error}")
+    pages["state"] = with_state(folder, *pages["entries"])
+    return pages, found
+
+
+def checked_in(browser: Browser, page: Path, wanted: Wanted, pictures: Path) -> list[str]:
+    """What is wrong with a page, or that it doesn't answer, as long as the browser does."""
+    check = checked_as_opened if page.stem == MANY else checked
+    try:
+        return check(browser, page, wanted, pictures)
+    except TimeoutError as error:
+        if not browser.answers():
+            raise
+        return [f"{page.stem} doesn't answer: {error}"]
+
+
+def found_by_all(program: str, tasks: list[Callable[[Browser], list[str]]]) -> list[str]:
+    """What the tasks find, which are done by some browsers side by side."""
+    left, found = list(reversed(tasks)), []
+
+    def work() -> None:
+        with Browser(program) as browser:
+            while left:
+                found.extend(left.pop()(browser))
+
+    with ThreadPoolExecutor(BROWSERS) as pool:
+        for done in [pool.submit(work) for _ in range(BROWSERS)]:
+            done.result()
     return found
+
+
+def test(browser: str, program: str, folder: Path, pictures: Path) -> list[str]:
+    """What is wrong with all pages."""
+    pages, found = pages_of(program, folder)
+    tasks = [partial(let_through, folder=folder, pages=pages, check=check, number=number, change=change)
+             for check, number, change in changes()]
+    tasks += [partial(checked_in, page=page, wanted=wanted, pictures=pictures) for page, wanted in pages.values()]
+    return [*found, *wrong_exits(program, folder), *found_by_all(browser, tasks)]
 
 
 def main() -> int:
     program, pictures = sys.argv[1], Path(sys.argv[2])
     pictures.mkdir(parents=True, exist_ok=True)
     try:
-        with tempfile.TemporaryDirectory() as room, Browser(chromium()) as browser:
-            found = test(browser, os.path.abspath(program), Path(room), pictures)
+        with tempfile.TemporaryDirectory() as room:
+            found = test(chromium(), os.path.abspath(program), Path(room), pictures)
     except (TimeoutError, ConnectionError) as error:
         skip(f"the browser doesn't answer: {error}")
     for text in found:

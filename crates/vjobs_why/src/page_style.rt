@@ -83,8 +83,8 @@ svg .range { fill: var(--focus); fill-opacity: .25; }
 svg .bars rect { stroke: var(--card); stroke-width: 1; }
 svg .bars .found rect { stroke: var(--text); stroke-width: 2.5; }
 svg .bars .found text { font-weight: 700; }
-svg .bar:focus-visible { outline: none; }
-svg .bar:focus-visible rect { stroke: var(--focus); stroke-width: 4; }
+svg .chain:focus-visible { outline: none; }
+svg .chain:focus-visible rect { stroke: var(--focus); stroke-width: 4; }
 .words svg, .levels svg { touch-action: pan-y; cursor: crosshair; user-select: none; }
 .legend {
   display: flex; flex-wrap: wrap; gap: 2px 16px; margin: 6px 0 0; padding: 0; list-style: none; font-size: .9rem;
@@ -109,7 +109,7 @@ th {
 }
 .group th { padding-top: 6px; }
 td.values { width: 70%; min-width: 7em; overflow-wrap: anywhere; }
-.stack td.text { width: auto; }
+.stack td.text { width: auto; max-width: 26ch; overflow: hidden; text-overflow: ellipsis; }
 .scroll thead th { position: sticky; top: 0; background: var(--card); }
 td { padding: 1px 10px; vertical-align: top; }
 .functions td, .functions th { padding-inline: 6px; }

@@ -54,7 +54,7 @@ function bar_of(job, chain, flame, width) {
   const rect = draw('rect', {x, y, width: size, height: height - 1, fill: back});
   const link = function_line ? {href: '#' + line_id(job, function_line)} : {};
   const title = draw('title', {}, chain_text(job, chain, flame));
-  const bar = draw('a', {...link, tabindex: -1, class: 'bar'}, title, rect, word);
+  const bar = draw('a', {...link, tabindex: -1, class: 'chain'}, title, rect, word);
   bar.addEventListener('pointermove', () => flame.pick(chain));
   bar.addEventListener('focus', () => flame.pick(chain));
   chain.bar = bar;
