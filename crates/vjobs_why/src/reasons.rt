@@ -37,7 +37,7 @@ fn named<'a>(watch: &'a Watch, op: Op, name: &str) -> &'a [i64] {
 }
 
 /// The sum of the lengths of a descriptor.
-fn total(lengths: &[i64]) -> i64 {
+pub fn total(lengths: &[i64]) -> i64 {
     let mut total: i64 = 0;
     for length in lengths {
         total = total.saturating_add(*length);
