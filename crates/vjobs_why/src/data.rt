@@ -2,8 +2,6 @@
 
 use crate::chains::Chains;
 use crate::end::{End, Ending};
-use crate::lines::{Lines, printable};
-use crate::meanings::{batch_meaning, job_meaning};
 use crate::profile::{FunctionHead, function_places, functions_of, last_line_of, lines_of};
 use crate::spans::Spans;
 use crate::survey::{Counts, Survey};
@@ -11,6 +9,7 @@ use crate::tally::{Count, FunctionTally, Tally};
 use crate::wide::Work;
 use batch_reader::{BatchFault, JobFault};
 use job_profile::{Column, Columns, Profile};
+use refusal_notes::{Lines, batch_meaning, job_meaning, printable};
 use std::alloc::{AllocError, Global};
 use std::fmt::Write;
 use vcode_base::Limits;

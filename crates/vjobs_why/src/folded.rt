@@ -2,10 +2,10 @@
 
 use crate::chains::Chains;
 use crate::command::Unit;
-use crate::lines::printable;
 use crate::tally::{Before, Count};
 use job_profile::Run;
 use job_steps::Job;
+use refusal_notes::printable;
 use std::alloc::{AllocError, Global};
 use std::io;
 use std::io::Write;

@@ -4,9 +4,7 @@ use crate::command::Look;
 use crate::data::{Told, job_object, push_told};
 use crate::end::{End, Ending, ending_of, run_through};
 use crate::folded::print_folded;
-use crate::lines::{Lines, printable};
 use crate::memory_notes::memory_note;
-use crate::operands::operand_names;
 use crate::profile::{Shown, print_profile};
 use crate::reasons::reason;
 use crate::spans::Spans;
@@ -18,6 +16,7 @@ use crate::watch::Watch;
 use crate::wide::{Course, MOST_BEFORE, Wide, Work, run_wide};
 use job_profile::Run;
 use job_steps::Job;
+use refusal_notes::{Lines, operand_names, printable};
 use std::alloc::{AllocError, Global};
 use std::io;
 use vcode_base::{Limits, MemoryFault, Op, Rule};
@@ -72,12 +71,12 @@ fn print_place(
     let Some(next) = watch.next() else {
         return Ok(());
     };
-    match spans.next(watch.run()) {
-        Some(word) => batch
-            .lines
-            .print_word(rt, next.line, spans.first, word, note),
-        None => batch.lines.print_around(rt, next.line, note),
-    }
+    let lines = batch.lines;
+    let text = match spans.next(watch.run()) {
+        Some(word) => lines.around_word(rt.alloc(), next.line, spans.first, word, note)?,
+        None => lines.around(rt.alloc(), next.line, note)?,
+    };
+    print!(rt; "{text}")
 }
 
 /// Prints the calls and the stack of a run.

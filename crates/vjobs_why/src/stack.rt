@@ -1,29 +1,20 @@
 //! The stack and the calls of a run, as they are shown.
 
-use crate::lines::printable;
 use crate::watch::Watch;
+use refusal_notes::{kind_text, printable};
 use std::alloc::{AllocError, Global};
 use std::fmt::Write;
 use std::io;
 use vcode_base::Kind;
 
 /// The most entries that are shown.
-pub const MOST_ENTRIES: usize = 24;
+const MOST_ENTRIES: usize = 24;
 
 /// The most calls that are shown.
 const MOST_SHOWN_CALLS: usize = 16;
 
 /// The most values of an entry that are shown.
 const MOST_VALUES: usize = 6;
-
-/// The word of a kind.
-pub fn kind_text(kind: Kind) -> &'static str {
-    match kind {
-        Kind::Int => "INT",
-        Kind::Bool => "BOOL",
-        Kind::Segdes => "SEGDES",
-    }
-}
 
 /// Adds a value of a kind to a text.
 fn push_value(text: &mut String, kind: Kind, word: i64) -> Result<(), AllocError> {
