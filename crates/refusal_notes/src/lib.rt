@@ -1,8 +1,8 @@
 //! What there is to say of a batch or a job that is refused: the line, what is wrong there, and what was expected.
 //!
 //! [`batch_refusal`] and [`refusal`] answer whole texts. The rest is what they are made of, for programs that say more:
-//! the [`Lines`] of a batch as they may be shown, the [`Parts`] of its jobs, the words of a text, and the names of kinds
-//! and operands.
+//! the [`Lines`] of a batch as they may be shown, the [`Parts`] of its jobs, the words of a text, and the names of
+//! kinds and operands.
 //!
 //! What may come next in a text is found by the readers of code and of signatures themselves: each candidate is put
 //! after the text, and read.
