@@ -85,14 +85,14 @@ fn blame_of<A: Allocator>(
     }
 }
 
-/// The fault of a program by a guess that doesn't fit it. What is wrong with its MAIN is so by any signatures.
+/// The fault of a program by a guess that doesn't fit it. A MAIN that isn't there is so by any signatures.
 fn blamed<N: Drop>(fault: FindFault<N>, blame: Option<FindFault<N>>) -> FindFault<N>
     requires fault { IsOfProgram fault }
     requires blame { IfSome blame (λ fault. IsOfProgram fault) }
     ensures { IsOfProgram result }
 {
     match &fault {
-        FindFault::Program(KindFault::NoMain | KindFault::MainTakes, _) => fault,
+        FindFault::Program(KindFault::NoMain, _) => fault,
         FindFault::Program(..) => blame.unwrap_or(fault),
         _ => fault,
     }
