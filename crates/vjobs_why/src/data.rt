@@ -3,9 +3,7 @@
 use crate::chains::Chains;
 use crate::end::Ending;
 use crate::last::Last;
-use crate::lines::{Lines, printable};
 use crate::look::Batch;
-use crate::meanings::{batch_meaning, job_meaning};
 use crate::picture_data::push_picture;
 use crate::profile::{FunctionHead, function_places, functions_of, last_line_of, lines_of};
 use crate::source_data::push_source;
@@ -16,6 +14,7 @@ use crate::tally::{Count, FunctionTally, Tally};
 use crate::wide::Work;
 use batch_reader::{BatchFault, JobFault};
 use job_profile::{Column, Columns, Profile};
+use refusal_notes::{Lines, batch_meaning, job_meaning, printable};
 use std::alloc::{AllocError, Global};
 use std::fmt::Write;
 use vcode_base::{Limits, Rule};

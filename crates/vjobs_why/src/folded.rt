@@ -3,12 +3,12 @@
 use crate::chains::Chains;
 use crate::command::Unit;
 use crate::folded_source::{Row, SourceCounts};
-use crate::lines::printable;
 use crate::look::Batch;
 use crate::sources::{Sources, push_place};
 use crate::tally::{Before, Count, Stretch, changes_call};
 use job_profile::Run;
 use job_steps::Job;
+use refusal_notes::printable;
 use std::alloc::{AllocError, Global};
 use std::io;
 use std::io::Write;

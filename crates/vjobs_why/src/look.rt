@@ -5,7 +5,6 @@ use crate::data::{Told, job_object, push_told};
 use crate::end::{End, Ending, ending_of, run_through};
 use crate::folded::print_folded;
 use crate::last::{Before, Last, Seen, last_of, picture_of, see};
-use crate::lines::{Lines, printable};
 use crate::picture::Picture;
 use crate::profile::{Shown, print_profile};
 use crate::sources::{Sources, source_text};
@@ -19,6 +18,7 @@ use crate::values::{Part, ValueRange, print_values};
 use crate::watch::Watch;
 use crate::wide::{Course, MOST_BEFORE, Wide, Work, run_wide};
 use job_steps::Job;
+use refusal_notes::{Lines, printable};
 use std::alloc::{AllocError, Global};
 use std::io;
 use vcode_base::{Limits, MemoryFault, Rule};
@@ -73,10 +73,17 @@ fn print_place(
         return Ok(());
     };
     let (function, place) = picture.place;
-    match places.spans.at(function, place) {
-        Some(word) => lines.print_word(rt, next.line, places.spans.first, word, note)?,
-        None => lines.print_around(rt, next.line, note)?,
-    }
+    let text = match places.spans.at(function, place) {
+        Some(word) => lines.around_word(
+            rt.alloc(),
+            next.line,
+            places.spans.first,
+            word,
+            note,
+        )?,
+        None => lines.around(rt.alloc(), next.line, note)?,
+    };
+    print!(rt; "{text}")?;
     print_source(rt, &places.sources, next.line)
 }
 

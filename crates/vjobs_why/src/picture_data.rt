@@ -3,8 +3,9 @@
 use crate::data::push_comma;
 use crate::end::Ending;
 use crate::picture::{MOST_KEPT_VALUES, MOST_SHOWN_CALLS, Picture, ShownEntry};
-use crate::stack::{MOST_ENTRIES, kind_text, name_at};
+use crate::stack::{MOST_ENTRIES, name_at};
 use crate::values::list_text;
+use refusal_notes::kind_text;
 use std::alloc::{AllocError, Global};
 use std::fmt::Write;
 

@@ -2,12 +2,12 @@
 
 use crate::drawing::print_drawing;
 use crate::holders::{Holder, Holdings};
-use crate::lines::{Lines, printable};
 use crate::source_profile::print_sources;
 use crate::sources::{Sources, push_place};
 use crate::tally::{FunctionTally, LineTally, Tally};
 use job_profile::{Columns, Profile, Run};
 use job_steps::Job;
+use refusal_notes::{Lines, printable};
 use std::alloc::{AllocError, Global};
 use std::io;
 use vcode_base::Rule;

@@ -1,7 +1,7 @@
 //! Why an instruction has no results: its operands' lengths, or the first place whose value has none.
 
-use crate::operands::operand_names;
 use crate::watch::Watch;
+use refusal_notes::operand_names;
 use std::alloc::{AllocError, Global};
 use std::fmt::Write;
 use vcode_base::limits::MOST_TOTAL;

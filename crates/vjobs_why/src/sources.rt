@@ -3,9 +3,8 @@
 //! Such a mark holds for the code of its line and of the lines after it, up to the next mark or the next `FUNC`. No file
 //! is read.
 
-use crate::lines::{Lines, printable};
 use crate::profile::last_line_of;
-use crate::words::Word;
+use refusal_notes::{Lines, Word, printable};
 use std::alloc::{AllocError, Global};
 use std::fmt::Write;
 use vcode_reader::Program;

@@ -1,9 +1,8 @@
 //! The stack and the calls of a run, as they are shown.
 
-use crate::lines::{Lines, printable};
-use crate::operands::operand_names;
 use crate::picture::{Picture, ShownCall, ShownEntry};
 use crate::sources::{Sources, push_place};
+use refusal_notes::{Lines, kind_text, operand_names, printable};
 use std::alloc::{AllocError, Global};
 use std::fmt::Write;
 use std::io;
@@ -15,15 +14,6 @@ pub const MOST_ENTRIES: usize = 24;
 
 /// The most values of an entry that are shown.
 const MOST_VALUES: usize = 6;
-
-/// The word of a kind.
-pub fn kind_text(kind: Kind) -> &'static str {
-    match kind {
-        Kind::Int => "INT",
-        Kind::Bool => "BOOL",
-        Kind::Segdes => "SEGDES",
-    }
-}
 
 /// Adds a value of a kind to a text.
 pub fn push_value(text: &mut String, kind: Kind, word: i64) -> Result<(), AllocError> {

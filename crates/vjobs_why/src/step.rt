@@ -1,10 +1,10 @@
 //! An instruction of a run that was executed.
 
-use crate::lines::Lines;
 use crate::spans::Spans;
-use crate::stack::{kind_text, values_text};
+use crate::stack::values_text;
 use crate::watch::{Next, Watch};
 use job_profile::Run;
+use refusal_notes::{Lines, kind_text};
 use std::alloc::{AllocError, Global};
 use std::io;
 use vcode_base::Op;

@@ -1,8 +1,8 @@
 //! The values of an entry of the stack.
 
-use crate::lines::Lines;
-use crate::stack::{kind_text, push_value};
+use crate::stack::push_value;
 use crate::watch::{Origin, Watch};
+use refusal_notes::{Lines, kind_text};
 use std::alloc::{AllocError, Global};
 use std::io;
 use vcode_base::Kind;

@@ -2,8 +2,9 @@
 
 use job_profile::{Run, Uses};
 use job_steps::Job;
+use refusal_notes::move_entries;
 use std::alloc::{AllocError, Global};
-use vcode_base::{Kind, Op, Rule, StackMove};
+use vcode_base::{Kind, Op, Rule};
 use vcode_reader::{CodeItem, CodeLine};
 
 /// Where an entry of the stack comes from: its kind, the line that made it, and how many entries were made before it.
@@ -49,53 +50,6 @@ pub fn op_of(line: &CodeLine<'_>) -> Op {
     match &line.item {
         CodeItem::Do(instruction) => instruction.op(),
         CodeItem::If | CodeItem::Else | CodeItem::Endif => Op::If,
-    }
-}
-
-/// Pushes the entries from a place on, this many of them, once more.
-fn copy_entries<T: Copy>(
-    entries: &mut Vec<T>,
-    from: usize,
-    count: usize,
-) -> Result<(), AllocError> {
-    for place in from..from.saturating_add(count) {
-        let Some(entry) = entries.get(place) else {
-            return Ok(());
-        };
-        let entry = *entry;
-        entries.push(entry)?;
-    }
-    Ok(())
-}
-
-/// Moves the first `count` of the entries from a place on to the top.
-fn raise_entries<T: Copy>(entries: &mut Vec<T>, from: usize, count: usize) {
-    if from <= entries.len() {
-        let part = &mut entries[from..];
-        part.rotate_left(count.min(part.len()));
-    }
-}
-
-/// Moves what is kept of the entries of a stack as a motion moves the entries.
-pub fn move_entries<T: Copy>(
-    entries: &mut Vec<T>,
-    motion: StackMove,
-    lower: usize,
-    upper: usize,
-) -> Result<(), AllocError> {
-    let depth = entries.len();
-    let below = depth.saturating_sub(lower.saturating_add(upper));
-    match motion {
-        StackMove::Copy => copy_entries(entries, below, lower),
-        StackMove::Pop => {
-            raise_entries(entries, below, lower);
-            entries.truncate(depth.saturating_sub(lower));
-            Ok(())
-        }
-        StackMove::MoveToTop => {
-            raise_entries(entries, below, lower);
-            Ok(())
-        }
     }
 }
 
