@@ -84,6 +84,30 @@ def many(count: int = 24) -> str:
                    f"CONST INT {place % 5}\n/ INT\nRET\nEND\n" for place in range(1, count + 1))
 
 
+def entries() -> str:
+    """A job whose stack grows until its limit on entries ends it. Within the widest limits a division by 0 does."""
+    return ("JOB entries 5000 40 64 100000\nSIGNATURES\nMAIN () -> (INT)\nmore (INT) -> (INT)\ngrow (INT) -> (INT)\nCODE\n"
+            "FUNC MAIN\nCONST INT 12\nCALL more\nCONST INT 0\n/ INT\nRET\nFUNC more\nCALL grow CALL grow\nRET\n"
+            "FUNC grow\nCOPY 1 0\nCONST INT 0\n> INT\nIF\nCOPY 1 0\nCOPY 1 0\nCOPY 1 0\nCONST INT 1\n- INT\n"
+            "CALL grow\n+ INT\n+ INT\n+ INT\nENDIF\nRET\nEND\n")
+
+
+def deep() -> str:
+    """A job whose calls inside one another end it."""
+    return ("JOB deep 5000 64 12 100000\nSIGNATURES\nMAIN () -> (INT)\ninner (INT) -> (INT)\nouter (INT) -> (INT)\nCODE\n"
+            "FUNC MAIN\nCONST INT (1 2 3)\nCALL outer\nRET\nFUNC outer\nCONST INT (4 4 4)\n+ INT\nCALL inner\nRET\n"
+            "FUNC inner\nCONST INT (1 1 1)\n+ INT\nCALL outer\nRET\nEND\n")
+
+
+def many_values() -> str:
+    """A job that returns many long entries, descriptors and copies."""
+    values = " ".join(str(value - 40) for value in range(90))
+    lines = "".join(f"CONST INT ({values})\nCONST BOOL (T F {'T ' * place})\n" for place in range(14))
+    kinds = "INT BOOL " * 14
+    return (f"JOB many_values 5000 64 12 100000\nSIGNATURES\nMAIN () -> ({kinds}INT SEGDES INT)\nCODE\nFUNC MAIN\n{lines}"
+            "COPY 1 1\nCONST INT (3 0 2)\nMAKE_SEGDES\nCOPY 1 1\nRET\nEND\n")
+
+
 def far() -> str:
     """A job that wants much more than its limit."""
     return ("JOB far 8 16 4 100\nSIGNATURES\nMAIN () -> (INT)\nCODE\nFUNC MAIN\nCONST INT 7\nCONST INT 1000\nMAKE_SEGDES\n"
@@ -120,5 +144,6 @@ def batches() -> dict[str, bytes]:
     found["attacks"] = attacks().encode("latin1")
     found["long"] = long_run(28, 5).encode()
     found |= {"narrow": narrow().encode(), "many": many().encode(), "far": far().encode(), "tall": tall().encode(),
-              "chains": chains(12).encode()}
+              "chains": chains(12).encode(),
+              "entries": entries().encode(), "deep": deep().encode(), "many_values": many_values().encode()}
     return found

@@ -23,12 +23,14 @@ use vcode_base::{Limits, Rule};
 const LINES_BESIDE: u64 = 8;
 
 /// What is said of the end of a job: its last state, the least limits within which it returns, or the work after which
-/// they were given up, and the words that its last instruction wanted in all, if these are known.
+/// they were given up, or how it ends within the widest limits and after how many instructions, and the words that its
+/// last instruction wanted in all, if these are known.
 #[derive(Drop)]
 pub struct Told {
     pub last: Last,
     pub least: Option<Limits>,
     pub tried: Option<Work>,
+    pub widest: Option<(Ending, u64)>,
     pub wanted: Option<usize>,
 }
 
@@ -170,7 +172,7 @@ fn push_lines(
 }
 
 /// Adds a member that is a list of numbers.
-fn push_numbers(text: &mut String, member: &str, numbers: &[usize]) -> Result<(), AllocError> {
+pub fn push_numbers(text: &mut String, member: &str, numbers: &[usize]) -> Result<(), AllocError> {
     write!(text, ",\"{member}\":[")?;
     for (place, number) in numbers.iter().enumerate() {
         push_comma(text, place)?;
@@ -361,6 +363,16 @@ fn push_end(text: &mut String, survey: &Survey) -> Result<(), AllocError> {
     push_amounts(text, "used", used)
 }
 
+/// Adds the member for how a job ends within the widest limits, if that is known and it doesn't return.
+fn push_widest(text: &mut String, widest: Option<(Ending, u64)>) -> Result<(), AllocError> {
+    let Some((ending, executed)) = widest else {
+        return Ok(());
+    };
+    write!(text, ",\"widest\":{{\"instructions\":{executed}")?;
+    push_ending(text, ending)?;
+    text.push('}')
+}
+
 /// Adds the members for what is said of the end of a job that ended so, and ends its object.
 pub fn push_told(
     text: &mut String,
@@ -370,6 +382,7 @@ pub fn push_told(
 ) -> Result<(), AllocError> {
     push_picture(text, alloc, ending, &told.last.picture)?;
     push_note(text, told.last.note.as_str())?;
+    push_widest(text, told.widest)?;
     push_limits_told(text, told)?;
     text.push('}')
 }

@@ -1,6 +1,8 @@
 //! What a job holds at a state, by the lines that made it, and what of it is read later.
 
 use crate::end::{Ending, ending_of, with_job};
+use crate::levels::{Levels, wanted_by};
+use crate::survey::Again;
 use crate::watch::{Next, Watch};
 use job_steps::Job;
 use std::alloc::{AllocError, Global};
@@ -96,6 +98,13 @@ impl Reads {
         }
     }
 
+    /// Notes what the next instruction of a run reads, if there is one.
+    fn note_state(&mut self, watch: &Watch) {
+        if let Some(next) = watch.next() {
+            self.note_next(watch, next);
+        }
+    }
+
     /// Runs a job to its end, and notes what it reads.
     fn note_all(&mut self, watch: &mut Watch) -> Result<(), AllocError> {
         for _ in 0..=MOST_BUDGET {
@@ -106,6 +115,43 @@ impl Reads {
             watch.step()?;
         }
         Ok(())
+    }
+}
+
+/// What is noted at the states of a run: which vectors are read, and how many entries or calls there are.
+#[derive(Drop)]
+struct Notes {
+    reads: Option<Reads>,
+    levels: Option<Levels>,
+}
+
+impl Notes {
+    /// Notes what there is at the state of a run, and what its next instruction reads.
+    fn note(&mut self, watch: &Watch) -> Result<(), AllocError> {
+        if let Some(reads) = &mut self.reads {
+            reads.note_state(watch);
+        }
+        match &mut self.levels {
+            Some(levels) => levels.note(watch.run()),
+            None => Ok(()),
+        }
+    }
+
+    /// Notes what there is at the state of a run and at those up to the one after this many instructions.
+    fn note_up_to(&mut self, watch: &mut Watch, count: u64) -> Result<(), AllocError> {
+        for _ in watch.run().executed()..count {
+            self.note(watch)?;
+            watch.step()?;
+        }
+        self.note(watch)
+    }
+
+    /// The same, if anything is noted.
+    fn note_rest(&mut self, watch: &mut Watch, count: u64) -> Result<(), AllocError> {
+        if self.reads.is_none() && self.levels.is_none() {
+            return Ok(());
+        }
+        self.note_up_to(watch, count)
     }
 }
 
@@ -209,18 +255,28 @@ impl Holdings {
     /// What is held after this many instructions of a run that has executed nothing, which is run to its end.
     fn after(alloc: Global, watch: &mut Watch, count: u64) -> Result<Holdings, AllocError> {
         watch.go_to(count)?;
-        let (words, line) = (watch.run().held(), next_line(watch));
+        let state = State::of(watch);
         let entries = entries_of(alloc, watch)?;
         let reads = reads_of(alloc, entries.as_slice(), watch)?;
-        let holders = holders_of(alloc, entries.as_slice(), &reads)?;
+        Holdings::of(alloc, state, entries.as_slice(), &reads)
+    }
+
+    /// What is held at the state of a run, and which of it is read later as far as that is known.
+    fn of(
+        alloc: Global,
+        state: State,
+        entries: &[Held],
+        reads: &Option<Reads>,
+    ) -> Result<Holdings, AllocError> {
+        let holders = holders_of(alloc, entries, reads)?;
         let unread = match reads {
             Some(_) => Some(unread_words(holders.as_slice())),
             None => None,
         };
         Ok(Holdings {
             holders,
-            words,
-            line,
+            words: state.words,
+            line: state.line,
             unread,
         })
     }
@@ -235,6 +291,63 @@ impl Holdings {
         let mut watch = Watch::new(alloc, rule, job)?;
         let holdings = Holdings::after(alloc, &mut watch, number.saturating_sub(1));
         with_job(holdings, watch.into_job())
+    }
+}
+
+/// The words that are held at a state of a run, and the line of the next instruction, which is 0 if the run is over.
+#[derive(Clone, Copy, Drop)]
+struct State {
+    words: usize,
+    line: u64,
+}
+
+impl State {
+    /// That of a run.
+    fn of(watch: &Watch) -> State {
+        State {
+            words: watch.run().held(),
+            line: next_line(watch),
+        }
+    }
+}
+
+/// What is found of a job that is run again: what it held before an instruction, the entries or calls over time, and how
+/// many of these there would be at its last instruction.
+#[derive(Drop)]
+pub struct Found {
+    pub holdings: Holdings,
+    pub levels: Option<Levels>,
+    pub wanted: Option<usize>,
+}
+
+/// The vectors of these entries, none of which was read yet, if the job ended so that it is known which are read.
+fn reads_to(alloc: Global, entries: &[Held], ending: Ending) -> Result<Option<Reads>, AllocError> {
+    if ending == Ending::Returned {
+        Ok(Some(Reads::new(alloc, entries)?))
+    } else {
+        Ok(None)
+    }
+}
+
+impl Found {
+    /// What is found of a run that has executed nothing, and goes on as far as something is noted of it.
+    pub fn of(alloc: Global, watch: &mut Watch, again: Again) -> Result<Found, AllocError> {
+        let Again { end, number, each } = again;
+        let levels = Levels::new(alloc, end.ending, each);
+        let mut notes = Notes {
+            reads: None,
+            levels,
+        };
+        notes.note_up_to(watch, number.saturating_sub(1))?;
+        let state = State::of(watch);
+        let entries = entries_of(alloc, watch)?;
+        notes.reads = reads_to(alloc, entries.as_slice(), end.ending)?;
+        notes.note_rest(watch, end.steps)?;
+        Ok(Found {
+            holdings: Holdings::of(alloc, state, entries.as_slice(), &notes.reads)?,
+            wanted: wanted_by(&notes.levels, watch),
+            levels: notes.levels,
+        })
     }
 }
 

@@ -5,6 +5,7 @@ use crate::data::{Told, job_object, push_told};
 use crate::end::{End, Ending, ending_of, run_through};
 use crate::folded::print_folded;
 use crate::last::{Before, Last, Seen, last_of, picture_of, see};
+use crate::page_data::push_found;
 use crate::picture::Picture;
 use crate::profile::{Shown, print_profile};
 use crate::sources::{Sources, source_text};
@@ -13,7 +14,7 @@ use crate::stack::{MOST_ENTRIES, print_calls, print_stack};
 use crate::step::{Step, print_head, print_step};
 use crate::steps::show_steps;
 use crate::stops::show_sought;
-use crate::survey::Survey;
+use crate::survey::{Again, Survey};
 use crate::values::{Part, ValueRange, print_values};
 use crate::watch::Watch;
 use crate::wide::{Course, MOST_BEFORE, Wide, Work, run_wide};
@@ -74,13 +75,7 @@ fn print_place(
     };
     let (function, place) = picture.place;
     let text = match places.spans.at(function, place) {
-        Some(word) => lines.around_word(
-            rt.alloc(),
-            next.line,
-            places.spans.first,
-            word,
-            note,
-        )?,
+        Some(word) => lines.around_word(rt.alloc(), next.line, places.spans.first, word, note)?,
         None => lines.around(rt.alloc(), next.line, note)?,
     };
     print!(rt; "{text}")?;
@@ -433,6 +428,14 @@ fn tried_of(wide: Option<Wide>) -> Option<Work> {
     }
 }
 
+/// How a job ends within the widest limits and after how many instructions, if it doesn't return there.
+fn widest_of(wide: Option<Wide>) -> Option<(Ending, u64)> {
+    match wide?.course {
+        Course::Ends(Ending::Returned, ..) | Course::GoesOn(_) | Course::NotRun => None,
+        Course::Ends(ending, executed, _) => Some((ending, executed)),
+    }
+}
+
 /// The words that the last instruction of a job wanted, if they passed its limit.
 fn wanted_of(end: End, wide: Option<Wide>, limit: usize) -> Option<usize> {
     match (end.ending, wide) {
@@ -458,6 +461,7 @@ fn push_last(
         last,
         least: least_of(end, wide),
         tried: tried_of(wide),
+        widest: widest_of(wide),
         wanted: wanted_of(end, wide, limit),
     };
     let pushed = push_told(text, alloc, end.ending, &told);
@@ -477,6 +481,23 @@ fn with_last(
     Ok(text)
 }
 
+/// The object of a job that is run again for a page, of which this is the text up to what is found then.
+fn with_found(
+    mut text: String,
+    alloc: Global,
+    batch: Batch<'_>,
+    (before, job): (Before, Job<Global>),
+    again: Again,
+) -> Result<String, AllocError> {
+    match push_found(&mut text, alloc, batch.rule, job, again) {
+        Ok(job) => with_last(text, alloc, batch, (before, job), again.end),
+        Err(error) => {
+            drop(before);
+            Err(error)
+        }
+    }
+}
+
 /// A job of this place as data.
 pub fn object_of(
     alloc: Global,
@@ -485,9 +506,9 @@ pub fn object_of(
     job: Job<Global>,
 ) -> Result<String, AllocError> {
     let survey = Survey::of(alloc, batch.rule, job)?;
-    let end = survey.end();
+    let again = survey.again();
     match job_object(alloc, batch, place, &survey) {
-        Ok(text) => with_last(text, alloc, batch, survey.into_parts(), end),
+        Ok(text) => with_found(text, alloc, batch, survey.into_parts(), again),
         Err(error) => {
             drop(survey);
             Err(error)

@@ -6,7 +6,7 @@ use std::alloc::{AllocError, Global};
 use vcode_base::{MemoryFault, Op, Rule, StackMove};
 
 /// How many entries there would be after an instruction of a stack of this depth.
-fn depth_after(op: Op, depth: usize) -> usize {
+pub fn depth_after(op: Op, depth: usize) -> usize {
     match op {
         Op::Move(StackMove::Copy, lower, _) => depth.saturating_add(usize::from(lower)),
         _ => depth

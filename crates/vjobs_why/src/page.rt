@@ -5,14 +5,14 @@ use crate::page_style::STYLE;
 use std::alloc::{AllocError, Global};
 
 /// The page up to its style. It may fetch nothing and send nothing, and run no script but its own: the hash is the
-/// SHA-256 of what is between the tags of the script, an LF and [`SCRIPT`].
+/// SHA-256 of what is between the tags of the script, an LF and the parts of [`SCRIPT`].
 const HEAD: &str = r#"<!DOCTYPE html>
 <html lang="en">
 <head>
 <meta charset="utf-8">
 <meta http-equiv="Content-Security-Policy"
  content="default-src 'none'; base-uri 'none'; form-action 'none'; style-src 'unsafe-inline';
- script-src 'sha256-ET90+I5qTosvrj/acE1WpGgfO/QZF8eo0iD1gpofaEg='">
+ script-src 'sha256-NcJDzAD1N+CZjIzQUt4ohvYSCOgicpMCnmK3D7rOR74='">
 <meta name="viewport" content="width=device-width, initial-scale=1">
 <title>vjobs-why</title>
 <style>
@@ -33,20 +33,34 @@ const BEFORE_SCRIPT: &str = "\n]</script>\n<script>\n";
 /// The end of the page.
 const END: &str = "</script>\n</body>\n</html>\n";
 
-/// The page that shows the jobs of these objects.
-pub fn page_of(alloc: Global, objects: &[String]) -> Result<String, AllocError> {
-    let mut page = String::new(alloc);
-    for part in [HEAD, STYLE, BODY] {
-        page.push_str(part)?;
-    }
+/// Adds the objects of the jobs, one on each line.
+fn push_objects(page: &mut String, objects: &[String]) -> Result<(), AllocError> {
     for (place, object) in objects.iter().enumerate() {
         if place > 0 {
             page.push_str(",\n")?;
         }
         page.push_str(object.as_str())?;
     }
-    for part in [BEFORE_SCRIPT, SCRIPT, END] {
+    Ok(())
+}
+
+/// Adds the parts of the script.
+fn push_script(page: &mut String) -> Result<(), AllocError> {
+    for part in SCRIPT {
         page.push_str(part)?;
     }
+    Ok(())
+}
+
+/// The page that shows the jobs of these objects.
+pub fn page_of(alloc: Global, objects: &[String]) -> Result<String, AllocError> {
+    let mut page = String::new(alloc);
+    for part in [HEAD, STYLE, BODY] {
+        page.push_str(part)?;
+    }
+    push_objects(&mut page, objects)?;
+    page.push_str(BEFORE_SCRIPT)?;
+    push_script(&mut page)?;
+    page.push_str(END)?;
     Ok(page)
 }

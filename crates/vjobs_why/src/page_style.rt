@@ -20,31 +20,47 @@ a { color: inherit; }
 nav { margin-bottom: 18px; }
 nav h2 { display: inline-block; margin-right: 10px; }
 nav .end { white-space: nowrap; padding: 0 8px; font-size: .9em; }
-button { border: 1px solid var(--edge); border-radius: 6px; background: var(--code); color: inherit; font: inherit; padding: 1px 10px; }
+button, input[type="search"] {
+  border: 1px solid var(--edge); border-radius: 6px; background: var(--code); color: inherit; font: inherit;
+  padding: 1px 10px;
+}
+button:disabled { color: var(--dim); border-style: dashed; }
 article + article { margin-top: 18px; border-top: 2px solid var(--edge); padding-top: 8px; }
 article > details { margin: 0; }
 article > details > summary { color: inherit; font-size: 1rem; list-style-position: outside; margin-left: 18px; }
-header { display: inline-flex; flex-wrap: wrap; align-items: baseline; gap: 4px 14px; margin: 4px 0 10px; vertical-align: top; }
+header {
+  display: inline-flex; flex-wrap: wrap; align-items: baseline; gap: 4px 14px; margin: 4px 0 10px; vertical-align: top;
+}
 h1 { margin: 0; font-size: 1.5rem; overflow-wrap: anywhere; }
 h2 { margin: 0 0 8px; font-size: 1.05rem; }
 h2 small, .dim { color: var(--dim); font-weight: normal; font-size: .9rem; }
 .end { border: 1.5px solid var(--bad); border-radius: 99px; padding: 0 12px; color: var(--bad); font-weight: 600; }
 .end.good { border-color: var(--good); color: var(--good); }
 .cards { display: grid; grid-template-columns: repeat(auto-fit, minmax(165px, 1fr)); gap: 12px; margin: 0 0 14px; }
-.cards > div, section { border: 1px solid var(--edge); border-radius: 8px; background: var(--card); padding: 12px 14px; }
+.cards > div, section {
+  border: 1px solid var(--edge); border-radius: 8px; background: var(--card); padding: 12px 14px;
+}
+.cards > .passed { border-color: var(--bad); box-shadow: inset 0 0 0 1px var(--bad); }
+.passed .bar i { background: var(--bad); }
+.ended { display: block; color: var(--bad); font-weight: 600; font-size: .9rem; }
 .cards dt { color: var(--dim); font-size: .9rem; }
 .cards dd { margin: 0; overflow-wrap: anywhere; }
 .cards b { font-size: 1.25rem; }
 .bar { height: 5px; margin-top: 6px; border-radius: 3px; background: var(--edge); overflow: hidden; }
 .bar i { display: block; height: 100%; background: var(--accent); print-color-adjust: exact; }
-.sheet, .side, .counted { display: grid; grid-template-columns: minmax(0, 1fr); gap: 14px; }
+.sheet, .side, .counted, .states { display: grid; grid-template-columns: minmax(0, 1fr); gap: 14px; }
 .units { display: flex; flex-wrap: wrap; gap: 2px 14px; }
 .heard { position: absolute; width: 1px; height: 1px; overflow: hidden; clip-path: inset(50%); }
+.states:empty { display: none; }
 @media (min-width: 1000px) {
-  .counted { grid-template-columns: minmax(0, 3fr) minmax(0, 2fr); align-items: start; }
+  .counted, .states { grid-template-columns: minmax(0, 3fr) minmax(0, 2fr); align-items: start; }
 }
-pre, code, td.text { font: 13px/1.5 ui-monospace, "DejaVu Sans Mono", monospace; }
-pre { margin: 0; padding: 10px 12px; border-radius: 6px; background: var(--code); white-space: pre-wrap; overflow-wrap: anywhere; }
+pre, code, td.text, td.values, .made { font: 13px/1.5 ui-monospace, "DejaVu Sans Mono", monospace; }
+pre {
+  margin: 0; padding: 10px 12px; border-radius: 6px; background: var(--code); white-space: pre-wrap;
+  overflow-wrap: anywhere;
+}
+pre.wide { display: inline-block; min-width: 100%; margin-top: 10px; white-space: pre; }
 pre .note { color: var(--bad); font-weight: 600; }
 pre .note.good { color: var(--good); }
 p { margin: 8px 0 0; }
@@ -57,25 +73,43 @@ svg .limit { stroke: var(--bad); stroke-width: 1.5; stroke-dasharray: 6 4; }
 svg .stop { stroke: var(--bad); stroke-width: 2.5; fill: none; }
 svg .alarm { fill: var(--bad); font-weight: 600; }
 svg .strong { font-weight: 600; }
+svg .strong, svg .alarm { paint-order: stroke; stroke: var(--card); stroke-width: 3; }
 svg .peak { fill: var(--card); stroke: var(--text); stroke-width: 2; }
 svg .cursor { stroke: var(--text); stroke-width: 1; }
 svg .area { fill: var(--accent); }
 svg .pale { fill-opacity: .45; }
 svg path, svg rect, .swatch { print-color-adjust: exact; }
+svg .range { fill: var(--focus); fill-opacity: .25; }
 svg .bars rect { stroke: var(--card); stroke-width: 1; }
-.legend { display: flex; flex-wrap: wrap; gap: 2px 16px; margin: 6px 0 0; padding: 0; list-style: none; font-size: .9rem; }
+svg .bars .found rect { stroke: var(--text); stroke-width: 2.5; }
+svg .bars .found text { font-weight: 700; }
+svg .bar:focus-visible { outline: none; }
+svg .bar:focus-visible rect { stroke: var(--focus); stroke-width: 4; }
+.words svg, .levels svg { touch-action: pan-y; cursor: crosshair; user-select: none; }
+.legend {
+  display: flex; flex-wrap: wrap; gap: 2px 16px; margin: 6px 0 0; padding: 0; list-style: none; font-size: .9rem;
+}
 .legend li { min-width: 0; overflow-wrap: anywhere; }
 .swatch { display: inline-block; width: 11px; height: 11px; margin-right: 6px; border-radius: 2px; }
-.pick { display: flex; flex-wrap: wrap; align-items: center; gap: 2px 12px; margin-top: 6px; font-size: .9rem; }
-.pick { padding: 0 14px 0 54px; }
-.pick input { flex: 1 1 100%; margin: 0; accent-color: var(--accent); }
+.pick { display: grid; grid-template-columns: minmax(0, 1fr); gap: 4px; margin-top: 6px; font-size: .9rem; }
+.words .pick, .levels .pick { padding: 0 14px 0 54px; }
+.pick input[type="range"] { width: 100%; margin: 0; accent-color: var(--accent); }
 .pick output { font-variant-numeric: tabular-nums; overflow-wrap: anywhere; }
+.where, .ranges { display: flex; flex-wrap: wrap; align-items: baseline; gap: 4px 12px; }
+.where code { overflow-wrap: anywhere; user-select: all; }
+.made { overflow-wrap: anywhere; }
+.ranges input { flex: 1 1 12em; min-width: 8em; max-width: 22em; }
 .scroll { overflow: auto; max-height: 75vh; }
 details { margin-top: 8px; }
 summary { cursor: pointer; color: var(--dim); font-size: .9rem; }
 table { border-collapse: collapse; font-size: .92rem; font-variant-numeric: tabular-nums; }
 section > .scroll > table { width: 100%; }
-th { padding: 2px 10px 4px; border-bottom: 1px solid var(--edge); color: var(--dim); text-align: left; font-weight: 600; }
+th {
+  padding: 2px 10px 4px; border-bottom: 1px solid var(--edge); color: var(--dim); text-align: left; font-weight: 600;
+}
+.group th { padding-top: 6px; }
+td.values { width: 70%; min-width: 7em; overflow-wrap: anywhere; }
+.stack td.text { width: auto; }
 .scroll thead th { position: sticky; top: 0; background: var(--card); }
 td { padding: 1px 10px; vertical-align: top; }
 .functions td, .functions th { padding-inline: 6px; }
@@ -86,9 +120,12 @@ td.name a { display: inline-block; max-width: calc(100% - 20px); vertical-align:
 @media (max-width: 500px) {
   section { padding: 10px; }
   .functions .line { display: none; }
-  .functions table { font-size: .8rem; }
+  .functions table, .stack table, .active table, .held table { font-size: .8rem; }
   td, th, .functions td, .functions th { padding-inline: 3px; }
+  td.values { min-width: 6em; font-size: 12px; }
   td.name { min-width: 4.5em; }
+  .words .pick, .levels .pick { padding: 0; }
+  .more { display: none; }
 }
 tr.never td { color: var(--dim); }
 tr.last td { background: color-mix(in srgb, var(--bad) 16%, transparent); }
@@ -105,6 +142,7 @@ td.heat { print-color-adjust: exact; }
   pre, code, td.text { font-size: 10px; }
   .scroll { max-height: none; overflow: visible; }
   .pick, .units, nav { display: none; }
+  .more { display: revert; }
   .cards > div, section { break-inside: avoid; }
   section.code { break-inside: auto; }
   tr { break-inside: avoid; }

@@ -2,7 +2,7 @@
 
 use crate::bands::Bands;
 use crate::chains::Chains;
-use crate::end::{End, end_of};
+use crate::end::{End, Ending, end_of};
 use crate::last::{Before as BeforeEnd, before_of};
 use crate::picture::Picture;
 use crate::stack::MOST_ENTRIES;
@@ -11,7 +11,7 @@ use crate::watch::Trail;
 use job_profile::{Columns, Profile, Run};
 use job_steps::Job;
 use std::alloc::{AllocError, Global};
-use vcode_base::Rule;
+use vcode_base::{MemoryFault, Rule};
 
 /// What is counted of a run: what its functions and lines did, its chains of functions, and which functions ran most.
 #[derive(Drop)]
@@ -32,6 +32,15 @@ pub struct Survey {
     steps: u64,
     picture: Option<Picture>,
     pub last: Option<Before>,
+}
+
+/// What is looked at when a job that ended so is run again: what it holds before the instruction of this number, which
+/// is the one that the limit on words refused, or the first at the peak. Columns are of `each` instructions.
+#[derive(Clone, Copy, Drop)]
+pub struct Again {
+    pub end: End,
+    pub number: u64,
+    pub each: u64,
 }
 
 impl Counts {
@@ -181,6 +190,19 @@ impl Survey {
         let (each, _) = self.columns.columns();
         self.counts.end_all(alloc, function, each)?;
         self.columns.collect()
+    }
+
+    /// What is looked at when the job is run again.
+    pub fn again(&self) -> Again {
+        let end = self.end();
+        let (each, _) = self.columns.columns();
+        let number = match end.ending {
+            Ending::Memory(MemoryFault::Words, _) => end.steps.saturating_add(1),
+            Ending::Returned | Ending::Fault(..) | Ending::Memory(..) | Ending::Budget => {
+                self.profile().peak_after()
+            }
+        };
+        Again { end, number, each }
     }
 
     /// How the job ended.
