@@ -115,6 +115,7 @@ def note_of(job: Run, item: Item, end: str) -> tuple[str | None, int | None]:
     if end.startswith("FAULT "):
         return fault_note(item.word, kinds, operands, end.removeprefix("FAULT ")), None
     held, more = job.words(len(kinds), 0), needed(item, operands)
+    below = " below the operands" if job.is_second and kinds else ""
     if more is None or held + more > GREATEST_WORDS:
-        return f"{held} words held and those needed are more than the limit, which is {limits.words}", None
-    return f"{held} words held and {more} needed are {held + more}, and the limit is {limits.words}", held + more
+        return f"{held} words held{below} and those needed are more than the limit, which is {limits.words}", None
+    return f"{held} words held{below} and {more} needed are {held + more}, and the limit is {limits.words}", held + more

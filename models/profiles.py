@@ -4,6 +4,8 @@ from collections import Counter, defaultdict
 from typing import Any
 
 import batches
+import kinds
+import pictures
 import runs
 from faults import Fault
 from instructions import kinds_of
@@ -187,7 +189,7 @@ def least(job: Counted, end: str, functions: list[Function]) -> dict[str, int] |
     return UNKNOWN if end == "LONG" else None
 
 
-def profile(functions: list[Function], limits: Limits, is_second: bool) -> dict[str, Any]:
+def profile(functions: list[Function], limits: Limits, is_second: bool, known: kinds.Signatures) -> dict[str, Any]:
     job = Counted(functions, limits, is_second)
     end, line = end_of(job)
     note, wanted = note_of(job, job.item, end)
@@ -199,6 +201,7 @@ def profile(functions: list[Function], limits: Limits, is_second: bool) -> dict[
         "peak_at": job.peak_at,
         "last": job.last,
         "limits": limits_shown(limits.words, limits.cells, limits.calls, limits.budget),
+        "rule": 1 + is_second,
         "used": limits_shown(job.peak, job.cells, job.most_calls, job.executed),
         "note": note,
         "wanted": wanted,
@@ -216,6 +219,7 @@ def profile(functions: list[Function], limits: Limits, is_second: bool) -> dict[
         "lines": [[line, work.instructions, work.elements] for line, work in sorted(job.lines.items())],
         "columns": columns_of(job.samples, functions),
         "calls": job.chains(functions),
+        **pictures.last_picture(known, functions, limits, is_second, end),
     }
 
 
@@ -229,8 +233,10 @@ def profiles(data: bytes) -> list[dict[str, Any]] | None:
     for place, (begun, name, numbers, signatures, code) in enumerate(jobs, 1):
         try:
             functions = batches.verified(*signatures, *code)
-            made: dict[str, Any] = {**profile(functions, Limits(*numbers), is_second),
+            known = kinds.read_signatures(signatures[1], signatures[0])
+            made: dict[str, Any] = {**profile(functions, Limits(*numbers), is_second, known),
                                     "code": shown_code(functions, *code)}
+            made["source"] = pictures.source_of(functions, *code, made["lines"])
         except Fault as fault:
             words = str(fault).split(" ", 2)
             made = {"end": f"REFUSED {words[2]}", "line": int(words[1])}

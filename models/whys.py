@@ -5,14 +5,16 @@ It takes the examples and the tables of `worked_batches`. Of each job the end, t
 the most words have to be those of the report of `vjobs`. Of each job that ran, what there is after a number of
 instructions, at a line and at each instruction is shown too: the counts have to be those that were asked for. If
 `vjobs-why` names a JOB line within which a job returns, the job has to return within it, and with any number of it one
-less it must not. The states at which `--at` and `--when` stop, and what `--json` prints, have to be those of the second
-writing, for these batches and for as many random ones as are asked for (300 by default)."""
+less it must not. The states at which `--at` and `--when` stop, the calls, stacks and values of states, and what `--json`
+prints, have to be those of the second writing, for these batches and for as many random ones as are asked for (300 by
+default)."""
 import random
 import re
 import subprocess
 import sys
 from collections.abc import Iterator
 
+import pictures
 import profiles
 import stops
 from random_batches import RandomBatches
@@ -169,6 +171,17 @@ def wrong_stops(program: str, batch: bytes, seed: int) -> Iterator[str]:
             yield f"{' '.join(options)}: exit {status}: {said}{shown}, and not {wanted}"
 
 
+def wrong_pictures(program: str, batch: bytes, seed: int) -> Iterator[str]:
+    """What is wrong with the calls, the stack and the values that are shown of states of the jobs of a batch."""
+    for options, wanted in pictures.looks(batch, random.Random(seed)):
+        status, shown, said = run(program, batch, *options)
+        lines = "".join(f"{line}\n" for line in wanted)
+        if options[2] == "--steps":
+            shown = "".join(line + "\n" for line in shown.splitlines() if line.startswith(" " * 30))
+        if status or said or (lines not in shown):
+            yield f"{' '.join(options)}: exit {status}: {said}{shown}, and not {lines}"
+
+
 def random_ones(count: int, seed: int) -> Iterator[tuple[str, bytes]]:
     """The name of each random batch, and its bytes."""
     cases = RandomBatches(random.Random(seed))
@@ -181,9 +194,11 @@ def main(why: str, vjobs: str, count: int | str = 300, seed: int | str = 1) -> N
     batches = list(stored())
     for name, batch in batches:
         differences += [f"{name}: {text}" for text in (*wrong((why, vjobs), batch), *wrong_profiles(why, batch))]
-        differences += [f"{name}: {text}" for text in wrong_stops(why, batch, int(seed))]
+        looked = (*wrong_stops(why, batch, int(seed)), *wrong_pictures(why, batch, int(seed)))
+        differences += [f"{name}: {text}" for text in looked]
     for place, (name, batch) in enumerate(random_ones(int(count), int(seed))):
-        looked = (*wrong_profiles(why, batch), *wrong_stops(why, batch, int(seed) + place))
+        looked = (*wrong_profiles(why, batch), *wrong_stops(why, batch, int(seed) + place),
+                  *wrong_pictures(why, batch, int(seed) + place))
         differences += [f"{name}: {text}" for text in looked]
     print(*differences, sep="\n", end="\n" if differences else "")
     print(f"whys: {len(batches)} batches and {count} random ones, {len(differences)} differences")

@@ -1,6 +1,7 @@
 pub mod Counted
 pub mod Drawn
 pub mod First
+pub mod Gone
 pub mod Lists
 pub mod Shown
 pub mod Stops

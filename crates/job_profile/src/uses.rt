@@ -4,7 +4,7 @@ ghost use Rattle.std.specs.Prelude.{◌≡◌, IfOk, MatchOption, OnErr, OnOk};
 ghost use Rattle.job_steps.specs.LeastLimits.{calls_in, cells_in};
 ghost use Rattle.job_steps.specs.Runs.{executed_count_in, peak_in, progress_from};
 ghost use Rattle.job_steps.specs.States.{ruled};
-ghost use Rattle.job_profile.specs.Walks.{HasCome, ending_at, ending_of, first_run, goes_on, progress_of};
+ghost use Rattle.job_profile.specs.Walks.{HasCome, HasGoneOn, ending_at, ending_of, first_run, goes_on, progress_of};
 ghost use Rattle.job_profile.specs.Stops.{IsStopped};
 ghost use Rattle.job_profile.specs.Used.{AreLeast, HasNotReturned, most_so_far};
 
@@ -83,6 +83,16 @@ impl<A: Allocator> Uses<A> {
         self.cells = self.cells.max(self.run.depth());
         self.calls = self.calls.max(self.run.calls());
         goes_on
+    }
+
+    /// Executes this many instructions, or all that are left before the end of the job. Takes no memory.
+    pub fn go_on(&mut self, count: u64)
+        ensures { HasGoneOn count self.old self.new }
+    {
+        let _run = &self.run;
+        for _ in 0..count {
+            self.step();
+        }
     }
 
     /// Executes instructions until a state at which it holds, after `skip` other states at which it does, from the

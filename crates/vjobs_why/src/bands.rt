@@ -4,12 +4,18 @@ use job_profile::Run;
 use std::alloc::{AllocError, Global};
 
 /// How many instructions each function executed itself in each column, one column after the other. A column is of
-/// `each` instructions that follow one another.
+/// `each` instructions that follow one another. The last column has room for those up to the number `end`.
 #[derive(Drop)]
 pub struct Bands {
     each: u64,
     functions: usize,
     counts: Vec<u32>,
+    end: u64,
+}
+
+/// A number of instructions of a column.
+fn count_of(number: u64) -> u32 {
+    u32::try_from(number).unwrap_or(u32::MAX)
 }
 
 impl Bands {
@@ -20,6 +26,7 @@ impl Bands {
             each: 1,
             functions,
             counts: Vec::new(alloc),
+            end: 0,
         }
     }
 
@@ -71,6 +78,7 @@ impl Bands {
             each: self.each.saturating_mul(2),
             functions: self.functions,
             counts: Vec::new(alloc),
+            end: 0,
         };
         for column in 0..self.columns().div_ceil(2) {
             self.join_at(&mut joined, column)?;
@@ -83,21 +91,48 @@ impl Bands {
         self.counts.len() / self.functions.max(1)
     }
 
-    /// Counts an instruction of a function, the one of this number, counted from 1. Columns are of `each` instructions
-    /// now: of as many as before it, or of twice as many.
+    /// Counts instructions of a function that come after those that were counted: this many, up to the one of this
+    /// number, counted from 1. Columns are of `each` instructions now: of as many as before, or of more.
+    #[inline(always)]
     pub fn count(
         &mut self,
         alloc: Global,
         function: usize,
         number: u64,
+        last: u64,
         each: u64,
     ) -> Result<(), AllocError> {
-        if each > self.each {
+        if each == self.each && last <= self.end {
+            let column = self.columns().saturating_sub(1);
+            self.add(column, function, count_of(number));
+            return Ok(());
+        }
+        self.widen(alloc, each)?;
+        self.spread(function, number, last)
+    }
+
+    /// Counts instructions that are not all of the last column.
+    fn spread(&mut self, function: usize, number: u64, last: u64) -> Result<(), AllocError> {
+        let each = self.each.max(1);
+        let begin = last.saturating_sub(number);
+        for column in begin / each..=last.saturating_sub(1) / each {
+            let from = column.saturating_mul(each);
+            self.end = from.saturating_add(each);
+            self.reach(column as usize)?;
+            let part = last.min(self.end).saturating_sub(begin.max(from));
+            self.add(column as usize, function, count_of(part));
+        }
+        Ok(())
+    }
+
+    /// Makes each two columns one until they are of `each` instructions.
+    fn widen(&mut self, alloc: Global, each: u64) -> Result<(), AllocError> {
+        for _ in 0..u64::BITS {
+            if each <= self.each {
+                break;
+            }
             *self = self.joined(alloc)?;
         }
-        let column = (number.saturating_sub(1) / each.max(1)) as usize;
-        self.reach(column)?;
-        self.add(column, function, 1);
         Ok(())
     }
 

@@ -3,6 +3,7 @@
 use crate::tally::{Before, Count};
 use job_profile::Run;
 use std::alloc::{AllocError, Global};
+use vcode_base::Op;
 
 /// The most chains of functions. Those that would begin one more count in the rest of the chain that called them.
 const MOST_CHAINS: usize = 4_096;
@@ -66,7 +67,7 @@ impl Chains {
     }
 
     /// The place of the chain of the innermost call.
-    fn place(&self) -> usize {
+    pub fn place(&self) -> usize {
         match self.calls.last() {
             Some(place) => *place,
             None => 0,
@@ -156,24 +157,24 @@ impl Chains {
         self.enter(place)
     }
 
-    /// Counts an instruction that a run has executed, whose operands and results have this many elements.
-    pub fn count(
-        &mut self,
-        before: Before,
-        elements: u64,
-        run: &Run<Global>,
-    ) -> Result<(), AllocError> {
+    /// Counts what the innermost call has executed itself.
+    #[inline(always)]
+    pub fn count(&mut self, own: Count) {
         let place = self.place();
         if let Some(chain) = self.chains.get_mut(place) {
-            chain.count.add(elements);
+            chain.count.join(own);
         }
-        if run.calls() > before.calls {
-            return self.call(innermost(run));
+    }
+
+    /// Counts a call that begins, or the end of one, at an instruction that a run has executed.
+    pub fn change(&mut self, before: Before, run: &Run<Global>) -> Result<(), AllocError> {
+        match before.next.op {
+            Op::Call => self.call(innermost(run)),
+            _ => {
+                self.calls.pop();
+                Ok(())
+            }
         }
-        if run.calls() < before.calls {
-            self.calls.pop();
-        }
-        Ok(())
     }
 
     /// The places of the chain at a place and of the chains around it, that of `MAIN` last.

@@ -2,6 +2,7 @@
 
 use crate::selection::{Selection, line_range};
 use crate::stops::{Sought, place_sought, state_sought};
+use crate::values::{Part, value_range};
 use clap::parser::ValueSource;
 use clap::{Arg, ArgAction, ArgMatches, Command, value_parser};
 use program_words::{Program, WordsFault, help_of, matches_of};
@@ -14,12 +15,12 @@ const NAME: &str = "vjobs-why";
 /// What is to be shown of a job on a terminal.
 #[derive(Drop)]
 pub enum Look {
-    /// How it ended.
-    End,
-    /// What there is after this number of instructions.
-    After(u64),
-    /// What there is at a state that is looked for.
-    At(Sought),
+    /// How it ended, with this of its last state.
+    End(Part),
+    /// This of what there is after so many instructions.
+    After(u64, Part),
+    /// This of what there is at a state that is looked for.
+    At(Sought, Part),
     /// A line for each instruction of a selection.
     Steps(Selection),
     /// The words over time, what held the most, and what its functions and lines did: all lines, or the first of them.
@@ -35,6 +36,8 @@ pub enum Unit {
     Instructions,
     /// The elements of their operands and results.
     Elements,
+    /// The instructions, by the lines of the source.
+    Source,
 }
 
 /// How jobs are to be shown.
@@ -69,6 +72,12 @@ pub enum Line {
     /// The text of help or of the version, to be printed.
     Help(String),
 }
+
+/// Why a value of `--values` can't be taken.
+const VALUES_TAKES: &str = "--values takes =D, =D:A or =D:A-B, or no value beside --steps";
+
+/// The value of `--values` if none is given.
+const MADE: &str = "";
 
 /// The greatest number that an option takes.
 const MOST: u32 = MOST_BUDGET as u32;
@@ -124,8 +133,21 @@ fn html_option<'a>(alloc: Global) -> Arg<'a> {
     )
 }
 
+/// The option for values.
+fn values_option<'a>(alloc: Global) -> Arg<'a> {
+    Arg::new(alloc, "values")
+        .long("values")
+        .value_name("D[:A-B]")
+        .num_args(0..=1)
+        .require_equals(true)
+        .default_missing_value(MADE)
+        .help(
+            "Shows the values A to B of the entry at depth D, or all; of --steps the values that each made",
+        )
+}
+
 /// The units of the option for stacks of functions.
-const UNITS: &[&str] = &["instructions", "elements"];
+const UNITS: &[&str] = &["instructions", "elements", "source"];
 
 /// The option for stacks of functions.
 fn folded_option<'a>(alloc: Global) -> Arg<'a> {
@@ -136,7 +158,9 @@ fn folded_option<'a>(alloc: Global) -> Arg<'a> {
         .require_equals(true)
         .default_missing_value("instructions")
         .value_parser(UNITS)
-        .help("Shows instructions or elements by stacks of functions, for flame graph tools")
+        .help(
+            "Shows instructions or elements by stacks of functions, or these by lines of the source, for flame graph tools",
+        )
 }
 
 /// An option without a value.
@@ -215,7 +239,12 @@ fn with_profiles<'a>(alloc: Global, command: Command<'a>) -> Result<Command<'a>,
                 "profile",
                 "Shows the words over time, and what functions and lines did",
             ))?
-            .arg(flag_option(alloc, "all", "Shows all lines of --profile"))?
+            .arg(flag_option(
+                alloc,
+                "all",
+                "Shows all lines of --profile, else all entries",
+            ))?
+            .arg(values_option(alloc))?
             .arg(flag_option(
                 alloc,
                 "json",
@@ -258,6 +287,9 @@ fn refusal(alloc: Global, reason: &str) -> WordsFault {
 
 /// The instructions that are to be listed.
 fn selection_of(matches: &ArgMatches<'_>) -> Result<Selection, &'static str> {
+    if matches.get_str("values").unwrap_or(MADE) != MADE {
+        return Err("--values takes no value beside --steps");
+    }
     let lines = match matches.get_str("lines") {
         Some(text) => Some(line_range(text).ok_or("--lines takes A-B or A")?),
         None => None,
@@ -269,6 +301,7 @@ fn selection_of(matches: &ArgMatches<'_>) -> Result<Selection, &'static str> {
         every: number(matches, "every").unwrap_or(1),
         first: number(matches, "first"),
         last: number(matches, "last"),
+        values: is_given(matches, "values"),
     })
 }
 
@@ -292,14 +325,35 @@ fn sought_of(alloc: Global, matches: &ArgMatches<'_>) -> Result<Option<Sought>, 
     }
 }
 
+/// What is to be shown of a stack.
+fn part_of(matches: &ArgMatches<'_>) -> Result<Part, &'static str> {
+    if let Some(text) = matches.get_str("values") {
+        let range = value_range(text).ok_or(VALUES_TAKES)?;
+        return Ok(Part::Values(range));
+    }
+    if matches.get_flag("all") {
+        return Ok(Part::All);
+    }
+    Ok(Part::Top)
+}
+
+/// What is to be shown of a state of a job, or why the value of an option can't be taken.
+fn state_of(alloc: Global, matches: &ArgMatches<'_>) -> Result<Look, WordsFault> {
+    let part = match part_of(matches) {
+        Ok(part) => part,
+        Err(reason) => return Err(refusal(alloc, reason)),
+    };
+    if let Some(count) = number(matches, "after") {
+        return Ok(Look::After(count, part));
+    }
+    match sought_of(alloc, matches)? {
+        Some(sought) => Ok(Look::At(sought, part)),
+        None => Ok(Look::End(part)),
+    }
+}
+
 /// What is to be shown of a job, or why the value of an option can't be taken.
 fn look_of(alloc: Global, matches: &ArgMatches<'_>) -> Result<Look, WordsFault> {
-    if let Some(count) = number(matches, "after") {
-        return Ok(Look::After(count));
-    }
-    if let Some(sought) = sought_of(alloc, matches)? {
-        return Ok(Look::At(sought));
-    }
     if matches.get_flag("steps") {
         return match selection_of(matches) {
             Ok(selection) => Ok(Look::Steps(selection)),
@@ -313,8 +367,9 @@ fn look_of(alloc: Global, matches: &ArgMatches<'_>) -> Result<Look, WordsFault> 
     }
     match matches.get_str("folded") {
         Some("elements") => Ok(Look::Folded(Unit::Elements)),
+        Some("source") => Ok(Look::Folded(Unit::Source)),
         Some(_) => Ok(Look::Folded(Unit::Instructions)),
-        None => Ok(Look::End),
+        None => state_of(alloc, matches),
     }
 }
 
@@ -326,7 +381,20 @@ const PARTS: &[(&str, &str)] = &[
     ("every", "steps"),
     ("first", "steps"),
     ("last", "steps"),
-    ("all", "profile"),
+];
+
+/// Two options of which one changes nothing beside the other.
+const CLASHES: &[(&str, &str)] = &[
+    ("all", "steps"),
+    ("all", "json"),
+    ("all", "html"),
+    ("all", "folded"),
+    ("all", "values"),
+    ("values", "profile"),
+    ("values", "json"),
+    ("values", "html"),
+    ("values", "folded"),
+    ("values", "no-least"),
 ];
 
 /// The options one of which is given at most, and whether it looks for the least limits.
@@ -356,7 +424,17 @@ fn lonely(matches: &ArgMatches<'_>) -> Option<(&'static str, &'static str)> {
     None
 }
 
-/// Two options that are given and can't be used together.
+/// Two options that are given, of which one changes nothing beside the other.
+fn idle(matches: &ArgMatches<'_>) -> Option<(&'static str, &'static str)> {
+    for (first, second) in CLASHES {
+        if is_given(matches, first) && is_given(matches, second) {
+            return Some((*first, *second));
+        }
+    }
+    None
+}
+
+/// Two options of which one alone can be given.
 fn clash(matches: &ArgMatches<'_>) -> Option<(&'static str, &'static str)> {
     let mut other = None;
     if is_given(matches, "no-least") {
@@ -381,7 +459,7 @@ fn misuse(alloc: Global, matches: &ArgMatches<'_>) -> Result<Option<String>, All
         let text = format!(in alloc; "vjobs-why: --{part} needs --{whole}\n")?;
         return Ok(Some(text));
     }
-    match clash(matches) {
+    match idle(matches).or(clash(matches)) {
         Some((first, second)) => {
             let text = format!(in alloc;
                 "vjobs-why: --{first} and --{second} can't be used together\n"

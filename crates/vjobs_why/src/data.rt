@@ -1,29 +1,33 @@
 //! A job as data: one JSON object.
 
 use crate::chains::Chains;
-use crate::end::{End, Ending};
-use crate::lines::{Lines, printable};
-use crate::meanings::{batch_meaning, job_meaning};
+use crate::end::Ending;
+use crate::last::Last;
+use crate::look::Batch;
+use crate::picture_data::push_picture;
 use crate::profile::{FunctionHead, function_places, functions_of, last_line_of, lines_of};
+use crate::source_data::push_source;
+use crate::sources::Sources;
 use crate::spans::Spans;
 use crate::survey::{Counts, Survey};
 use crate::tally::{Count, FunctionTally, Tally};
 use crate::wide::Work;
 use batch_reader::{BatchFault, JobFault};
 use job_profile::{Column, Columns, Profile};
+use refusal_notes::{Lines, batch_meaning, job_meaning, printable};
 use std::alloc::{AllocError, Global};
 use std::fmt::Write;
-use vcode_base::Limits;
+use vcode_base::{Limits, Rule};
 
 /// How many lines are given before and after that of a refusal.
 const LINES_BESIDE: u64 = 8;
 
-/// What is said of the end of a job: the note at its last line, the least limits within which it returns, or the work
-/// after which they were given up, or how it ends within the widest limits and after how many instructions, and the
-/// words that its last instruction wanted in all, if these are known.
+/// What is said of the end of a job: its last state, the least limits within which it returns, or the work after which
+/// they were given up, or how it ends within the widest limits and after how many instructions, and the words that its
+/// last instruction wanted in all, if these are known.
 #[derive(Drop)]
 pub struct Told {
-    pub note: String,
+    pub last: Last,
     pub least: Option<Limits>,
     pub tried: Option<Work>,
     pub widest: Option<(Ending, u64)>,
@@ -31,7 +35,7 @@ pub struct Told {
 }
 
 /// Adds a printable text as a JSON string that may stand in a page: `"`, `\`, `<` and `&` are escaped.
-fn push_quoted(text: &mut String, value: &str) -> Result<(), AllocError> {
+pub fn push_quoted(text: &mut String, value: &str) -> Result<(), AllocError> {
     text.push('"')?;
     for letter in value.chars() {
         match letter {
@@ -340,12 +344,21 @@ fn push_peak(text: &mut String, survey: &Survey) -> Result<(), AllocError> {
     Ok(())
 }
 
+/// Adds the member for a rule.
+fn push_rule(text: &mut String, rule: Rule) -> Result<(), AllocError> {
+    text.push_str(match rule {
+        Rule::First => ",\"rule\":1",
+        Rule::Second => ",\"rule\":2",
+    })
+}
+
 /// Adds the members for how a job ended and what it used.
 fn push_end(text: &mut String, survey: &Survey) -> Result<(), AllocError> {
     let end = survey.end();
     push_ending(text, end.ending)?;
     push_peak(text, survey)?;
     push_limits(text, "limits", survey.profile().run().job().limits())?;
+    push_rule(text, survey.profile().run().rule())?;
     let used = (end.words, end.cells, end.calls, end.executed);
     push_amounts(text, "used", used)
 }
@@ -360,10 +373,22 @@ fn push_widest(text: &mut String, widest: Option<(Ending, u64)>) -> Result<(), A
     text.push('}')
 }
 
-/// Adds the members for what is said of the end of a job, and ends its object.
-pub fn push_told(text: &mut String, told: &Told) -> Result<(), AllocError> {
-    push_note(text, told.note.as_str())?;
+/// Adds the members for what is said of the end of a job that ended so, and ends its object.
+pub fn push_told(
+    text: &mut String,
+    alloc: Global,
+    ending: Ending,
+    told: &Told,
+) -> Result<(), AllocError> {
+    push_picture(text, alloc, ending, &told.last.picture)?;
+    push_note(text, told.last.note.as_str())?;
     push_widest(text, told.widest)?;
+    push_limits_told(text, told)?;
+    text.push('}')
+}
+
+/// Adds the members for the words that were wanted, the least limits, and the work after which these were given up.
+fn push_limits_told(text: &mut String, told: &Told) -> Result<(), AllocError> {
     if let Some(wanted) = told.wanted {
         write!(text, ",\"wanted\":{wanted}")?;
     }
@@ -377,7 +402,7 @@ pub fn push_told(text: &mut String, told: &Told) -> Result<(), AllocError> {
             ",\"tried\":{{\"instructions\":{instructions},\"elements\":{elements}}}"
         )?;
     }
-    text.push('}')
+    Ok(())
 }
 
 /// The columns at which the last instruction that was next begins and ends in its line, if it is a part of what is shown.
@@ -392,7 +417,7 @@ fn last_columns(
     let program = survey.profile().run().job().verified().program();
     let spans = Spans::of(alloc, lines, program)?;
     match spans.at(last.function, last.place) {
-        Some(word) => Ok(lines.columns(last.line, spans.first, word)),
+        Some(word) => Ok(lines.columns(last.next.line, spans.first, word)),
         None => Ok(None),
     }
 }
@@ -410,19 +435,26 @@ fn push_carets(
     Ok(())
 }
 
-/// Adds the members for what was counted of a job.
-fn push_counts(
+/// Adds the member for the lines of the source of a job, if it names some.
+fn push_sources(
     text: &mut String,
     alloc: Global,
     lines: &Lines,
     survey: &Survey,
 ) -> Result<(), AllocError> {
-    let (profile, counts) = (survey.profile(), &survey.counts);
-    push_functions(text, alloc, profile, &counts.tally)?;
-    push_lines(text, alloc, profile, &counts.tally)?;
-    push_columns(text, alloc, &survey.columns, counts)?;
-    push_calls(text, &counts.chains)?;
-    let program = profile.run().job().verified().program();
+    let profile = survey.profile();
+    let sources = Sources::of(alloc, lines, profile.run().job().verified().program())?;
+    push_source(text, alloc, &sources, profile, &survey.counts.tally)
+}
+
+/// Adds the member for the code of a job.
+fn push_program(
+    text: &mut String,
+    alloc: Global,
+    lines: &Lines,
+    survey: &Survey,
+) -> Result<(), AllocError> {
+    let program = survey.profile().run().job().verified().program();
     push_code(
         text,
         alloc,
@@ -430,6 +462,15 @@ fn push_counts(
         program.first_line(),
         last_line_of(program),
     )
+}
+
+/// Adds the members for what was counted of a job.
+fn push_counts(text: &mut String, alloc: Global, survey: &Survey) -> Result<(), AllocError> {
+    let (profile, counts) = (survey.profile(), &survey.counts);
+    push_functions(text, alloc, profile, &counts.tally)?;
+    push_lines(text, alloc, profile, &counts.tally)?;
+    push_columns(text, alloc, &survey.columns, counts)?;
+    push_calls(text, &counts.chains)
 }
 
 /// Adds the members of a job of this place that has run to its end, up to what is said of its end.
@@ -443,17 +484,19 @@ fn push_members(
     push_job(text, alloc, place, survey.profile().run().job().name())?;
     push_end(text, survey)?;
     push_carets(text, alloc, lines, survey)?;
-    push_counts(text, alloc, lines, survey)
+    push_counts(text, alloc, survey)?;
+    push_sources(text, alloc, lines, survey)?;
+    push_program(text, alloc, lines, survey)
 }
 
 /// The object of a job of this place that has run to its end, up to what is said of its end.
 pub fn job_object(
     alloc: Global,
-    lines: &Lines,
+    batch: Batch<'_>,
     place: u64,
     survey: &Survey,
 ) -> Result<String, AllocError> {
     let mut text = String::new(alloc);
-    push_members(&mut text, alloc, lines, place, survey)?;
+    push_members(&mut text, alloc, batch.lines, place, survey)?;
     Ok(text)
 }

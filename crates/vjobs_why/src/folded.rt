@@ -2,14 +2,16 @@
 
 use crate::chains::Chains;
 use crate::command::Unit;
-use crate::lines::printable;
-use crate::tally::{Before, Count};
+use crate::folded_source::{Row, SourceCounts};
+use crate::look::Batch;
+use crate::sources::{Sources, push_place};
+use crate::tally::{Before, Count, Stretch, changes_call};
 use job_profile::Run;
 use job_steps::Job;
+use refusal_notes::printable;
 use std::alloc::{AllocError, Global};
 use std::io;
 use std::io::Write;
-use vcode_base::Rule;
 use vcode_base::limits::MOST_BUDGET;
 
 /// A name as it may be shown, with a question mark for a semicolon, since that parts the names.
@@ -37,7 +39,7 @@ fn names_of(alloc: Global, job: &Job<Global>) -> Result<Vec<String>, AllocError>
 /// The number of a count in this unit.
 fn number_of(count: Count, unit: Unit) -> u64 {
     match unit {
-        Unit::Instructions => count.instructions,
+        Unit::Instructions | Unit::Source => count.instructions,
         Unit::Elements => count.elements,
     }
 }
@@ -122,10 +124,10 @@ impl Stack {
         }
     }
 
-    /// The line for this number of instructions or elements.
-    fn line(&self, count: u64) -> Result<Vec<u8>, AllocError> {
+    /// The line for this number of instructions or elements, with more after the names.
+    fn line(&self, more: &str, count: u64) -> Result<Vec<u8>, AllocError> {
         let mut line = self.text.to_vec(self.alloc)?;
-        let end = format!(in self.alloc; " {count}\n")?;
+        let end = format!(in self.alloc; "{more} {count}\n")?;
         line.extend_from_slice(end.as_bytes())?;
         Ok(line)
     }
@@ -139,25 +141,34 @@ fn name_at(names: &[String], place: usize) -> &str {
     }
 }
 
-/// Executes and counts the next instruction; true if the job goes on.
-fn step(chains: &mut Chains, run: &mut Run<Global>) -> Result<bool, AllocError> {
-    let Some(before) = Before::of(run) else {
-        return Ok(false);
-    };
+/// Executes the next instruction, which is this one, and counts it; true if the job goes on.
+fn step(
+    chains: &mut Chains,
+    stretch: &mut Stretch,
+    before: Before,
+    run: &mut Run<Global>,
+) -> Result<bool, AllocError> {
     let goes_on = run.step();
     if let Some(elements) = before.elements(run) {
-        chains.count(before, elements, run)?;
+        stretch.all.add(elements);
+        if changes_call(before.next.op) {
+            chains.count(stretch.end());
+            chains.change(before, run)?;
+        }
     }
     Ok(goes_on)
 }
 
 /// Runs a job to its end, and counts what it executes by chains.
 fn run_out(chains: &mut Chains, run: &mut Run<Global>) -> Result<(), AllocError> {
+    let mut stretch = Stretch::NONE;
     for _ in 0..=MOST_BUDGET {
-        if !step(chains, run)? {
+        let Some(before) = Before::of(run) else {
             break;
-        }
+        };
+        step(chains, &mut stretch, before, run)?;
     }
+    chains.count(stretch.end());
     Ok(())
 }
 
@@ -168,10 +179,137 @@ fn print_chains(rt: &HostRuntime, chains: &Chains, names: &[String], unit: Unit)
         stack.take(chains, names, place)?;
         let number = number_of(chain.count, unit);
         if number > 0 {
-            rt.stdout().write_all(&stack.line(number)?)?;
+            rt.stdout().write_all(&stack.line("", number)?)?;
         }
     }
     Ok(())
+}
+
+/// Counts the next instruction of a run by its line of the source, if it is of one. It is in the chain at a place.
+fn count_source(
+    counts: &mut SourceCounts,
+    sources: &Sources,
+    chain: usize,
+    before: Before,
+) -> Result<(), AllocError> {
+    let row = match sources.place(before.next.line) {
+        Some(line) => Some(Row { chain, line }),
+        None => None,
+    };
+    counts.count(row)
+}
+
+/// Runs a job to its end, and counts what it executes by chains and by lines of the source.
+fn run_out_by_source(
+    chains: &mut Chains,
+    counts: &mut SourceCounts,
+    sources: &Sources,
+    run: &mut Run<Global>,
+) -> Result<(), AllocError> {
+    let mut stretch = Stretch::NONE;
+    for _ in 0..=MOST_BUDGET {
+        let Some(before) = Before::of(run) else {
+            break;
+        };
+        let (chain, executed) = (chains.place(), run.executed());
+        step(chains, &mut stretch, before, run)?;
+        if run.executed() > executed {
+            count_source(counts, sources, chain, before)?;
+        }
+    }
+    chains.count(stretch.end());
+    counts.end()
+}
+
+/// What is after the names of functions for a line of the source.
+fn source_name(alloc: Global, sources: &Sources, line: usize) -> Result<String, AllocError> {
+    let mut place = String::new(alloc);
+    if let Some(source) = sources.lines.get(line) {
+        push_place(&mut place, sources, source)?;
+    }
+    let name = name_of(alloc, place.as_bytes())?;
+    format!(in alloc; ";{name}")
+}
+
+/// Prints a line for each line of the source that was executed in the chain whose names these are, and answers how many
+/// instructions that are. They are the first of the rows.
+fn print_rows(
+    rt: &HostRuntime,
+    sources: &Sources,
+    stack: &Stack,
+    chain: usize,
+    rows: &[(Row, u64)],
+) -> io::Result<u64> {
+    let mut all: u64 = 0;
+    for (row, count) in rows {
+        if row.chain != chain {
+            break;
+        }
+        let name = source_name(rt.alloc(), sources, row.line)?;
+        rt.stdout().write_all(&stack.line(name.as_str(), *count)?)?;
+        all = all.saturating_add(*count);
+    }
+    Ok(all)
+}
+
+/// Prints a line for each line of the source that a chain executed, and one for what it executed besides.
+fn print_chain_by_source(
+    rt: &HostRuntime,
+    sources: &Sources,
+    stack: &Stack,
+    rows: &[(Row, u64)],
+    place: usize,
+    own: u64,
+) -> io::Result<()> {
+    let first = rows.partition_point(|row| row.0.chain < place);
+    let rest = rows.get(first..).unwrap_or(&[]);
+    let counted = print_rows(rt, sources, stack, place, rest)?;
+    if own > counted {
+        rt.stdout()
+            .write_all(&stack.line("", own.saturating_sub(counted))?)?;
+    }
+    Ok(())
+}
+
+/// Prints the same for each chain.
+fn print_chains_by_source(
+    rt: &HostRuntime,
+    chains: &Chains,
+    names: &[String],
+    sources: &Sources,
+    rows: &[(Row, u64)],
+) -> io::Result<()> {
+    let mut stack = Stack::new(rt.alloc());
+    for (place, chain) in chains.chains().iter().enumerate() {
+        stack.take(chains, names, place)?;
+        print_chain_by_source(rt, sources, &stack, rows, place, chain.count.instructions)?;
+    }
+    Ok(())
+}
+
+/// The chains of a run that has executed nothing, which goes to its end, and their counts by lines of the source.
+fn counted_by_source(
+    alloc: Global,
+    sources: &Sources,
+    run: &mut Run<Global>,
+) -> Result<(Chains, Vec<(Row, u64)>), AllocError> {
+    let mut chains = Chains::new(alloc, run)?;
+    let mut counts = SourceCounts::new(alloc);
+    run_out_by_source(&mut chains, &mut counts, sources, run)?;
+    let rows = counts.rows(alloc)?;
+    Ok((chains, rows))
+}
+
+/// Prints the lines of a run that has executed nothing, which goes to its end, by lines of the source.
+fn print_run_by_source(
+    rt: &HostRuntime,
+    batch: Batch<'_>,
+    run: &mut Run<Global>,
+) -> io::Result<()> {
+    let names = names_of(rt.alloc(), run.job())?;
+    let sources = Sources::of(rt.alloc(), batch.lines, run.job().verified().program())?;
+    let (chains, rows) = counted_by_source(rt.alloc(), &sources, run)?;
+    print_chains_by_source(rt, &chains, &names, &sources, &rows)
 }
 
 /// The chains of a run that has executed nothing, which goes to its end.
@@ -188,11 +326,29 @@ fn print_run(rt: &HostRuntime, run: &mut Run<Global>, unit: Unit) -> io::Result<
     print_chains(rt, &chains, names.as_slice(), unit)
 }
 
+/// Prints the lines of a run that has executed nothing, which goes to its end, in this unit.
+fn print_unit(
+    rt: &HostRuntime,
+    batch: Batch<'_>,
+    run: &mut Run<Global>,
+    unit: Unit,
+) -> io::Result<()> {
+    match unit {
+        Unit::Source => print_run_by_source(rt, batch, run),
+        Unit::Instructions | Unit::Elements => print_run(rt, run, unit),
+    }
+}
+
 /// Runs a job, and prints a line for each chain of functions that executed something itself: their names, and how many
-/// instructions or elements.
-pub fn print_folded(rt: &HostRuntime, rule: Rule, job: Job<Global>, unit: Unit) -> io::Result<()> {
-    let mut run = Run::new(rt.alloc(), rule, job)?;
-    let printed = print_run(rt, &mut run, unit);
+/// instructions or elements; or a line for each line of the source that was executed there.
+pub fn print_folded(
+    rt: &HostRuntime,
+    batch: Batch<'_>,
+    job: Job<Global>,
+    unit: Unit,
+) -> io::Result<()> {
+    let mut run = Run::new(rt.alloc(), batch.rule, job)?;
+    let printed = print_unit(rt, batch, &mut run, unit);
     drop(run);
     printed
 }

@@ -4,27 +4,26 @@ use crate::command::Look;
 use crate::data::{Told, job_object, push_told};
 use crate::end::{End, Ending, ending_of, run_through};
 use crate::folded::print_folded;
-use crate::lines::{Lines, printable};
-use crate::memory_notes::memory_note;
-use crate::operands::operand_names;
+use crate::last::{Before, Last, Seen, last_of, picture_of, see};
 use crate::page_data::push_found;
+use crate::picture::Picture;
 use crate::profile::{Shown, print_profile};
-use crate::reasons::reason;
+use crate::sources::{Sources, source_text};
 use crate::spans::Spans;
-use crate::stack::{print_calls, print_stack};
+use crate::stack::{MOST_ENTRIES, print_calls, print_stack};
+use crate::step::{Step, print_head, print_step};
 use crate::steps::show_steps;
 use crate::stops::show_sought;
 use crate::survey::{Again, Survey};
+use crate::values::{Part, ValueRange, print_values};
 use crate::watch::Watch;
 use crate::wide::{Course, MOST_BEFORE, Wide, Work, run_wide};
-use job_profile::Run;
 use job_steps::Job;
+use refusal_notes::{Lines, printable};
 use std::alloc::{AllocError, Global};
 use std::io;
-use vcode_base::{Limits, MemoryFault, Op, Rule};
-
-/// The last instructions that are shown of a job.
-const LAST: u64 = 6;
+use vcode_base::{Limits, MemoryFault, Rule};
+use vcode_reader::Program;
 
 /// The rule and the lines of a batch, and whether a job that a limit ended is run again within the widest limits, to
 /// find the least within which it returns.
@@ -35,62 +34,66 @@ pub struct Batch<'a> {
     pub tries_least: bool,
 }
 
-/// An instruction that was executed, by its place in its function and its line, and what there was after it.
-#[derive(Clone, Copy, Drop)]
-pub struct Step {
-    number: u64,
-    function: usize,
-    place: usize,
-    pub line: u64,
-    entries: usize,
-    held: usize,
+/// Where the instructions of a code are, and the lines of its source.
+#[derive(Drop)]
+struct Places {
+    spans: Spans,
+    sources: Sources,
 }
 
-/// The names of the operands of an instruction, the top first.
-fn names_from_top(alloc: Global, op: Op) -> Result<Vec<&'static str>, AllocError> {
-    let names = operand_names(op);
-    let mut turned = Vec::new(alloc);
-    for name in names.iter().rev() {
-        turned.push(*name)?;
+impl Places {
+    /// Those of a program.
+    fn of(alloc: Global, lines: &Lines, program: &Program<Global>) -> Result<Places, AllocError> {
+        Ok(Places {
+            spans: Spans::of(alloc, lines, program)?,
+            sources: Sources::of(alloc, lines, program)?,
+        })
     }
-    Ok(turned)
 }
 
-/// Where the instructions of the job of a run are.
-pub fn spans_of(alloc: Global, batch: Batch<'_>, watch: &Watch) -> Result<Spans, AllocError> {
-    let program = watch.run().job().verified().program();
-    Spans::of(alloc, batch.lines, program)
+/// Prints the line of the source of which a line of the code is, if it is of one.
+fn print_source(rt: &HostRuntime, sources: &Sources, line: u64) -> io::Result<()> {
+    match sources.at(line) {
+        Some(source) => {
+            let text = source_text(rt.alloc(), sources, source)?;
+            println!(rt; "of the source {text}\n")
+        }
+        None => Ok(()),
+    }
 }
 
-/// Prints where a run is, with a note at its next instruction.
+/// Prints the next line of a state, with a note at its instruction, and the line of its source.
 fn print_place(
     rt: &HostRuntime,
-    batch: Batch<'_>,
-    spans: &Spans,
-    watch: &Watch,
+    lines: &Lines,
+    places: &Places,
+    picture: &Picture,
     note: &str,
 ) -> io::Result<()> {
-    let Some(next) = watch.next() else {
+    let Some(next) = picture.next else {
         return Ok(());
     };
-    match spans.next(watch.run()) {
-        Some(word) => batch
-            .lines
-            .print_word(rt, next.line, spans.first, word, note),
-        None => batch.lines.print_around(rt, next.line, note),
-    }
+    let (function, place) = picture.place;
+    let text = match places.spans.at(function, place) {
+        Some(word) => lines.around_word(rt.alloc(), next.line, places.spans.first, word, note)?,
+        None => lines.around(rt.alloc(), next.line, note)?,
+    };
+    print!(rt; "{text}")?;
+    print_source(rt, &places.sources, next.line)
 }
 
-/// Prints the calls and the stack of a run.
-fn print_picture(rt: &HostRuntime, watch: &Watch) -> io::Result<()> {
-    print_calls(rt, watch)?;
-    match watch.next() {
-        Some(next) => {
-            let names = names_from_top(rt.alloc(), next.op)?;
-            print_stack(rt, watch, names.as_slice())
-        }
-        None => print_stack(rt, watch, &[]),
-    }
+/// Prints where a state is, with a note at its next instruction, and its calls and its stack.
+fn print_picture(
+    rt: &HostRuntime,
+    lines: &Lines,
+    program: &Program<Global>,
+    places: &Places,
+    picture: &Picture,
+    note: &str,
+) -> io::Result<()> {
+    print_place(rt, lines, places, picture, note)?;
+    print_calls(rt, program, &places.sources, picture)?;
+    print_stack(rt, lines, picture)
 }
 
 /// Prints what a job used beside its limit.
@@ -98,9 +101,18 @@ fn print_use(rt: &HostRuntime, name: &str, used: u64, limit: u64) -> io::Result<
     println!(rt; "  {name:<12} {used:>13} of {limit:>13}")
 }
 
+/// The name of a rule.
+fn rule_text(rule: Rule) -> &'static str {
+    match rule {
+        Rule::First => "first",
+        Rule::Second => "second",
+    }
+}
+
 /// Prints what a job used beside its limits.
-fn print_used(rt: &HostRuntime, end: End, limits: Limits) -> io::Result<()> {
-    println!(rt; "\nused")?;
+fn print_used(rt: &HostRuntime, rule: Rule, end: End, limits: Limits) -> io::Result<()> {
+    let rule = rule_text(rule);
+    println!(rt; "\nused, by the {rule} rule")?;
     print_use(rt, "instructions", end.executed, limits.budget)?;
     print_use(rt, "words", end.words as u64, limits.words as u64)?;
     print_use(rt, "cells", end.cells as u64, limits.cells as u64)?;
@@ -143,85 +155,6 @@ fn print_course(rt: &HostRuntime, name: &[u8], course: Course) -> io::Result<()>
     }
 }
 
-/// The function of the next instruction of a run, and its place there.
-pub fn place_of(run: &Run<Global>) -> (usize, usize) {
-    match run.frames().last() {
-        Some(frame) => (frame.function, frame.place),
-        None => (0, 0),
-    }
-}
-
-/// Executes the next instruction. `None` if it isn't executed, since it ends the job, or if there is none.
-pub fn step_of(watch: &mut Watch) -> Result<Option<Step>, AllocError> {
-    let before = watch.run().executed();
-    let Some(next) = watch.next() else {
-        return Ok(None);
-    };
-    let (function, place) = place_of(watch.run());
-    watch.step()?;
-    let number = watch.run().executed();
-    if number == before {
-        return Ok(None);
-    }
-    Ok(Some(Step {
-        number,
-        function,
-        place,
-        line: next.line,
-        entries: watch.run().depth(),
-        held: watch.run().held(),
-    }))
-}
-
-/// Prints the head of a list of instructions.
-pub fn print_head(rt: &HostRuntime) -> io::Result<()> {
-    println!(rt; "       step     line  entries       held  instruction")
-}
-
-/// The text of an instruction that was executed, or the code of its line.
-fn text_of(alloc: Global, lines: &Lines, spans: &Spans, step: Step) -> Result<String, AllocError> {
-    match spans.at(step.function, step.place) {
-        Some(word) => lines.word(alloc, step.line, spans.first, word),
-        None => lines.code(alloc, step.line),
-    }
-}
-
-/// Prints an instruction that was executed.
-pub fn print_step(rt: &HostRuntime, batch: Batch<'_>, spans: &Spans, step: Step) -> io::Result<()> {
-    let (number, line, entries, held) = (step.number, step.line, step.entries, step.held);
-    let text = text_of(rt.alloc(), batch.lines, spans, step)?;
-    println!(rt; "  {number:>9} {line:>8} {entries:>8} {held:>10}  {text}")
-}
-
-/// Executes this many instructions, which are there.
-fn steps_of(alloc: Global, watch: &mut Watch, count: u64) -> Result<Vec<Step>, AllocError> {
-    let mut steps = Vec::new(alloc);
-    for _ in 0..count {
-        if let Some(step) = step_of(watch)? {
-            steps.push(step)?;
-        }
-    }
-    Ok(steps)
-}
-
-/// The note at the last line of a job.
-fn note_of(
-    alloc: Global,
-    watch: &Watch,
-    ending: Ending,
-    wide: Option<Wide>,
-) -> Result<String, AllocError> {
-    match ending {
-        Ending::Returned => String::from_str(alloc, "returns"),
-        Ending::Budget => String::from_str(alloc, "would be next"),
-        Ending::Memory(fault, _) => memory_note(alloc, watch, fault, wide),
-        Ending::Fault(fault, _) => match watch.next() {
-            Some(next) => reason(alloc, watch, next.op, fault),
-            None => Ok(String::new(alloc)),
-        },
-    }
-}
-
 /// Prints how a job ended after this many instructions, on the line of its name.
 fn print_ending(rt: &HostRuntime, ending: Ending, count: u64) -> io::Result<()> {
     match ending {
@@ -238,49 +171,28 @@ fn print_ending(rt: &HostRuntime, ending: Ending, count: u64) -> io::Result<()> 
     }
 }
 
-/// Prints where a run is before it ends so, with a note at its last line, and its calls and its stack.
-fn print_before(
-    rt: &HostRuntime,
-    batch: Batch<'_>,
-    spans: &Spans,
-    watch: &Watch,
-    ending: Ending,
-    wide: Option<Wide>,
-) -> io::Result<()> {
-    let note = note_of(rt.alloc(), watch, ending, wide)?;
-    print_place(rt, batch, spans, watch, note.as_str())?;
-    print_picture(rt, watch)
-}
-
 /// Prints the last instructions of a job.
-fn print_steps(
-    rt: &HostRuntime,
-    batch: Batch<'_>,
-    spans: &Spans,
-    steps: &[Step],
-) -> io::Result<()> {
+fn print_steps(rt: &HostRuntime, lines: &Lines, spans: &Spans, steps: &[Step]) -> io::Result<()> {
     println!(rt; "\nthe last instructions")?;
     print_head(rt)?;
     for step in steps {
-        print_step(rt, batch, spans, *step)?;
+        print_step(rt, lines, spans, *step)?;
     }
     Ok(())
 }
 
-/// Prints what there was before the end of a job, and its last instructions. The run has executed nothing.
+/// Prints what there was before the end of a job, and its last instructions.
 fn print_last(
     rt: &HostRuntime,
-    batch: Batch<'_>,
-    watch: &mut Watch,
-    end: End,
-    wide: Option<Wide>,
+    lines: &Lines,
+    program: &Program<Global>,
+    last: &Last,
+    steps: &[Step],
 ) -> io::Result<()> {
-    let count = end.steps.min(LAST);
-    watch.go_to(end.steps.saturating_sub(count))?;
-    let steps = steps_of(rt.alloc(), watch, count)?;
-    let spans = spans_of(rt.alloc(), batch, watch)?;
-    print_before(rt, batch, &spans, watch, end.ending, wide)?;
-    print_steps(rt, batch, &spans, &steps)
+    let places = Places::of(rt.alloc(), lines, program)?;
+    let note = last.note.as_str();
+    print_picture(rt, lines, program, &places, &last.picture, note)?;
+    print_steps(rt, lines, &places.spans, steps)
 }
 
 /// How a job goes on within the widest limits if a limit ended it and this is to be tried, and the job.
@@ -301,76 +213,185 @@ fn wide_of(
     }
 }
 
-/// Prints how a job ended, what there was before, and what it used.
-fn print_end(rt: &HostRuntime, batch: Batch<'_>, job: Job<Global>) -> io::Result<()> {
-    let (end, job) = run_through(rt.alloc(), batch.rule, job)?;
-    let (wide, job) = wide_of(rt.alloc(), batch, job, end)?;
-    print_ended(rt, batch, job, end, wide)
+/// The last state of a job that ended so, how the job goes on within wider limits, if that is tried, and the job.
+fn last_told(
+    alloc: Global,
+    batch: Batch<'_>,
+    (before, job): (Before, Job<Global>),
+    end: End,
+    most: usize,
+) -> Result<(Last, Option<Wide>, Job<Global>), AllocError> {
+    match wide_of(alloc, batch, job, end) {
+        Ok((wide, job)) => last_within(alloc, batch, (before, job), end, wide, most),
+        Err(error) => {
+            drop(before);
+            Err(error)
+        }
+    }
+}
+
+/// The same of a job of which it is known how it goes on within wider limits.
+fn last_within(
+    alloc: Global,
+    batch: Batch<'_>,
+    (before, job): (Before, Job<Global>),
+    end: End,
+    wide: Option<Wide>,
+    most: usize,
+) -> Result<(Last, Option<Wide>, Job<Global>), AllocError> {
+    let (last, job) = last_of(alloc, batch, (before, job), end, wide, most)?;
+    Ok((last, wide, job))
+}
+
+/// How a job ended, the instructions that it executed last, its last state, and how it goes on within wider limits, if
+/// that was tried.
+#[derive(Drop)]
+struct Ended {
+    end: End,
+    steps: Vec<Step>,
+    last: Last,
+    wide: Option<Wide>,
+}
+
+/// What is shown of a job whose end was seen so, and the job.
+fn ended_of(
+    alloc: Global,
+    batch: Batch<'_>,
+    seen: Seen,
+    job: Job<Global>,
+    most: usize,
+) -> Result<(Ended, Job<Global>), AllocError> {
+    let Seen { end, steps, before } = seen;
+    match last_told(alloc, batch, (before, job), end, most) {
+        Ok((last, wide, job)) => Ok((
+            Ended {
+                end,
+                steps,
+                last,
+                wide,
+            },
+            job,
+        )),
+        Err(error) => {
+            drop(steps);
+            Err(error)
+        }
+    }
+}
+
+/// Prints how a job ended, what there was before, and what it used. Of the stack at most this many entries are shown.
+fn print_end(rt: &HostRuntime, batch: Batch<'_>, job: Job<Global>, most: usize) -> io::Result<()> {
+    let (seen, job) = see(rt.alloc(), batch.rule, job, most)?;
+    let (ended, job) = ended_of(rt.alloc(), batch, seen, job, most)?;
+    print_ended(rt, batch, ended, job)
 }
 
 /// Prints how a job ended, what there was before, and what it used.
 fn print_ended(
     rt: &HostRuntime,
     batch: Batch<'_>,
+    ended: Ended,
     job: Job<Global>,
-    end: End,
-    wide: Option<Wide>,
 ) -> io::Result<()> {
+    let printed = print_all(rt, batch, &ended, &job);
+    drop(ended);
+    drop(job);
+    printed
+}
+
+/// Prints how a job ended, what there was before, and what it used.
+fn print_all(
+    rt: &HostRuntime,
+    batch: Batch<'_>,
+    ended: &Ended,
+    job: &Job<Global>,
+) -> io::Result<()> {
+    print_ending(rt, ended.end.ending, ended.end.executed)?;
+    let program = job.verified().program();
+    print_last(rt, batch.lines, program, &ended.last, &ended.steps)?;
+    print_used(rt, batch.rule, ended.end, job.limits())?;
+    print_limits(rt, job.name(), ended.end, ended.wide)
+}
+
+/// Prints within which limits a job of this name returns, that ended so.
+fn print_limits(rt: &HostRuntime, name: &[u8], end: End, wide: Option<Wide>) -> io::Result<()> {
+    match wide {
+        Some(wide) => print_course(rt, name, wide.course),
+        None => print_least(rt, name, end.least),
+    }
+}
+
+/// Prints how a job ended, and values of an entry of its last state.
+fn print_last_values(
+    rt: &HostRuntime,
+    batch: Batch<'_>,
+    job: Job<Global>,
+    range: ValueRange,
+) -> io::Result<()> {
+    let (end, job) = run_through(rt.alloc(), batch.rule, job)?;
     let mut watch = Watch::new(rt.alloc(), batch.rule, job)?;
-    let printed = print_all(rt, batch, &mut watch, end, wide);
+    let printed = print_values_before(rt, batch, &mut watch, end, range);
     drop(watch);
     printed
 }
 
-/// Prints how a job ended, what there was before, and what it used. The run has executed nothing.
-fn print_all(
+/// Prints how a job ended, and values of an entry of its last state. The run has executed nothing.
+fn print_values_before(
     rt: &HostRuntime,
     batch: Batch<'_>,
     watch: &mut Watch,
     end: End,
-    wide: Option<Wide>,
+    range: ValueRange,
 ) -> io::Result<()> {
     print_ending(rt, end.ending, end.executed)?;
-    print_last(rt, batch, watch, end, wide)?;
-    print_limits(rt, watch.run().job(), end, wide)
+    watch.go_to(end.steps)?;
+    print_values(rt, batch.lines, watch, range)
 }
 
-/// Prints what a job used, and within which limits it returns.
-fn print_limits(
-    rt: &HostRuntime,
-    job: &Job<Global>,
-    end: End,
-    wide: Option<Wide>,
-) -> io::Result<()> {
-    print_used(rt, end, job.limits())?;
-    match wide {
-        Some(wide) => print_course(rt, job.name(), wide.course),
-        None => print_least(rt, job.name(), end.least),
+/// Shows how a job ended, on the line of its name, with this of its last state.
+fn show_end(rt: &HostRuntime, batch: Batch<'_>, job: Job<Global>, part: Part) -> io::Result<()> {
+    match part {
+        Part::Top => print_end(rt, batch, job, MOST_ENTRIES),
+        Part::All => print_end(rt, batch, job, usize::MAX),
+        Part::Values(range) => print_last_values(rt, batch, job, range),
     }
 }
 
-/// Prints what there is at a state of a run.
-fn print_state(rt: &HostRuntime, batch: Batch<'_>, watch: &Watch) -> io::Result<()> {
+/// Prints the state of a run that goes on, with at most this many entries.
+fn print_there(rt: &HostRuntime, batch: Batch<'_>, watch: &Watch, most: usize) -> io::Result<()> {
+    let Some(picture) = picture_of(rt.alloc(), watch, most)? else {
+        return Ok(());
+    };
+    let program = watch.run().job().verified().program();
+    let places = Places::of(rt.alloc(), batch.lines, program)?;
+    print_picture(rt, batch.lines, program, &places, &picture, "is next")
+}
+
+/// Prints this of the state of a run.
+fn print_state(rt: &HostRuntime, batch: Batch<'_>, watch: &Watch, part: Part) -> io::Result<()> {
     let executed = watch.run().executed();
     if !watch.run().goes_on() {
         return println!(rt; "is over after {executed} instructions");
     }
     let peak = watch.run().peak();
     println!(rt; "after {executed} instructions, with a peak of {peak} words")?;
-    let spans = spans_of(rt.alloc(), batch, watch)?;
-    print_place(rt, batch, &spans, watch, "is next")?;
-    print_picture(rt, watch)
+    match part {
+        Part::Top => print_there(rt, batch, watch, MOST_ENTRIES),
+        Part::All => print_there(rt, batch, watch, usize::MAX),
+        Part::Values(range) => print_values(rt, batch.lines, watch, range),
+    }
 }
 
-/// Prints what there is after this many instructions of a run that has executed nothing.
+/// Prints this of what there is after so many instructions of a run that has executed nothing.
 fn print_after(
     rt: &HostRuntime,
     batch: Batch<'_>,
     watch: &mut Watch,
     count: u64,
+    part: Part,
 ) -> io::Result<()> {
     watch.go_to(count)?;
-    print_state(rt, batch, watch)
+    print_state(rt, batch, watch, part)
 }
 
 /// Prints how a job ended and its profile.
@@ -386,33 +407,6 @@ fn show_profile(rt: &HostRuntime, batch: Batch<'_>, job: Job<Global>, all: bool)
     let printed = print_shown(rt, batch.lines, &shown, all);
     drop(shown);
     printed
-}
-
-/// The note at the last line of a run that has executed nothing, and goes to this end.
-fn note_at(
-    alloc: Global,
-    watch: &mut Watch,
-    end: End,
-    wide: Option<Wide>,
-) -> Result<String, AllocError> {
-    if let Ending::Fault(..) | Ending::Memory(..) = end.ending {
-        watch.go_to(end.steps)?;
-    }
-    note_of(alloc, watch, end.ending, wide)
-}
-
-/// The note at the last line of a job that ended so.
-fn last_note(
-    alloc: Global,
-    rule: Rule,
-    job: Job<Global>,
-    end: End,
-    wide: Option<Wide>,
-) -> Result<String, AllocError> {
-    let mut watch = Watch::new(alloc, rule, job)?;
-    let note = note_at(alloc, &mut watch, end, wide);
-    drop(watch);
-    note
 }
 
 /// The least limits within which a job returns, if it returned, or returns within wider ones.
@@ -452,45 +446,38 @@ fn wanted_of(end: End, wide: Option<Wide>, limit: usize) -> Option<usize> {
     }
 }
 
-/// What is said of a job that ended so.
-fn told_of(
+/// Adds what is said of a job that ended so, and ends its object.
+fn push_last(
+    text: &mut String,
     alloc: Global,
     batch: Batch<'_>,
-    job: Job<Global>,
+    (before, job): (Before, Job<Global>),
     end: End,
-) -> Result<Told, AllocError> {
+) -> Result<(), AllocError> {
     let limit = job.limits().words;
-    let (wide, job) = wide_of(alloc, batch, job, end)?;
-    Ok(Told {
-        note: last_note(alloc, batch.rule, job, end, wide)?,
+    let (last, wide, job) = last_told(alloc, batch, (before, job), end, MOST_ENTRIES)?;
+    drop(job);
+    let told = Told {
+        last,
         least: least_of(end, wide),
         tried: tried_of(wide),
         widest: widest_of(wide),
         wanted: wanted_of(end, wide, limit),
-    })
-}
-
-/// Adds what is said of a job that ended so, and ends its object.
-fn push_told_of(
-    text: &mut String,
-    alloc: Global,
-    batch: Batch<'_>,
-    job: Job<Global>,
-    end: End,
-) -> Result<(), AllocError> {
-    let told = told_of(alloc, batch, job, end)?;
-    push_told(text, &told)
+    };
+    let pushed = push_told(text, alloc, end.ending, &told);
+    drop(told);
+    pushed
 }
 
 /// The object of a job that ended so, of which this is the text up to what is said of its end.
-fn with_told(
+fn with_last(
     mut text: String,
     alloc: Global,
     batch: Batch<'_>,
-    job: Job<Global>,
+    (before, job): (Before, Job<Global>),
     end: End,
 ) -> Result<String, AllocError> {
-    push_told_of(&mut text, alloc, batch, job, end)?;
+    push_last(&mut text, alloc, batch, (before, job), end)?;
     Ok(text)
 }
 
@@ -499,11 +486,16 @@ fn with_found(
     mut text: String,
     alloc: Global,
     batch: Batch<'_>,
-    job: Job<Global>,
+    (before, job): (Before, Job<Global>),
     again: Again,
 ) -> Result<String, AllocError> {
-    let job = push_found(&mut text, alloc, batch.rule, job, again)?;
-    with_told(text, alloc, batch, job, again.end)
+    match push_found(&mut text, alloc, batch.rule, job, again) {
+        Ok(job) => with_last(text, alloc, batch, (before, job), again.end),
+        Err(error) => {
+            drop(before);
+            Err(error)
+        }
+    }
 }
 
 /// A job of this place as data.
@@ -515,8 +507,8 @@ pub fn object_of(
 ) -> Result<String, AllocError> {
     let survey = Survey::of(alloc, batch.rule, job)?;
     let again = survey.again();
-    match job_object(alloc, batch.lines, place, &survey) {
-        Ok(text) => with_found(text, alloc, batch, survey.into_job(), again),
+    match job_object(alloc, batch, place, &survey) {
+        Ok(text) => with_found(text, alloc, batch, survey.into_parts(), again),
         Err(error) => {
             drop(survey);
             Err(error)
@@ -530,15 +522,16 @@ fn print_name(rt: &HostRuntime, place: u64, name: &[u8]) -> io::Result<()> {
     print!(rt; "JOB {place} {name} ")
 }
 
-/// Shows what there is after this many instructions of a job, on the line of its name.
+/// Shows this of what there is after so many instructions of a job, on the line of its name.
 pub fn show_after(
     rt: &HostRuntime,
     batch: Batch<'_>,
     job: Job<Global>,
     count: u64,
+    part: Part,
 ) -> io::Result<()> {
     let mut watch = Watch::new(rt.alloc(), batch.rule, job)?;
-    let shown = print_after(rt, batch, &mut watch, count);
+    let shown = print_after(rt, batch, &mut watch, count, part);
     drop(watch);
     shown
 }
@@ -546,12 +539,12 @@ pub fn show_after(
 /// Shows what was asked for of a job, on the line of its name.
 fn show_named(rt: &HostRuntime, batch: Batch<'_>, job: Job<Global>, look: &Look) -> io::Result<()> {
     match look {
-        Look::End => print_end(rt, batch, job),
+        Look::End(part) => show_end(rt, batch, job, *part),
         Look::Profile { all } => show_profile(rt, batch, job, *all),
         Look::Steps(selection) => show_steps(rt, batch, job, *selection),
-        Look::After(count) => show_after(rt, batch, job, *count),
-        Look::At(sought) => show_sought(rt, batch, job, sought),
-        Look::Folded(unit) => print_folded(rt, batch.rule, job, *unit),
+        Look::After(count, part) => show_after(rt, batch, job, *count, *part),
+        Look::At(sought, part) => show_sought(rt, batch, job, sought, *part),
+        Look::Folded(unit) => print_folded(rt, batch, job, *unit),
     }
 }
 

@@ -2,33 +2,28 @@
 #![tactic(auto)]
 
 mod bands;
-mod batch_notes;
 mod chains;
 mod command;
 mod data;
 mod drawing;
 mod end;
-mod expected;
 mod failure;
 mod files;
 mod folded;
+mod folded_source;
 mod holders;
-mod kind_notes;
-mod kind_walk;
+mod last;
 mod levels;
-mod lines;
 mod look;
-mod meanings;
 mod memory_notes;
-mod operands;
 mod page;
 mod page_data;
 mod page_script;
 mod page_style;
-mod parts;
+mod picture;
+mod picture_data;
 mod profile;
 mod reasons;
-mod refusals;
 mod script_base;
 mod script_calls;
 mod script_code;
@@ -36,30 +31,29 @@ mod script_ending;
 mod script_jobs;
 mod script_over_time;
 mod selection;
-mod signature_notes;
+mod source_data;
+mod source_profile;
+mod sources;
 mod spans;
 mod stack;
+mod step;
 mod steps;
 mod stops;
 mod survey;
 mod tally;
-mod text_notes;
+mod values;
 mod watch;
 mod wide;
-mod words;
 
-use batch_notes::{batch_of, print_batch_note};
-use batch_reader::{Batch, BatchFault, Entry, Fate, JobEntries, JobEntry};
+use batch_reader::{Batch, BatchFault, Entry, Fate, JobEntries, JobEntry, JobFault};
 use command::{Asked, Form, Line, Look, VjobsWhy, read_line};
 use data::{batch_refusal_object, refusal_object};
 use failure::Failure;
 use files::{read_batch, write_text};
-use lines::Lines;
 use look::{object_of, show};
-use meanings::{batch_meaning, job_meaning};
 use page::page_of;
 use program_words::{WordsFault, print_fault, words_of};
-use refusals::print_refused;
+use refusal_notes::{Lines, batch_of, batch_refusal, refusal};
 use std::alloc::{AllocError, Global};
 use std::io;
 use std::process::ExitCode;
@@ -68,6 +62,19 @@ use std::process::ExitCode;
 fn line_of(rt: &HostRuntime) -> Result<Line, WordsFault> {
     let words = words_of::<VjobsWhy, HostRuntime>(rt)?;
     read_line(rt.alloc(), &words)
+}
+
+/// Prints why the job at a place of the batch, which has this name, is refused.
+fn print_refusal(
+    rt: &HostRuntime,
+    lines: &Lines,
+    place: u64,
+    name: &[u8],
+    line: u64,
+    fault: JobFault,
+) -> io::Result<()> {
+    let text = refusal(rt.alloc(), lines, place, name, line, fault)?;
+    print!(rt; "{text}")
 }
 
 /// Shows what was asked for of an entry of the batch.
@@ -83,7 +90,7 @@ fn show_entry(
         Fate::Ready(job) => show(rt, batch, place, job, look),
         Fate::Refused(line, fault) => match look {
             Look::Folded(_) => Ok(()),
-            _ => print_refused(rt, batch.lines, place, name.as_slice(), line, fault),
+            _ => print_refusal(rt, batch.lines, place, name.as_slice(), line, fault),
         },
     }
 }
@@ -219,10 +226,8 @@ fn print_batch_fault(
     line: u64,
     fault: BatchFault,
 ) -> io::Result<()> {
-    let text = fault.text();
-    println!(rt; "BATCH line {line} {text}")?;
-    lines.print_around(rt, line, batch_meaning(fault))?;
-    print_batch_note(rt, lines, line, fault)
+    let text = batch_refusal(rt.alloc(), lines, line, fault)?;
+    print!(rt; "{text}")
 }
 
 /// Prints as data why a batch is refused as a whole.

@@ -39,6 +39,14 @@ fn held_at(watch: &Watch, op: Op) -> usize {
     held
 }
 
+/// Which words count as held, if not all do: under the second rule those below the operands.
+fn below_text(watch: &Watch, op: Op) -> &'static str {
+    if watch.run().rule() == Rule::Second && !op.operand_kinds().is_empty() {
+        return " below the operands";
+    }
+    ""
+}
+
 /// Why the words would be too many at the next instruction of a run.
 fn words_note(
     alloc: Global,
@@ -47,17 +55,17 @@ fn words_note(
     wide: Option<Wide>,
 ) -> Result<String, AllocError> {
     let limit = watch.run().job().limits().words;
-    let held = held_at(watch, op);
+    let (held, below) = (held_at(watch, op), below_text(watch, op));
     match wide {
         Some(wide) if wide.wanted > limit => {
             let wanted = wide.wanted;
             let needed = wanted.saturating_sub(held);
             format!(in alloc;
-                "{held} words held and {needed} needed are {wanted}, and the limit is {limit}"
+                "{held} words held{below} and {needed} needed are {wanted}, and the limit is {limit}"
             )
         }
         Some(_) | None => format!(in alloc;
-            "{held} words held and those needed are more than the limit, which is {limit}"
+            "{held} words held{below} and those needed are more than the limit, which is {limit}"
         ),
     }
 }
@@ -66,17 +74,15 @@ fn words_note(
 pub fn memory_note(
     alloc: Global,
     watch: &Watch,
+    op: Op,
     fault: MemoryFault,
     wide: Option<Wide>,
 ) -> Result<String, AllocError> {
-    let Some(next) = watch.next() else {
-        return Ok(String::new(alloc));
-    };
     match fault {
-        MemoryFault::Words => words_note(alloc, watch, next.op, wide),
+        MemoryFault::Words => words_note(alloc, watch, op, wide),
         MemoryFault::Cells => {
             let (limit, depth) = (watch.run().job().limits().cells, watch.run().depth());
-            let wanted = depth_after(next.op, depth);
+            let wanted = depth_after(op, depth);
             format!(in alloc; "{depth} entries now and {wanted} after it, and the limit is {limit}")
         }
         MemoryFault::Calls => {

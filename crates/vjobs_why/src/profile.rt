@@ -2,10 +2,12 @@
 
 use crate::drawing::print_drawing;
 use crate::holders::{Holder, Holdings};
-use crate::lines::{Lines, printable};
+use crate::source_profile::print_sources;
+use crate::sources::{Sources, push_place};
 use crate::tally::{FunctionTally, LineTally, Tally};
 use job_profile::{Columns, Profile, Run};
 use job_steps::Job;
+use refusal_notes::{Lines, printable};
 use std::alloc::{AllocError, Global};
 use std::io;
 use vcode_base::Rule;
@@ -99,7 +101,7 @@ pub fn lines_of(alloc: Global, profile: &Profile<Global>) -> Result<Vec<LineCoun
 }
 
 /// A share as a percentage with one digit after the point.
-fn share_text(alloc: Global, part: u64, whole: u64) -> Result<String, AllocError> {
+pub fn share_text(alloc: Global, part: u64, whole: u64) -> Result<String, AllocError> {
     let whole = whole.max(1);
     let tenths = part.saturating_mul(1000).saturating_add(whole / 2) / whole;
     let (percent, tenth) = (tenths / 10, tenths % 10);
@@ -169,16 +171,32 @@ fn sorted_lines(
     Ok(rows)
 }
 
+/// The code of a line, and the place of the line of the source of which it is, if it is of one.
+fn line_text(
+    alloc: Global,
+    lines: &Lines,
+    sources: &Sources,
+    line: u64,
+) -> Result<String, AllocError> {
+    let mut text = lines.code(alloc, line)?;
+    if let Some(source) = sources.at(line) {
+        text.push_str("  ")?;
+        push_place(&mut text, sources, source)?;
+    }
+    Ok(text)
+}
+
 /// Prints a line that was executed.
 fn print_line(
     rt: &HostRuntime,
     lines: &Lines,
+    sources: &Sources,
     count: LineCount,
     tally: LineTally,
 ) -> io::Result<()> {
     let (times, line, elements, words) = (count.times, count.line, tally.elements, tally.most);
-    let code = lines.code(rt.alloc(), line as u64)?;
-    println!(rt; "  {times:>12}  {elements:>12} {words:>12} {line:>8}  {code}")
+    let text = line_text(rt.alloc(), lines, sources, line as u64)?;
+    println!(rt; "  {times:>12}  {elements:>12} {words:>12} {line:>8}  {text}")
 }
 
 /// Prints how many more there are than were shown, if there are some.
@@ -193,6 +211,7 @@ fn print_more(rt: &HostRuntime, more: usize) -> io::Result<()> {
 fn print_lines(
     rt: &HostRuntime,
     lines: &Lines,
+    sources: &Sources,
     rows: &[(LineCount, LineTally)],
     most: usize,
 ) -> io::Result<()> {
@@ -200,7 +219,7 @@ fn print_lines(
     println!(rt; "         times      elements   most words     line  instruction")?;
     let shown = rows.get(..most).unwrap_or(rows);
     for (count, tally) in shown {
-        print_line(rt, lines, *count, *tally)?;
+        print_line(rt, lines, sources, *count, *tally)?;
     }
     print_more(rt, rows.len().saturating_sub(shown.len()))
 }
@@ -330,7 +349,7 @@ fn print_words(rt: &HostRuntime, columns: &Columns<Global>) -> io::Result<()> {
     print_drawing(rt, list, each, limit)
 }
 
-/// Prints the lines of a job that were executed: all, or the first of them.
+/// Prints the lines of a job that were executed, and those of its source: all, or the first of them.
 fn print_executed(
     rt: &HostRuntime,
     lines: &Lines,
@@ -338,9 +357,23 @@ fn print_executed(
     tally: &Tally,
     all: bool,
 ) -> io::Result<()> {
+    let sources = Sources::of(rt.alloc(), lines, profile.run().job().verified().program())?;
+    let most = if all { usize::MAX } else { MOST_LINES };
+    print_sources(rt, &sources, profile, tally, most)?;
+    print_all(rt, lines, &sources, profile, tally, most)
+}
+
+/// Prints the lines of a job that were executed, at most this many.
+fn print_all(
+    rt: &HostRuntime,
+    lines: &Lines,
+    sources: &Sources,
+    profile: &Profile<Global>,
+    tally: &Tally,
+    most: usize,
+) -> io::Result<()> {
     let rows = sorted_lines(rt.alloc(), profile, tally)?;
-    let most = if all { rows.len() } else { MOST_LINES };
-    print_lines(rt, lines, rows.as_slice(), most)
+    print_lines(rt, lines, sources, rows.as_slice(), most)
 }
 
 /// Prints the profile of a job that has ended, after how it ended; all lines, or the first of them.

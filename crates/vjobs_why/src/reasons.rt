@@ -1,7 +1,7 @@
 //! Why an instruction has no results: its operands' lengths, or the first place whose value has none.
 
-use crate::operands::operand_names;
 use crate::watch::Watch;
+use refusal_notes::operand_names;
 use std::alloc::{AllocError, Global};
 use std::fmt::Write;
 use vcode_base::limits::MOST_TOTAL;
@@ -37,7 +37,7 @@ fn named<'a>(watch: &'a Watch, op: Op, name: &str) -> &'a [i64] {
 }
 
 /// The sum of the lengths of a descriptor.
-fn total(lengths: &[i64]) -> i64 {
+pub fn total(lengths: &[i64]) -> i64 {
     let mut total: i64 = 0;
     for length in lengths {
         total = total.saturating_add(*length);

@@ -1,7 +1,7 @@
 //! Which of the instructions that were executed are listed.
 
 /// A choice of instructions: those from one number to another that are on these lines, of these every K-th, and of
-/// these the first and the last ones.
+/// these the first and the last ones. Of each what it made may be shown.
 #[derive(Clone, Copy, Drop)]
 pub struct Selection {
     pub from: u64,
@@ -10,6 +10,7 @@ pub struct Selection {
     pub every: u64,
     pub first: Option<u64>,
     pub last: Option<u64>,
+    pub values: bool,
 }
 
 /// Lines from one number to another.
@@ -93,6 +94,11 @@ impl Picker {
             return Some(total.saturating_sub(first).saturating_sub(last));
         }
         None
+    }
+
+    /// Whether what an instruction made is shown.
+    pub fn shows_values(self) -> bool {
+        self.selection.values
     }
 
     /// Whether no later instruction is listed.

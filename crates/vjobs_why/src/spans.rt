@@ -1,9 +1,8 @@
 //! Where the instructions of a program are in its text.
 
-use crate::lines::Lines;
 use crate::profile::last_line_of;
-use crate::words::{Text, Word, words_of};
 use job_profile::Run;
+use refusal_notes::{Lines, Text, Word, words_of};
 use std::alloc::{AllocError, Global};
 use vcode_reader::Program;
 

@@ -1,9 +1,10 @@
 //! The instructions of a job that were executed, one by one.
 
 use crate::end::with_job;
-use crate::look::{Batch, Step, print_head, print_step, spans_of, step_of};
+use crate::look::Batch;
 use crate::selection::{Picker, Selection};
 use crate::spans::Spans;
+use crate::step::{Step, print_head, print_made, print_step, step_of};
 use crate::watch::Watch;
 use job_steps::Job;
 use std::alloc::{AllocError, Global};
@@ -24,18 +25,41 @@ fn count_chosen(watch: &mut Watch, selection: Selection) -> Result<u64, AllocErr
     Ok(picker.taken)
 }
 
-/// Prints an instruction that was chosen, if it is listed, or how many are left out from it on, if it is the first of
-/// these.
+/// Where the instructions of the job of a run are.
+fn spans_of(alloc: Global, batch: Batch<'_>, watch: &Watch) -> Result<Spans, AllocError> {
+    let program = watch.run().job().verified().program();
+    Spans::of(alloc, batch.lines, program)
+}
+
+/// Prints the instruction that a run has executed last, and what it made if that is to be shown.
+fn print_whole(
+    rt: &HostRuntime,
+    batch: Batch<'_>,
+    spans: &Spans,
+    watch: &Watch,
+    step: Step,
+    values: bool,
+) -> io::Result<()> {
+    print_step(rt, batch.lines, spans, step)?;
+    if values {
+        return print_made(rt, watch.run(), step);
+    }
+    Ok(())
+}
+
+/// Prints the instruction that a run has executed last and that was chosen, if it is listed, or how many are left out
+/// from it on, if it is the first of these.
 fn print_listed(
     rt: &HostRuntime,
     batch: Batch<'_>,
     spans: &Spans,
+    watch: &Watch,
     step: Step,
     picker: Picker,
     total: u64,
 ) -> io::Result<()> {
     if picker.is_listed(total) {
-        return print_step(rt, batch, spans, step);
+        return print_whole(rt, batch, spans, watch, step, picker.shows_values());
     }
     match picker.left_out(total) {
         Some(count) => println!(rt; "  .. and {count} more"),
@@ -62,7 +86,7 @@ fn print_chosen(
             break;
         };
         if picker.takes(step.line) {
-            print_listed(rt, batch, &spans, step, picker, total)?;
+            print_listed(rt, batch, &spans, watch, step, picker, total)?;
         }
         if picker.is_done() {
             break;

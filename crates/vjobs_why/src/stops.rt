@@ -2,6 +2,7 @@
 
 use crate::end::with_job;
 use crate::look::{Batch, show_after};
+use crate::values::Part;
 use job_profile::{Stop, Uses};
 use job_steps::Job;
 use std::alloc::{AllocError, Global};
@@ -134,16 +135,17 @@ fn print_none(rt: &HostRuntime, sought: &Sought) -> io::Result<()> {
     }
 }
 
-/// Shows what there is at a state of a job that is looked for, on the line of its name.
+/// Shows this of a state of a job that is looked for, on the line of its name.
 pub fn show_sought(
     rt: &HostRuntime,
     batch: Batch<'_>,
     job: Job<Global>,
     sought: &Sought,
+    part: Part,
 ) -> io::Result<()> {
     let (count, job) = count_to(rt.alloc(), batch.rule, job, sought)?;
     match count {
-        Some(count) => show_after(rt, batch, job, count),
+        Some(count) => show_after(rt, batch, job, count, part),
         None => {
             drop(job);
             print_none(rt, sought)

@@ -2,7 +2,7 @@
 
 use crate::chains::innermost;
 use crate::end::with_job;
-use crate::watch::op_of;
+use crate::watch::Next;
 use job_profile::Run;
 use job_steps::Job;
 use std::alloc::{AllocError, Global};
@@ -16,15 +16,20 @@ pub struct Count {
     pub elements: u64,
 }
 
-/// The next instruction of a run: its line, its function and its place there, and how many elements its operands have.
-/// Before it this many instructions were executed, and this many calls are active.
+/// What a run has executed, and what it had executed when the call began or went on that is the innermost now.
+#[derive(Clone, Copy, Drop)]
+pub struct Stretch {
+    pub all: Count,
+    since: Count,
+}
+
+/// The next instruction of a run, and its function and its place there. Before it this many instructions were executed.
+/// Its operands have this many elements.
 #[derive(Clone, Copy, Drop)]
 pub struct Before {
-    pub line: u64,
+    pub next: Next,
     pub function: usize,
     pub place: usize,
-    pub calls: usize,
-    op: Op,
     executed: u64,
     read: u64,
 }
@@ -54,13 +59,12 @@ pub struct LineTally {
     pub most: usize,
 }
 
-/// What the functions and the lines of a run did, what was executed in all, and after how many instructions its peak
-/// was what it is for the first time.
+/// What the functions and the lines of a run did, and after how many instructions its peak was what it is for the first
+/// time.
 #[derive(Drop)]
 pub struct Tally {
     functions: Vec<FunctionTally>,
     lines: Vec<LineTally>,
-    all: Count,
     pub peak_after: u64,
 }
 
@@ -72,43 +76,70 @@ impl Count {
     };
 
     /// Adds an instruction whose operands and results have this many elements.
+    #[inline(always)]
     pub fn add(&mut self, elements: u64) {
         self.instructions = self.instructions.saturating_add(1);
         self.elements = self.elements.saturating_add(elements);
     }
 
-    /// Adds what was executed from one count up to a later one.
-    fn add_between(&mut self, before: Count, after: Count) {
-        let instructions = after.instructions.saturating_sub(before.instructions);
-        let elements = after.elements.saturating_sub(before.elements);
-        self.instructions = self.instructions.saturating_add(instructions);
-        self.elements = self.elements.saturating_add(elements);
+    /// Adds another count.
+    pub fn join(&mut self, other: Count) {
+        self.instructions = self.instructions.saturating_add(other.instructions);
+        self.elements = self.elements.saturating_add(other.elements);
     }
+
+    /// What was executed from an earlier count on.
+    fn after(self, earlier: Count) -> Count {
+        Count {
+            instructions: self.instructions.saturating_sub(earlier.instructions),
+            elements: self.elements.saturating_sub(earlier.elements),
+        }
+    }
+}
+
+impl Stretch {
+    /// Nothing was executed.
+    pub const NONE: Stretch = Stretch {
+        all: Count::NONE,
+        since: Count::NONE,
+    };
+
+    /// What was executed in the innermost call since it began or went on. It is to count anew from now on.
+    pub fn end(&mut self) -> Count {
+        let count = self.all.after(self.since);
+        self.since = self.all;
+        count
+    }
+}
+
+/// Whether another call is the innermost after an instruction.
+#[inline(always)]
+pub fn changes_call(op: Op) -> bool {
+    matches!(op, Op::Call | Op::Return)
 }
 
 impl Before {
     /// The next instruction of a run, if it goes on.
+    #[inline(always)]
     pub fn of(run: &Run<Global>) -> Option<Before> {
-        let next = run.next_line()?;
-        let op = op_of(&next);
+        let next = Next::of(run)?;
         let frame = run.frames().last()?;
         Some(Before {
-            line: next.number,
+            next,
             function: frame.function,
             place: frame.place,
-            calls: run.calls(),
-            op,
             executed: run.executed(),
-            read: elements_of(run, op.operand_kinds().len()),
+            read: elements_of(run, next.op.operand_kinds().len()),
         })
     }
 
     /// The elements of its operands and results after the run has made a step, if it was executed.
+    #[inline(always)]
     pub fn elements(self, run: &Run<Global>) -> Option<u64> {
         if run.executed() == self.executed {
             return None;
         }
-        let made = elements_of(run, self.op.result_kinds().len());
+        let made = elements_of(run, self.next.op.result_kinds().len());
         Some(self.read.saturating_add(made))
     }
 }
@@ -139,7 +170,7 @@ impl FunctionTally {
     fn leave(&mut self, all: Count) {
         self.active = self.active.saturating_sub(1);
         if self.active == 0 {
-            self.whole.add_between(self.since, all);
+            self.whole.join(all.after(self.since));
         }
     }
 
@@ -163,6 +194,7 @@ impl LineTally {
 }
 
 /// The elements of the entries at the top of the stack of a run, this many of them.
+#[inline(always)]
 pub fn elements_of(run: &Run<Global>, count: usize) -> u64 {
     let mut elements: u64 = 0;
     for depth in 0..count {
@@ -183,24 +215,21 @@ impl Tally {
         let mut tally = Tally {
             functions,
             lines: Vec::new(alloc),
-            all: Count::NONE,
             peak_after: 0,
         };
-        tally.enter(innermost(run));
+        tally.enter(innermost(run), Count::NONE);
         Ok(tally)
     }
 
-    /// Counts a call of a function that begins.
-    fn enter(&mut self, function: usize) {
-        let all = self.all;
+    /// Counts a call of a function that begins when the job has executed this.
+    fn enter(&mut self, function: usize, all: Count) {
         if let Some(tally) = self.functions.get_mut(function) {
             tally.enter(all);
         }
     }
 
-    /// Counts the end of a call of a function.
-    fn leave(&mut self, function: usize) {
-        let all = self.all;
+    /// Counts the end of a call of a function when the job has executed this.
+    fn leave(&mut self, function: usize, all: Count) {
         if let Some(tally) = self.functions.get_mut(function) {
             tally.leave(all);
         }
@@ -215,22 +244,21 @@ impl Tally {
     }
 
     /// Counts the elements of an instruction that was executed.
-    fn count_elements(&mut self, before: Before, elements: u64) -> Result<(), AllocError> {
-        let line = before.line as usize;
+    pub fn count(&mut self, before: Before, elements: u64) -> Result<(), AllocError> {
+        if elements == 0 {
+            return Ok(());
+        }
+        let line = before.next.line as usize;
         self.reach(line)?;
         if let Some(tally) = self.lines.get_mut(line) {
             tally.elements = tally.elements.saturating_add(elements);
         }
-        if let Some(tally) = self.functions.get_mut(before.function) {
-            tally.own.add(elements);
-        }
-        self.all.add(elements);
         Ok(())
     }
 
     /// Counts the words that were held and needed at an instruction that was executed.
     fn count_words(&mut self, before: Before, words: usize) -> Result<(), AllocError> {
-        let line = before.line as usize;
+        let line = before.next.line as usize;
         self.reach(line)?;
         if let Some(tally) = self.lines.get_mut(line) {
             tally.most = tally.most.max(words);
@@ -241,31 +269,50 @@ impl Tally {
         Ok(())
     }
 
-    /// Counts an instruction that a run has executed, whose operands and results have this many elements.
-    pub fn count(
+    /// Counts what a function has executed itself.
+    #[inline(always)]
+    pub fn count_own(&mut self, function: usize, own: Count) {
+        if let Some(tally) = self.functions.get_mut(function) {
+            tally.own.join(own);
+        }
+    }
+
+    /// Counts a call that begins, or the end of one, at an instruction after which the job has executed this.
+    pub fn change(&mut self, before: Before, all: Count, run: &Run<Global>) {
+        match before.next.op {
+            Op::Call => self.enter(innermost(run), all),
+            _ => self.leave(before.function, all),
+        }
+    }
+
+    /// Counts an instruction that was executed with this many elements.
+    fn follow(
         &mut self,
         before: Before,
         elements: u64,
+        stretch: &mut Stretch,
         run: &Run<Global>,
     ) -> Result<(), AllocError> {
-        self.count_elements(before, elements)?;
-        match before.op {
-            Op::Call => self.enter(innermost(run)),
-            Op::Return => self.leave(before.function),
-            Op::Const(_) | Op::Elementwise(_) | Op::Segmented(_) | Op::If | Op::Move(..) => {}
+        stretch.all.add(elements);
+        self.count(before, elements)?;
+        if changes_call(before.next.op) {
+            self.count_own(before.function, stretch.end());
+            self.change(before, stretch.all, run);
         }
         Ok(())
     }
 
-    /// Executes and counts the next instruction; true if the job goes on.
-    fn step(&mut self, run: &mut Run<Global>) -> Result<bool, AllocError> {
-        let Some(before) = Before::of(run) else {
-            return Ok(false);
-        };
+    /// Executes and counts the next instruction, which is this one; true if the job goes on.
+    fn step(
+        &mut self,
+        before: Before,
+        stretch: &mut Stretch,
+        run: &mut Run<Global>,
+    ) -> Result<bool, AllocError> {
         let (peak, words) = (run.peak(), run.demand());
         let goes_on = run.step();
         if let Some(elements) = before.elements(run) {
-            self.count(before, elements, run)?;
+            self.follow(before, elements, stretch, run)?;
             self.count_words(before, words)?;
         }
         if run.peak() > peak {
@@ -276,17 +323,22 @@ impl Tally {
 
     /// Executes and counts all instructions.
     fn run_out(&mut self, run: &mut Run<Global>) -> Result<(), AllocError> {
+        let mut stretch = Stretch::NONE;
+        let mut function = innermost(run);
         for _ in 0..=MOST_BUDGET {
-            if !self.step(run)? {
+            let Some(before) = Before::of(run) else {
                 break;
-            }
+            };
+            function = before.function;
+            self.step(before, &mut stretch, run)?;
         }
+        self.count_own(function, stretch.end());
+        self.leave_all(stretch.all);
         Ok(())
     }
 
-    /// Counts the ends of the calls that are still active.
-    pub fn leave_all(&mut self) {
-        let all = self.all;
+    /// Counts the ends of the calls that are still active when the job has executed this.
+    pub fn leave_all(&mut self, all: Count) {
         for tally in self.functions.iter_mut() {
             tally.leave_all(all);
         }
@@ -296,7 +348,6 @@ impl Tally {
     fn of_run(alloc: Global, run: &mut Run<Global>) -> Result<Tally, AllocError> {
         let mut tally = Tally::new(alloc, run)?;
         tally.run_out(run)?;
-        tally.leave_all();
         Ok(tally)
     }
 
@@ -317,6 +368,17 @@ impl Tally {
             Some(tally) => *tally,
             None => FunctionTally::new(),
         }
+    }
+
+    /// What `count` lines did, of which the first has this number.
+    pub fn between(&self, first: usize, count: usize) -> LineTally {
+        let mut all = LineTally::new();
+        let rest = self.lines.get(first..).unwrap_or(&[]);
+        for line in rest.get(..count).unwrap_or(rest) {
+            all.elements = all.elements.saturating_add(line.elements);
+            all.most = all.most.max(line.most);
+        }
+        all
     }
 
     /// What the line of this number did.

@@ -1,8 +1,8 @@
 //! The walk by which kinds are checked: the kinds on the stack of each function, with the lines that make them, up to
 //! the first instruction that they don't fit.
 
+use crate::motions::move_entries;
 use crate::operands::operand_names;
-use crate::watch::move_entries;
 use signatures::Signatures;
 use std::alloc::{AllocError, Global};
 use std::mem;
@@ -11,7 +11,7 @@ use vcode_reader::{CodeItem, CodeLine, Function, Program};
 
 /// An entry of the stack before a job runs: its kind, and the line that makes it.
 #[derive(Clone, Copy, Drop, PartialEq)]
-pub struct StackEntry {
+pub(crate) struct StackEntry {
     pub kind: Kind,
     pub line: u64,
 }
@@ -24,14 +24,14 @@ const MOST_TOUCHED: usize = 16_777_216;
 
 /// What is wanted at a place of the stack: entries of this kind, or of any.
 #[derive(Clone, Copy, Drop)]
-pub enum Wanted {
+pub(crate) enum Wanted {
     Of(Kind),
     Any,
 }
 
 /// Why kinds don't fit.
 #[derive(Drop)]
-pub enum Clash {
+pub(crate) enum Clash {
     /// The entries that an instruction takes, from the bottom up, with their names if they have some.
     Operands(Vec<Wanted>, &'static [&'static str]),
     /// What the other part of an IF leaves, from the bottom up. What the stack has is left by the first.
@@ -41,7 +41,7 @@ pub enum Clash {
 /// The first place where the kinds of a program don't fit: the function, the line, how many instructions of the line
 /// come before it, the stack there, and why.
 #[derive(Drop)]
-pub struct Misfit {
+pub(crate) struct Misfit {
     pub function: usize,
     pub line: u64,
     pub before: usize,
@@ -354,7 +354,7 @@ fn misfit_in(
 }
 
 /// The first place where the kinds of a program don't fit, but for functions in which the walk is given up.
-pub fn misfit_of(
+pub(crate) fn misfit_of(
     alloc: Global,
     program: &Program<Global>,
     signatures: &Signatures<Global>,

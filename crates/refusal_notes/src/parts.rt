@@ -20,7 +20,7 @@ pub struct Parts {
 
 /// What the next line of a batch is a part of.
 #[derive(Clone, Copy, PartialEq, Eq, Drop)]
-pub enum Stage {
+pub(crate) enum Stage {
     Between,
     Signatures,
     Code,
@@ -29,14 +29,14 @@ pub enum Stage {
 /// What the lines so far have shown: how many jobs they begin, the parts of the last one, and what the next line is a
 /// part of.
 #[derive(Clone, Copy, Drop)]
-pub struct Scan {
+pub(crate) struct Scan {
     pub stage: Stage,
     pub jobs: u64,
     pub parts: Parts,
 }
 
 /// Whether the first word of a line is this one.
-pub fn begins_with(line: &[u8], word: &[u8]) -> bool {
+pub(crate) fn begins_with(line: &[u8], word: &[u8]) -> bool {
     let mut words = LineWords::new(line, Parentheses::StandInWords);
     match words.next() {
         Some(first) => first == word,
@@ -45,7 +45,7 @@ pub fn begins_with(line: &[u8], word: &[u8]) -> bool {
 }
 
 /// Whether the only word of a line is this one.
-pub fn is_only(line: &[u8], word: &[u8]) -> bool {
+pub(crate) fn is_only(line: &[u8], word: &[u8]) -> bool {
     let mut words = LineWords::new(line, Parentheses::StandInWords);
     match words.next() {
         Some(first) => first == word && words.next().is_none(),
@@ -55,7 +55,7 @@ pub fn is_only(line: &[u8], word: &[u8]) -> bool {
 
 impl Scan {
     /// A scan of no line.
-    pub fn new() -> Scan {
+    pub(crate) fn new() -> Scan {
         let none = LineSpan { first: 0, end: 0 };
         Scan {
             stage: Stage::Between,
@@ -69,7 +69,7 @@ impl Scan {
     }
 
     /// Takes the next line, which has this number.
-    pub fn take(&mut self, number: u64, line: &[u8]) {
+    pub(crate) fn take(&mut self, number: u64, line: &[u8]) {
         match self.stage {
             Stage::Between if begins_with(line, b"JOB") => {
                 self.jobs = self.jobs.saturating_add(1);
@@ -92,7 +92,7 @@ impl Scan {
 }
 
 /// What the lines before the one of this number have shown.
-pub fn scan_before(lines: &Lines, number: u64) -> Scan {
+pub(crate) fn scan_before(lines: &Lines, number: u64) -> Scan {
     let mut scan = Scan::new();
     for earlier in 1..number {
         let Some(line) = lines.bytes(earlier) else {

@@ -57,7 +57,7 @@ fn is_fault(alloc: Global, code: &[u8]) -> Result<bool, AllocError> {
 }
 
 /// Whether code that begins so has a fault if this word is next.
-pub fn is_fault_next(alloc: Global, front: &[u8], word: &[u8]) -> Result<bool, AllocError> {
+pub(crate) fn is_fault_next(alloc: Global, front: &[u8], word: &[u8]) -> Result<bool, AllocError> {
     let mut text = joined(alloc, front, word)?;
     text.push(b' ')?;
     is_fault(alloc, &text)
@@ -76,7 +76,7 @@ fn is_signature(alloc: Global, front: &[u8], end: &[u8]) -> Result<bool, AllocEr
 }
 
 /// What may come next in a signature that begins so, if it is the beginning of one.
-pub fn expected_in_signature(
+pub(crate) fn expected_in_signature(
     alloc: Global,
     front: &[u8],
 ) -> Result<Option<&'static str>, AllocError> {
@@ -108,12 +108,12 @@ fn number_name(alloc: Global, front: &[u8]) -> Result<Option<&'static str>, Allo
 }
 
 /// Whether a name comes next in code that begins so.
-pub fn is_name_next(alloc: Global, front: &[u8]) -> Result<bool, AllocError> {
+pub(crate) fn is_name_next(alloc: Global, front: &[u8]) -> Result<bool, AllocError> {
     Ok(!is_fault_next(alloc, front, SOME_NAME)?)
 }
 
 /// What may come next in code that begins so.
-pub fn expected_in_code(alloc: Global, front: &[u8]) -> Result<String, AllocError> {
+pub(crate) fn expected_in_code(alloc: Global, front: &[u8]) -> Result<String, AllocError> {
     if is_name_next(alloc, front)? {
         return String::from_str(alloc, "a name");
     }

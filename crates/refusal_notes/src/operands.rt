@@ -1,9 +1,14 @@
 //! The names of operands, as the page on the language has them, from the bottom of the stack up.
 
+ghost use Rattle.std.specs.Prelude.{◌≡◌, length};
+ghost use Rattle.vcode_base.specs.Kinds.{operand_kinds};
+
 use vcode_base::{Elementwise, Op, Segmented};
 
-/// The names of the operands of an instruction.
-pub fn operand_names(op: Op) -> &'static [&'static str] {
+/// The names of the operands of an instruction, as many as it takes.
+pub fn operand_names(op: Op) -> &'static [&'static str]
+    ensures { length result.now ≡ length (operand_kinds op) }
+{
     match op {
         Op::Elementwise(op) => elementwise_names(op),
         Op::Segmented(op) => segmented_names(op),
@@ -13,7 +18,9 @@ pub fn operand_names(op: Op) -> &'static [&'static str] {
 }
 
 /// The names of the operands of an elementwise instruction.
-fn elementwise_names(op: Elementwise) -> &'static [&'static str] {
+fn elementwise_names(op: Elementwise) -> &'static [&'static str]
+    ensures { length result.now ≡ length (operand_kinds (Op.Elementwise op)) }
+{
     match op {
         Elementwise::Arith(_) | Elementwise::Compare(_) | Elementwise::Logic(..) => &["a", "b"],
         Elementwise::Not(_) | Elementwise::IntToBool | Elementwise::BoolToInt => &["a"],
@@ -22,7 +29,9 @@ fn elementwise_names(op: Elementwise) -> &'static [&'static str] {
 }
 
 /// The names of the operands of an instruction over segments.
-fn segmented_names(op: Segmented) -> &'static [&'static str] {
+fn segmented_names(op: Segmented) -> &'static [&'static str]
+    ensures { length result.now ≡ length (operand_kinds (Op.Segmented op)) }
+{
     match op {
         Segmented::Scan(_) | Segmented::Reduce(_) | Segmented::Distribute(_) => &["V", "S"],
         Segmented::Index => &["A", "D", "S"],

@@ -8,7 +8,6 @@ use crate::lines::Lines;
 use crate::parts::LineSpan;
 use crate::words::{Text, Word, first_fault, open_comment, words_of};
 use std::alloc::{AllocError, Global};
-use std::io;
 use vcode_base::TextFault;
 use vcode_base::laws::line_feeds_are_few;
 use vcode_base::limits::{LONGEST_NAME, MOST_ELEMENTS, MOST_FUNCTIONS, MOST_MOVED, MOST_OPEN_IFS};
@@ -32,7 +31,10 @@ fn read(alloc: Global, code: &[u8]) -> Result<Program<Global>, ReadFault>
 }
 
 /// The program of a code, if it has no fault as a text.
-pub fn program_of(alloc: Global, code: &[u8]) -> Result<Option<Program<Global>>, AllocError> {
+pub(crate) fn program_of(
+    alloc: Global,
+    code: &[u8],
+) -> Result<Option<Program<Global>>, AllocError> {
     if code.len() > MOST_CODE_BYTES {
         return Ok(None);
     }
@@ -64,10 +66,10 @@ fn find_misplaced(alloc: Global, code: &[u8]) -> Result<Option<Misplaced<'_>>, A
     }))
 }
 
-/// Prints what may come next in code that begins so.
-fn print_expected(rt: &HostRuntime, front: &[u8], place: &str) -> io::Result<()> {
-    let expected = expected_in_code(rt.alloc(), front)?;
-    println!(rt; "expected {place}: {expected}")
+/// What may come next in code that begins so.
+fn expected_note(alloc: Global, front: &[u8], place: &str) -> Result<String, AllocError> {
+    let expected = expected_in_code(alloc, front)?;
+    format!(in alloc; "expected {place}: {expected}\n")
 }
 
 /// The line, counted from the first of the code, at which the innermost of what is open at the end of a code begins.
@@ -85,19 +87,19 @@ fn open_line(alloc: Global, code: &[u8]) -> Result<Option<u64>, AllocError> {
     }
 }
 
-/// Prints where the innermost of what is open begins, if something is.
-fn print_open(rt: &HostRuntime, front: &[u8], code: LineSpan) -> io::Result<()> {
-    match open_line(rt.alloc(), front)? {
+/// Where the innermost of what is open begins, if something is.
+fn open_note(alloc: Global, front: &[u8], code: LineSpan) -> Result<String, AllocError> {
+    match open_line(alloc, front)? {
         Some(line) => {
             let line = absolute(code, line);
-            println!(rt; "what begins at line {line} is still open")
+            format!(in alloc; "what begins at line {line} is still open\n")
         }
-        None => println!(rt; "no function is open"),
+        None => String::from_str(alloc, "no function is open\n"),
     }
 }
 
 /// The line of the batch that has this number in the code, counted from 1.
-pub fn absolute(code: LineSpan, line: u64) -> u64 {
+pub(crate) fn absolute(code: LineSpan, line: u64) -> u64 {
     code.first.saturating_add(line).saturating_sub(1)
 }
 
@@ -119,91 +121,94 @@ fn first_line(alloc: Global, code: &[u8], name: &[u8]) -> Result<Option<u64>, Al
     }
 }
 
-/// Prints where the function of this name is among those of a code.
-fn print_first(rt: &HostRuntime, found: Misplaced<'_>, code: LineSpan) -> io::Result<()> {
-    match first_line(rt.alloc(), found.earlier, found.bytes)? {
+/// Where the function of this name is among those of a code.
+fn first_note(alloc: Global, found: Misplaced<'_>, code: LineSpan) -> Result<String, AllocError> {
+    match first_line(alloc, found.earlier, found.bytes)? {
         Some(line) => {
             let line = absolute(code, line);
-            println!(rt; "the first function of this name begins at line {line}")
+            format!(in alloc; "the first function of this name begins at line {line}\n")
         }
-        None => Ok(()),
+        None => Ok(String::new(alloc)),
     }
 }
 
-/// Prints which limit a word passes.
-fn print_limit(rt: &HostRuntime, found: Misplaced<'_>) -> io::Result<()> {
-    if is_name_next(rt.alloc(), found.front)? {
+/// Which limit a word passes.
+fn limit_note(alloc: Global, found: Misplaced<'_>) -> Result<String, AllocError> {
+    if is_name_next(alloc, found.front)? {
         let len = found.bytes.len();
-        return println!(rt; "a name has at most {LONGEST_NAME} bytes, and this has {len}");
+        return format!(in alloc; "a name has at most {LONGEST_NAME} bytes, and this has {len}\n");
     }
     if found.bytes == b"FUNC".as_slice() {
-        return println!(rt; "a program has at most {MOST_FUNCTIONS} functions");
+        return format!(in alloc; "a program has at most {MOST_FUNCTIONS} functions\n");
     }
     if found.bytes == b"IF".as_slice() {
-        return println!(rt; "at most {MOST_OPEN_IFS} IFs are open at the same time");
+        return format!(in alloc; "at most {MOST_OPEN_IFS} IFs are open at the same time\n");
     }
-    if is_fault_next(rt.alloc(), found.front, b")")? {
-        return println!(rt; "a count is at most {MOST_MOVED}");
+    if is_fault_next(alloc, found.front, b")")? {
+        return format!(in alloc; "a count is at most {MOST_MOVED}\n");
     }
-    println!(rt; "a constant has at most {MOST_ELEMENTS} elements")
+    format!(in alloc; "a constant has at most {MOST_ELEMENTS} elements\n")
 }
 
-/// Prints what there is to say of a word that can't come there.
-fn print_misplaced(
-    rt: &HostRuntime,
+/// What there is to say of a word that can't come there.
+fn misplaced_note(
+    alloc: Global,
     found: Misplaced<'_>,
     code: LineSpan,
     fault: CodeFault,
-) -> io::Result<()> {
+) -> Result<String, AllocError> {
     match fault {
-        CodeFault::BadWord | CodeFault::BadNumber => print_expected(rt, found.front, "here"),
+        CodeFault::BadWord | CodeFault::BadNumber => expected_note(alloc, found.front, "here"),
         CodeFault::Misplaced => {
-            print_expected(rt, found.front, "here")?;
-            print_open(rt, found.front, code)
+            let expected = expected_note(alloc, found.front, "here")?;
+            let open = open_note(alloc, found.front, code)?;
+            format!(in alloc; "{expected}{open}")
         }
-        CodeFault::FunctionTwice => print_first(rt, found, code),
-        CodeFault::TooLarge => print_limit(rt, found),
-        CodeFault::Unfinished => Ok(()),
+        CodeFault::FunctionTwice => first_note(alloc, found, code),
+        CodeFault::TooLarge => limit_note(alloc, found),
+        CodeFault::Unfinished => Ok(String::new(alloc)),
     }
 }
 
-/// Prints the line at which something begins that is open at the end of a code, and what was expected there.
-fn print_unfinished(
-    rt: &HostRuntime,
+/// The line at which something begins that is open at the end of a code, and what was expected there.
+fn unfinished(
+    alloc: Global,
     lines: &Lines,
     span: LineSpan,
     line: u64,
     code: &[u8],
     note: &str,
-) -> io::Result<()> {
+) -> Result<String, AllocError> {
     match open_comment(code) {
         Some(begin) => {
             let end = begin.saturating_add(1);
-            lines.print_word(rt, line, span.first, Word { begin, end }, note)?;
-            println!(rt; "expected at the end of the code: }}, which ends a comment")
+            let around = lines.around_word(alloc, line, span.first, Word { begin, end }, note)?;
+            format!(in alloc; "{around}expected at the end of the code: }}, which ends a comment\n")
         }
         None => {
-            lines.print_around(rt, line, note)?;
-            print_expected(rt, code, "at the end of the code")
+            let around = lines.around(alloc, line, note)?;
+            let expected = expected_note(alloc, code, "at the end of the code")?;
+            format!(in alloc; "{around}{expected}")
         }
     }
 }
 
-/// Prints the line of a fault of the text of code, and what was expected there.
-pub fn print_code_fault(
-    rt: &HostRuntime,
+/// The line of a fault of the text of code, and what was expected there.
+pub(crate) fn code_fault(
+    alloc: Global,
     lines: &Lines,
     span: LineSpan,
     line: u64,
     fault: CodeFault,
     note: &str,
-) -> io::Result<()> {
+) -> Result<String, AllocError> {
     let code = lines.between(span.first, span.end);
-    match find_misplaced(rt.alloc(), code)? {
+    match find_misplaced(alloc, code)? {
         Some(found) => {
-            lines.print_word(rt, line, span.first, found.word, note)?;
-            print_misplaced(rt, found, span, fault)
+            let around = lines.around_word(alloc, line, span.first, found.word, note)?;
+            let expected = misplaced_note(alloc, found, span, fault)?;
+            format!(in alloc; "{around}{expected}")
         }
-        None => print_unfinished(rt, lines, span, line, code, note),
+        None => unfinished(alloc, lines, span, line, code, note),
     }
 }

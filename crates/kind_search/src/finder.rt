@@ -8,6 +8,7 @@ use crate::shapes::shapes_of;
 use signatures::FunctionType;
 use std::alloc::Allocator;
 use vcode_reader::Program;
+use verifier::KindFault;
 
 /// What the functions of a program take and give.
 #[derive(Drop)]
@@ -29,8 +30,9 @@ impl<'a, A: Allocator + Copy> Finder<'a, A> {
         let graph = CallGraph::new(alloc, program)?;
         let mut heights = Heights::of_known(alloc, program, &graph)?;
         if heights.waiting().is_some() {
-            // What the others take and give has to be right without an assumption.
-            kinds_by(alloc, program, &graph, &heights, most_entries)?;
+            // What the others take and give has to be right without an assumption, and so has what MAIN takes.
+            let known = kinds_by(alloc, program, &graph, &heights, most_entries)?;
+            check_main(program, &known)?;
             heights.assume_all()?;
         }
         let assumed = heights.first_assumed();
@@ -67,6 +69,19 @@ fn kinds_by<'a, A: Allocator + Copy>(
 ) -> Result<Kinds<'a, A>, PlacedFault> {
     let shapes = shapes_of(alloc, program, graph, heights)?;
     Kinds::find(alloc, program, graph, shapes.as_slice(), most_entries)
+}
+
+/// Refuses a MAIN that takes operands.
+fn check_main<A: Allocator>(program: &Program<A>, kinds: &Kinds<'_, A>) -> Result<(), PlacedFault> {
+    let Some(place) = program.position(b"MAIN") else {
+        return Ok(());
+    };
+    match program.functions().get(place) {
+        Some(main) if kinds.takes_operands(place) => {
+            Err(PlacedFault::Program(KindFault::MainTakes, main.line()))
+        }
+        _ => Ok(()),
+    }
 }
 
 /// That a function returns on no path.

@@ -2,7 +2,6 @@
 
 use crate::words::Word;
 use std::alloc::{AllocError, Global};
-use std::io;
 
 /// The most bytes of a line that are shown.
 const MOST_COLUMNS: usize = 96;
@@ -157,38 +156,38 @@ impl Lines {
         }
     }
 
-    /// Prints a line with its number, unless it is empty.
-    fn print(&self, rt: &HostRuntime, number: u64) -> io::Result<()> {
-        let line = self.line(rt.alloc(), number)?;
+    /// A line with its number and an LF, or nothing if it is empty.
+    fn numbered(&self, alloc: Global, number: u64) -> Result<String, AllocError> {
+        let line = self.line(alloc, number)?;
         if line.is_empty() {
-            return Ok(());
+            return Ok(line);
         }
-        println!(rt; "{number:>7} | {line}")
+        format!(in alloc; "{number:>7} | {line}\n")
     }
 
-    /// Prints a line between those beside it, with carets below its code and a note after them.
-    pub fn print_around(&self, rt: &HostRuntime, number: u64, note: &str) -> io::Result<()> {
-        let line = self.line(rt.alloc(), number)?;
-        let carets = carets(rt.alloc(), line.as_str())?;
-        self.print_marked(rt, number, carets.as_str(), note)
+    /// A line between those beside it, with carets below its code and a note after them.
+    pub fn around(&self, alloc: Global, number: u64, note: &str) -> Result<String, AllocError> {
+        let line = self.line(alloc, number)?;
+        let carets = carets(alloc, line.as_str())?;
+        self.marked(alloc, number, carets.as_str(), note)
     }
 
     /// The same with carets below a word alone, whose first byte and the byte after whose last are at these places of
     /// the lines from `first` on. If that isn't a part of the line that is shown, they are below its code.
-    pub fn print_word(
+    pub fn around_word(
         &self,
-        rt: &HostRuntime,
+        alloc: Global,
         number: u64,
         first: u64,
         word: Word,
         note: &str,
-    ) -> io::Result<()> {
+    ) -> Result<String, AllocError> {
         match self.columns(number, first, word) {
             Some((begin, end)) => {
-                let carets = carets_between(rt.alloc(), begin, end)?;
-                self.print_marked(rt, number, carets.as_str(), note)
+                let carets = carets_between(alloc, begin, end)?;
+                self.marked(alloc, number, carets.as_str(), note)
             }
-            None => self.print_around(rt, number, note),
+            None => self.around(alloc, number, note),
         }
     }
 
@@ -203,19 +202,17 @@ impl Lines {
         Some((begin, end))
     }
 
-    /// Prints a line between those beside it, with these carets below it and a note after them.
-    fn print_marked(
+    /// A line between those beside it, with these carets below it and a note after them.
+    fn marked(
         &self,
-        rt: &HostRuntime,
+        alloc: Global,
         number: u64,
         carets: &str,
         note: &str,
-    ) -> io::Result<()> {
-        println!(rt; "")?;
-        self.print(rt, number.saturating_sub(1))?;
-        self.print(rt, number)?;
-        println!(rt; "        | {carets} {note}")?;
-        self.print(rt, number.saturating_add(1))?;
-        println!(rt; "")
+    ) -> Result<String, AllocError> {
+        let before = self.numbered(alloc, number.saturating_sub(1))?;
+        let line = self.numbered(alloc, number)?;
+        let after = self.numbered(alloc, number.saturating_add(1))?;
+        format!(in alloc; "\n{before}{line}        | {carets} {note}\n{after}\n")
     }
 }

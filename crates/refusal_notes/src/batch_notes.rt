@@ -1,10 +1,10 @@
 //! What was expected where a batch is refused as a whole.
 
 use crate::lines::{Lines, printable};
+use crate::meanings::batch_meaning;
 use crate::parts::{Scan, Stage, begins_with, is_only, scan_before};
 use batch_reader::{Batch, BatchFault, Feed, JobEntries};
 use std::alloc::{AllocError, Global};
-use std::io;
 use vcode_base::limits::{
     LONGEST_NAME, MOST_BATCH_BYTES, MOST_BUDGET, MOST_CALLS, MOST_CELLS, MOST_JOBS, MOST_WORDS,
 };
@@ -203,18 +203,22 @@ fn too_large_note(alloc: Global, lines: &Lines, number: u64) -> Result<String, A
     format!(in alloc; "a batch has at most {MOST_BATCH_BYTES} bytes")
 }
 
-/// Prints what was expected at a line for which a batch is refused.
-pub fn print_batch_note(
-    rt: &HostRuntime,
+/// Why a batch is refused at a line: the line, and what was expected there.
+pub fn batch_refusal(
+    alloc: Global,
     lines: &Lines,
     line: u64,
     fault: BatchFault,
-) -> io::Result<()> {
+) -> Result<String, AllocError> {
+    let code = fault.text();
+    let around = lines.around(alloc, line, batch_meaning(fault))?;
     let note = match fault {
-        BatchFault::BadJobLine => bad_line_note(rt.alloc(), lines, line)?,
-        BatchFault::UnfinishedJob => unfinished_note(rt.alloc(), lines, line)?,
-        BatchFault::TooLarge => too_large_note(rt.alloc(), lines, line)?,
+        BatchFault::BadJobLine => bad_line_note(alloc, lines, line)?,
+        BatchFault::UnfinishedJob => unfinished_note(alloc, lines, line)?,
+        BatchFault::TooLarge => too_large_note(alloc, lines, line)?,
     };
-    println!(rt; "{note}")?;
-    println!(rt; "Only this fault is sure: what comes after it in the batch wasn't checked.")
+    format!(in alloc;
+        "BATCH line {line} {code}\n{around}{note}\n\
+         Only this fault is sure: what comes after it in the batch wasn't checked.\n"
+    )
 }

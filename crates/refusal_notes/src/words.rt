@@ -85,7 +85,7 @@ pub fn words_of(alloc: Global, kind: Text, text: &[u8]) -> Result<Vec<Word>, All
 }
 
 /// The place at which the comment begins that is open at the end of a code, if one is.
-pub fn open_comment(code: &[u8]) -> Option<usize> {
+pub(crate) fn open_comment(code: &[u8]) -> Option<usize> {
     let mut open = None;
     for place in 0..code.len() {
         match open {
@@ -106,7 +106,7 @@ fn is_fault(alloc: Global, kind: Text, front: &[u8]) -> Result<bool, AllocError>
 }
 
 /// The place among the words of a text of the first with which it can't go on.
-pub fn first_fault(
+pub(crate) fn first_fault(
     alloc: Global,
     kind: Text,
     text: &[u8],

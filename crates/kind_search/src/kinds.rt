@@ -184,6 +184,14 @@ impl<'a, A: Allocator + Copy> Kinds<'a, A> {
 }
 
 impl<'a, A: Allocator> Kinds<'a, A> {
+    /// Whether the function at this place takes operands.
+    pub(crate) fn takes_operands(&self, place: usize) -> bool {
+        match self.functions.get(place) {
+            Some(function) => function.operands.count > 0,
+            None => false,
+        }
+    }
+
     /// A line of a body, with the place of the function that it calls, if it calls one.
     fn step(
         &mut self,

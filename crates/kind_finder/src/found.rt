@@ -8,23 +8,14 @@ ghost use Rattle.signatures.specs.First.{TextSays};
 ghost use Rattle.signatures.specs.Signatures.{Signature};
 ghost use Rattle.kind_finder.specs.Texts.{AreOfFunctions, IsFaultOf, IsOfProgram, SaysSignatures, SaysSignaturesOf};
 
-use crate::fault::{FindFault, Obstacle, PlacedFault};
-use crate::finder::Finder;
-use crate::text::put_signature;
+use crate::fault::FindFault;
+use kind_search::{Guess, Obstacle, PlacedFault, make_guess};
 use signatures::{SigFault, Signatures};
 use std::alloc::{AllocError, Allocator};
 use vcode_base::TextFault;
 use vcode_base::laws::line_feeds_are_few;
 use vcode_reader::{Function, Program, ReadFault};
 use verifier::{KindFault, verify};
-
-/// The text of the signatures that a search finds.
-#[derive(Drop)]
-struct Guess<A: Allocator> {
-    text: Vec<u8, A>,
-    /// What is wrong if it doesn't fit the program: that a function returns on no path, if one was assumed to return.
-    blame: Option<FindFault<Vec<u8, A>>>,
-}
 
 /// The most entries of a function's stack, unless fewer or more are asked for.
 pub const MOST_ENTRIES: usize = 67_108_864;
@@ -73,52 +64,35 @@ fn signatures_of<A: Allocator + Copy>(
         Ok(guess) => guess,
         Err(fault) => return Err(named(alloc, &program, fault)),
     };
+    let blame = blame_of(alloc, &program, blame);
     match check(alloc, program, text.as_slice()) {
         Ok(()) => Ok(text),
         Err(fault) => Err(blamed(fault, blame)),
     }
 }
 
-/// That a function returns on no path, if the search assumed of one that it returns.
-fn blame_of<A: Allocator + Copy>(
+/// What is wrong if the guess doesn't fit the program, if the search says so, with the name of the function.
+fn blame_of<A: Allocator>(
     alloc: A,
     program: &Program<A>,
-    finder: &Finder<'_, A>,
+    blame: Option<PlacedFault>,
 ) -> Option<FindFault<Vec<u8, A>>>
     ensures { IfSome result (λ fault. IsOfProgram fault) }
 {
-    match finder.blame() {
+    match blame {
         Some(fault) => Some(named(alloc, program, fault)),
         None => None,
     }
 }
 
-/// The text of the signatures that a search finds, which may not fit the program.
-fn make_guess<A: Allocator + Copy>(
-    alloc: A,
-    program: &Program<A>,
-    most_entries: usize,
-) -> Result<Guess<A>, PlacedFault>
-    ensures { IfOk result (λ guess. IfSome guess.blame (λ fault. IsOfProgram fault)) }
-{
-    let mut finder = Finder::find(alloc, program, most_entries)?;
-    let mut text = Vec::new(alloc);
-    for (place, function) in program.functions().iter().enumerate() {
-        let kinds = finder.function_type(place)?;
-        put_signature(&mut text, function.name(), &kinds)?;
-    }
-    let blame = blame_of(alloc, program, &finder);
-    Ok(Guess { text, blame })
-}
-
-/// The fault of a program by a guess that doesn't fit it. What is wrong with its MAIN is so by any signatures.
+/// The fault of a program by a guess that doesn't fit it. A MAIN that isn't there is so by any signatures.
 fn blamed<N: Drop>(fault: FindFault<N>, blame: Option<FindFault<N>>) -> FindFault<N>
     requires fault { IsOfProgram fault }
     requires blame { IfSome blame (λ fault. IsOfProgram fault) }
     ensures { IsOfProgram result }
 {
     match &fault {
-        FindFault::Program(KindFault::NoMain | KindFault::MainTakes, _) => fault,
+        FindFault::Program(KindFault::NoMain, _) => fault,
         FindFault::Program(..) => blame.unwrap_or(fault),
         _ => fault,
     }

@@ -1,17 +1,20 @@
 //! What was expected where kinds don't fit.
 
 use crate::kind_walk::{Clash, Misfit, StackEntry, Wanted, misfit_of};
+use crate::kinds::kind_text;
 use crate::lines::{Lines, printable};
 use crate::parts::Parts;
-use crate::stack::{MOST_ENTRIES, kind_text};
 use crate::text_notes::{absolute, program_of};
 use signatures::Signatures;
 use std::alloc::{AllocError, Global};
-use std::io;
+use std::fmt::Write;
 use vcode_base::laws::line_feeds_are_few;
 use vcode_base::{Kind, TextFault};
 use vcode_reader::Program;
 use verifier::KindFault;
+
+/// The most entries that are shown.
+const MOST_ENTRIES: usize = 24;
 
 /// The most names that are shown.
 const MOST_NAMES: usize = 16;
@@ -99,120 +102,138 @@ fn entry_at(stack: &[StackEntry], depth: usize) -> Option<StackEntry> {
     stack.get(place).copied()
 }
 
-/// Prints the kind of an entry, and the line that makes it with its code; or that there is none.
-fn print_made(rt: &HostRuntime, source: Source<'_>, entry: Option<StackEntry>) -> io::Result<()> {
+/// The kind of an entry, and the line that makes it with its code; or that there is none.
+fn made_text(
+    alloc: Global,
+    source: Source<'_>,
+    entry: Option<StackEntry>,
+) -> Result<String, AllocError> {
     let Some(entry) = entry else {
-        return println!(rt; "    none");
+        return String::from_str(alloc, "    none\n");
     };
     let kind = kind_text(entry.kind);
     let line = absolute(source.parts.code, entry.line);
-    let code = source.lines.code(rt.alloc(), line)?;
-    println!(rt; "  {kind:>6}  line {line:>6}  {code}")
+    let code = source.lines.code(alloc, line)?;
+    format!(in alloc; "  {kind:>6}  line {line:>6}  {code}\n")
 }
 
-/// Prints the entries of a stack, the top first.
-fn print_entries(rt: &HostRuntime, source: Source<'_>, stack: &[StackEntry]) -> io::Result<()> {
+/// The entries of a stack, the top first.
+fn entries_text(
+    alloc: Global,
+    source: Source<'_>,
+    stack: &[StackEntry],
+) -> Result<String, AllocError> {
     if stack.is_empty() {
-        return println!(rt; "  nothing");
+        return String::from_str(alloc, "  nothing\n");
     }
+    let mut text = String::new(alloc);
     for depth in 0..stack.len() {
         if depth == MOST_ENTRIES {
             let more = stack.len() - depth;
-            return println!(rt; "  .. and {more} more");
+            write!(text, "  .. and {more} more\n")?;
+            break;
         }
-        print!(rt; "  {depth:>5}")?;
-        print_made(rt, source, entry_at(stack, depth))?;
+        let made = made_text(alloc, source, entry_at(stack, depth))?;
+        write!(text, "  {depth:>5}{made}")?;
     }
-    Ok(())
+    Ok(text)
 }
 
-/// Prints what is wanted beside the entries of a stack, the top first.
-fn print_wanted(
-    rt: &HostRuntime,
+/// What is wanted beside the entries of a stack, the top first.
+fn wanted_text(
+    alloc: Global,
     source: Source<'_>,
     stack: &[StackEntry],
     wanted: &[Wanted],
     names: &'static [&'static str],
-) -> io::Result<()> {
-    println!(rt; "  entry  operand  wanted   there")?;
+) -> Result<String, AllocError> {
+    let mut text = String::from_str(alloc, "  entry  operand  wanted   there\n")?;
     let count = stack.len().max(wanted.len());
     for depth in 0..count {
         if depth == MOST_ENTRIES {
             let more = count - depth;
-            return println!(rt; "  .. and {more} more");
+            write!(text, "  .. and {more} more\n")?;
+            break;
         }
         let (name, kind) = (name_at(names, depth), wanted_at(wanted, depth));
-        print!(rt; "  {depth:>5}  {name:>7}  {kind:>6}")?;
-        print_made(rt, source, entry_at(stack, depth))?;
+        let made = made_text(alloc, source, entry_at(stack, depth))?;
+        write!(text, "  {depth:>5}  {name:>7}  {kind:>6}{made}")?;
     }
-    Ok(())
+    Ok(text)
 }
 
-/// Prints where kinds don't fit in the function of this name.
-fn print_misfit(
-    rt: &HostRuntime,
+/// Which instruction of its line it is, if others of the line come before it.
+fn place_note(alloc: Global, before: usize) -> Result<String, AllocError> {
+    if before == 0 {
+        return Ok(String::new(alloc));
+    }
+    let number = before.saturating_add(1);
+    format!(in alloc; "it is instruction {number} of its line\n")
+}
+
+/// Where kinds don't fit in the function of this name.
+fn misfit_text(
+    alloc: Global,
     source: Source<'_>,
     name: &str,
     misfit: &Misfit,
-) -> io::Result<()> {
+) -> Result<String, AllocError> {
     match &misfit.clash {
         Clash::Operands(wanted, names) => {
-            if misfit.before > 0 {
-                let number = misfit.before.saturating_add(1);
-                println!(rt; "it is instruction {number} of its line")?;
-            }
-            let count = wanted.len();
-            let there = misfit.stack.len();
-            println!(rt;
-                "entries wanted: {count}, on the stack of {name}: {there}; the top first"
-            )?;
-            print_wanted(rt, source, &misfit.stack, wanted, names)
+            let (count, there) = (wanted.len(), misfit.stack.len());
+            let place = place_note(alloc, misfit.before)?;
+            let beside = wanted_text(alloc, source, &misfit.stack, wanted, names)?;
+            format!(in alloc;
+                "{place}entries wanted: {count}, on the stack of {name}: {there}; the top first\n{beside}"
+            )
         }
         Clash::Parts(second) => {
-            println!(rt; "if its flag is T, the IF leaves, the top first:")?;
-            print_entries(rt, source, &misfit.stack)?;
-            println!(rt; "if its flag is F, the IF leaves, the top first:")?;
-            print_entries(rt, source, second)
+            let first = entries_text(alloc, source, &misfit.stack)?;
+            let second = entries_text(alloc, source, second)?;
+            format!(in alloc;
+                "if its flag is T, the IF leaves, the top first:\n{first}\
+                 if its flag is F, the IF leaves, the top first:\n{second}"
+            )
         }
     }
 }
 
-/// Prints where kinds don't fit in a program, if that is at this line.
-fn print_found(
-    rt: &HostRuntime,
+/// Where kinds don't fit in a program, if that is at this line.
+fn found_text(
+    alloc: Global,
     source: Source<'_>,
     line: u64,
     program: &Program<Global>,
     misfit: &Misfit,
-) -> io::Result<()> {
+) -> Result<String, AllocError> {
     if absolute(source.parts.code, misfit.line) != line {
-        return Ok(());
+        return Ok(String::new(alloc));
     }
     match program.functions().get(misfit.function) {
         Some(function) => {
-            let name = printable(rt.alloc(), function.name())?;
-            print_misfit(rt, source, name.as_str(), misfit)
+            let name = printable(alloc, function.name())?;
+            misfit_text(alloc, source, name.as_str(), misfit)
         }
-        None => Ok(()),
+        None => Ok(String::new(alloc)),
     }
 }
 
-/// Prints where kinds don't fit, if that is at this line.
-fn print_clash(
-    rt: &HostRuntime,
+/// Where kinds don't fit, if that is at this line.
+fn clash_text(
+    alloc: Global,
     source: Source<'_>,
     line: u64,
     program: &Program<Global>,
     signatures: &Signatures<Global>,
-) -> io::Result<()> {
-    let Some(misfit) = misfit_of(rt.alloc(), program, signatures)? else {
-        return Ok(());
-    };
-    print_found(rt, source, line, program, &misfit)
+) -> Result<String, AllocError> {
+    match misfit_of(alloc, program, signatures)? {
+        Some(misfit) => found_text(alloc, source, line, program, &misfit),
+        None => Ok(String::new(alloc)),
+    }
 }
 
 /// Adds a name to a list of names.
-fn push_name(alloc: Global, text: &mut String, name: &[u8]) -> Result<(), AllocError> {
+fn push_name(text: &mut String, alloc: Global, name: &[u8]) -> Result<(), AllocError> {
     if !text.is_empty() {
         text.push_str(", ")?;
     }
@@ -220,32 +241,32 @@ fn push_name(alloc: Global, text: &mut String, name: &[u8]) -> Result<(), AllocE
     text.push_str(name.as_str())
 }
 
-/// Prints the names of the functions of a program.
-fn print_functions(rt: &HostRuntime, program: &Program<Global>) -> io::Result<()> {
-    let mut text = String::new(rt.alloc());
+/// The names of the functions of a program.
+fn functions_note(alloc: Global, program: &Program<Global>) -> Result<String, AllocError> {
+    let mut names = String::new(alloc);
     for (place, function) in program.functions().iter().enumerate() {
         if place == MOST_NAMES {
-            text.push_str(", ..")?;
+            names.push_str(", ..")?;
             break;
         }
-        push_name(rt.alloc(), &mut text, function.name())?;
+        push_name(&mut names, alloc, function.name())?;
     }
-    println!(rt; "the functions of the job: {text}")
+    format!(in alloc; "the functions of the job: {names}\n")
 }
 
-/// Prints the names that have signatures.
-fn print_signatures(rt: &HostRuntime, signatures: &Signatures<Global>) -> io::Result<()> {
-    let mut text = String::new(rt.alloc());
+/// The names that have signatures.
+fn signatures_note(alloc: Global, signatures: &Signatures<Global>) -> Result<String, AllocError> {
+    let mut names = String::new(alloc);
     for place in 0..signatures.len() {
         if place == MOST_NAMES {
-            text.push_str(", ..")?;
+            names.push_str(", ..")?;
             break;
         }
         if let Some((name, _, _)) = signatures.at(place) {
-            push_name(rt.alloc(), &mut text, name)?;
+            push_name(&mut names, alloc, name)?;
         }
     }
-    println!(rt; "the signatures of the job: {text}")
+    format!(in alloc; "the signatures of the job: {names}\n")
 }
 
 /// Kinds as a signature has them.
@@ -261,52 +282,52 @@ fn kinds_text(alloc: Global, kinds: &[Kind]) -> Result<String, AllocError> {
     Ok(text)
 }
 
-/// Prints the signature of MAIN.
-fn print_main(rt: &HostRuntime, signatures: &Signatures<Global>) -> io::Result<()> {
+/// The signature of MAIN.
+fn main_note(alloc: Global, signatures: &Signatures<Global>) -> Result<String, AllocError> {
     let Some((takes, gives)) = signatures.get(b"MAIN") else {
-        return Ok(());
+        return Ok(String::new(alloc));
     };
-    let takes = kinds_text(rt.alloc(), takes)?;
-    let gives = kinds_text(rt.alloc(), gives)?;
-    println!(rt; "wanted: MAIN () -> {gives}; there: MAIN {takes} -> {gives}")
+    let takes = kinds_text(alloc, takes)?;
+    let gives = kinds_text(alloc, gives)?;
+    format!(in alloc; "wanted: MAIN () -> {gives}; there: MAIN {takes} -> {gives}\n")
 }
 
-/// Prints what was expected at a line of a job where kinds have a fault.
-fn print_expected(
-    rt: &HostRuntime,
+/// What was expected at a line of a job where kinds have a fault.
+fn expected_note(
+    alloc: Global,
     source: Source<'_>,
     line: u64,
     fault: KindFault,
     program: &Program<Global>,
     signatures: &Signatures<Global>,
-) -> io::Result<()> {
+) -> Result<String, AllocError> {
     match fault {
         KindFault::MissingOperand
         | KindFault::WrongKind
         | KindFault::ArmsDiffer
-        | KindFault::ResultDiffers => print_clash(rt, source, line, program, signatures),
-        KindFault::UnknownFunction | KindFault::NoMain => print_functions(rt, program),
-        KindFault::NoSignature => print_signatures(rt, signatures),
-        KindFault::MainTakes => print_main(rt, signatures),
+        | KindFault::ResultDiffers => clash_text(alloc, source, line, program, signatures),
+        KindFault::UnknownFunction | KindFault::NoMain => functions_note(alloc, program),
+        KindFault::NoSignature => signatures_note(alloc, signatures),
+        KindFault::MainTakes => main_note(alloc, signatures),
     }
 }
 
-/// Prints what was expected at a line where kinds have a fault.
-pub fn print_kind_note(
-    rt: &HostRuntime,
+/// What was expected at a line where kinds have a fault.
+pub(crate) fn kind_note(
+    alloc: Global,
     lines: &Lines,
     parts: Parts,
     line: u64,
     fault: KindFault,
-) -> io::Result<()> {
+) -> Result<String, AllocError> {
     let source = Source { lines, parts };
-    match read_parts(rt.alloc(), source)? {
+    match read_parts(alloc, source)? {
         Some((program, signatures)) => {
-            let printed = print_expected(rt, source, line, fault, &program, &signatures);
+            let note = expected_note(alloc, source, line, fault, &program, &signatures);
             drop(program);
             drop(signatures);
-            printed
+            note
         }
-        None => Ok(()),
+        None => Ok(String::new(alloc)),
     }
 }

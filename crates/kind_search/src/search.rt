@@ -1,0 +1,36 @@
+//! What a search finds for a program.
+
+use crate::fault::PlacedFault;
+use crate::finder::Finder;
+use crate::text::put_signature;
+use std::alloc::Allocator;
+use vcode_reader::Program;
+
+/// The text of the signatures that a search finds, which may not fit the program: a line for each function, in their
+/// order.
+#[derive(Drop)]
+pub struct Guess<A: Allocator> {
+    pub text: Vec<u8, A>,
+    /// What is wrong if it doesn't fit: that a function returns on no path, if one was assumed to return.
+    pub blame: Option<PlacedFault>,
+}
+
+/// The signatures that a search finds for a program, with stacks of at most `most_entries` entries.
+///
+/// # Errors
+///
+/// [`PlacedFault`] has them.
+pub fn make_guess<A: Allocator + Copy>(
+    alloc: A,
+    program: &Program<A>,
+    most_entries: usize,
+) -> Result<Guess<A>, PlacedFault> {
+    let mut finder = Finder::find(alloc, program, most_entries)?;
+    let mut text = Vec::new(alloc);
+    for (place, function) in program.functions().iter().enumerate() {
+        let kinds = finder.function_type(place)?;
+        put_signature(&mut text, function.name(), &kinds)?;
+    }
+    let blame = finder.blame();
+    Ok(Guess { text, blame })
+}

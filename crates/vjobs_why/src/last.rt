@@ -1,0 +1,185 @@
+//! The last state of a job before its end, and what is said of it.
+
+use crate::end::{End, Ending, end_of, with_job};
+use crate::look::Batch;
+use crate::memory_notes::memory_note;
+use crate::picture::Picture;
+use crate::reasons::reason;
+use crate::step::{Recent, Step};
+use crate::watch::{Trail, Watch};
+use crate::wide::Wide;
+use job_steps::Job;
+use std::alloc::{AllocError, Global};
+use vcode_base::Rule;
+
+/// The last state of a job before its end, or the trail that its run has there if it went on to the end at once.
+#[derive(Drop)]
+pub enum Before {
+    State(Picture),
+    Trail(Trail),
+}
+
+/// How a job ended, with the instructions that were executed last before it.
+#[derive(Drop)]
+pub struct Seen {
+    pub end: End,
+    pub steps: Vec<Step>,
+    pub before: Before,
+}
+
+/// The last state of a job before its end, and the note at its last line.
+#[derive(Drop)]
+pub struct Last {
+    pub picture: Picture,
+    pub note: String,
+}
+
+/// Executes instructions up to the last RET, or until the budget is spent, unless the job ends otherwise.
+fn go_to_last(watch: &mut Watch, recent: &mut Recent) -> Result<(), AllocError> {
+    let budget = watch.run().job().limits().budget;
+    for _ in 0..budget {
+        if !recent.step(watch)? {
+            return Ok(());
+        }
+    }
+    Ok(())
+}
+
+/// The state of a run that goes on, with at most this many entries.
+pub fn picture_of(
+    alloc: Global,
+    watch: &Watch,
+    most: usize,
+) -> Result<Option<Picture>, AllocError> {
+    if !watch.run().goes_on() {
+        return Ok(None);
+    }
+    Ok(Some(Picture::of(alloc, watch.run(), &watch.trail, most)?))
+}
+
+/// Runs a job that has executed nothing to its end. Answers how it ended, the last instructions, and the last state if
+/// the end was foreseen there.
+fn run_to_end(
+    alloc: Global,
+    watch: &mut Watch,
+    most: usize,
+) -> Result<(End, Vec<Step>, Option<Picture>), AllocError> {
+    let mut recent = Recent::new(alloc)?;
+    go_to_last(watch, &mut recent)?;
+    let count = watch.run().executed();
+    let steps = recent.last(alloc, count)?;
+    let picture = picture_of(alloc, watch, most)?;
+    watch.uses.step();
+    watch.uses.collect()?;
+    Ok((end_of(&watch.uses, count), steps, picture))
+}
+
+/// How a job ends, and the job. Of its last state at most this many entries are kept.
+pub fn see(
+    alloc: Global,
+    rule: Rule,
+    job: Job<Global>,
+    most: usize,
+) -> Result<(Seen, Job<Global>), AllocError> {
+    let mut watch = Watch::new(alloc, rule, job)?;
+    let found = run_to_end(alloc, &mut watch, most);
+    let (trail, job) = watch.into_parts();
+    match found {
+        Ok((end, steps, picture)) => {
+            let before = before_of(picture, trail);
+            Ok((Seen { end, steps, before }, job))
+        }
+        Err(error) => {
+            drop(trail);
+            drop(job);
+            Err(error)
+        }
+    }
+}
+
+/// The last state of a job, if it was seen, or the trail of its run there.
+pub fn before_of(picture: Option<Picture>, trail: Trail) -> Before {
+    match picture {
+        Some(picture) => {
+            drop(trail);
+            Before::State(picture)
+        }
+        None => Before::Trail(trail),
+    }
+}
+
+/// The note at the last line of a job that ended by no fault and no refused instruction.
+fn plain_note(ending: Ending) -> &'static str {
+    match ending {
+        Ending::Returned => "returns",
+        Ending::Budget => "would be next",
+        Ending::Fault(..) | Ending::Memory(..) => "",
+    }
+}
+
+/// The note at the last line of a job, at which its run is.
+fn note_of(
+    alloc: Global,
+    watch: &Watch,
+    ending: Ending,
+    wide: Option<Wide>,
+) -> Result<String, AllocError> {
+    match (ending, watch.next()) {
+        (Ending::Memory(fault, _), Some(next)) => memory_note(alloc, watch, next.op, fault, wide),
+        (Ending::Fault(fault, _), Some(next)) => reason(alloc, watch, next.op, fault),
+        _ => String::from_str(alloc, plain_note(ending)),
+    }
+}
+
+/// The last state of a job, at which its run is.
+fn last_at(
+    alloc: Global,
+    watch: &Watch,
+    ending: Ending,
+    wide: Option<Wide>,
+    most: usize,
+) -> Result<Last, AllocError> {
+    let note = note_of(alloc, watch, ending, wide)?;
+    let picture = Picture::of(alloc, watch.run(), &watch.trail, most)?;
+    Ok(Last { picture, note })
+}
+
+/// The last state of a job, which another run finds, and the job.
+fn found_again(
+    alloc: Global,
+    rule: Rule,
+    (trail, job): (Trail, Job<Global>),
+    end: End,
+    wide: Option<Wide>,
+    most: usize,
+) -> Result<(Last, Job<Global>), AllocError> {
+    let watch = Watch::again(alloc, rule, job, trail, end.steps)?;
+    let last = last_at(alloc, &watch, end.ending, wide, most);
+    with_job(last, watch.into_job())
+}
+
+/// The last state of a job that returned or spent its budget, which was seen.
+fn foreseen(alloc: Global, picture: Picture, ending: Ending) -> Result<Last, AllocError> {
+    match String::from_str(alloc, plain_note(ending)) {
+        Ok(note) => Ok(Last { picture, note }),
+        Err(error) => {
+            drop(picture);
+            Err(error)
+        }
+    }
+}
+
+/// The last state of a job that ended so, and the job. Of the state at most this many entries are kept.
+pub fn last_of(
+    alloc: Global,
+    batch: Batch<'_>,
+    (before, job): (Before, Job<Global>),
+    end: End,
+    wide: Option<Wide>,
+    most: usize,
+) -> Result<(Last, Job<Global>), AllocError> {
+    match before {
+        Before::State(picture) => with_job(foreseen(alloc, picture, end.ending), job),
+        Before::Trail(trail) => found_again(alloc, batch.rule, (trail, job), end, wide, most),
+    }
+}

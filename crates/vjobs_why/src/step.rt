@@ -1,0 +1,163 @@
+//! An instruction of a run that was executed.
+
+use crate::spans::Spans;
+use crate::stack::values_text;
+use crate::watch::{Next, Watch};
+use job_profile::Run;
+use refusal_notes::{Lines, kind_text};
+use std::alloc::{AllocError, Global};
+use std::io;
+use vcode_base::Op;
+
+/// The last instructions that are shown of a job.
+const MOST_STEPS: u64 = 6;
+
+/// How many instructions are kept, a power of 2.
+const MOST_KEPT: u64 = 8;
+
+/// An instruction that was executed, with its place in its function and its line, and what there was after it.
+#[derive(Clone, Copy, Drop)]
+pub struct Step {
+    number: u64,
+    function: usize,
+    place: usize,
+    op: Op,
+    pub line: u64,
+    entries: usize,
+    held: usize,
+}
+
+/// The instructions that a run has executed last, each at its number modulo [`MOST_KEPT`].
+#[derive(Drop)]
+pub struct Recent {
+    steps: Vec<Step>,
+}
+
+/// The function of the next instruction of a run, and its place there.
+pub fn place_of(run: &Run<Global>) -> (usize, usize) {
+    match run.frames().last() {
+        Some(frame) => (frame.function, frame.place),
+        None => (0, 0),
+    }
+}
+
+/// Executes the next instruction, which is this one. `None` if it isn't executed, since it ends the job.
+#[inline(always)]
+fn step_by(watch: &mut Watch, next: Next) -> Result<Option<Step>, AllocError> {
+    let before = watch.run().executed();
+    let (function, place) = place_of(watch.run());
+    watch.take(next)?;
+    let number = watch.run().executed();
+    if number == before {
+        return Ok(None);
+    }
+    Ok(Some(Step {
+        number,
+        function,
+        place,
+        op: next.op,
+        line: next.line,
+        entries: watch.run().depth(),
+        held: watch.run().held(),
+    }))
+}
+
+/// Executes the next instruction. `None` if it isn't executed, since it ends the job, or if there is none.
+pub fn step_of(watch: &mut Watch) -> Result<Option<Step>, AllocError> {
+    match watch.next() {
+        Some(next) => step_by(watch, next),
+        None => Ok(None),
+    }
+}
+
+impl Recent {
+    /// No instruction was executed.
+    pub fn new(alloc: Global) -> Result<Recent, AllocError> {
+        let none = Step {
+            number: 0,
+            function: 0,
+            place: 0,
+            op: Op::If,
+            line: 0,
+            entries: 0,
+            held: 0,
+        };
+        let steps = vec![in alloc; none; MOST_KEPT as usize]?;
+        Ok(Recent { steps })
+    }
+
+    /// Executes the next instruction of a run, unless it is the last RET. True if the job goes on after it.
+    pub fn step(&mut self, watch: &mut Watch) -> Result<bool, AllocError> {
+        let Some(next) = Next::of(watch.run()) else {
+            return Ok(false);
+        };
+        if watch.trail.ends_with(next) {
+            return Ok(false);
+        }
+        match step_by(watch, next)? {
+            Some(step) => {
+                self.keep(step);
+                Ok(true)
+            }
+            None => Ok(false),
+        }
+    }
+
+    /// Keeps an instruction.
+    #[inline(always)]
+    fn keep(&mut self, step: Step) {
+        let place = (step.number % MOST_KEPT) as usize;
+        if let Some(kept) = self.steps.get_mut(place) {
+            *kept = step;
+        }
+    }
+
+    /// The last of as many instructions as were executed.
+    pub fn last(&self, alloc: Global, executed: u64) -> Result<Vec<Step>, AllocError> {
+        let mut steps = Vec::new(alloc);
+        for number in executed.saturating_sub(MOST_STEPS)..executed {
+            let place = (number.saturating_add(1) % MOST_KEPT) as usize;
+            if let Some(step) = self.steps.get(place) {
+                steps.push(*step)?;
+            }
+        }
+        Ok(steps)
+    }
+}
+
+/// Prints the head of a list of instructions.
+pub fn print_head(rt: &HostRuntime) -> io::Result<()> {
+    println!(rt; "       step     line  entries       held  instruction")
+}
+
+/// The text of an instruction that was executed, or the code of its line.
+fn text_of(alloc: Global, lines: &Lines, spans: &Spans, step: Step) -> Result<String, AllocError> {
+    match spans.at(step.function, step.place) {
+        Some(word) => lines.word(alloc, step.line, spans.first, word),
+        None => lines.code(alloc, step.line),
+    }
+}
+
+/// Prints an instruction that was executed.
+pub fn print_step(rt: &HostRuntime, lines: &Lines, spans: &Spans, step: Step) -> io::Result<()> {
+    let (number, line, entries, held) = (step.number, step.line, step.entries, step.held);
+    let text = text_of(rt.alloc(), lines, spans, step)?;
+    println!(rt; "  {number:>9} {line:>8} {entries:>8} {held:>10}  {text}")
+}
+
+/// Prints what the instruction made that a run has executed last, from the bottom of the stack up.
+pub fn print_made(rt: &HostRuntime, run: &Run<Global>, step: Step) -> io::Result<()> {
+    let kinds = step.op.result_kinds();
+    for (place, kind) in kinds.iter().enumerate() {
+        let above = kinds.len().saturating_sub(place).saturating_sub(1);
+        if let Some(words) = run.words(above) {
+            let (count, kind) = (words.len(), *kind);
+            let (name, values) = (
+                kind_text(kind),
+                values_text(rt.alloc(), kind, count, words)?,
+            );
+            println!(rt; "                              {count:>10}    {name} {values}")?;
+        }
+    }
+    Ok(())
+}
