@@ -4,6 +4,7 @@ from collections import Counter, defaultdict
 from typing import Any
 
 import batches
+import holders
 import kinds
 import pictures
 import runs
@@ -175,24 +176,31 @@ def limits_shown(words: int, cells: int, calls: int, budget: int) -> dict[str, i
     return {"words": words, "cells": cells, "calls": calls, "budget": budget}
 
 
-def least(job: Counted, end: str, functions: list[Function]) -> dict[str, int] | str | None:
-    """The least limits within which a job returns, if it returned, or a limit ended it and it returns within wide ones."""
+def course(job: Counted, end: str, functions: list[Function]) -> dict[str, Any]:
+    """The least limits within which a job returns, if it returned, or a limit ended it and it returns within wide ones;
+    or how it ends within these."""
+    is_ended = end.startswith(("MEMORY", "BUDGET"))
     if end == "BUDGET" and job.executed > MORE_INSTRUCTIONS:
-        return None
-    if end.startswith(("MEMORY", "BUDGET")):
+        return {"least": None, "widest": None}
+    line = None
+    if is_ended:
         times = 1 if end == "BUDGET" else 4
         budget = min(times * job.executed + MORE_INSTRUCTIONS, GREATEST_BUDGET)
         job = Counted(functions, Limits(GREATEST_WORDS, GREATEST_CELLS, GREATEST_CALLS, budget), job.is_second)
-        end, _ = end_of(job, LONGEST_RUN)
+        end, line = end_of(job, LONGEST_RUN)
+    if end == "LONG":
+        return {"least": UNKNOWN, "widest": UNKNOWN}
     if end == "RETURNED":
-        return limits_shown(job.peak, max(job.cells, 1), job.most_calls, job.executed)
-    return UNKNOWN if end == "LONG" else None
+        return {"least": limits_shown(job.peak, max(job.cells, 1), job.most_calls, job.executed), "widest": None}
+    is_known = is_ended and end != "BUDGET"
+    return {"least": None, "widest": {"instructions": job.executed, "end": end, "line": line} if is_known else None}
 
 
 def profile(functions: list[Function], limits: Limits, is_second: bool, known: kinds.Signatures) -> dict[str, Any]:
     job = Counted(functions, limits, is_second)
     end, line = end_of(job)
     note, wanted = note_of(job, job.item, end)
+    columns = columns_of(job.samples, functions)
     return {
         "end": end,
         "line": line,
@@ -205,7 +213,7 @@ def profile(functions: list[Function], limits: Limits, is_second: bool, known: k
         "used": limits_shown(job.peak, job.cells, job.most_calls, job.executed),
         "note": note,
         "wanted": wanted,
-        "least": least(job, end, functions),
+        **course(job, end, functions),
         "functions": [
             {
                 "name": function.name,
@@ -217,9 +225,10 @@ def profile(functions: list[Function], limits: Limits, is_second: bool, known: k
             for function in functions
         ],
         "lines": [[line, work.instructions, work.elements] for line, work in sorted(job.lines.items())],
-        "columns": columns_of(job.samples, functions),
+        "columns": columns,
         "calls": job.chains(functions),
         **pictures.last_picture(known, functions, limits, is_second, end),
+        **holders.found(known, functions, limits, is_second, end, job, columns["each"]),
     }
 
 

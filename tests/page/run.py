@@ -4,8 +4,8 @@
 It takes Debian's `chromium`, and installs it if it is missing and it may. The pages have five kinds of end, names and
 comments that attack, and a long run. Each is opened at 400 and 1,600 pixels, light and dark: the console has no error,
 nothing is asked for, no element comes from a stranger, what is shown is what `--json` has, everything can be reached by
-keys, and texts can be read. Pictures of all are left in FOLDER. Before that each check is shown to refuse a page that
-was broken for it."""
+keys, and texts can be read. Pictures of all are left in FOLDER. Each check is shown to refuse a page that was broken for
+it. The script is looked at as a text too."""
 from __future__ import annotations
 
 import base64
@@ -29,6 +29,7 @@ from browser import Browser, Page  # noqa: E402
 from checks import Wanted  # noqa: E402
 from broken import MANY, changes, let_through  # noqa: E402
 from policy import policy_faults  # noqa: E402
+from script import script_faults  # noqa: E402
 from suite import AS_OPENED, OF_COLOURS, OF_WIDTHS, ONCE, wrong  # noqa: E402
 
 INSTALL_SECONDS = 60
@@ -128,7 +129,7 @@ def with_state(folder: Path, page: Path, wanted: Wanted) -> tuple[Path, Wanted]:
     job |= {"most": {"entries": 3, "calls": 2, "values": 32},
             "stack": {"entries": 40, "words": 46, "left": 37, "list": stack},
             "active": {"calls": 5, "left": 3, "list": [[2, line, 1], [1, line, 2]]},
-            "source": {"files": ["<b>.py", "two.py"], "lines": [[0, 3, 7, 70, 5, "a <b> text"], [1, 1, 9, 80, 6, ""]],
+            "source": {"files": ["<b>.py", "two.py"], "lines": [[0, 3, 7, 70, "a <b> text"], [1, 1, 9, 80, ""]],
                        "marks": [[line, 0], [line + 1, 1]]}}
     return changed_page(folder, "state", page, wanted, job)
 
@@ -232,7 +233,7 @@ def test(browser: str, program: str, folder: Path, pictures: Path) -> list[str]:
     tasks = [partial(let_through, folder=folder, pages=pages, check=check, number=number, change=change)
              for check, number, change in changes()]
     tasks += [partial(checked_in, page=page, wanted=wanted, pictures=pictures) for page, wanted in pages.values()]
-    return [*found, *wrong_exits(program, folder), *found_by_all(browser, tasks)]
+    return [*found, *script_faults(), *wrong_exits(program, folder), *found_by_all(browser, tasks)]
 
 
 def main() -> int:

@@ -96,8 +96,7 @@ def state(shown: dict, job: dict, wanted: Wanted) -> Iterator[str]:
 def sources(shown: dict, job: dict, wanted: Wanted) -> Iterator[str]:
     """What is wrong with the lines of the source."""
     found = job.get("source", {"files": [], "lines": []})
-    rows = sorted([f"{found['files'][file]}:{line}", f"{count:,}", f"{words:,}", text]
-                  for file, line, count, _, words, text in found["lines"])
+    rows = sorted([f"{found['files'][file]}:{line}", f"{count:,}", text] for file, line, count, _, text in found["lines"])
     yield from differ("the source", sorted(shown["source"]), rows)
 
 

@@ -14,7 +14,7 @@ use crate::tally::{Count, FunctionTally, Tally};
 use crate::wide::Work;
 use batch_reader::{BatchFault, JobFault};
 use job_profile::{Column, Columns, Profile};
-use refusal_notes::{Lines, batch_meaning, job_meaning, printable};
+use refusal_notes::{Lines, batch_meaning, batch_refusal, job_meaning, printable, refusal};
 use std::alloc::{AllocError, Global};
 use std::fmt::Write;
 use vcode_base::{Limits, Rule};
@@ -34,7 +34,7 @@ pub struct Told {
     pub wanted: Option<usize>,
 }
 
-/// Adds a printable text as a JSON string that may stand in a page: `"`, `\`, `<` and `&` are escaped.
+/// Adds a printable text as a JSON string that may stand in a page: `"`, `\`, `<`, `&` and LF are escaped.
 pub fn push_quoted(text: &mut String, value: &str) -> Result<(), AllocError> {
     text.push('"')?;
     for letter in value.chars() {
@@ -43,6 +43,7 @@ pub fn push_quoted(text: &mut String, value: &str) -> Result<(), AllocError> {
             '\\' => text.push_str("\\\\")?,
             '<' => text.push_str("\\u003c")?,
             '&' => text.push_str("\\u0026")?,
+            '\n' => text.push_str("\\n")?,
             _ => text.push(letter)?,
         }
     }
@@ -274,17 +275,27 @@ fn push_code(
     text.push_str("]}")
 }
 
-/// Adds the members for a refusal at a line by a fault of this name and this meaning, and ends the object.
+/// What a fault is called, what it means, and the text that is shown of a refusal by it.
+#[derive(Clone, Copy)]
+struct Refused<'a> {
+    fault: &'a str,
+    meaning: &'a str,
+    shown: &'a str,
+}
+
+/// Adds the members for a refusal at a line, and ends the object.
 fn push_refusal(
     text: &mut String,
     alloc: Global,
     lines: &Lines,
     line: u64,
-    fault: &str,
-    meaning: &str,
+    refused: Refused<'_>,
 ) -> Result<(), AllocError> {
+    let fault = refused.fault;
     write!(text, ",\"end\":\"REFUSED {fault}\",\"line\":{line}")?;
-    push_note(text, meaning)?;
+    push_note(text, refused.meaning)?;
+    text.push_str(",\"text\":")?;
+    push_quoted(text, refused.shown)?;
     let first = line.saturating_sub(LINES_BESIDE).max(1);
     let last = line.saturating_add(LINES_BESIDE).min(lines.count());
     push_code(text, alloc, lines, first, last)?;
@@ -302,14 +313,13 @@ pub fn refusal_object(
 ) -> Result<String, AllocError> {
     let mut text = String::new(alloc);
     push_job(&mut text, alloc, place, name)?;
-    push_refusal(
-        &mut text,
-        alloc,
-        lines,
-        line,
-        fault.text(),
-        job_meaning(fault),
-    )?;
+    let shown = refusal(alloc, lines, place, name, line, fault)?;
+    let refused = Refused {
+        fault: fault.text(),
+        meaning: job_meaning(fault),
+        shown: shown.as_str(),
+    };
+    push_refusal(&mut text, alloc, lines, line, refused)?;
     Ok(text)
 }
 
@@ -321,14 +331,13 @@ pub fn batch_refusal_object(
     fault: BatchFault,
 ) -> Result<String, AllocError> {
     let mut text = String::from_str(alloc, "{\"job\":null,\"name\":null")?;
-    push_refusal(
-        &mut text,
-        alloc,
-        lines,
-        line,
-        fault.text(),
-        batch_meaning(fault),
-    )?;
+    let shown = batch_refusal(alloc, lines, line, fault)?;
+    let refused = Refused {
+        fault: fault.text(),
+        meaning: batch_meaning(fault),
+        shown: shown.as_str(),
+    };
+    push_refusal(&mut text, alloc, lines, line, refused)?;
     Ok(text)
 }
 

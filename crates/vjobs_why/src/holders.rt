@@ -98,13 +98,6 @@ impl Reads {
         }
     }
 
-    /// Notes what the next instruction of a run reads, if there is one.
-    fn note_state(&mut self, watch: &Watch) {
-        if let Some(next) = watch.next() {
-            self.note_next(watch, next);
-        }
-    }
-
     /// Runs a job to its end, and notes what it reads.
     fn note_all(&mut self, watch: &mut Watch) -> Result<(), AllocError> {
         for _ in 0..=MOST_BUDGET {
@@ -127,9 +120,9 @@ struct Notes {
 
 impl Notes {
     /// Notes what there is at the state of a run, and what its next instruction reads.
-    fn note(&mut self, watch: &Watch) -> Result<(), AllocError> {
+    fn note(&mut self, watch: &Watch, next: Next) -> Result<(), AllocError> {
         if let Some(reads) = &mut self.reads {
-            reads.note_state(watch);
+            reads.note_next(watch, next);
         }
         match &mut self.levels {
             Some(levels) => levels.note(watch.run()),
@@ -137,13 +130,24 @@ impl Notes {
         }
     }
 
-    /// Notes what there is at the state of a run and at those up to the one after this many instructions.
+    /// Notes the state of a run, and executes the next instruction.
+    fn step(&mut self, watch: &mut Watch) -> Result<(), AllocError> {
+        if let Some(next) = watch.next() {
+            self.note(watch, next)?;
+            watch.take(next)?;
+        }
+        Ok(())
+    }
+
+    /// Notes the state of a run and those up to the one after this many instructions, and goes there.
     fn note_up_to(&mut self, watch: &mut Watch, count: u64) -> Result<(), AllocError> {
         for _ in watch.run().executed()..count {
-            self.note(watch)?;
-            watch.step()?;
+            self.step(watch)?;
         }
-        self.note(watch)
+        match watch.next() {
+            Some(next) => self.note(watch, next),
+            None => Ok(()),
+        }
     }
 
     /// The same, if anything is noted.

@@ -123,6 +123,7 @@ td.name a { display: inline-block; max-width: calc(100% - 20px); vertical-align:
   .functions table, .stack table, .active table, .held table { font-size: .8rem; }
   td, th, .functions td, .functions th { padding-inline: 3px; }
   td.values { min-width: 6em; font-size: 12px; }
+  .held th { white-space: normal; vertical-align: bottom; }
   td.name { min-width: 4.5em; }
   .words .pick, .levels .pick { padding: 0; }
   .more { display: none; }

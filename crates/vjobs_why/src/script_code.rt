@@ -36,13 +36,13 @@ function source(job, unit) {
   const order = lines.map((_, place) => place).sort((left, right) => count_of(lines[right]) - count_of(lines[left]));
   const firsts = new Map([...marks].reverse().map(([line, place]) => [place, line]));
   const rows = order.map((place) => {
-    const [file, line, , , words, text] = lines[place], at = `${files[file]}:${line}`, code_line = firsts.get(place);
+    const [file, line, , , text] = lines[place], at = `${files[file]}:${line}`, code_line = firsts.get(place);
     const link = code_line ? line_link(job, code_line, at) : at;
-    const cells = row([[link, 'name'], [number(words), 'number'], [text, 'text']]);
+    const cells = row([[link, 'name'], [text, 'text']]);
     cells.children[0].after(heat(count_of(lines[place]), count_of(lines[order[0]])));
     return cells;
   });
-  const heads = [['source', ''], [unit, 'number'], ['most words', 'number'], ['text', '']];
+  const heads = [['source', ''], [unit, 'number'], ['text', '']];
   return [section('source', 'Source', `lines that the comments of the code name, by their ${unit}`,
     scroll('source', table('Lines of the source, those that did most first', heads, rows)))];
 }
