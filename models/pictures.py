@@ -1,8 +1,5 @@
-"""What there is at a state of a job: the calls, the stack and its values, and the lines of the source, from the second
-writing."""
+"""What there is at a state of a job: the calls, and the stack with its values, from the second writing."""
 import random
-import re
-from collections import defaultdict
 from typing import Any
 
 import batches
@@ -13,15 +10,13 @@ from instructions import BOOL, SEGDES, kinds_of
 from notes import names_of
 from reader import Function
 from runs import Limits
+from sources import names_at
 
 # The most entries, calls and values that are shown, and the values of an entry in a text.
 MOST = {"entries": 24, "calls": 16, "values": 32}
 MOST_IN_A_TEXT = 6
 # A job is followed up to this many instructions.
 LONGEST_RUN = 3_000
-# A comment that names a line of a source.
-COMMENT = re.compile(rb"\{([^}]*)\}")
-PLACE = re.compile(rb"@[ \t\r]*([^ \t\r\n]{1,96}):(\d+)(?:[ \t\r]+([^\n]*))?(?:\n.*)?", re.S)
 
 
 class Pictured(runs.Run):
@@ -131,7 +126,8 @@ def calls_text(job: Pictured, marks: dict[int, str]) -> list[str]:
     """The lines for the calls of a state."""
     lines = ["the calls, the innermost first"]
     for name, line, first, count in job.owned()[: MOST["calls"]]:
-        owned = "no entries" if not count else f"entry {first}" if count == 1 else f"entries {first} to {first + count - 1}"
+        several = f"entries {first} to {first + count - 1}"
+        owned = "no entries" if not count else f"entry {first}" if count == 1 else several
         source = f", {marks[line]}" if line in marks else ""
         lines.append(f"  {name} at line {line}: {owned}{source}")
     return lines + left(len(job.calls), MOST["calls"])
@@ -163,55 +159,6 @@ def range_text(job: Pictured, data: bytes, depth: int, first: int, last: int) ->
     words = [word_text(entry.kind, word) for word in entry.words]
     rows = range(first, min(last + 1, len(words)), 8)
     return [head, *(f"  {place:>9}  {' '.join(words[place : min(place + 8, last + 1)])}" for place in rows)]
-
-
-# ---- the lines of a source
-
-def marks_of(functions: list[Function], first: int, code: bytes) -> dict[int, tuple[bytes, int, bytes] | None]:
-    """The mark of each line of a code that has one: the file, the line and its text; None at a FUNC that has none."""
-    last = functions[-1].items[-1].line
-    marks: dict[int, Any] = {function.line: None for function in functions}
-    text = b"\n".join(code.split(b"\n")[: last - first + 1]) + b"\n"
-    for comment in COMMENT.finditer(text):
-        line = first + text.count(b"\n", 0, comment.start())
-        found = PLACE.fullmatch(comment[1])
-        if found and int(found[2]) > 0 and int(found[2]) < 2**64 and marks.get(line) is None:
-            marks[line] = found[1], int(found[2]), (found[3] or b"").strip(b" \t\r")
-    return marks if any(marks.values()) else {}
-
-
-def source_of(functions: list[Function], first: int, code: bytes, lines: list[list[int]]) -> dict[str, Any] | None:
-    """The member for the lines of the source, from the counts of the lines of the code."""
-    marks = marks_of(functions, first, code)
-    if not marks:
-        return None
-    named = [mark for _, mark in sorted(marks.items()) if mark]
-    files = list(dict.fromkeys(file for file, _, _ in named))
-    places = sorted({(files.index(file), number) for file, number, _ in named})
-    texts: defaultdict[tuple[int, int], str] = defaultdict(str)
-    for file, number, text in named:
-        texts[files.index(file), number] = texts[files.index(file), number] or text.decode()[:96]
-    rows = [[line, places.index((files.index(mark[0]), mark[1])) if mark else None] for line, mark in sorted(marks.items())]
-    counts = [[0, 0] for _ in places]
-    for line, times, elements in lines:
-        at = [place for start, place in rows if start <= line]
-        if at and at[-1] is not None:
-            counts[at[-1]][0] += times
-            counts[at[-1]][1] += elements
-    return {"files": [file.decode() for file in files],
-            "lines": [[*place, *count, texts[place]] for place, count in zip(places, counts)], "marks": rows}
-
-
-def names_at(functions: list[Function], first: int, code: bytes) -> dict[int, str]:
-    """The place in the source of each line of the code that is of one."""
-    found, current, marks = dict[int, str](), "", marks_of(functions, first, code)
-    for line in range(first, functions[-1].items[-1].line + 1):
-        if line in marks:
-            mark = marks[line]
-            current = f"{mark[0].decode()}:{mark[1]}" if mark else ""
-        if current:
-            found[line] = current
-    return found
 
 
 # ---- looks

@@ -8,6 +8,7 @@ import holders
 import kinds
 import pictures
 import runs
+import sources
 from faults import Fault
 from instructions import kinds_of
 from notes import GREATEST_WORDS, note_of
@@ -62,6 +63,7 @@ class Counted(runs.Run):
         self.active: list[tuple[str, ...]] = [("MAIN",)]
         self.paths: dict[tuple[str, ...], tuple[list[int], Work]] = {}
         self.lines: defaultdict[int, Work] = defaultdict(Work)
+        self.by_path: defaultdict[tuple[str, ...], Counter[int]] = defaultdict(Counter)
         self.own: defaultdict[str, Work] = defaultdict(Work)
         self.whole: defaultdict[str, Work] = defaultdict(Work)
         self.path_of(("MAIN",))[0][0] = 1
@@ -97,6 +99,7 @@ class Counted(runs.Run):
     def count(self, line: int, elements: int) -> None:
         """Counts an instruction that was executed, by its line, its function, those that are active, and its path."""
         name = self.active[-1][-1]
+        self.by_path[self.active[-1]][line] += 1
         self.samples.append((self.demand, runs.held(self.stack) if self.calls else 0, line, name))
         whole = [self.whole[active] for active in {path[-1] for path in self.active}]
         for work in (self.lines[line], self.own[name], self.path_of(self.active[-1])[1], *whole):
@@ -245,7 +248,7 @@ def profiles(data: bytes) -> list[dict[str, Any]] | None:
             known = kinds.read_signatures(signatures[1], signatures[0])
             made: dict[str, Any] = {**profile(functions, Limits(*numbers), is_second, known),
                                     "code": shown_code(functions, *code)}
-            made["source"] = pictures.source_of(functions, *code, made["lines"])
+            made["source"] = sources.source_of(functions, *code, made["lines"])
         except Fault as fault:
             words = str(fault).split(" ", 2)
             made = {"end": f"REFUSED {words[2]}", "line": int(words[1])}

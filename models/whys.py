@@ -5,9 +5,9 @@ It takes the examples and the tables of `worked_batches`. Of each job the end, t
 the most words have to be those of the report of `vjobs`. Of each job that ran, what there is after a number of
 instructions, at a line and at each instruction is shown too: the counts have to be those that were asked for. If
 `vjobs-why` names a JOB line within which a job returns, the job has to return within it, and with any number of it one
-less it must not. The states at which `--at` and `--when` stop, the calls, stacks and values of states, and what `--json`
-prints, have to be those of the second writing, for these batches and for as many random ones as are asked for (300 by
-default)."""
+less it must not. The states at which `--at` and `--when` stop, the calls, stacks and values of states, and what
+`--json` prints, have to be those of the second writing, for these batches and for as many random ones as are asked for
+(300 by default). Half of the random ones have comments that name lines of a source."""
 import random
 import re
 import subprocess
@@ -16,6 +16,7 @@ from collections.abc import Iterator
 
 import pictures
 import profiles
+import sources
 import stops
 from random_batches import RandomBatches
 from tables import TOP, batches_of
@@ -182,11 +183,35 @@ def wrong_pictures(program: str, batch: bytes, seed: int) -> Iterator[str]:
             yield f"{' '.join(options)}: exit {status}: {said}{shown}, and not {lines}"
 
 
+def wrong_sources(program: str, batch: bytes) -> Iterator[str]:
+    """What is wrong with what is shown by lines of the source of the jobs of a batch."""
+    for place, _, functions, (*_, code), run_of in pictures.jobs_of(batch):
+        job = profiles.Counted(functions, run_of.limits, run_of.is_second)
+        profiles.end_of(job)
+        lines = [[line, work.instructions, work.elements] for line, work in sorted(job.lines.items())]
+        source = sources.source_of(functions, *code, lines)
+        if not source or len(job.paths) > profiles.MOST_CHAINS:
+            continue
+        places = sources.places_of(functions, *code, source)
+        for options, wanted in ((["--folded=source"], sources.folded_lines(job, places, source)),
+                                (["--profile", "--all"], sources.profile_lines(job, places, source))):
+            _, shown, said = run(program, batch, "--job", str(place), *options)
+            rows = shown.splitlines()
+            if options[0] == "--profile":
+                heads = [number for number, row in enumerate(rows) if row.startswith("the lines of the source,")]
+                rows = rows[heads[0] + 2 : rows.index("", heads[0])] if heads else []
+            if said or rows != wanted:
+                yield f"--job {place} {options[0]}: {said}{rows}, and not {wanted}"
+
+
 def random_ones(count: int, seed: int) -> Iterator[tuple[str, bytes]]:
     """The name of each random batch, and its bytes."""
     cases = RandomBatches(random.Random(seed))
     for place in range(count):
-        yield f"random batch {place + 1}", cases.whole_batch()[0]
+        batch = cases.whole_batch()[0]
+        if place % 2:
+            batch = sources.with_marks(batch, random.Random(seed + place))
+        yield f"random batch {place + 1}", batch
 
 
 def main(why: str, vjobs: str, count: int | str = 300, seed: int | str = 1) -> None:
@@ -198,7 +223,7 @@ def main(why: str, vjobs: str, count: int | str = 300, seed: int | str = 1) -> N
         differences += [f"{name}: {text}" for text in looked]
     for place, (name, batch) in enumerate(random_ones(int(count), int(seed))):
         looked = (*wrong_profiles(why, batch), *wrong_stops(why, batch, int(seed) + place),
-                  *wrong_pictures(why, batch, int(seed) + place))
+                  *wrong_pictures(why, batch, int(seed) + place), *wrong_sources(why, batch))
         differences += [f"{name}: {text}" for text in looked]
     print(*differences, sep="\n", end="\n" if differences else "")
     print(f"whys: {len(batches)} batches and {count} random ones, {len(differences)} differences")

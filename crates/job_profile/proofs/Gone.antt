@@ -1,5 +1,5 @@
 -- How far a run has come that executes a number of instructions.
-use Rattle.std.proofs.Common.{add-one, ◌≡◌, ℕ, suc, ◌+◌, refl, sym, ◌∙◌, ap, subst, arith}
+use Rattle.std.proofs.Common.{◌≡◌, ℕ, suc, ◌+◌, refl, ◌∙◌, ap, subst, arith}
 use Rattle.job_steps.specs.Runs.{state_after, progress_from}
 use Rattle.job_steps.specs.States.{Task}
 use Rattle.job_profile.specs.Used.{AreUses}

@@ -159,7 +159,7 @@ fn folded_option<'a>(alloc: Global) -> Arg<'a> {
         .default_missing_value("instructions")
         .value_parser(UNITS)
         .help(
-            "Shows instructions or elements by stacks of functions, or these by lines of the source, for flame graph tools",
+            "Shows instructions, also by lines of the source, or elements by stacks of functions, for flame graph tools",
         )
 }
 

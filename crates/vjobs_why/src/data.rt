@@ -414,7 +414,8 @@ fn push_limits_told(text: &mut String, told: &Told) -> Result<(), AllocError> {
     Ok(())
 }
 
-/// The columns at which the last instruction that was next begins and ends in its line, if it is a part of what is shown.
+/// The columns at which the last instruction that was next begins and ends in its line, if it is a part of what is
+/// shown.
 fn last_columns(
     alloc: Global,
     lines: &Lines,

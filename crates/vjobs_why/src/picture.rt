@@ -13,8 +13,8 @@ pub const MOST_SHOWN_CALLS: usize = 16;
 /// The most values of an entry that are kept.
 pub const MOST_KEPT_VALUES: usize = 32;
 
-/// An entry of the stack: its kind, the line that made it, its length, of a descriptor its total, the depth of the first
-/// entry above that it is a copy of, and its first values.
+/// An entry of the stack: its kind, the line that made it, its length, of a descriptor its total, the depth of the
+/// first entry above that it is a copy of, and its first values.
 #[derive(Drop)]
 pub struct ShownEntry {
     pub kind: Kind,

@@ -1,7 +1,7 @@
 //! The lines of a source, which comments of a code name: `{@ FILE:LINE}`, or `{@ FILE:LINE TEXT}` with the line's text.
 //!
-//! Such a mark holds for the code of its line and of the lines after it, up to the next mark or the next `FUNC`. No file
-//! is read.
+//! Such a mark holds for the code of its line and of the lines after it, up to the next mark or the next `FUNC`. No
+//! file is read.
 
 use crate::profile::last_line_of;
 use refusal_notes::{Lines, Word, printable};
@@ -206,17 +206,32 @@ impl Sources {
     /// Takes a mark. Those of one line of the source come one after the other.
     fn take(&mut self, found: Found) -> Result<(), AllocError> {
         let Found { line, source } = found;
-        match self.lines.last_mut() {
-            Some(last) if last.file == source.file && last.number == source.number => {
-                if last.text.is_empty() {
-                    last.text = source.text;
-                }
-            }
-            Some(_) | None => self.lines.push(source)?,
+        if self.ends_with(&source) {
+            self.join(source);
+        } else {
+            self.lines.push(source)?;
         }
         let place = self.lines.len().checked_sub(1);
         self.marks.push(Mark { line, place })?;
         Ok(())
+    }
+
+    /// Whether the last line is this one.
+    fn ends_with(&self, source: &SourceLine) -> bool {
+        match self.lines.last() {
+            Some(last) => last.file == source.file && last.number == source.number,
+            None => false,
+        }
+    }
+
+    /// Takes the text of the last line from another mark, if it has none.
+    fn join(&mut self, source: SourceLine) {
+        let SourceLine { file: _, number: _, text } = source;
+        if let Some(last) = self.lines.last_mut() {
+            if last.text.is_empty() {
+                last.text = text;
+            }
+        }
     }
 
     /// Ends the marks at the `FUNC` lines that have none, and puts all into order.

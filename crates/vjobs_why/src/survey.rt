@@ -22,8 +22,8 @@ pub struct Counts {
     stretch: Stretch,
 }
 
-/// A run of a job: its words, its counts and its trail, how many instructions lead to the last state before its end, that
-/// state if the end was foreseen there, and the last instruction that was next.
+/// A run of a job: its words, its counts and its trail, how many instructions lead to the last state before its end,
+/// that state if the end was foreseen there, and the last instruction that was next.
 #[derive(Drop)]
 pub struct Survey {
     pub columns: Columns<Global>,
@@ -153,7 +153,8 @@ impl Survey {
         Ok(goes_on)
     }
 
-    /// Executes and counts instructions up to the last RET, or until the budget is spent, unless the job ends otherwise.
+    /// Executes and counts instructions up to the last RET, or until the budget is spent, unless the job ends
+    /// otherwise.
     fn go_to_last(&mut self, alloc: Global) -> Result<(), AllocError> {
         let budget = self.run().job().limits().budget;
         for _ in 0..budget {

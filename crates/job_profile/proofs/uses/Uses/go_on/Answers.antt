@@ -1,5 +1,3 @@
-use Rattle.std.proofs.Common.{◌≡◌, ◌+◌, subst, arith}
-use Rattle.job_profile.specs.Walks.{HasGoneOn, RunState}
 use Rattle.job_profile.proofs.Gone.{first_gone, gone_by}
 use Rattle.job_profile.proofs.uses.Uses.go_on.Goals as goal
 
