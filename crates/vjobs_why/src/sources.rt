@@ -226,7 +226,11 @@ impl Sources {
 
     /// Takes the text of the last line from another mark, if it has none.
     fn join(&mut self, source: SourceLine) {
-        let SourceLine { file: _, number: _, text } = source;
+        let SourceLine {
+            file: _,
+            number: _,
+            text,
+        } = source;
         if let Some(last) = self.lines.last_mut() {
             if last.text.is_empty() {
                 last.text = text;
