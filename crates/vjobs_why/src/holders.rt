@@ -37,12 +37,16 @@ impl Holder {
     }
 }
 
-/// The vectors that were read from a state on, of those that were held there. They are named by how many entries were
-/// made before each, the least first.
+/// After how many instructions it is looked again whether any vector is left that may be read.
+const LOOK_AFTER: u64 = 4_096;
+
+/// The vectors that were held at a state, which of them were read from there on, and how many weren't. They are named by
+/// how many entries were made before each, the least first.
 #[derive(Drop)]
 struct Reads {
     vectors: Vec<u64>,
     are_read: Vec<bool>,
+    unread: usize,
 }
 
 /// How many entries from the top an instruction reads. The last RET reads all, since they are the results.
@@ -56,13 +60,19 @@ fn read_count(watch: &Watch, next: Next) -> usize {
 impl Reads {
     /// None of the vectors of these entries was read yet.
     fn new(alloc: Global, entries: &[Held]) -> Result<Reads, AllocError> {
-        let (mut vectors, mut are_read) = (Vec::new(alloc), Vec::new(alloc));
+        let mut vectors = Vec::new(alloc);
         for entry in entries {
             vectors.push(entry.before)?;
-            are_read.push(false)?;
         }
         vectors.sort()?;
-        Ok(Reads { vectors, are_read })
+        vectors.dedup();
+        let unread = vectors.len();
+        let are_read = vec![in alloc; false; unread]?;
+        Ok(Reads {
+            vectors,
+            are_read,
+            unread,
+        })
     }
 
     /// The place of a vector.
@@ -76,9 +86,39 @@ impl Reads {
         if self.vectors.get(place) != Some(&vector) {
             return;
         }
-        if let Some(is_read) = self.are_read.get_mut(place) {
-            *is_read = true;
+        match self.are_read.get_mut(place) {
+            Some(is_read) if !*is_read => {
+                *is_read = true;
+                self.unread = self.unread.saturating_sub(1);
+            }
+            Some(_) | None => {}
         }
+    }
+
+    /// Whether a vector is one of these and wasn't read.
+    fn is_unread(&self, vector: u64) -> bool {
+        let place = self.place(vector);
+        self.vectors.get(place) == Some(&vector) && self.are_read.get(place) == Some(&false)
+    }
+
+    /// Whether one of the entries of a run is one of these vectors and wasn't read.
+    fn are_held(&self, watch: &Watch) -> bool {
+        for depth in 0..watch.run().depth() {
+            if let Some(origin) = watch.origin(depth) {
+                if self.is_unread(origin.before) {
+                    return true;
+                }
+            }
+        }
+        false
+    }
+
+    /// Whether it is known that no more of them are read from the state of a run on. It isn't looked at each state.
+    fn are_over(&self, watch: &Watch) -> bool {
+        if self.unread == 0 {
+            return true;
+        }
+        watch.run().executed() % LOOK_AFTER == 0 && !self.are_held(watch)
     }
 
     /// Whether a vector was read.
@@ -139,23 +179,37 @@ impl Notes {
         Ok(())
     }
 
-    /// Notes the state of a run and those up to the one after this many instructions, and goes there.
-    fn note_up_to(&mut self, watch: &mut Watch, count: u64) -> Result<(), AllocError> {
+    /// Whether nothing is left to be noted from the state of a run on.
+    fn are_over(&self, watch: &Watch) -> bool {
+        if self.levels.is_some() {
+            return false;
+        }
+        match &self.reads {
+            Some(reads) => reads.are_over(watch),
+            None => true,
+        }
+    }
+
+    /// Notes the states of a run up to the one after this many instructions, and goes there.
+    fn go_to(&mut self, watch: &mut Watch, count: u64) -> Result<(), AllocError> {
         for _ in watch.run().executed()..count {
+            self.step(watch)?;
+        }
+        Ok(())
+    }
+
+    /// The same as far as anything is left to be noted, with the state after these instructions too.
+    fn go_on(&mut self, watch: &mut Watch, count: u64) -> Result<(), AllocError> {
+        for _ in watch.run().executed()..count {
+            if self.are_over(watch) {
+                return Ok(());
+            }
             self.step(watch)?;
         }
         match watch.next() {
             Some(next) => self.note(watch, next),
             None => Ok(()),
         }
-    }
-
-    /// The same, if anything is noted.
-    fn note_rest(&mut self, watch: &mut Watch, count: u64) -> Result<(), AllocError> {
-        if self.reads.is_none() && self.levels.is_none() {
-            return Ok(());
-        }
-        self.note_up_to(watch, count)
     }
 }
 
@@ -342,11 +396,11 @@ impl Found {
             reads: None,
             levels,
         };
-        notes.note_up_to(watch, number.saturating_sub(1))?;
+        notes.go_to(watch, number.saturating_sub(1))?;
         let state = State::of(watch);
         let entries = entries_of(alloc, watch)?;
         notes.reads = reads_to(alloc, entries.as_slice(), end.ending)?;
-        notes.note_rest(watch, end.steps)?;
+        notes.go_on(watch, end.steps)?;
         Ok(Found {
             holdings: Holdings::of(alloc, state, entries.as_slice(), &notes.reads)?,
             wanted: wanted_by(&notes.levels, watch),

@@ -117,6 +117,7 @@ td.number, th.number { text-align: right; white-space: nowrap; }
 td.text { white-space: pre; width: 99%; }
 td.name { min-width: 7.5em; overflow-wrap: anywhere; }
 td.name a { display: inline-block; max-width: calc(100% - 20px); vertical-align: top; }
+nav td.name a, .source td.name a { max-width: 100%; }
 @media (max-width: 500px) {
   section { padding: 10px; }
   .functions .line { display: none; }
@@ -124,6 +125,8 @@ td.name a { display: inline-block; max-width: calc(100% - 20px); vertical-align:
   td, th, .functions td, .functions th { padding-inline: 3px; }
   td.values { min-width: 6em; font-size: 12px; }
   .held th { white-space: normal; vertical-align: bottom; }
+  nav table { font-size: .8rem; }
+  nav .end { display: inline-block; white-space: normal; border-radius: 8px; padding: 0 4px; line-height: 1.3; }
   td.name { min-width: 4.5em; }
   .words .pick, .levels .pick { padding: 0; }
   .more { display: none; }
@@ -140,7 +143,8 @@ td.heat { print-color-adjust: exact; }
     --bad: #b3201b; --good: #116b34; --accent: #3b6ea5;
   }
   body { font-size: 11px; }
-  pre, code, td.text { font-size: 10px; }
+  pre, code, td.text, td.values { font-size: 10px; }
+  pre.wide { white-space: pre-wrap; }
   .scroll { max-height: none; overflow: visible; }
   .pick, .units, nav { display: none; }
   .more { display: revert; }
