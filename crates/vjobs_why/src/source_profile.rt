@@ -85,7 +85,8 @@ fn sorted_totals(
 ) -> Result<Vec<SourceTotal>, AllocError> {
     let mut totals = totals_of(alloc, sources, profile, tally)?;
     totals.retain(|total| total.instructions > 0);
-    totals.sort_by_key(|total| (u64::MAX - total.elements, u64::MAX - total.instructions))?;
+    totals.sort_by_key(|total| u64::MAX - total.instructions)?;
+    totals.sort_by_key(|total| u64::MAX - total.elements)?;
     Ok(totals)
 }
 
