@@ -45,8 +45,10 @@ class Pictured(runs.Run):
             self.callers.append(item.line)
             self.below.append(len(self.stack) - len(self.known[item.word][0]))
         elif len(self.calls) < calls:
-            for those in (self.names, self.callers or [0], self.below):
-                those.pop()
+            self.names.pop()
+            self.below.pop()
+            if self.callers:
+                self.callers.pop()
 
     def operand_names(self) -> list[str]:
         """The names of the operands of the next instruction, the top first."""

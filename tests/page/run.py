@@ -16,7 +16,7 @@ import subprocess
 import sys
 import tempfile
 import time
-from collections.abc import Callable
+from collections.abc import Callable, Sequence
 from concurrent.futures import ThreadPoolExecutor
 from functools import partial
 from pathlib import Path
@@ -212,7 +212,7 @@ def checked_in(browser: Browser, page: Path, wanted: Wanted, pictures: Path) -> 
         return [f"{page.stem} doesn't answer: {error}"]
 
 
-def found_by_all(program: str, tasks: list[Callable[[Browser], list[str]]]) -> list[str]:
+def found_by_all(program: str, tasks: Sequence[Callable[[Browser], list[str]]]) -> list[str]:
     """What the tasks find, which are done by some browsers side by side."""
     left, found = list(reversed(tasks)), []
 
