@@ -23,7 +23,7 @@ packing: ## bin/vjobs-pack and bin/vjobs-split: the programs that join files and
 	cp crates/vjobs_split/out/vjobs_split bin/vjobs-split
 	.ci/stamp proved bin/vjobs-pack bin/vjobs-split
 
-kinds: ## bin/vjobs-kinds: the program that finds signatures
+kinds: ## bin/vjobs-kinds: the program that finds signatures, for code or in a batch
 	.ci/prove vjobs_kinds
 	mkdir -p bin
 	cp crates/vjobs_kinds/out/vjobs_kinds bin/vjobs-kinds
@@ -87,7 +87,7 @@ models: all packing kinds ## the programs beside the rules in Python, on random 
 	.ci/prove worked_texts worked_vectors worked_regions worked_batches
 	python3 models/examples.py
 	python3 models/packing.py bin/vjobs bin/vjobs-pack bin/vjobs-split
-	python3 models/signatures.py bin/vjobs-kinds
+	python3 models/signatures.py bin/vjobs-kinds bin/vjobs
 	python3 models/names.py bin/vjobs bin/vjobs-kinds
 	python3 models/compare.py
 	python3 -B tests/compiler/compare.py 2000

@@ -88,7 +88,7 @@ def calls_with(name: bytes) -> Iterator[Words]:
         [VJOBS, value, b"-"], [VJOBS, b"--schedule", name, b"-"], [VJOBS, b"--workers", name, b"-"],
         [PACK, b"--out", name, b"none"], [PACK, b"--files-from", name], [PACK, value], [PACK, b"--most-entries", name],
         [SPLIT, b"--out", b"new", b"--", name], [SPLIT, b"--beside", b"--", name],
-        [KINDS, b"--most-bytes", name, b"-"], [KINDS, b"--", name],
+        [KINDS, b"--most-bytes", name, b"-"], [KINDS, b"--", name], [KINDS, b"--batch", b"--", name],
         [WHY, b"--html", b"none/" + name, b"batch.vcode"], [WHY, b"--at", name + b":0", b"batch.vcode"],
         [WHY, b"--", name],
     ]
@@ -141,6 +141,9 @@ def with_odd_texts() -> None:
     """What is printed of texts with odd bytes."""
     for what, text in ODD_TEXTS.items():
         Path("odd.vcode").write_bytes(text)
+        filled = run([KINDS, "--batch", "-"], re.sub(rb"(?<=^SIGNATURES\n).*?(?=^CODE\n)", b"", text, flags=re.M | re.S))
+        if filled and (filled.returncode not in (0, 1) or not is_shown(filled.stderr)):
+            fault(f"{what}, vjobs-kinds --batch", f"exit {filled.returncode}, {filled.stderr!r}")
         for words in [[VJOBS, "odd.vcode"], *([WHY, *way, "odd.vcode"] for way in LOOKS)]:
             ran = run(words)
             if ran and (ran.returncode not in (0, 1, 2) or not is_shown(ran.stdout + ran.stderr)):
@@ -162,7 +165,7 @@ def with_odd_files() -> None:
     os.makedirs("kept", exist_ok=True)
     for name in ("pipe", "link", "folder", "/dev/null", "/dev/zero", "/dev/tty"):
         for words in ([PACK, "--out", "kept", name], [PACK, "--out", "kept", "--files-from", name],
-                      [SPLIT, "--out", "given", name], [KINDS, name], [WHY, name]):
+                      [SPLIT, "--out", "given", name], [KINDS, name], [KINDS, "--batch", name], [WHY, name]):
             ran = run(words)
             if ran and (ran.returncode not in (1, 3) or b"regular file" not in ran.stderr or ran.stdout):
                 fault(words, f"exit {ran.returncode}, {ran.stderr!r}")
@@ -173,7 +176,8 @@ def with_odd_files() -> None:
 def without_room() -> None:
     """An output that takes nothing is exit 3."""
     Path("batch.vcode").write_bytes(job(["FUNC MAIN", "CONST INT 1", "POP 1 0", "RET"], limits="9 9 9 9"))
-    calls = [[VJOBS, "batch.vcode"], [KINDS, "-"], *([WHY, *way, "batch.vcode"] for way in LOOKS)]
+    calls = [[VJOBS, "batch.vcode"], [KINDS, "-"], [KINDS, "--batch", "batch.vcode"],
+             *([WHY, *way, "batch.vcode"] for way in LOOKS)]
     with open("/dev/full", "wb") as full:
         for words in [*calls, *([program, "--help"] for program in PROGRAMS)]:
             ran = run(words, b"FUNC MAIN\nRET\n", stdout=full)

@@ -69,6 +69,10 @@ def as_files(word: bytes) -> None:
     with open(word, "wb") as file:
         file.write(b"FUNC MAIN\nBAD\n")
     same(f"{word!r} as a file", refused([KINDS, b"--", word], 1), f"{text}:2: S1 BAD_WORD\n")
+    said = refused([KINDS, b"--batch", b"--", word], 1)
+    same(f"{word!r} as a batch", said.partition("\n")[0], "BATCH line 1 B1 BAD_JOB_LINE")
+    said = refused([KINDS, b"--batch", b"--most-bytes=5", b"--", word], 1)
+    same(f"{word!r} as a large batch", said, f"{text}: more than 5 bytes\n")
     os.remove(word)
 
 
@@ -89,7 +93,8 @@ def other_files() -> None:
     os.mkdir("folder")
     os.symlink("pipe", "link")
     for name in ("pipe", "folder", "link", "/dev/null", "/dev/zero", "/dev/tty"):
-        same(name, refused([KINDS, name.encode()], 3), f"vjobs-kinds: {name}: not a regular file\n")
+        for words in ([], [b"--batch"]):
+            same(name, refused([KINDS, *words, name.encode()], 3), f"vjobs-kinds: {name}: not a regular file\n")
 
 
 def main() -> None:

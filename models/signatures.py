@@ -1,5 +1,7 @@
 #!/usr/bin/env python3
-"""Compares the signatures that vjobs-kinds finds with the written ones: python3 models/signatures.py VJOBS_KINDS
+"""Compares the signatures that vjobs-kinds finds with the written ones:
+
+    python3 models/signatures.py VJOBS_KINDS [VJOBS]
 
 It takes the code of each verified job of the examples and of the tables of `worked_batches`. The code of each other job
 has to be refused, or what is found has to verify it.
@@ -7,7 +9,11 @@ has to be refused, or what is found has to verify it.
 Then it takes codes of many functions that call each other, and wide stacks. What is found has to verify them. Between
 two sizes, the instructions of the processor may grow at most as the bytes of the code and the signatures do to the
 power 1.3; `valgrind` counts them, and if it is missing that is left out. Wide stacks have to fit in 200 MB of address
-space, and a stack that is too wide is refused at its line."""
+space, and a stack that is too wide is refused at its line.
+
+Then it takes the signatures out of the batches of the examples and the tables, and of random ones. What is found has to
+verify each job that was verified, the job has to end as before, by VJOBS or else by the rules of this folder, and each
+other byte of the batch has to stay. Why a job has none, or a text is no batch, has to be said."""
 import math
 import re
 import resource
@@ -19,6 +25,7 @@ from functools import partial
 from typing import Any
 
 import call_codes
+import filled
 import kinds
 from batches import BatchRefused, jobs_of
 from faults import Fault
@@ -33,13 +40,18 @@ FEW, MANY = 60, 480
 MOST_BYTES = 200_000_000
 # The copies with which a stack of 4,096 entries has as many as it may have at most, and the line of the last copy.
 MOST_COPIES, LAST_LINE = 16_383, 16_397
+RANDOM_BATCHES = 200
+
+
+def named_batches() -> list[tuple[str, bytes]]:
+    """The batches of the examples and of the tables."""
+    tables = sorted((DATA / "tables").iterdir())
+    return [*filled.examples(DATA / "examples"), *((path.name, batch) for path in tables for batch, _ in batches_of(path))]
 
 
 def jobs() -> Iterator[tuple[str, bytes, bytes]]:
     """The name of each job, its written signatures and its code."""
-    batches = [(path.stem, path.read_bytes()) for path in sorted((DATA / "examples").glob("*.vcode"))]
-    batches += [(path.name, batch) for path in sorted((DATA / "tables").iterdir()) for batch, _ in batches_of(path)]
-    for place, batch in batches:
+    for place, batch in named_batches():
         try:
             for begun, name, _, (_, signatures), (_, code) in jobs_of(batch)[1]:
                 yield f"{place}, job {name} at line {begun}", signatures, code
@@ -135,16 +147,20 @@ def wrong_bounds(program: str) -> Iterator[str]:
             yield f"{number} {option}: exit {ran.returncode}: {ran.stderr.decode()}"
 
 
-def main(program: str) -> None:
+def main(program: str, vjobs: str | None = None) -> None:
     count = verified = 0
     differing = [*wrong_calls(program), *wrong_stacks(program), *wrong_bounds(program)]
+    batches = named_batches()
+    differing += filled.wrong_batches(program, batches, RANDOM_BATCHES, vjobs)
     for name, signatures, code in jobs():
         count += 1
         verified += written(signatures, code) is not None
         wrong = difference(program, signatures, code)
         if wrong:
             differing.append(f"{name}: {wrong}")
-    print(*differing, f"signatures: {count} jobs, {verified} of them verified, {len(differing)} differences", sep="\n")
+    of_batches = f"{len(batches)} batches and {RANDOM_BATCHES} random ones"
+    print(*differing, f"signatures: {count} jobs, {verified} of them verified, {of_batches}; {len(differing)} differences",
+          sep="\n")
     sys.exit(bool(differing))
 
 

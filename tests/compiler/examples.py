@@ -1,8 +1,8 @@
 #!/usr/bin/env python3
 """Compares the results of the compiler's example programs with those of plain Python: examples.py [SIZE]
 
-If vjobs-kinds is there, it has to find the signatures that the compiler writes. If vjobs-why is there, the profile by
-source lines has to have all instructions.
+If vjobs-kinds is there, it has to find the signatures that the compiler writes, for the code and in the batch. If
+vjobs-why is there, the profile by source lines has to have all instructions.
 """
 from __future__ import annotations
 
@@ -26,6 +26,8 @@ def difference(name: str, size: int) -> str:
     signatures, code = batch.partition("SIGNATURES\n")[2].split("CODE\n")
     if program("vjobs-kinds") and run("vjobs-kinds", code.removesuffix("END\n")) != signatures:
         return f"{name}: vjobs-kinds finds other signatures"
+    if program("vjobs-kinds") and run("vjobs-kinds", batch.replace(signatures, "", 1), "--batch") != batch:
+        return f"{name}: vjobs-kinds makes another batch"
     report = report_of(batch)
     if program("vjobs-why") and f"\nUSED {by_source_lines(batch)[0].total()} instructions" not in report:
         return f"{name}: the profile has other instructions"

@@ -4,7 +4,7 @@ use crate::kind_walk::{Clash, Misfit, StackEntry, Wanted, misfit_of};
 use crate::kinds::kind_text;
 use crate::lines::{Lines, printable};
 use crate::parts::Parts;
-use crate::text_notes::{absolute, program_of};
+use crate::text_notes::program_of;
 use signatures::Signatures;
 use std::alloc::{AllocError, Global};
 use std::fmt::Write;
@@ -112,7 +112,7 @@ fn made_text(
         return String::from_str(alloc, "    none\n");
     };
     let kind = kind_text(entry.kind);
-    let line = absolute(source.parts.code, entry.line);
+    let line = source.parts.code.line(entry.line);
     let code = source.lines.code(alloc, line)?;
     format!(in alloc; "  {kind:>6}  line {line:>6}  {code}\n")
 }
@@ -206,7 +206,7 @@ fn found_text(
     program: &Program<Global>,
     misfit: &Misfit,
 ) -> Result<String, AllocError> {
-    if absolute(source.parts.code, misfit.line) != line {
+    if source.parts.code.line(misfit.line) != line {
         return Ok(String::new(alloc));
     }
     match program.functions().get(misfit.function) {

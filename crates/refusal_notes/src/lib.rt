@@ -29,6 +29,6 @@ pub use lines::{Lines, printable};
 pub use meanings::{batch_meaning, job_meaning};
 pub use motions::move_entries;
 pub use operands::operand_names;
-pub use parts::{LineSpan, Parts, parts_of};
+pub use parts::{LineSpan, Parts, parts_of_jobs};
 pub use refusals::refusal;
 pub use words::{Text, Word, words_of};

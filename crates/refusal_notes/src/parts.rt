@@ -1,6 +1,7 @@
 //! Where the parts of a job are among the lines of a batch.
 
 use crate::lines::Lines;
+use std::alloc::{AllocError, Global};
 use vcode_base::{LineWords, Parentheses};
 
 /// Lines one after another: the number of the first, and the number of the line after the last.
@@ -8,6 +9,13 @@ use vcode_base::{LineWords, Parentheses};
 pub struct LineSpan {
     pub first: u64,
     pub end: u64,
+}
+
+impl LineSpan {
+    /// The number of the line that is this one of these, counted from 1.
+    pub fn line(self, place: u64) -> u64 {
+        self.first.saturating_add(place).saturating_sub(1)
+    }
 }
 
 /// A JOB line, and the lines of the signatures and of the code that follow it.
@@ -103,8 +111,25 @@ pub(crate) fn scan_before(lines: &Lines, number: u64) -> Scan {
     scan
 }
 
+/// The parts of each job of a batch, in their order.
+pub fn parts_of_jobs(alloc: Global, lines: &Lines) -> Result<Vec<Parts>, AllocError> {
+    let mut found = Vec::new(alloc);
+    let mut scan = Scan::new();
+    for number in 1..u64::MAX {
+        let Some(line) = lines.bytes(number) else {
+            break;
+        };
+        let before = scan.stage;
+        scan.take(number, line);
+        if before == Stage::Code && scan.stage == Stage::Between {
+            found.push(scan.parts)?;
+        }
+    }
+    Ok(found)
+}
+
 /// The parts of the job at this place of a batch, counted from 1.
-pub fn parts_of(lines: &Lines, place: u64) -> Option<Parts> {
+pub(crate) fn parts_of(lines: &Lines, place: u64) -> Option<Parts> {
     let mut scan = Scan::new();
     for number in 1..u64::MAX {
         scan.take(number, lines.bytes(number)?);

@@ -91,16 +91,11 @@ fn open_line(alloc: Global, code: &[u8]) -> Result<Option<u64>, AllocError> {
 fn open_note(alloc: Global, front: &[u8], code: LineSpan) -> Result<String, AllocError> {
     match open_line(alloc, front)? {
         Some(line) => {
-            let line = absolute(code, line);
+            let line = code.line(line);
             format!(in alloc; "what begins at line {line} is still open\n")
         }
         None => String::from_str(alloc, "no function is open\n"),
     }
-}
-
-/// The line of the batch that has this number in the code, counted from 1.
-pub(crate) fn absolute(code: LineSpan, line: u64) -> u64 {
-    code.first.saturating_add(line).saturating_sub(1)
 }
 
 /// The line of the function of this name, counted from the first of the code, if the program has one.
@@ -125,7 +120,7 @@ fn first_line(alloc: Global, code: &[u8], name: &[u8]) -> Result<Option<u64>, Al
 fn first_note(alloc: Global, found: Misplaced<'_>, code: LineSpan) -> Result<String, AllocError> {
     match first_line(alloc, found.earlier, found.bytes)? {
         Some(line) => {
-            let line = absolute(code, line);
+            let line = code.line(line);
             format!(in alloc; "the first function of this name begins at line {line}\n")
         }
         None => Ok(String::new(alloc)),

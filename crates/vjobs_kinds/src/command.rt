@@ -1,7 +1,7 @@
 //! The command line.
 
 use crate::fault::Fault;
-use clap::{Arg, ArgMatches, Command, value_parser};
+use clap::{Arg, ArgAction, ArgMatches, Command, value_parser};
 use kind_finder::MOST_ENTRIES;
 use program_words::{Program, help_of, matches_of};
 use std::alloc::{AllocError, Global};
@@ -14,11 +14,11 @@ const NAME: &str = "vjobs-kinds";
 const AFTER_HELP: &str = "\
 Exits:
   0  the signatures were printed; also after help
-  1  there are no signatures
+  1  there are no signatures, in a batch for some job
   2  the command line was refused
   3  reading, writing or memory failed";
 
-/// The most bytes of a code.
+/// The most bytes of a file.
 const MOST_BYTES: u32 = MOST_BATCH_BYTES as u32;
 
 /// The same as the text of an argument.
@@ -30,7 +30,7 @@ const DEFAULT_ENTRIES: u32 = MOST_ENTRIES as u32;
 /// The same as the text of an argument.
 const DEFAULT_ENTRIES_TEXT: &str = "67108864";
 
-/// What a code may have at most.
+/// What a file may have at most.
 #[derive(Clone, Copy, PartialEq, Eq, Debug)]
 pub struct Bounds {
     /// The bytes of its text.
@@ -39,31 +39,59 @@ pub struct Bounds {
     pub entries: u32,
 }
 
+/// What a file is.
+#[derive(Clone, Copy, PartialEq, Eq, Debug)]
+pub enum Form {
+    /// The code of a job alone.
+    Code,
+    /// A batch.
+    Batch,
+}
+
+/// What signatures are asked for.
+#[derive(Drop)]
+pub struct Asked {
+    /// The name of the file; `-` is standard input.
+    pub file: String,
+    /// What it is.
+    pub form: Form,
+    /// What it may have at most.
+    pub bounds: Bounds,
+}
+
 /// What a command line asks for.
 #[derive(Drop)]
 pub enum Line {
-    /// The signatures of the code in the file of this name, within bounds; `-` is standard input.
-    Find(String, Bounds),
+    /// Signatures.
+    Find(Asked),
     /// The text of help or of the version, to be printed.
     Help(String),
 }
 
-/// The argument for the code.
+/// The argument for the file.
 fn file_argument<'a>(alloc: Global) -> Arg<'a> {
     Arg::new(alloc, "file")
         .value_name("FILE")
         .required(true)
-        .help("The code, or - for standard input")
+        .help("The code or the batch, or - for standard input")
 }
 
-/// The option for the bytes of the code.
+/// The option that says that the file is a batch.
+fn batch_option<'a>(alloc: Global) -> Arg<'a> {
+    Arg::new(alloc, "batch")
+        .long("batch")
+        .action(ArgAction::SetTrue)
+        .help("Prints a batch with the signatures of its jobs")
+}
+
+/// The option for the bytes of the file.
 fn bytes_option<'a>(alloc: Global) -> Arg<'a> {
     Arg::new(alloc, "most-bytes")
         .long("most-bytes")
         .value_name("N")
         .value_parser(value_parser!(u32).range(0..=i64::from(MOST_BYTES)))
         .default_value(MOST_BYTES_TEXT)
-        .help("Most bytes of the code")
+        .help("Most bytes of the file")
 }
 
 /// The option for the entries of a stack.
@@ -87,6 +115,7 @@ impl Program for VjobsKinds {
                 .about("Prints the signatures of VCODE code that has none")
                 .version("0.1.0")
                 .after_help(AFTER_HELP)
+                .arg(batch_option(alloc))?
                 .arg(bytes_option(alloc))?
                 .arg(entries_option(alloc))?
                 .arg(file_argument(alloc))?,
@@ -101,7 +130,16 @@ fn find_of(alloc: Global, matches: &ArgMatches<'_>) -> Result<Line, AllocError> 
         .get_one::<u32>("most-entries")
         .unwrap_or(DEFAULT_ENTRIES);
     let file = matches.get_str("file").unwrap_or("-");
-    Ok(Line::Find(String::from_str(alloc, file)?, Bounds { bytes, entries }))
+    let form = if matches.get_flag("batch") {
+        Form::Batch
+    } else {
+        Form::Code
+    };
+    Ok(Line::Find(Asked {
+        file: String::from_str(alloc, file)?,
+        form,
+        bounds: Bounds { bytes, entries },
+    }))
 }
 
 /// Reads a command line, the program's name first.

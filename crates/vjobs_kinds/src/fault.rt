@@ -1,4 +1,4 @@
-//! Why no signatures are printed.
+//! Why no signatures are printed, or not all.
 
 use program_words::WordsFault;
 use shown_text::shown;
@@ -7,7 +7,7 @@ use std::fmt::Display;
 use std::io;
 use thiserror::Error;
 
-/// Why no signatures are printed.
+/// Why no signatures are printed, or not all.
 #[derive(Debug, Drop, Error)]
 pub enum Fault {
     /// The command line is refused, with the reason as it is to be printed, lines with their ends.
@@ -16,6 +16,9 @@ pub enum Fault {
     /// The code has none: its file, as it may be printed, and what is wrong there.
     #[error("{0}\n")]
     Code(String),
+    /// The text is no batch, or some of its jobs have none: why, in whole lines.
+    #[error("{0}")]
+    Batch(String),
     /// Reading or writing failed, with the reason.
     #[error("vjobs-kinds: {0}\n")]
     Device(String),
@@ -75,7 +78,7 @@ impl Fault {
     /// The number that the program exits with.
     pub fn exit_status(&self) -> u8 {
         match self {
-            Fault::Code(_) => 1,
+            Fault::Code(_) | Fault::Batch(_) => 1,
             Fault::Usage(_) => 2,
             Fault::Device(_) | Fault::Memory => 3,
         }

@@ -1,12 +1,17 @@
-//! Prints the signatures of VCODE code that has none.
+//! Prints the signatures of VCODE code that has none, or a batch with those of its jobs.
 #![tactic(auto)]
 
+ghost use Rattle.std.specs.Prelude.{◌≤◌, IfOk, length};
+ghost use Rattle.vcode_base.specs.declared.limits.TheConstants.{MOST_BATCH_BYTES};
+
+mod batch;
 mod command;
 mod fault;
 #[cfg(test)]
 mod tests;
 
-use command::{Bounds, Line, VjobsKinds, read_line};
+use batch::{Filled, fill_signatures};
+use command::{Asked, Form, Line, VjobsKinds, read_line};
 use fault::Fault;
 use kind_finder::{FindFault, find_signatures};
 use program_words::words_of;
@@ -34,39 +39,60 @@ fn bytes_of(rt: &HostRuntime, file: &str, most: u32) -> io::Result<Vec<u8>> {
     first_bytes(rt, File::open(rt, file)?, most)
 }
 
-/// The signatures of the code in the file of this name, within bounds.
-fn signatures_of(rt: &HostRuntime, file: &str, bounds: Bounds) -> Result<Vec<u8>, Fault> {
-    let most = bounds.bytes;
-    let code = match bytes_of(rt, file, most) {
-        Ok(code) => code,
+/// The bytes of the file that is asked for, within its bounds.
+fn text_of(rt: &HostRuntime, asked: &Asked) -> Result<Vec<u8>, Fault>
+    ensures { IfOk result (λ text. length text.items ≤ MOST_BATCH_BYTES) }
+{
+    let (file, most) = (asked.file.as_str(), asked.bounds.bytes);
+    let text = match bytes_of(rt, file, most) {
+        Ok(text) => text,
         Err(error) => return Err(Fault::of_reading(rt.alloc(), file, &error)),
     };
-    if code.len() > MOST_BATCH_BYTES.min(most as usize) {
+    if text.len() > MOST_BATCH_BYTES.min(most as usize) {
         let reason = format_args!(" more than {most} bytes");
         return Err(Fault::of_code(rt.alloc(), file, reason));
     }
-    match find_signatures(rt.alloc(), &code, bounds.entries as usize) {
+    Ok(text)
+}
+
+/// The signatures of the code that is asked for.
+fn signatures_of(rt: &HostRuntime, asked: &Asked) -> Result<Vec<u8>, Fault> {
+    let code = text_of(rt, asked)?;
+    match find_signatures(rt.alloc(), &code, asked.bounds.entries as usize) {
         Ok(text) => Ok(text),
         Err(FindFault::Memory) => Err(Fault::Memory),
-        Err(fault) => Err(Fault::of_code(rt.alloc(), file, fault)),
+        Err(fault) => Err(Fault::of_code(rt.alloc(), asked.file.as_str(), fault)),
     }
 }
 
-/// What is to be printed: the signatures of the code that the command line names, or help.
-fn text_of(rt: &HostRuntime) -> Result<Vec<u8>, Fault> {
-    let words = words_of::<VjobsKinds, HostRuntime>(rt)?;
-    match read_line(rt.alloc(), &words)? {
-        Line::Find(file, bounds) => signatures_of(rt, file.as_str(), bounds),
-        Line::Help(text) => Ok(text.into_bytes()),
+/// Writes to standard output.
+fn write(rt: &HostRuntime, text: &[u8]) -> Result<(), Fault> {
+    match rt.stdout().write_all(text) {
+        Ok(()) => Ok(()),
+        Err(error) => Err(Fault::of_writing(rt.alloc(), &error)),
     }
+}
+
+/// Writes the batch that is asked for, with the signatures of its jobs.
+fn write_batch(rt: &HostRuntime, asked: &Asked) -> Result<(), Fault> {
+    let text = text_of(rt, asked)?;
+    let Filled { batch, notes } = fill_signatures(rt.alloc(), text, asked.bounds.entries as usize)?;
+    write(rt, &batch)?;
+    if notes.is_empty() {
+        return Ok(());
+    }
+    Err(Fault::Batch(notes))
 }
 
 /// Does what the command line asks for.
 fn run(rt: &HostRuntime) -> Result<(), Fault> {
-    let text = text_of(rt)?;
-    match rt.stdout().write_all(&text) {
-        Ok(()) => Ok(()),
-        Err(error) => Err(Fault::of_writing(rt.alloc(), &error)),
+    let words = words_of::<VjobsKinds, HostRuntime>(rt)?;
+    match read_line(rt.alloc(), &words)? {
+        Line::Help(text) => write(rt, text.as_bytes()),
+        Line::Find(asked) => match asked.form {
+            Form::Code => write(rt, &signatures_of(rt, &asked)?),
+            Form::Batch => write_batch(rt, &asked),
+        },
     }
 }
 

@@ -1,5 +1,6 @@
 //! Command lines, and the texts of what is wrong.
-use crate::command::{Bounds, Line, read_line};
+use crate::batch::fill_signatures;
+use crate::command::{Bounds, Form, Line, read_line};
 use crate::fault::Fault;
 use program_words::WordsFault;
 use std::alloc::{AllocError, Global};
@@ -19,19 +20,19 @@ fn words_of(alloc: Global, words: &[&str]) -> Result<Vec<String>, AllocError> {
 fn reads_a_name_as_it_is(rt: HostRuntime) -> Result<(), Fail> {
     let words = words_of(rt.alloc(), &["vjobs-kinds", "--", "--help\u{1b}"])?;
     let line = read_line(rt.alloc(), &words);
-    assert!(rt; matches!(&line, Ok(Line::Find(file, _)) if file.as_str() == "--help\u{1b}"));
+    assert!(rt; matches!(&line, Ok(Line::Find(asked)) if asked.file.as_str() == "--help\u{1b}"));
     Ok(())
 }
 
-/// The bounds that a command line with these words asks for, before the name of a file.
-fn bounds_of(alloc: Global, options: &[&str]) -> Result<Option<Bounds>, AllocError> {
+/// What a file is by a command line with these words before its name, and what it may have at most.
+fn asked_by(alloc: Global, options: &[&str]) -> Result<Option<(Form, Bounds)>, AllocError> {
     let mut words = words_of(alloc, &["vjobs-kinds"])?;
     for option in options {
         words.push(String::from_str(alloc, option)?)?;
     }
     words.push(String::from_str(alloc, "-")?)?;
     match read_line(alloc, &words) {
-        Ok(Line::Find(_, bounds)) => Ok(Some(bounds)),
+        Ok(Line::Find(asked)) => Ok(Some((asked.form, asked.bounds))),
         _ => Ok(None),
     }
 }
@@ -46,11 +47,16 @@ fn reads_bounds(rt: HostRuntime) -> Result<(), Fail> {
         bytes: 0,
         entries: 4_294_967_295,
     };
-    assert_eq!(rt; bounds_of(rt.alloc(), &[])?, Some(default));
+    assert_eq!(rt; asked_by(rt.alloc(), &[])?, Some((Form::Code, default)));
+    assert_eq!(rt;
+        asked_by(rt.alloc(), &["--batch"])?,
+        Some((Form::Batch, default))
+    );
     let words = ["--most-bytes", "0", "--most-entries=4294967295"];
-    assert_eq!(rt; bounds_of(rt.alloc(), &words)?, Some(given));
-    assert_eq!(rt; bounds_of(rt.alloc(), &["--most-bytes", "16777217"])?, None);
-    assert_eq!(rt; bounds_of(rt.alloc(), &["--most-entries", "-1"])?, None);
+    assert_eq!(rt; asked_by(rt.alloc(), &words)?, Some((Form::Code, given)));
+    assert_eq!(rt; asked_by(rt.alloc(), &["--most-bytes", "16777217"])?, None);
+    assert_eq!(rt; asked_by(rt.alloc(), &["--most-entries", "-1"])?, None);
+    assert_eq!(rt; asked_by(rt.alloc(), &["--batch", "--batch"])?, None);
     Ok(())
 }
 
@@ -114,6 +120,73 @@ fn shows_names_of_files(rt: HostRuntime) -> Result<(), Fail> {
     ] {
         assert_eq!(rt; format!(in rt.alloc(); "{fault}")?.as_str(), text);
         assert_eq!(rt; fault.exit_status(), exit);
+    }
+    Ok(())
+}
+
+/// A batch up to the `CODE` of its first job, which has no signatures.
+const FRONT: &str = "BATCH 2\nJOB one 9 9 9 9\n SIGNATURES \t\n\r\n";
+
+/// The rest of it: a job with signatures, one with a function at two kinds, and one with a bad word.
+const REST: &str = "\
+CODE
+FUNC MAIN CALL f RET
+FUNC f CONST BOOL T RET
+END
+
+JOB two 9 9 9 9
+SIGNATURES
+MAIN () -> (INT)
+CODE
+FUNC MAIN CONST INT 1 RET {
+SIGNATURES
+CODE
+}
+END
+JOB three 9 9 9 9
+SIGNATURES
+CODE
+FUNC MAIN CONST BOOL T CALL f CONST INT 1
+CALL f RET
+FUNC f COPY 1 0 RET
+END
+JOB four 9 9 9 9
+SIGNATURES
+CODE
+FUNC MAIN ADD RET
+END";
+
+/// Why the last two have none.
+const NOTES: &str = "\
+JOB 3 three NO SIGNATURES line 23 f is used at two kinds
+
+     22 | FUNC MAIN CONST BOOL T CALL f CONST INT 1
+     23 | CALL f RET
+        | ^^^^^^^^^^ it gets an operand of one kind here, and of another kind at another place
+     24 | FUNC f COPY 1 0 RET
+
+JOB 4 four REFUSED line 29 S1 BAD_WORD
+
+     28 | CODE
+     29 | FUNC MAIN ADD RET
+        |           ^^^ a word that may not come here, or a byte that no word has
+     30 | END
+
+expected here: an instruction, RET
+Only this fault is sure: what comes after it in the job wasn't checked.
+
+";
+
+#[test]
+fn fills_in_signatures(rt: HostRuntime) -> Result<(), Fail> {
+    let text = format!(in rt.alloc(); "{FRONT}{REST}")?;
+    let wanted = format!(in rt.alloc(); "{FRONT}MAIN () -> (BOOL)\nf () -> (BOOL)\n{REST}")?;
+    match fill_signatures(rt.alloc(), text.into_bytes(), 9) {
+        Ok(filled) => {
+            assert_eq!(rt; filled.batch.as_slice(), wanted.as_bytes());
+            assert_eq!(rt; filled.notes.as_str(), NOTES);
+        }
+        Err(_) => assert!(rt; false, "refused"),
     }
     Ok(())
 }
