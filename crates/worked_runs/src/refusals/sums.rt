@@ -158,7 +158,7 @@ fn a_run_on_lanes_stays_below_the_sum(rt: HostRuntime) -> Result<(), Fail> {
     let batch = batch(rt.alloc())?;
     let heap = RefusingHeap::new(rt.alloc());
     let ending = by_threads(&rt, &heap, &batch, 2);
-    let most = sum(batch.len(), 1).saturating_add(2 * on_lane());
+    let most = sum(batch.len(), 1).saturating_add(on_lane().saturating_mul(2));
     keeps_within(&rt, &heap, ending, most);
     Ok(())
 }
