@@ -97,13 +97,14 @@ hostile: all packing kinds why ## MINUTES=60: attacks of strangers, then batches
 	python3 models/attacks.py bin/vjobs bin/vjobs-pack bin/vjobs-split bin/vjobs-kinds bin/vjobs-why
 	python3 models/hostile.py $(MINUTES)
 
-soak: all ## batches on 1 to 16 workers for an hour, up to the first report that differs
+soak: all ## batches on 1 to 16 workers or lanes for an hour, up to the first report that differs
 	python3 bench/soak.py 60
 
-bench: all ## times of reading, steps, workers, instructions beside plain C, memory and the verifier
+bench: all ## times of reading, steps, workers, lanes, instructions beside plain C, memory and the verifier
 	python3 bench/reading.py
 	python3 bench/steps.py
 	python3 bench/workers.py
+	python3 bench/lanes.py
 	python3 bench/processes.py
 	python3 bench/admission.py
 	python3 bench/ops.py

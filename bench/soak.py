@@ -1,5 +1,5 @@
 #!/usr/bin/env python3
-"""Runs batches on 1 to 16 workers again and again, and stops at the first that answers otherwise than it should.
+"""Runs batches on 1 to 16 workers or lanes again and again, and stops at the first that answers otherwise.
 
     python3 bench/soak.py MINUTES [SEED [PROGRAM]]
 
@@ -7,8 +7,8 @@ Run it at the top of the repository, after `make`; PROGRAM stands in the place o
 turn: the examples and the program's stored run, whose reports are kept; random batches, whose reports come from
 `models/`; mixed ones, of up to 64 jobs with the loads of bench/steps.py, which crowd one region; and turning ones,
 whose jobs change between many short steps and some long ones. What the last two should answer is what the program
-answers with a schedule, since it has no workers then. At the end it prints how many runs there were; the first that
-differs is printed whole, and ends it with status 1.
+answers with a schedule, since it has no workers or lanes then. At the end it prints how many runs there were; the
+first that differs is printed whole, and ends it with status 1.
 """
 import random
 import subprocess
@@ -27,7 +27,7 @@ import workers  # noqa: E402
 from random_batches import MOST_WORDS, RandomBatches  # noqa: E402
 
 PROGRAM = sys.argv[3] if len(sys.argv) > 3 else str(TOP / "bin" / "vjobs")
-MOST_WORKERS, MOST_JOBS = 16, 64
+MOST_THREADS, MOST_JOBS = 16, 64
 
 
 @dataclass
@@ -94,11 +94,11 @@ def random_batch(jobs: RandomBatches) -> Batch:
     return Batch("random", text, region, batches.report(text, region))
 
 
-def differs(batch: Batch, count: int) -> bool:
-    answer, errors = answered(batch.text, batch.region, ["--workers", str(count)])
+def differs(batch: Batch, way: str, count: int) -> bool:
+    answer, errors = answered(batch.text, batch.region, [f"--{way}", str(count)])
     if answer == batch.answer and not errors:
         return False
-    print(f"{batch.kind} differs on {count} workers and {batch.region} words\n{batch.text.decode('latin1')}")
+    print(f"{batch.kind} differs on {count} {way} and {batch.region} words\n{batch.text.decode('latin1')}")
     print(f"wanted {batch.answer}\ngot    {answer} {errors!r}")
     return True
 
@@ -110,8 +110,9 @@ def main(minutes: str, seed: int | str = 1, *_: str) -> None:
     end = time.monotonic() + 60 * float(minutes)
     while time.monotonic() < end:
         for batch in (source.choice(stored), random_batch(jobs), mixed(source), turning(source)):
-            for count in source.sample(range(1, MOST_WORKERS + 1), 4):
-                if differs(batch, count):
+            counts = source.sample(range(1, MOST_THREADS + 1), 4)
+            for way, count in zip(("workers", "lanes") * 2, counts):
+                if differs(batch, way, count):
                     sys.exit(1)
                 runs[batch.kind] = runs.get(batch.kind, 0) + 1
     print(f"{sum(runs.values())} runs in {minutes} minutes (seed {seed}), none differs: {runs}")

@@ -6,10 +6,11 @@
 Odd names in each message of each program, and odd bytes in texts: what is printed has only printable characters and
 ends of lines, and a name takes one line. Files that make a program wait, and outputs that take nothing: each program
 ends, and says so. `--quick` leaves the rest out: each allocation of vjobs-pack and vjobs-split is refused in turn, which
-gives exit 3 or what there is else; and the cost of texts that are dear to check, and of jobs that are dear to look at,
-is compared with that of plain code of the same length and of vjobs itself. `valgrind` counts instructions of the
-processor; if it is missing, seconds are compared, with a margin. `models/packing.py` stops vjobs-pack and vjobs-split
-at each write, and `models/signatures.py` measures vjobs-kinds."""
+gives exit 3 or what there is else; vjobs runs on lanes with little address space, and succeeds wherever one thread
+does; and the cost of texts that are dear to check, and of jobs that are dear to look at, is compared with that of plain
+code of the same length and of vjobs itself. `valgrind` counts instructions of the processor; if it is missing, seconds
+are compared, with a margin. `models/packing.py` stops vjobs-pack and vjobs-split at each write, and
+`models/signatures.py` measures vjobs-kinds."""
 import os
 import re
 import shutil
@@ -246,6 +247,27 @@ def without_memory() -> None:
         each_refused(words, b"", "vjobs-split")
 
 
+def on_lanes_with_little_memory() -> None:
+    """Lanes need no more address space than one thread, whatever of it is left for the results."""
+    vector = ["CONST INT 100000", "CONST INT 1", "CONST INT 20000", "MAKE_SEGDES", "INDEX"]
+    one = job(["FUNC MAIN", *vector, "RET"], ["MAIN () -> (INT)"], "60000 16 4 100")
+    Path("lanes.vcode").write_bytes(one * 40)
+    count = 0
+    for limit in range(3_000_000, 16_000_000, 100_000):
+        words = ["prlimit", f"--as={limit}", VJOBS, "--region", "100000"]
+        alone = run([*words, "--workers", "1", "lanes.vcode"])
+        if not alone or alone.returncode:
+            continue
+        count += 1
+        for lanes in ("2", "16"):
+            ran = run([*words, "--lanes", lanes, "lanes.vcode"])
+            if not ran or (ran.returncode, ran.stdout) != (0, alone.stdout):
+                fault(f"{lanes} lanes in {limit} bytes", ran and ran.stderr)
+    if not count:
+        fault("lanes with little memory", "one thread never had enough")
+    print(f"lanes: {count} limits that are enough for one thread", flush=True)
+
+
 # ---- costs
 
 def cost(words: Words) -> float:
@@ -314,7 +336,8 @@ def with_dear_looks() -> None:
 
 def main() -> None:
     cases = [with_names, with_odd_texts, with_odd_files, without_room]
-    for case in cases if QUICK else [*cases, without_memory, with_dear_texts, with_dear_looks]:
+    slow = [without_memory, on_lanes_with_little_memory, with_dear_texts, with_dear_looks]
+    for case in cases if QUICK else [*cases, *slow]:
         with tempfile.TemporaryDirectory() as folder:
             os.chdir(folder)
             case()

@@ -6,10 +6,10 @@
 Run it at the top of the repository, once `make models` has built the programs. The modules of this folder say in plain
 Python what docs/LANGUAGE.md and docs/FORMATS.md say of reading, kinds, vectors, runs and batches, and share nothing
 with the crates. Each of COUNT texts of code and signatures goes to `worked_texts`, each of COUNT instructions to
-`worked_vectors`, each of a hundredth as many batches, of either rule, to `bin/vjobs`, once on 1, 2 or 16 workers and
-once with a schedule, COUNT calls on free words and memories, one after another, to `worked_regions`, and COUNT calls on
-machines to `worked_batches`; their answers, reports and exit statuses must be those of the modules, which know of no
-schedule.
+`worked_vectors`, each of a hundredth as many batches, of either rule, to `bin/vjobs`, once on 1, 2 or 16 workers, once
+on 2 or 16 lanes and once with a schedule, COUNT calls on free words and memories, one after another, to
+`worked_regions`, and COUNT calls on machines to `worked_batches`; their answers, reports and exit statuses must be
+those of the modules, which know of no schedule.
 
 Where a PROGRAM of the same behaviour is named, only COUNT batches are compared, with it.
 """
@@ -118,7 +118,8 @@ def differing_batches(program: Sequence, cases: RandomBatches, count: int) -> in
     for _ in range(count):
         batch, region = cases.whole_batch()
         want = batches.report(batch, region)
-        for options in (["--workers", cases.pick(["1", "2", "16"])], ["--schedule", cases.schedule()]):
+        threads = (["--workers", cases.pick(["1", "2", "16"])], ["--lanes", cases.pick(["2", "16"])])
+        for options in (*threads, ["--schedule", cases.schedule()]):
             words = ["--region", str(region), *options, "-"]
             run = subprocess.run([*program, *words], input=batch, capture_output=True)
             answer = run.stdout.decode("latin1"), run.returncode

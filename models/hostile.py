@@ -7,9 +7,9 @@
 Run it at the top of the repository, after `make`. Each batch has a seed of its own, one more than that of the batch
 before it. It is made from the examples, the tables of `worked_batches` and random batches: bytes are flipped, lines
 are doubled, cut and swapped between jobs, numbers, instructions and limits are changed. It runs on 1 to 16 workers,
-with a random schedule, and sometimes with less memory than it may take. The limit of memory is the sum that
-docs/OPERATING.md gives. The limit of time is a second of the processors for each 10 million words and instructions
-that the limits of the jobs allow, and a second more.
+on 1 to 16 lanes, with a random schedule, and sometimes with less memory than it may take. The limit of memory is the
+sum that docs/OPERATING.md gives; lanes have to do with that for one thread. The limit of time is a second of the
+processors for each 10 million words and instructions that the limits of the jobs allow, and a second more.
 
 A run differs if its report or its exit isn't that of the second writing, if it takes more memory than the sum, or more
 time. A run with less memory may also end with `vjobs: out of memory` and nothing written. The seed of each batch that
@@ -37,7 +37,7 @@ from random_cases import NOISE, NOTABLE
 from reader import Item
 from tables import TOP, batches_of
 
-MOST_WORKERS = 16
+MOST_THREADS = 16
 # How many entries and words the second writing looks at for one batch. Beyond that the budgets are lowered once.
 MOST_WORK, LOWERED_BUDGET = 150_000, 150
 # Address space: of the program before it reads, and of a worker's stack.
@@ -323,14 +323,16 @@ class Trial:
 
 def trials(changes: Changes, text: bytes, region: int, widest: int) -> Iterator[Trial]:
     """Runs of a batch, each of its own kind."""
-    workers = changes.random.randint(1, MOST_WORKERS)
-    by_workers = ["--workers", str(workers)]
+    workers, lanes = (changes.random.randint(1, MOST_THREADS) for _ in range(2))
+    by_workers, on_lanes = ["--workers", str(workers)], ["--lanes", str(lanes)]
     enough = most_bytes(text, region, widest, workers + 1) + workers * WORKER_BYTES
     yield Trial(by_workers, enough)
+    # Lanes need no more than the calling thread alone.
+    yield Trial(on_lanes, most_bytes(text, region, widest, 1) + WORKER_BYTES)
     yield Trial(["--schedule", changes.schedule()], most_bytes(text, region, widest, len(limits_of(text)) + 1))
     if changes.chance(0.2):
         less = PROGRAM_BYTES + int((enough - PROGRAM_BYTES) * changes.random.random() ** 5)
-        yield Trial(by_workers, less, is_starved=True)
+        yield Trial(changes.random.choice([by_workers, on_lanes]), less, is_starved=True)
 
 
 def answered(program: Path | str, text: bytes, region: int,

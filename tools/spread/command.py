@@ -21,7 +21,7 @@ from .slurm import PATIENCE, Slurm
 from .table import summary, write_table
 
 ALL_ANSWERED, SOME_NOT, REFUSED, STOPPED = 0, 1, 2, 3
-MOST_BATCH = 64
+MOST_BATCH, MOST_CORES = 64, 16
 PROGRAMS = ("vjobs", "vjobs-pack", "vjobs-split")
 SIGNALS = (signal.SIGINT, signal.SIGTERM, signal.SIGHUP)
 # Options of sbatch by which this tool finds its tasks again, and without which they don't run.
@@ -73,6 +73,13 @@ def parser() -> argparse.ArgumentParser:
     )
     it.add_argument("--batch", metavar="N", type=at_least(1, MOST_BATCH), default=16, help="jobs of a process (16)")
     it.add_argument(
+        "--cores",
+        metavar="K",
+        type=at_least(1, MOST_CORES),
+        default=1,
+        help="processors of a process, which runs as many jobs at once (1)",
+    )
+    it.add_argument(
         "--lane",
         metavar="N",
         type=at_least(1),
@@ -84,7 +91,7 @@ def parser() -> argparse.ArgumentParser:
         metavar="N",
         type=at_least(1),
         default=0,
-        help="tasks at once: in all with Slurm, on each host else (its processors)",
+        help="tasks at once: in all with Slurm, on each host else (its processors, by --cores)",
     )
     it.add_argument(
         "--slurm-option",
@@ -146,8 +153,8 @@ def engine_of(asked: argparse.Namespace, folder: Folder, settings: Settings) -> 
     if asked.engine == "parallel":
         if shutil.which("parallel") is None:
             raise Stopped("there is no parallel here")
-        return Parallel(folder, asked.slots, asked.hosts)
-    return Here(folder, asked.slots)
+        return Parallel(folder, asked.slots, asked.hosts, settings.cores)
+    return Here(folder, asked.slots, settings.cores)
 
 
 def check(asked: argparse.Namespace) -> None:
@@ -194,7 +201,7 @@ def main() -> int:
     try:
         check(asked)
         files, found = files_of(asked), programs(asked)
-        settings = Settings(asked.time, asked.memory, asked.output, asked.batch)
+        settings = Settings(asked.time, asked.memory, asked.output, asked.batch, asked.cores)
         folder = Folder(asked.run.resolve())
         folder.open(settings, files, found["vjobs"])
         for number in SIGNALS:

@@ -62,11 +62,16 @@ def processors() -> int:
     return len(os.sched_getaffinity(0))
 
 
+def tasks_on(count: int, cores: int) -> int:
+    """How many tasks of so many processors each are at once on a machine that has COUNT."""
+    return max(1, count // cores)
+
+
 class Here:
     """Processes on this machine, as many at once as it has processors."""
 
-    def __init__(self, folder: Folder, slots: int):
-        self.folder, self.most = folder, slots or processors()
+    def __init__(self, folder: Folder, slots: int, cores: int = 1):
+        self.folder, self.most = folder, slots or tasks_on(processors(), cores)
         self.sendings: list[Sending] = []
         self.running: dict[subprocess.Popen, Sending] = {}
 
@@ -125,10 +130,11 @@ def end_groups(processes: list[subprocess.Popen]) -> None:
 class Parallel:
     """GNU parallel: on this machine, and over ssh on hosts that have the folder of the run."""
 
-    def __init__(self, folder: Folder, slots: int, hosts: str):
-        self.folder = folder
+    def __init__(self, folder: Folder, slots: int, hosts: str, cores: int = 1):
+        self.folder, self.cores = folder, cores
         self.asked = hosts_of(hosts, slots)
-        self.hosts = dict.fromkeys(self.asked, slots or processors()) if list(self.asked) == [HERE] else {}
+        own = slots or tasks_on(processors(), cores)
+        self.hosts = dict.fromkeys(self.asked, own) if list(self.asked) == [HERE] else {}
         self.running: dict[int, subprocess.Popen] = {}
         self.is_looked_at = False
         self.home = folder.path / "parallel"
@@ -151,7 +157,7 @@ class Parallel:
                 process.kill()
                 said = b""
             if said.isdigit():
-                self.hosts[host] = self.asked[host] or int(said)
+                self.hosts[host] = self.asked[host] or tasks_on(int(said), self.cores)
             else:
                 print(f"vjobs-spread: {host} doesn't answer, and is left out", file=sys.stderr)
         if not self.hosts:

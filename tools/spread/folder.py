@@ -49,6 +49,7 @@ class Settings:
     memory: int
     output: int
     batch: int
+    cores: int
 
     @property
     def lane_seconds(self) -> int:
@@ -106,8 +107,9 @@ class Folder:
     def _go_on(self, settings: Settings, files: list[bytes], kept: dict) -> None:
         wanted = asdict(settings)
         for name, value in wanted.items():
-            if kept[name] != value:
-                raise Refused(f"the run in this folder was begun with --{name} {kept[name]}")
+            # (a run that knew no cores had one)
+            if kept.get(name, 1) != value:
+                raise Refused(f"the run in this folder was begun with --{name} {kept.get(name, 1)}")
         is_relative = any(not name.startswith(b"/") for name in files)
         if (self.path / "files").read_bytes() != joined(files) or is_relative and kept["where"] != os.getcwd():
             raise Refused("the run in this folder was begun with other files")

@@ -84,7 +84,7 @@ class Slurm:
         throttle = f"%{self.most}" if self.most else ""
         name = f"{self._name(sending)}-{first}"
         words = ["sbatch", "--parsable", "--no-requeue", f"--job-name={name}", f"--array=0-{count - 1}{throttle}"]
-        words += ["--ntasks=1", "--cpus-per-task=1", f"--time={minutes}"]
+        words += ["--ntasks=1", f"--cpus-per-task={settings.cores}", f"--time={minutes}"]
         words += [f"--mem={-(-(settings.memory + TASK_MEMORY) // 2**20)}M", f"--chdir={self.folder.path}"]
         words += ["--input=/dev/null", "--output=/dev/null", "--error=/dev/null", *self.options]
         words += [str(self.folder.path / "task.py"), str(sending.round), str(sending.first + first), "--array"]

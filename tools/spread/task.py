@@ -75,7 +75,9 @@ class Task:
         path = os.path.join(self.round, "packed", group, "batch-" + name + ".vcode")
         report = os.path.join(folder, "report")
         words = ["timeout", "--foreground", "--kill-after=%d" % SECONDS_TO_KILL, str(self.settings["time"])]
-        words += [os.path.join(".", "vjobs"), "--workers", "1", os.path.join(".", path)]
+        cores = self.settings.get("cores", 1)
+        threads = ["--workers", "1"] if cores == 1 else ["--lanes", str(cores)]
+        words += [os.path.join(".", "vjobs"), *threads, os.path.join(".", path)]
         begun_at = time.monotonic()
         with open(report, "wb") as output, open(os.path.join(folder, "errors"), "wb") as errors:
             status = subprocess.Popen(

@@ -7,7 +7,7 @@ ghost use Rattle.batch_front.specs.Runs.{Runs};
 use crate::device::{Device, MOST_INTERRUPTIONS};
 use crate::fault::FrontFault;
 use crate::load::load;
-use crate::machine_run::{run_on_caller, run_on_workers};
+use crate::machine_run::{run_on_caller, run_on_threads};
 use crate::options::Options;
 use crate::status::Status;
 use crate::transfer::read_batch;
@@ -85,6 +85,6 @@ where
     }
     let batch = read_batch(alloc, reader, options.region)?;
     let loaded = load(alloc, batch, options)?;
-    let ran = run_on_workers(rt, alloc, loaded, options, gate)?;
+    let ran = run_on_threads(rt, alloc, loaded, options, gate)?;
     write_report(writer, &ran, reader.interrupts())
 }

@@ -30,6 +30,7 @@ pub use batch_run::{run, run_alone};
 pub use device::{Device, MOST_INTERRUPTIONS};
 pub use exit::exit_status;
 pub use fault::{FrontFault, ScheduleFault};
+pub use job_lanes::MOST_LANES;
 pub use options::Options;
 pub use schedule::{Item, parse_schedule};
 pub use status::Status;

@@ -11,6 +11,7 @@ use crate::follow::follow;
 use crate::load::{Loaded, LoadedBatch};
 use crate::options::Options;
 use crate::reported_jobs::ReportedJob;
+use job_lanes::run_lanes;
 use job_machine::{Desk, Machine};
 use std::alloc::{AllocError, Allocator};
 use std::sync::Wait;
@@ -91,7 +92,7 @@ pub(crate) fn run_on_caller<A: Allocator + Copy>(
 
 /// Runs the jobs of a batch, which all wait, to their ends on worker threads, which pass the gate in the middle of each
 /// step.
-pub(crate) fn run_on_workers<A, H, G>(
+fn run_on_workers<A, H, G>(
     rt: &H,
     alloc: A,
     batch: LoadedBatch<A>,
@@ -114,5 +115,52 @@ where
             let _jobs = machine.jobs();
             Ok(Loaded::Jobs(machine, reported))
         }
+    }
+}
+
+/// Runs the jobs of a batch, which all wait, to their ends on lanes.
+fn run_on_lanes<A, H>(
+    rt: &H,
+    alloc: A,
+    batch: LoadedBatch<A>,
+    options: &Options,
+) -> Result<LoadedBatch<A>, AllocError>
+where
+    A: Allocator + Copy + Send + Sync,
+    H: Threads + Wait + Sync,
+    requires { IsWaiting batch }
+    ensures { IfOk result (RanOut batch) }
+{
+    match batch {
+        Loaded::Refused(line, fault) => Ok(Loaded::Refused(line, fault)),
+        Loaded::Jobs(machine, reported) => {
+            let region = options.region as usize;
+            let machine = run_lanes(rt, alloc, machine, region, options.lanes as usize)?;
+            let _jobs = machine.jobs();
+            Ok(Loaded::Jobs(machine, reported))
+        }
+    }
+}
+
+/// Runs the jobs of a batch, which all wait, to their ends: on lanes if more than one is asked for, else on workers.
+pub(crate) fn run_on_threads<A, H, G>(
+    rt: &H,
+    alloc: A,
+    batch: LoadedBatch<A>,
+    options: &Options,
+    gate: &G,
+) -> Result<LoadedBatch<A>, RunFault>
+where
+    A: Allocator + Copy + Send + Sync,
+    H: Threads + Wait + Sync,
+    G: Gate + Sync,
+    requires { IsWaiting batch }
+    ensures out { IfOk result (RanOut batch) }
+    ensures never_mixed { IsErrOf result RunFault.Mixed → ⊥ }
+{
+    if options.lanes > 1 {
+        Ok(run_on_lanes(rt, alloc, batch, options)?)
+    } else {
+        run_on_workers(rt, alloc, batch, options, gate)
     }
 }

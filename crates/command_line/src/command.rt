@@ -1,8 +1,9 @@
 //! The command line as clap knows it.
 
+use batch_front::MOST_LANES;
 use clap::{Arg, Command, value_parser};
 use program_words::Program;
-use std::alloc::Global;
+use std::alloc::{AllocError, Global};
 use vcode_base::limits::{MOST_WORDS, MOST_WORKERS};
 
 /// The name of the program in its texts, by whatever name it was called.
@@ -23,6 +24,12 @@ pub(crate) const DEFAULT_WORKERS: u32 = 4;
 /// The same as the text of an argument.
 const DEFAULT_WORKERS_TEXT: &str = "4";
 
+/// The most lanes.
+pub(crate) const MOST_APART: u32 = MOST_LANES as u32;
+
+/// The lanes if no number is given, as the text of an argument.
+const DEFAULT_LANES_TEXT: &str = "1";
+
 /// What help ends with.
 const AFTER_HELP: &str = "\
 Exits:
@@ -32,7 +39,7 @@ Exits:
   3  reading, writing or memory failed
 
 Example:
-  vjobs --region 64 --workers 2 batch.vcode";
+  vjobs --lanes 4 batch.vcode";
 
 /// The option for the words of the region.
 fn region_option<'a>(alloc: Global) -> Arg<'a> {
@@ -41,7 +48,7 @@ fn region_option<'a>(alloc: Global) -> Arg<'a> {
         .value_name("N")
         .value_parser(value_parser!(u32).range(1..=i64::from(MOST_REGION)))
         .default_value(MOST_REGION_TEXT)
-        .help("Words of the region that the jobs share")
+        .help("Words of the region that the jobs share, or of each lane's")
 }
 
 /// The option for the number of workers.
@@ -51,7 +58,18 @@ fn workers_option<'a>(alloc: Global) -> Arg<'a> {
         .value_name("W")
         .value_parser(value_parser!(u32).range(1..=i64::from(MOST_THREADS)))
         .default_value(DEFAULT_WORKERS_TEXT)
-        .help("Threads that run the jobs if no schedule is given")
+        .help("Threads that run the jobs if no schedule is given and there is one lane")
+}
+
+/// The option for the number of lanes.
+fn lanes_option<'a>(alloc: Global) -> Result<Arg<'a>, AllocError> {
+    Arg::new(alloc, "lanes")
+        .long("lanes")
+        .value_name("K")
+        .value_parser(value_parser!(u32).range(1..=i64::from(MOST_APART)))
+        .default_value(DEFAULT_LANES_TEXT)
+        .help("Threads that run jobs apart, each over a region of its own: for many jobs")
+        .conflicts_with("schedule")
 }
 
 /// The option for a schedule.
@@ -83,6 +101,7 @@ impl Program for Vjobs {
                 .after_help(AFTER_HELP)
                 .arg(region_option(alloc))?
                 .arg(workers_option(alloc))?
+                .arg(lanes_option(alloc)?)?
                 .arg(schedule_option(alloc))?
                 .arg(file_argument(alloc))?,
         )

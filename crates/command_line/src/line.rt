@@ -3,7 +3,7 @@
 ghost use Rattle.std.specs.Prelude.{IfOk};
 ghost use Rattle.command_line.specs.Lines.{LineFits};
 
-use crate::command::{DEFAULT_WORKERS, MOST_REGION, MOST_THREADS, Vjobs};
+use crate::command::{DEFAULT_WORKERS, MOST_APART, MOST_REGION, MOST_THREADS, Vjobs};
 use crate::fault::LineFault;
 use batch_front::{Options, parse_schedule};
 use clap::ArgMatches;
@@ -25,6 +25,7 @@ fn run_of(alloc: Global, matches: &ArgMatches<'_>) -> Result<Line, LineFault>
 {
     let region = matches.get_one::<u32>("region").unwrap_or(MOST_REGION);
     let workers = matches.get_one::<u32>("workers").unwrap_or(DEFAULT_WORKERS);
+    let lanes = matches.get_one::<u32>("lanes").unwrap_or(1);
     let schedule = match matches.get_str("schedule") {
         Some(list) => Some(parse_schedule(alloc, list)?),
         None => None,
@@ -32,6 +33,7 @@ fn run_of(alloc: Global, matches: &ArgMatches<'_>) -> Result<Line, LineFault>
     let options = Options {
         region: region.clamp(1, MOST_REGION),
         workers: workers.clamp(1, MOST_THREADS),
+        lanes: lanes.clamp(1, MOST_APART),
         schedule,
     };
     let file = matches.get_str("file").unwrap_or("-");
@@ -39,11 +41,13 @@ fn run_of(alloc: Global, matches: &ArgMatches<'_>) -> Result<Line, LineFault>
     Ok(Line::Run(options, file))
 }
 
-/// Reads a command line, the program's name first: `vjobs [--region N] [--workers W] [--schedule LIST] FILE`.
+/// Reads a command line, the program's name first: `vjobs [--region N] [--workers W] [--lanes K] [--schedule LIST]
+/// FILE`. Lanes and a schedule together are refused.
 ///
 /// The region is at least 1 word and at most [`MOST_WORDS`](vcode_base::limits::MOST_WORDS), which it is if none is
 /// given. The workers are at least 1 and at most [`MOST_WORKERS`](vcode_base::limits::MOST_WORKERS), and 4 if no number
-/// is given. The schedule is what [`parse_schedule`] reads of the list. A line that asks for help or for the version is
+/// is given. The lanes are at least 1 and at most [`MOST_LANES`](batch_front::MOST_LANES), and 1 if no number is
+/// given. The schedule is what [`parse_schedule`] reads of the list. A line that asks for help or for the version is
 /// [`Line::Help`].
 ///
 /// # Errors

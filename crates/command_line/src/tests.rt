@@ -21,6 +21,7 @@ fn reads_a_region_and_standard_input(rt: HostRuntime) {
     let options = Options {
         region: 64,
         workers: 4,
+        lanes: 1,
         schedule: None,
     };
     assert!(rt;
@@ -33,7 +34,8 @@ fn reads_a_file_alone(rt: HostRuntime) {
     let line = read_line(rt.alloc(), &["vjobs", "batch.vcode"]);
     assert!(rt;
         matches!(&line, Ok(Line::Run(options, file))
-        if options.region as usize == MOST_WORDS && options.workers == 4 && file.as_str() == "batch.vcode")
+        if options.region as usize == MOST_WORDS && options.workers == 4 && options.lanes == 1
+            && file.as_str() == "batch.vcode")
     );
 }
 
@@ -49,11 +51,35 @@ fn reads_workers(rt: HostRuntime) {
 }
 
 #[test]
+fn reads_lanes_beside_workers(rt: HostRuntime) {
+    for (text, lanes) in [("1", 1), ("2", 2), ("16", 16)] {
+        let words = ["vjobs", "--lanes", text, "--workers", "2", "FILE"];
+        let line = read_line(rt.alloc(), &words);
+        assert!(rt;
+            matches!(&line, Ok(Line::Run(options, _)) if options.lanes == lanes && options.workers == 2),
+            "{text}"
+        );
+    }
+}
+
+#[test]
+fn refuses_lanes_with_a_schedule(rt: HostRuntime) {
+    for lanes in ["1", "2"] {
+        let words = ["vjobs", "--lanes", lanes, "--schedule", "1", "FILE"];
+        let line = read_line(rt.alloc(), &words);
+        assert!(rt; matches!(&line, Err(LineFault::Usage(_))), "{lanes}");
+        assert_eq!(rt; line.err().map(|fault| fault.exit_status()), Some(2));
+    }
+}
+
+#[test]
 fn refuses_lines_that_it_does_not_know(rt: HostRuntime) {
     for words in [
         ["vjobs", "--workers", "17", "FILE"],
         ["vjobs", "--workers", "0", "FILE"],
         ["vjobs", "--workers", "two", "FILE"],
+        ["vjobs", "--lanes", "0", "FILE"],
+        ["vjobs", "--lanes", "17", "FILE"],
         ["vjobs", "--region", "0", "FILE"],
         ["vjobs", "--region", "1048577", "FILE"],
         ["vjobs", "--region", "64", "--region"],
@@ -70,12 +96,13 @@ fn refuses_lines_that_it_does_not_know(rt: HostRuntime) {
 fn helps(rt: HostRuntime) {
     let line = read_line(rt.alloc(), &["vjobs", "--help"]);
     assert!(rt;
-        matches!(&line, Ok(Line::Help(text)) if text.contains("--region <N>") && text.contains("--workers <W>"))
+        matches!(&line, Ok(Line::Help(text)) if text.contains("--region <N>") && text.contains("--workers <W>")
+            && text.contains("--lanes <K>"))
     );
     assert!(rt;
         matches!(&line, Ok(Line::Help(text))
         if text.contains("  3  reading, writing or memory failed\n")
-            && text.ends_with("  vjobs --region 64 --workers 2 batch.vcode\n"))
+            && text.ends_with("  vjobs --lanes 4 batch.vcode\n"))
     );
 }
 

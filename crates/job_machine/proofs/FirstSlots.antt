@@ -20,7 +20,7 @@ use Rattle.job_slots.specs.Laws.{NewIsShown}
 use Rattle.job_slots.specs.Slots.{SlotState, IsNewSlot, Shows, standing_of, standing_by}
 use Rattle.job_machine.specs.Sound.{IsSound, sum_to, standings_of}
 
-get_replicate : {X : Type 0} (n k : ℕ) (x : X) → get_or (replicate n x) k x ≡ x
+pub get_replicate : {X : Type 0} (n k : ℕ) (x : X) → get_or (replicate n x) k x ≡ x
 get_replicate zero k x = refl
 get_replicate (suc n) zero x = refl
 get_replicate (suc n) (suc k) x = get_replicate n k x
@@ -29,7 +29,7 @@ either : {X : Type 0} (b : Bool) (x : X) → cond b x x ≡ x
 either true x = refl
 either false x = refl
 
-none_seen : (job n : ℕ) → map (slot_seen_by job) (replicate n empty_slot) ≡ replicate n empty_slot
+pub none_seen : (job n : ℕ) → map (slot_seen_by job) (replicate n empty_slot) ≡ replicate n empty_slot
 none_seen job zero = refl
 none_seen job (suc n) =
     let here : slot_seen_by job empty_slot ≡ empty_slot = either (0 == job) empty_slot in
@@ -39,7 +39,7 @@ none_seen job (suc n) =
 no_words : (n : ℕ) → words_in (replicate n empty_slot) ≡ 0
 no_words n = sum_by-replicate (λ (slot : Slot). length slot.words) n empty_slot ∙ omega arith
 
-no_blocks : (n : ℕ) → blocks_in (replicate n empty_slot) ≡ 0
+pub no_blocks : (n : ℕ) → blocks_in (replicate n empty_slot) ≡ 0
 no_blocks n = sum_by-replicate (λ (slot : Slot). cond (nat_lt 0 slot.count) 1 0) n empty_slot ∙ omega arith
 
 sum_to_none : (n : ℕ) (f : ℕ → ℕ) → ((k : ℕ) → f k ≡ 0) → sum_to n f ≡ 0
@@ -60,7 +60,7 @@ AreNewSlots jobs slots =
     slice_get slots place ≡ Some slot → IsNewSlot job slot
 
 -- the job of a task at a place
-job_at : (rule : Rule) (jobs : List JobValue) (place : ℕ) (task : Task) →
+pub job_at : (rule : Rule) (jobs : List JobValue) (place : ℕ) (task : Task) →
     slice_get (map (ruled rule) jobs) place ≡ Some task →
     (job : JobValue) × (slice_get jobs place ≡ Some job) × (ruled rule job ≡ task)
 job_at rule [] place task e = absurd (none-some task e)

@@ -2,6 +2,7 @@ mod Admissions
 mod Admitting
 mod FirstSlots
 mod FreshWorkbench
+mod LaneLemmas
 mod Places
 mod Replaying
 mod Rules

@@ -165,7 +165,7 @@ blocks_are_sum : (slots : List Slot) → blocks_in slots ≡ sum_by counts slots
 blocks_are_sum slots = refl
 
 -- the blocks of all jobs are as many more as the job's own
-counted_with : (job : ℕ) (old new : JobBlocks) → ChangesOnlyOf job old new →
+pub counted_with : (job : ℕ) (old new : JobBlocks) → ChangesOnlyOf job old new →
     block_count new.memory + blocks_in (own_slots job old) ≡ block_count old.memory + blocks_in (own_slots job new)
 counted_with job old new changes =
     omega (

@@ -1,4 +1,5 @@
 pub mod Admissions
+pub mod Lanes
 pub mod Machines
 pub mod Replays
 pub mod SlotOf

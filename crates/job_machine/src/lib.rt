@@ -6,8 +6,11 @@
 //!
 //! [`Machine::replay`] does a list of events. A caller to which events come one by one, as those of a schedule, does
 //! each by [`Machine::play`], with the [`Workbench`] that holds the jobs' desks and computed steps.
+//!
+//! Since a job ends as it ends alone, it may also run by itself, on a [`Lane`]. [`Machine::adopt`] takes over its end.
 #![tactic(auto)]
 
+mod lane;
 mod machine;
 mod replay;
 mod run_out;
@@ -16,6 +19,7 @@ mod workbench;
 
 pub use job_slots::{Begun, Finished, Status, Stepped};
 pub use job_steps::{Desk, Event, Filled, Job, JobName, Ticket, compute};
+pub use lane::{EndedJob, Lane};
 pub use machine::{Admission, Machine};
 pub use replay::ReplayFault;
 pub use workbench::Workbench;

@@ -1,7 +1,7 @@
 //! Jobs over one region of words.
 
 ghost use Rattle.std.specs.Prelude.{◌≡◌, ◌<◌, ◌≤◌, ◌↔◌, ℕ, false, length, get_or, All, IfOk, IfSome, OnOk, OnErr};
-ghost use Rattle.std.specs.Prelude.{IsTrue, Some, map, option_copied, option_map};
+ghost use Rattle.std.specs.Prelude.{IsTrue, IfNone, Some, map, option_copied, option_map};
 ghost use Rattle.std.specs.Arc.{arc_value};
 ghost use Rattle.vcode_base.specs.declared.limits.TheConstants.{MOST_JOBS, MOST_PASSES, MOST_WORDS};
 ghost use Rattle.job_steps.specs.declared.event.Event.TheVariants.{Admit, Begin, Finish, Recall, Collect};
@@ -19,9 +19,13 @@ ghost use Rattle.job_machine.specs.Machines.{queue_of, machine_after, Leads, adm
 ghost use Rattle.job_machine.specs.Machines.{FinishesIn, after_finished, is_flying, is_over, told};
 ghost use Rattle.job_machine.specs.Machines.{outcome_in, HasReturnedIn, HasNoStep, most_words, place_of};
 ghost use Rattle.job_machine.specs.Machines.{HasRunIn, StepsIn, after_step, asked_in, is_running};
+ghost use Rattle.job_machine.specs.Lanes.{CanAdopt, after_adoption};
 ghost use Rattle.job_machine.specs.SlotOf.{IsSlotIn};
 
-use crate::setting::{all_cells, most_words, new_slots, next_admission, pass_before, same_jobs};
+use crate::lane::{EndedJob, run_slot};
+use crate::setting::{
+    all_cells, most_words, new_slots, next_admission, pass_before, same_jobs, waits,
+};
 use job_memory::JobMemory;
 use job_memory::laws::changes_join;
 use job_slots::laws::{new_is_shown, others_are_shown, recalled_is_shown, shown_is_alone};
@@ -298,7 +302,6 @@ impl<A: Allocator> Machine<A> {
 
     /// Carries out the instructions of a job, if it is live, until it is over, on a desk of at least its words.
     ///
-    /// No other function of the machine runs a job, so all that a step does is inlined here.
     pub(crate) fn take_steps(&mut self, job: usize, desk: &mut Desk<A>)
         requires { All (λ task. task.limits.words ≤ desk.old) self.old.tasks }
         ensures ran { HasRunIn job self.old self.new }
@@ -315,7 +318,48 @@ impl<A: Allocator> Machine<A> {
             number: job,
         };
         let slot = &mut self.slots[place];
-        slot.run(turn, job_at(&self.jobs, place), &mut self.blocks, desk)
+        run_slot(
+            slot,
+            turn,
+            job_at(&self.jobs, place),
+            &mut self.blocks,
+            desk,
+        )
+    }
+
+    /// Takes over the end of a job that ran by itself; true if the machine has that job at its number, with its rule,
+    /// and it waits. It is collected then. Else nothing changes.
+    pub fn adopt(&mut self, ended: EndedJob<A>) -> bool
+        ensures answer { IsTrue result ↔ CanAdopt self.old ended }
+        ensures state { self.new ≡ after_adoption result ended.job self.old }
+    {
+        others_are_shown();
+        changes_join();
+        let Some(place) = self.place_for(&ended) else {
+            drop(ended);
+            return false;
+        };
+        self.slots[place] = ended.into_slot();
+        true
+    }
+
+    /// The place of the job of an end, counted from 0, if the machine has that job, with its rule, and it waits.
+    fn place_for(&self, ended: &EndedJob<A>) -> Option<usize>
+        ensures place { IfSome result (λ place. place_of (length self.now.tasks) ended.now.job ≡ Some place) }
+        ensures can { IfSome result (λ _. CanAdopt self.now ended.now) }
+        ensures none { IfNone result (CanAdopt self.now ended.now → ⊥) }
+    {
+        let _jobs = self.jobs();
+        let Some(place) = self.place(ended.number()) else {
+            return None;
+        };
+        if !waits(&self.slots[place]) {
+            return None;
+        }
+        if !ended.is_of(self.rule, job_at(&self.jobs, place)) {
+            return None;
+        }
+        Some(place)
     }
 
     /// Gives up the step of a job that has begun; true if there was one. The job is as before the step's begin.

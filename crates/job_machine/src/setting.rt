@@ -106,7 +106,7 @@ pub(crate) fn pass_before<A: Allocator>(place: usize, slots: &[Slot<A>], passes:
 }
 
 /// Whether a job waits.
-fn waits<A: Allocator>(slot: &Slot<A>) -> bool
+pub(crate) fn waits<A: Allocator>(slot: &Slot<A>) -> bool
     ensures { result ≡ is_waiting (standing_of slot.now) }
 {
     match slot.status() {

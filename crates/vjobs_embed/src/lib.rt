@@ -81,6 +81,7 @@ fn report_and_status(
     let options = Options {
         region,
         workers: 1,
+        lanes: 1,
         schedule: None,
     };
     let mut reader = Device::new(batch);

@@ -32,6 +32,7 @@ impl Case<'_> {
         Some(Options {
             region: self.region,
             workers: 1,
+            lanes: 1,
             schedule,
         })
     }

@@ -18,6 +18,7 @@ pub fn show_example(rt: &HostRuntime, name: &str) -> io::Result<()> {
     let options = Options {
         region: REGION,
         workers: 1,
+        lanes: 1,
         schedule: None,
     };
     let Some(ending) = ending_however_cut(rt.alloc(), &batch, &options) else {

@@ -9,6 +9,7 @@ fn ending<R: Read + Drop>(alloc: Global, reader: R) -> (Result<Status, FrontFaul
     let options = Options {
         region: 64,
         workers: 1,
+        lanes: 1,
         schedule: None,
     };
     let mut writer = Device::new(Vec::new(alloc));

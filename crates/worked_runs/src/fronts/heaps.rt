@@ -29,6 +29,7 @@ fn ending(heap: &LocalHeap, alloc: Global) -> (Result<Status, FrontFault>, Vec<u
     let options = Options {
         region: REGION,
         workers: 1,
+        lanes: 1,
         schedule: None,
     };
     let mut reader = Device::new(BATCH);

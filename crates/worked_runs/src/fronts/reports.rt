@@ -1,7 +1,8 @@
-//! Whole runs, from the bytes of a batch to those of its report, whose jobs workers run.
+//! Whole runs, from the bytes of a batch to those of its report, whose jobs workers or lanes run.
 
 ghost use Rattle.std.specs.Prelude.{◌≤◌};
 ghost use Rattle.vcode_base.specs.declared.limits.TheConstants.{MOST_WORKERS};
+ghost use Rattle.job_lanes.specs.declared.lanes.TheConstants.{MOST_LANES};
 
 use crate::fronts::batches::{SECOND_RULE, twelve_jobs_by};
 use crate::fronts::calls::Calls;
@@ -56,6 +57,19 @@ fn options_of(workers: u32) -> Options
     Options {
         region: REGION as u32,
         workers,
+        lanes: 1,
+        schedule: None,
+    }
+}
+
+/// The options of a run on `lanes` lanes.
+fn options_on(lanes: u32) -> Options
+    requires { (1 ≤ lanes) × (lanes ≤ MOST_LANES) }
+{
+    Options {
+        region: REGION as u32,
+        workers: 2,
+        lanes,
         schedule: None,
     }
 }
@@ -107,6 +121,28 @@ fn the_second_rule_has_its_report(rt: HostRuntime) -> Result<(), Fail> {
     Ok(())
 }
 
+#[test]
+fn each_number_of_lanes_gives_the_same_report(rt: HostRuntime) -> Result<(), Fail> {
+    let second = twelve_jobs_by(rt.alloc(), SECOND_RULE)?;
+    let by_second = REPORT_BY_THE_SECOND_RULE;
+    let gate = Calls::new();
+    for lanes in [2, 3, 16] {
+        let options = options_on(lanes);
+        reports(
+            &rt,
+            rt.alloc(),
+            TWELVE_JOBS,
+            &options,
+            &gate,
+            REPORT_ON_TWELVE,
+        );
+        reports(&rt, rt.alloc(), &second, &options, &gate, by_second);
+    }
+    // No worker has taken a step.
+    assert_eq!(rt; gate.count(), 0);
+    Ok(())
+}
+
 /// How a batch is run that has this schedule.
 fn options_by(alloc: Global, list: &str) -> Result<Options, Fail> {
     let Ok(schedule) = parse_schedule(alloc, list) else {
@@ -115,6 +151,7 @@ fn options_by(alloc: Global, list: &str) -> Result<Options, Fail> {
     Ok(Options {
         region: REGION as u32,
         workers: MOST_WORKERS as u32,
+        lanes: 1,
         schedule: Some(schedule),
     })
 }

@@ -88,7 +88,7 @@ fn run_of_twelve<R: Abort + Threads + Wait + Sync>(
 }
 
 /// Whether each of the twelve jobs is collected and has executed its number of instructions.
-fn are_the_twelve(machine: &Machine<Global>, executed: &[u64; 12]) -> bool {
+pub(crate) fn are_the_twelve(machine: &Machine<Global>, executed: &[u64; 12]) -> bool {
     for place in 0..12usize {
         if machine.status(place + 1) != Some(Status::Collected) {
             return false;

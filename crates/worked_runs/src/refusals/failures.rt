@@ -1,4 +1,4 @@
-//! Whole runs from readers and to writers that fail, on the calling thread and by workers.
+//! Whole runs from readers and to writers that fail, on the calling thread, by workers and on lanes.
 use crate::refusals::batches::{ONE_JOB, REPORT_ON_ONE};
 use crate::refusals::devices::{Failure, Reader, Writer};
 use batch_front::{Device, FrontFault, NoGate, Options, Status, run, run_alone};
@@ -12,10 +12,11 @@ use std::thread::Threads;
 enum Way {
     Alone,
     ByWorkers,
+    OnLanes,
 }
 
 /// All ways.
-const WAYS: [Way; 2] = [Way::Alone, Way::ByWorkers];
+const WAYS: [Way; 3] = [Way::Alone, Way::ByWorkers, Way::OnLanes];
 
 /// What goes wrong with the devices of a run.
 #[derive(Clone, Copy)]
@@ -75,16 +76,28 @@ fn ending<R>(rt: &R, alloc: Global, way: Way, trouble: Trouble) -> Ending
 where
     R: Threads + Wait + Sync,
 {
+    let lanes = match way {
+        Way::OnLanes => 2,
+        Way::Alone | Way::ByWorkers => 1,
+    };
     let options = Options {
         region: 64,
         workers: 2,
+        lanes,
         schedule: None,
     };
     let mut reader = Device::new(trouble.reader());
     let mut writer = Device::new(trouble.writer(alloc));
     let outcome = match way {
         Way::Alone => run_alone(alloc, &mut reader, &mut writer, &options),
-        Way::ByWorkers => run(rt, alloc, &mut reader, &mut writer, &options, &NoGate),
+        Way::ByWorkers | Way::OnLanes => run(
+            rt,
+            alloc,
+            &mut reader,
+            &mut writer,
+            &options,
+            &NoGate,
+        ),
     };
     let Writer { taken, .. } = writer.into_inner();
     (outcome, taken)

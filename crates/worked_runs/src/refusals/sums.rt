@@ -1,6 +1,9 @@
 //! The most memory of runs, beside the sum of its parts that docs/OPERATING.md gives. The results of the jobs are one
 //! block many times.
 
+ghost use Rattle.std.specs.Prelude.{◌≤◌};
+ghost use Rattle.job_lanes.specs.declared.lanes.TheConstants.{MOST_LANES};
+
 use crate::refusals::heaps::Heap;
 use batch_front::{Device, FrontFault, NoGate, Options, Status, run, run_alone};
 use std::alloc::{AllocError, Global};
@@ -40,6 +43,12 @@ fn sum(batch: usize, desks: usize) -> usize {
     (region + jobs + results + 65_536)
         .saturating_add(code)
         .saturating_add(on_desks)
+}
+
+/// The sum for a lane: the region and its holes, the numbers of its blocks, a desk, and the cells and the call of its
+/// job.
+fn on_lane() -> usize {
+    16 * REGION + REGION / 4 + 73 * 4_098 + 48 * REGION + 8 * CELLS + 16 + 2_048
 }
 
 /// Counts what it is given.
@@ -86,10 +95,13 @@ fn batch(alloc: Global) -> Result<Vec<u8>, AllocError> {
     Ok(batch)
 }
 
-fn options() -> Options {
+fn options(lanes: u32) -> Options
+    requires { (1 ≤ lanes) × (lanes ≤ MOST_LANES) }
+{
     Options {
         region: REGION as u32,
         workers: WORKERS as u32,
+        lanes,
         schedule: None,
     }
 }
@@ -101,18 +113,19 @@ type Ending = (Result<Status, FrontFault>, usize);
 fn alone(heap: &Heap, batch: &[u8]) -> Ending {
     let mut reader = Device::new(batch);
     let mut writer = Device::new(Counter { bytes: 0 });
-    let outcome = run_alone(heap, &mut reader, &mut writer, &options());
+    let outcome = run_alone(heap, &mut reader, &mut writer, &options(1));
     (outcome, writer.into_inner().bytes)
 }
 
-/// A run by workers.
-fn by_workers<R>(rt: &R, heap: &Heap, batch: &[u8]) -> Ending
+/// A run by workers, or on lanes if there is more than one.
+fn by_threads<R>(rt: &R, heap: &Heap, batch: &[u8], lanes: u32) -> Ending
 where
     R: Threads + Wait + Sync,
+    requires { (1 ≤ lanes) × (lanes ≤ MOST_LANES) }
 {
     let mut reader = Device::new(batch);
     let mut writer = Device::new(Counter { bytes: 0 });
-    let outcome = run(rt, heap, &mut reader, &mut writer, &options(), &NoGate);
+    let outcome = run(rt, heap, &mut reader, &mut writer, &options(lanes), &NoGate);
     (outcome, writer.into_inner().bytes)
 }
 
@@ -135,7 +148,17 @@ fn a_run_alone_stays_below_the_sum(rt: HostRuntime) -> Result<(), Fail> {
 fn a_run_by_workers_stays_below_the_sum(rt: HostRuntime) -> Result<(), Fail> {
     let batch = batch(rt.alloc())?;
     let heap = RefusingHeap::new(rt.alloc());
-    let ending = by_workers(&rt, &heap, &batch);
+    let ending = by_threads(&rt, &heap, &batch, 1);
     keeps_within(&rt, &heap, ending, sum(batch.len(), WORKERS + 1));
+    Ok(())
+}
+
+#[test]
+fn a_run_on_lanes_stays_below_the_sum(rt: HostRuntime) -> Result<(), Fail> {
+    let batch = batch(rt.alloc())?;
+    let heap = RefusingHeap::new(rt.alloc());
+    let ending = by_threads(&rt, &heap, &batch, 2);
+    let most = sum(batch.len(), 1).saturating_add(on_lane().saturating_mul(2));
+    keeps_within(&rt, &heap, ending, most);
     Ok(())
 }

@@ -33,39 +33,40 @@ turn g c =
     c.args.job c.in-Some.place c.place.result c.self.invariant c.self.view_is c.place.ensures c.in-Some.is).turn
     c.job_at.result.now c.index_mut-slot.result.now c.job_at.ensures c.index_mut-slot.ensures.value
 
-pub run-requires-clause-shows : goal.run-requires-clause-shows
-run-requires-clause-shows g c =
-    turn_shows c.self.invariant (turn g (goal.at.run-requires-clause-shows g c).After-job_at)
+pub run_slot-requires-clause-shows : goal.run_slot-requires-clause-shows
+run_slot-requires-clause-shows g c =
+    turn_shows c.self.invariant (turn g (goal.at.run_slot-requires-clause-shows g c).After-job_at)
 
-pub run-requires-clause-numbers : goal.run-requires-clause-numbers
-run-requires-clause-numbers g c =
+pub run_slot-requires-clause-numbers : goal.run_slot-requires-clause-numbers
+run_slot-requires-clause-numbers g c =
     numbers_on_run c.shown_is_alone.ensures c.turn_laws.ensures.others c.self.invariant
-    (turn g (goal.at.run-requires-clause-numbers g c).After-job_at)
+    (turn g (goal.at.run_slot-requires-clause-numbers g c).After-job_at)
 
-pub run-requires-clause-enough : goal.run-requires-clause-enough
-run-requires-clause-enough g c =
-    turn_fits c.args.desk.now (turn g (goal.at.run-requires-clause-enough g c).After-job_at)
+pub run_slot-requires-clause-enough : goal.run_slot-requires-clause-enough
+run_slot-requires-clause-enough g c =
+    turn_fits c.args.desk.now (turn g (goal.at.run_slot-requires-clause-enough g c).After-job_at)
     (subst (λ (m : MachineState). All (λ task. task.limits.words ≤ c.args.desk.now) m.tasks) (sym c.self.view_is)
     c.requires)
 
 pub invariant_of-self : goal.invariant_of-self
 invariant_of-self g c =
     turn_sound c.turn_laws.ensures.others c.self.invariant (turn g (goal.at.invariant_of-self g c).After-job_at)
-    c.run.ensures.others c.run.ensures.shows
+    c.run_slot.ensures.others c.run_slot.ensures.shows
 
 pub returns-clause-ran : goal.returns-clause-ran
 returns-clause-ran g c = (
-  c.run.ensures.ran.0,
-  run_state c.run.ensures.ran.0 c.turn_laws.ensures.changed c.turn_laws.ensures.passes c.self.inside.blocks
-      c.run.new.blocks c.run.new.self c.self.view_is
-      (turn g (goal.at.returns-clause-ran g c).After-job_at) c.run.ensures.others.memory.room c.run.ensures.ran.1,
+  c.run_slot.ensures.ran.0,
+  run_state c.run_slot.ensures.ran.0 c.turn_laws.ensures.changed c.turn_laws.ensures.passes c.self.inside.blocks
+      c.run_slot.new.blocks c.run_slot.new.slot c.self.view_is
+      (turn g (goal.at.returns-clause-ran g c).After-job_at) c.run_slot.ensures.others.memory.room
+      c.run_slot.ensures.ran.1,
 )
 
 pub returns-clause-over : goal.returns-clause-over
 returns-clause-over g c =
-    let h = turn_with {rule = c.self.inside.rule} {passes = c.self.inside.passes.items} c.run.new.blocks c.run.new.self
-    (turn g (goal.at.returns-clause-over g c).After-job_at) refl in
-    ap is_running h.shown_standing ∙ c.run.ensures.over
+    let h = turn_with {rule = c.self.inside.rule} {passes = c.self.inside.passes.items} c.run_slot.new.blocks
+    c.run_slot.new.slot (turn g (goal.at.returns-clause-over g c).After-job_at) refl in
+    ap is_running h.shown_standing ∙ c.run_slot.ensures.over
 
 pub returns-in_default : goal.returns-in_default
 returns-in_default g c = record {

@@ -1,0 +1,370 @@
+-- Jobs that run by themselves, from a region without a job to one.
+use Rattle.std.proofs.Common.{◌≡◌, ℕ, zero, suc, ◌+◌, ◌-◌, ◌*◌, ◌<◌, ◌≤◌, Bool, true, false, cond, List, [], ◌∷◌}
+use Rattle.std.proofs.Common.{length, replicate, get_or, slice_get, map, set, is_some, All, Option, Some, None, refl}
+use Rattle.std.proofs.Common.{sym, ◌∙◌, ap, subst, arith}
+use Rattle.std.specs.Prelude.{◌↔◌, sum_by, IfSome, IsTrue}
+use Rattle.std.proofs.lemmas.Bool.{false≢true}
+use Rattle.std.proofs.lemmas.List.{length-map, map-set}
+use Rattle.std.proofs.lemmas.List.Elements.{All-nil, All-cons, All-head, All-tail}
+use Rattle.std.proofs.lemmas.List.Folds.{sum_by-replicate}
+use Rattle.std.proofs.lemmas.Option.{none-some, same_Some, slice_get_read, slice_get_within, get_or_from_slice_get}
+use Rattle.vcode_base.specs.declared.rule.Rule.{Rule}
+use Rattle.refcounts.specs.SharedState.{Slot, SharedState, empty_slot, slot_in, blocks_in, block_count}
+use Rattle.refcounts.specs.Owners.{slots_seen_by}
+use Rattle.job_memory.specs.JobBlocks.{JobBlocks, ChangesOnlyOf, own_slots, grant_of, words_of}
+use Rattle.job_memory.specs.Laws.{ChangesJoin}
+use Rattle.job_steps.specs.declared.event.Event.TheVariants.{Finish, Collect}
+use Rattle.job_steps.specs.Events.{early_end, next_standing, standing_after, standing_after_begin}
+use Rattle.job_steps.specs.Runs.{state_after}
+use Rattle.job_steps.specs.Standings.{Standing, Waiting, Live, InFlight, Ended, Collected, of_job, is_waiting}
+use Rattle.job_steps.specs.Standings.{with_standing}
+use Rattle.job_steps.specs.States.{JobValue, Task, ruled}
+use Rattle.job_steps.specs.Steps.{Progress, Running, Over, Stuck}
+use Rattle.job_slots.specs.declared.status.Status.{Status}
+use Rattle.job_slots.specs.declared.status.Status.TheVariants as status
+use Rattle.job_slots.specs.Answers.{StepsLead, HasRun, is_live, or_same, standing_after_step}
+use Rattle.job_slots.specs.Laws.{NewIsShown, OthersAreShown, ShownIsAlone}
+use Rattle.job_slots.specs.Slots.{SlotState, IsNewSlot, Shows, ShowsAs, IsCollectedSlot, HasNumbersOnRun, grant_by}
+use Rattle.job_slots.specs.Slots.{standing_of, standing_by}
+use Rattle.job_machine.specs.Lanes.{EndedState, IsVacant, IsEndOf, CanAdopt, after_adoption}
+use Rattle.job_machine.specs.Machines.{MachineState, place_of}
+use Rattle.job_machine.specs.Sound.{IsSound, standings_of}
+use Rattle.job_machine.proofs.FirstSlots.{get_replicate, job_at, none_seen, no_blocks}
+use Rattle.job_machine.proofs.SoundLemmas.{counted_with, place_is}
+use Rattle.job_machine.proofs.TurnLemmas.{HasTurn, shown_machine, some_turn, task_read, turn_shows, turn_sound}
+
+-- ---- a region without a job
+
+pub first_vacant : (blocks : JobBlocks) (region most : ℕ) →
+    blocks.memory ≡ record { room = region; slots = replicate most empty_slot } →
+    blocks.grants ≡ replicate 1 None → IsVacant blocks
+first_vacant blocks region most memory grants =
+    let all : blocks_in blocks.memory.slots ≡ 0 = ap (λ (m : SharedState). blocks_in m.slots) memory ∙ no_blocks most in
+    let own : blocks_in (own_slots 1 blocks) ≡ 0 =
+    ap (λ (m : SharedState). blocks_in (slots_seen_by 1 m)) memory ∙ ap blocks_in (none_seen 1 most)
+    ∙ no_blocks most in
+    let granted : sum_by words_of (replicate 1 None) ≡ 1 * words_of None = sum_by-replicate words_of 1 None in
+    record {
+      is_job = (omega arith, omega (arith, ap length grants));
+      no_grant = ap (λ (gs : List (Option ℕ)). get_or gs 0 None) grants;
+      nothing_granted = omega (arith, ap (λ (gs : List (Option ℕ)). sum_by words_of gs) grants, granted);
+      no_block =
+          (λ id.
+          ap (λ (m : SharedState). slot_in (slots_seen_by 1 m) id) memory
+          ∙ ap (λ (l : List Slot). slot_in l id) (none_seen 1 most) ∙ get_replicate most id empty_slot);
+      counted = omega (arith, all, own);
+    }
+
+-- a new slot shows a job there
+pub vacant_shows : NewIsShown → (rule : Rule) (blocks : JobBlocks) (job : JobValue) (slot : SlotState) →
+    IsVacant blocks → IsNewSlot job slot → Shows 1 blocks (ruled rule job) slot
+vacant_shows law rule blocks job slot vacant new =
+    law rule 1 blocks job slot new vacant.is_job vacant.no_grant vacant.no_block
+
+-- all blocks stay those of the one job
+pub own_alone : (old new : JobBlocks) → block_count old.memory ≡ blocks_in (own_slots 1 old) →
+    ChangesOnlyOf 1 old new → block_count new.memory ≡ blocks_in (own_slots 1 new)
+own_alone old new counted changes = omega (arith, counted, counted_with 1 old new changes)
+
+-- there are numbers wherever the job leads
+pub lane_numbers : ShownIsAlone → (old between : JobBlocks) (task : Task) → IsVacant old →
+    ChangesOnlyOf 1 old between → task.limits.cells + 2 ≤ length old.memory.slots → HasNumbersOnRun 1 task between
+lane_numbers alone old between task vacant changes numbers new slot after shows tidy =
+    let counted = own_alone between new (own_alone old between vacant.counted changes) after in
+    omega (
+      arith,
+      counted,
+      (alone 1 new task slot tidy shows).few,
+      after.memory.ids,
+      changes.memory.ids,
+      numbers,
+    )
+
+-- ---- jobs by their numbers
+
+-- what is enough for the words of each job is enough for those of each task
+pub tasks_fit : (rule : Rule) (jobs : List JobValue) (words n : ℕ) → All (λ job. job.limits.words ≤ words) jobs →
+    words ≤ n → All (λ (task : Task). task.limits.words ≤ n) (map (ruled rule) jobs)
+tasks_fit rule [] words n all le = All-nil (λ (task : Task). task.limits.words ≤ n)
+tasks_fit rule (j ∷ js) words n all le =
+    All-cons (λ (task : Task). task.limits.words ≤ n) (ruled rule j) (map (ruled rule) js)
+    (omega (arith, All-head (λ (job : JobValue). job.limits.words ≤ words) j js all, le))
+    (tasks_fit rule js words n (All-tail (λ (job : JobValue). job.limits.words ≤ words) j js all) le)
+
+-- it is enough for those of the job at a place
+pub fits_at : (rule : Rule) (jobs : List JobValue) (place n : ℕ) (job : JobValue) → job ≡ get_or jobs place job →
+    place < length jobs → All (λ (task : Task). task.limits.words ≤ n) (map (ruled rule) jobs) → job.limits.words ≤ n
+fits_at rule jobs place n job is within all =
+    subst (λ (task : Task). task.limits.words ≤ n) (sym (task_read rule jobs place job is))
+    (all place (ruled rule job) (omega (arith, within, length-map jobs (ruled rule))))
+
+-- the task of a number
+pub task_of : (rule : Rule) (jobs : List JobValue) (number : ℕ) (job : JobValue) → 1 ≤ number →
+    number - 1 < length jobs → job ≡ get_or jobs (number - 1) job →
+    of_job number (map (ruled rule) jobs) ≡ Some (ruled rule job)
+task_of rule jobs zero job least within is = absurd (omega (arith, least))
+task_of rule jobs (suc place) job least within is =
+    let at : suc place - 1 ≡ place = omega arith in
+    slice_get_read (map (ruled rule) jobs) (length (map (ruled rule) jobs)) place (ruled rule job) refl
+    (omega (arith, within, length-map jobs (ruled rule)))
+    (task_read rule jobs place job (subst (λ (k : ℕ). job ≡ get_or jobs k job) at is))
+
+-- a number that has a task is that of a job, and the task has the rule
+pub record IsNumber (rule : Rule) (jobs : List JobValue) (number : ℕ) (task : Task) : Type 0 where
+  pub least : 1 ≤ number
+  pub within : number - 1 < length jobs
+  pub rule_is : task.rule ≡ rule
+
+pub is_number : (rule : Rule) (jobs : List JobValue) (number : ℕ) (task : Task) →
+    of_job number (map (ruled rule) jobs) ≡ Some task → IsNumber rule jobs number task
+is_number rule jobs zero task e = absurd (none-some task e)
+is_number rule jobs (suc place) task e =
+    let job = job_at rule jobs place task e in
+    record {
+      least = omega arith;
+      within = omega (
+        arith,
+        slice_get_within (map (ruled rule) jobs) place task e,
+        length-map jobs (ruled rule),
+      );
+      rule_is = sym (ap (λ (t : Task). t.rule) job.2);
+    }
+
+-- a job without its rule
+abbrev plain : Task → JobValue
+plain task = record { name = task.name; verified = task.verified; limits = task.limits }
+
+-- a task of another rule isn't this one
+pub of_other_rule : (o : Option Task) (task : Task) (own rule : Rule) (job : JobValue) (same : Bool) → o ≡ Some task →
+    task.rule ≡ own → same ≡ false → (IsTrue same ↔ (own ≡ rule)) → (IsTrue false ↔ (o ≡ Some (ruled rule job)))
+of_other_rule o task own rule job same is rule_is differs iff = (
+  λ f. absurd (false≢true f),
+  λ e. absurd (false≢true (sym differs
+      ∙ iff.1 (sym rule_is ∙ ap (λ (t : Task). t.rule) (same_Some task (ruled rule job) (sym is ∙ e))))),
+)
+
+-- by the same rule it is this one if the jobs are equal
+pub of_same_rule : (o : Option Task) (own rule : Rule) (mine job : JobValue) (same : Bool) →
+    o ≡ Some (ruled own mine) → own ≡ rule → (IsTrue same ↔ (mine ≡ job)) →
+    (IsTrue same ↔ (o ≡ Some (ruled rule job)))
+of_same_rule o own rule mine job same is rule_is iff = (
+  λ yes. is ∙ (λ i. Some (ruled (rule_is i) (iff.0 yes i))),
+  λ e. iff.1 (ap plain (same_Some (ruled own mine) (ruled rule job) (sym is ∙ e))),
+)
+
+-- ---- to the job's end
+
+-- the job goes on, or has ended
+abbrev IsGoing : Standing → Type 0
+IsGoing (Live n) = Unit {0}
+IsGoing Ended = Unit {0}
+IsGoing standing = ⊥
+
+abbrev finished : ℕ → Task → Standing → Standing
+finished job task begun = or_same begun (next_standing (Finish job) task begun)
+
+going_after : (n : ℕ) (p : Progress) → IsGoing (standing_after n p)
+going_after n (Running s) = tt
+going_after n (Over ending executed peak) = tt
+going_after n Stuck = tt
+
+going_finished : (job : ℕ) (task : Task) (n : ℕ) (ends : Bool) →
+    IsGoing (finished job task (cond ends Ended (InFlight n)))
+going_finished job task n true = tt
+going_finished job task n false = going_after (n + 1) (state_after task (n + 1))
+
+going_begun : (job : ℕ) (task : Task) (n : ℕ) (p : Progress) →
+    IsGoing (finished job task (standing_after_begin task n p))
+going_begun job task n (Running s) = going_finished job task n (is_some (early_end task s))
+going_begun job task n (Over ending executed peak) = tt
+going_begun job task n Stuck = tt
+
+going_step : (job : ℕ) (task : Task) (s : Standing) → IsGoing s → IsGoing (standing_after_step job task s)
+going_step job task Waiting h = absurd h
+going_step job task (Live n) h = going_begun job task n (state_after task n)
+going_step job task (InFlight n) h = absurd h
+going_step job task Ended h = tt
+going_step job task Collected h = absurd h
+
+going_run : (count job : ℕ) (task : Task) (old new : Standing) → StepsLead count job task old new → IsGoing old →
+    IsGoing new
+going_run zero job task old new lead h = subst IsGoing (sym lead) h
+going_run (suc count) job task old new lead h =
+    going_run count job task (standing_after_step job task old) new lead.1 (going_step job task old h)
+
+ended_by : (s : Standing) → IsGoing s → is_live s ≡ false → s ≡ Ended
+ended_by Waiting h over = absurd h
+ended_by (Live n) h over = absurd (false≢true (sym over))
+ended_by (InFlight n) h over = absurd h
+ended_by Ended h over = refl
+ended_by Collected h over = absurd h
+
+-- a job that was live and isn't any more has ended
+pub has_ended : (job : ℕ) (task : Task) (old new : Standing) → HasRun job task old new → old ≡ Live 0 →
+    is_live new ≡ false → new ≡ Ended
+has_ended job task old new run live over =
+    ended_by new (going_run run.0 job task old new run.1 (subst IsGoing (sym live) tt)) over
+
+-- and is collected then
+pub collected_by : (job : ℕ) (task : Task) (old new : Standing) → old ≡ Ended →
+    new ≡ or_same old (next_standing (Collect job) task old) → new ≡ Collected
+collected_by job task old new ended stands =
+    stands ∙ ap (λ (s : Standing). or_same s (next_standing (Collect job) task s)) ended
+
+-- ---- from a collected job
+
+abbrev IsGone : Standing → Type 0
+IsGone Collected = Unit {0}
+IsGone standing = ⊥
+
+gone : (s : Status) (n : ℕ) → IsGone (standing_by s n) → s ≡ status.Collected
+gone status.Waiting n g = absurd g
+gone status.Live n g = absurd g
+gone status.InFlight n g = absurd g
+gone status.Ended n g = absurd g
+gone status.Collected n g = refl
+
+is_collected : (slot : SlotState) → standing_of slot ≡ Collected → slot.status ≡ status.Collected
+is_collected slot e = gone slot.status slot.trace.executed (subst IsGone (sym e) tt)
+
+shown_collected : (number : ℕ) (blocks : JobBlocks) (task : Task) (slot : SlotState) → Shows number blocks task slot →
+    standing_of slot ≡ Collected → IsCollectedSlot (own_slots number blocks) task slot.trace slot.outcome
+shown_collected number blocks task slot shows e =
+    subst (ShowsAs (own_slots number blocks) task slot.trace slot.outcome) (is_collected slot e) shows.shown
+
+-- its slot is that of its end
+pub end_by : (number : ℕ) (blocks : JobBlocks) (task : Task) (slot : SlotState) → Shows number blocks task slot →
+    standing_of slot ≡ Collected → IsEndOf task slot
+end_by number blocks task slot shows e =
+    let is = shown_collected number blocks task slot shows e in
+    record {
+      collected = is_collected slot e;
+      limits = shows.limits;
+      executed = is.executed;
+      peak_is = is.peak_is;
+      stored = is.stored;
+      no_cell = is.nothing.no_cell;
+    }
+
+-- no job is in the region
+pub vacant_after : (old new : JobBlocks) (task : Task) (slot : SlotState) → IsVacant old → ChangesOnlyOf 1 old new →
+    Shows 1 new task slot → standing_of slot ≡ Collected → IsVacant new
+vacant_after old new task slot vacant changes shows e =
+    let no_grant : grant_of new 1 ≡ None = shows.grant ∙ ap (grant_by task) (is_collected slot e) in
+    let none : words_of None ≡ 0 = refl in
+    record {
+      is_job = shows.is_job;
+      no_grant = no_grant;
+      nothing_granted =
+          omega (
+            arith,
+            changes.granted,
+            vacant.nothing_granted,
+            ap words_of vacant.no_grant,
+            ap words_of no_grant,
+            none,
+          );
+      no_block = (shown_collected 1 new task slot shows e).nothing.no_block;
+      counted = own_alone old new vacant.counted changes;
+    }
+
+-- ---- to a machine
+
+waits_by : (s : Status) (n : ℕ) → is_waiting (standing_by s n) ≡ true → s ≡ status.Waiting
+waits_by status.Waiting n e = refl
+waits_by status.Live n e = absurd (false≢true e)
+waits_by status.InFlight n e = absurd (false≢true e)
+waits_by status.Ended n e = absurd (false≢true e)
+waits_by status.Collected n e = absurd (false≢true e)
+
+pub waits_as : (slot : SlotState) → is_waiting (standing_of slot) ≡ true → standing_of slot ≡ Waiting
+waits_as slot e = ap (λ (s : Status). standing_by s slot.trace.executed) (waits_by slot.status slot.trace.executed e)
+
+-- in the place of a slot that waits, the slot of an end shows its job
+pub adopted_shows : (number : ℕ) (blocks : JobBlocks) (task : Task) (old end : SlotState) →
+    Shows number blocks task old → is_waiting (standing_of old) ≡ true → IsEndOf task end →
+    Shows number blocks task end
+adopted_shows number blocks task old end shows waits e =
+    let was : old.status ≡ status.Waiting = waits_by old.status old.trace.executed waits in
+    let before = subst (ShowsAs (own_slots number blocks) task old.trace old.outcome) was shows.shown in
+    record {
+      is_job = shows.is_job;
+      verified = shows.verified;
+      limits = e.limits;
+      grant = shows.grant ∙ ap (grant_by task) was ∙ sym (ap (grant_by task) e.collected);
+      shown =
+          subst (ShowsAs (own_slots number blocks) task end.trace end.outcome) (sym e.collected) (record {
+            executed = e.executed;
+            peak_is = e.peak_is;
+            stored = e.stored;
+            nothing = record { no_cell = e.no_cell; no_block = before.nothing.no_block };
+          });
+    }
+
+-- the machine shows the job collected
+pub adopted_state : {rule : Rule} {passes : List ℕ} (blocks : JobBlocks) {tasks : List Task} {slots : List SlotState}
+    {m : MachineState} {job place : ℕ} {task : Task} {before : SlotState} (end : SlotState) →
+    shown_machine rule blocks tasks slots passes ≡ m → HasTurn tasks slots m job place task before →
+    IsEndOf task end → shown_machine rule blocks tasks (set slots place end) passes ≡ after_adoption true job m
+adopted_state {rule} {passes} blocks {tasks} {slots} {m} {job} {place} {task} {before} end view h e =
+    let stands : standing_of end ≡ Collected = ap (λ (s : Status). standing_by s end.trace.executed) e.collected in
+    let standings : standings_of (set slots place end) ≡ with_standing job Collected (standings_of slots) =
+    map-set standing_of slots place end
+    ∙ ap (λ (s : Standing). set (standings_of slots) place s) stands
+    ∙ sym (ap (λ (j : ℕ). with_standing j Collected (standings_of slots)) h.job_is) in
+    let here : shown_machine rule blocks tasks (set slots place end) passes
+    ≡ after_adoption true job (shown_machine rule blocks tasks slots passes) =
+    λ i. record {
+      rule = rule;
+      region = blocks.memory.room;
+      tasks = tasks;
+      standings = standings i;
+      passes = passes;
+    } in
+    here ∙ ap (after_adoption true job) view
+
+-- something is at a place
+something_at : {X : Type 0} (xs : List X) (place : ℕ) → place < length xs → (x : X) × (slice_get xs place ≡ Some x)
+something_at [] place within = absurd (omega (arith, within))
+something_at (x ∷ xs) zero within = (x, refl)
+something_at (x ∷ xs) (suc place) within = something_at xs place (omega (arith, within))
+
+-- a place of a job is one of a slot
+pub slot_within : {rule : Rule} {passes : List ℕ} (blocks : JobBlocks) (tasks : List Task) (slots : List SlotState)
+    (m : MachineState) (job place : ℕ) → IsSound blocks tasks slots passes →
+    shown_machine rule blocks tasks slots passes ≡ m → place_of (length m.tasks) job ≡ Some place →
+    place < length slots
+slot_within {rule} {passes} blocks tasks slots m job place sound view at =
+    omega (
+      arith,
+      (place_is (length m.tasks) job place at).within,
+      ap (λ (k : MachineState). length k.tasks) view,
+      sound.slots_are,
+    )
+
+-- what a machine is after an adoption
+pub record Adopts (rule : Rule) (passes : List ℕ) (blocks : JobBlocks) (tasks : List Task) (slots : List SlotState)
+    (m : MachineState) (job place : ℕ) (end : SlotState) : Type 0 where
+  pub sound : IsSound blocks tasks (set slots place end) passes
+  pub state : shown_machine rule blocks tasks (set slots place end) passes ≡ after_adoption true job m
+
+pub adopts : {rule : Rule} {passes : List ℕ} → OthersAreShown → ChangesJoin → (blocks : JobBlocks)
+    (tasks : List Task) (slots : List SlotState) (m : MachineState) (ended : EndedState) (place : ℕ)
+    (end : SlotState) → IsSound blocks tasks slots passes → shown_machine rule blocks tasks slots passes ≡ m →
+    place_of (length m.tasks) ended.job ≡ Some place → CanAdopt m ended →
+    IfSome ended.task (λ task. IsEndOf task end) → Adopts rule passes blocks tasks slots m ended.job place end
+adopts {rule} {passes} others join blocks tasks slots m ended place end sound view at can is =
+    let slot = something_at slots place (slot_within blocks tasks slots m ended.job place sound view at) in
+    let t =
+    some_turn blocks tasks slots m ended.job place (place_of (length m.tasks) ended.job) slot.0 sound view refl at
+    (sym (get_or_from_slice_get slots place slot.0 slot.0 slot.1)) in
+    let waits : standing_of slot.0 ≡ Waiting =
+    same_Some (standing_of slot.0) Waiting (sym t.1.shown_standing ∙ can.waits) in
+    let task_is : ended.task ≡ Some t.0 = sym can.same ∙ t.1.shown_task in
+    let end_is : IsEndOf t.0 end = subst (λ (o : Option Task). IfSome o (λ task. IsEndOf task end)) task_is is in
+    record {
+      sound =
+          turn_sound others sound t.1 ((join ended.job).none blocks)
+          (adopted_shows ended.job blocks t.0 slot.0 end (turn_shows sound t.1) (ap is_waiting waits) end_is);
+      state = adopted_state blocks end view t.1 end_is;
+    }
