@@ -301,7 +301,6 @@ impl<A: Allocator> Machine<A> {
     }
 
     /// Carries out the instructions of a job, if it is live, until it is over, on a desk of at least its words.
-    ///
     pub(crate) fn take_steps(&mut self, job: usize, desk: &mut Desk<A>)
         requires { All (λ task. task.limits.words ≤ desk.old) self.old.tasks }
         ensures ran { HasRunIn job self.old self.new }
