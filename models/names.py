@@ -92,8 +92,9 @@ def other_files() -> None:
     os.mkfifo("pipe")
     os.mkdir("folder")
     os.symlink("pipe", "link")
+    options: list[list[bytes]] = [[], [b"--batch"]]
     for name in ("pipe", "folder", "link", "/dev/null", "/dev/zero", "/dev/tty"):
-        for words in ([], [b"--batch"]):
+        for words in options:
             same(name, refused([KINDS, *words, name.encode()], 3), f"vjobs-kinds: {name}: not a regular file\n")
 
 
