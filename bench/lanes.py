@@ -5,9 +5,10 @@
 
 Run it at the top of the repository, after `make`, on a machine with four free cores. The batches are loads of
 bench/steps.py, and the first job of each file NAME.vcode of the folders, 64 times. In each round each batch is run on
-each number of lanes in turn. Printed are the least wall seconds on one lane, and for each other number of lanes how
-many times as fast the batch was, by the least wall seconds, with the ratio of its least processor seconds to those on
-one lane. All runs of a batch must print the same.
+each number of lanes in turn, and by the four processes of bench/processes.py. Printed are the least wall seconds on one
+lane, and for each other number of lanes how many times as fast the batch was, by the least wall seconds, with the ratio
+of its least processor seconds to those on one lane. The last column is how many times as fast the processes were: what
+the machine's cores give, if the jobs are equal. All runs of a batch must print the same.
 """
 import argparse
 import re
@@ -17,6 +18,7 @@ from dataclasses import replace
 from pathlib import Path
 
 import steps
+from processes import dealt, seconds
 from workers import TOP, Measured, divisions
 
 MOST_JOBS = 64
@@ -58,16 +60,20 @@ def main() -> None:
     parser.add_argument("--program", default=str(TOP / "bin" / "vjobs"))
     given = parser.parse_args()
     ways = [["--workers", "1"], *(["--lanes", str(count)] for count in given.lanes)]
-    print(f"{'batch':26}{'1 lane':>8}" + "".join(f"{f'{count} lanes':>10}{'cpu':>6}" for count in given.lanes))
+    heads = "".join(f"{f'{count} lanes':>10}{'cpu':>6}" for count in given.lanes)
+    print(f"{'batch':26}{'1 lane':>8}{heads}{'4 processes':>13}")
     with tempfile.TemporaryDirectory() as folder:
         path = Path(folder) / "batch.vcode"
         for name, text in (*own_batches(), *(batch for it in given.batches for batch in repeated(it))):
             path.write_text(text, "latin1")
-            batch = Measured(name, [], path, ways)
+            batch, least = Measured(name, [], path, ways), float("inf")
+            parts = list(dealt(text, Path(folder)))
             for turn in range(given.rounds):
                 batch.run_round(given.program, ways, turn)
+                least = min(least, seconds(1, parts, given.program))
+            one = batch.times[0].wall
             cells = "".join(f"{1 / wall:10.2f}{processor:6.2f}" for wall, processor in batch.ratios())
-            print(f"{name:26}{batch.times[0].wall:8.3f}{cells}", flush=True)
+            print(f"{name:26}{one:8.3f}{cells}{one / least:13.2f}", flush=True)
 
 
 if __name__ == "__main__":

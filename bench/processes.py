@@ -42,9 +42,10 @@ def dealt(text: str, folder: Path) -> Iterator[Path]:
         yield path
 
 
-def seconds(workers: int, paths: list[Path]) -> float:
+def seconds(workers: int, paths: list[Path], program: str = str(PROGRAM)) -> float:
+    """Wall seconds of a process for each batch, all at the same time."""
     begin = time.perf_counter()
-    running = [subprocess.Popen([PROGRAM, "--workers", str(workers), path], stdout=subprocess.DEVNULL)
+    running = [subprocess.Popen([program, "--workers", str(workers), path], stdout=subprocess.DEVNULL)
                for path in paths]
     for process in running:
         process.wait()
