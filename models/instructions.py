@@ -1,13 +1,11 @@
 """The instructions: what may follow each word, the kinds of its operands and results, and how `worked_texts` prints it."""
 from dataclasses import dataclass
 
+from elements import ARITHMETIC, COMPARISONS, LOGIC
+
 INT, BOOL, SEGDES = "Int", "Bool", "Segdes"
 SCALARS = {"INT": INT, "BOOL": BOOL}
 
-ARITHMETIC = {"+": "Add", "-": "Subtract", "*": "Multiply", "/": "Divide", "%": "Remainder", "LSHIFT": "ShiftLeft",
-              "RSHIFT": "ShiftRight"}
-COMPARISONS = {"<": "Less", "<=": "LessOrEqual", ">": "Greater", ">=": "GreaterOrEqual", "=": "Equal", "!=": "NotEqual"}
-LOGIC = {"AND": "And", "OR": "Or", "XOR": "Xor"}
 NUMBER_FOLDS = {"+": "Sum", "*": "Product", "MAX": "Max", "MIN": "Min"}
 MOVES = {"COPY": "Copy", "POP": "Pop", "CPOP": "MoveToTop"}
 
@@ -61,15 +59,15 @@ def kinds_of(word: str, k: str | None) -> Kinds:
 def shown(word: str, k: str | None) -> str:
     """A vector instruction as `worked_texts` prints it."""
     if word in ARITHMETIC:
-        return f"Elementwise(Arith({ARITHMETIC[word]}))"
+        return f"Elementwise(Arith({ARITHMETIC[word].name}))"
     if word in COMPARISONS:
-        return f"Elementwise(Compare({COMPARISONS[word]}))"
+        return f"Elementwise(Compare({COMPARISONS[word].name}))"
     if word in LOGIC:
-        return f"Elementwise(Logic({LOGIC[word]}, {k}))"
+        return f"Elementwise(Logic({LOGIC[word].name}, {k}))"
     for end, name in (("_SCAN", "Scan"), ("_REDUCE", "Reduce")):
         if word.endswith(end):
             fold = word.removesuffix(end)
-            return f"Segmented({name}({NUMBER_FOLDS.get(fold) or f'Logic({LOGIC[fold]}, {k})'}))"
+            return f"Segmented({name}({NUMBER_FOLDS.get(fold) or f'Logic({LOGIC[fold].name}, {k})'}))"
     return {
         "NOT": f"Elementwise(Not({k}))",
         "SELECT": f"Elementwise(Select({k}))",

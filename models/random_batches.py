@@ -1,8 +1,9 @@
 """Random batches of the whole language: most jobs run, and many end at one of their limits, or just short of it."""
 import kinds
 import reader
+from elements import ARITHMETIC, COMPARISONS, LOGIC
 from faults import Fault
-from instructions import ARITHMETIC, BOOL, COMPARISONS, INT, LOGIC, MOVES, SCALARS, SEGDES, kinds_of
+from instructions import BOOL, INT, MOVES, SCALARS, SEGDES, kinds_of
 from random_cases import SPELLED, Random
 from kinds import Signatures
 from runs import Ended, Limits, Run

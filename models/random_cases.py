@@ -3,9 +3,9 @@ from collections.abc import Callable, Iterable
 from random import Random as Source
 from typing import Any
 
+from elements import GREATEST, LEAST
 from instructions import BOOL, ELEMENTWISE, INT, MOVES, OF_EITHER, OF_NUMBERS, SCALARS, SEGDES, VECTOR_WORDS, WITH_OPTION, kinds_of
 from kinds import Signatures
-from vectors import GREATEST, LEAST
 
 NOISE = ["(", ")", "{", "}", "{ c }", "T", "F", "INT", "BOOL", "SEGDES", "FLOAT", "1", "-1", "-0", "007", "4096",
          "4097", "9223372036854775807",

@@ -14,7 +14,7 @@ import sys
 from collections.abc import Callable, Iterator
 from itertools import groupby
 
-from vectors import GREATEST, LEAST
+from elements import GREATEST, LEAST
 
 CRATE = pathlib.Path(__file__).resolve().parent.parent / "crates" / "worked_regions"
 GREATEST_SIZE = 2**64 - 1

@@ -2,11 +2,11 @@
 from collections.abc import Callable, Iterable
 from functools import reduce
 
+from elements import ARITHMETIC, COMPARISONS, GREATEST, LEAST, LOGIC, wrap
 from instructions import BOOL, ELEMENTWISE, INT
 
 # A vector is the list of its numbers; a flag is 0 or 1, and a descriptor the lengths of its segments.
 Vector = list[int]
-LEAST, GREATEST = -(2**63), 2**63 - 1
 GREATEST_TOTAL = 4_294_967_295
 # `worked_vectors` makes no more words of results.
 MOST_WORDS = 1_048_576
@@ -20,31 +20,9 @@ class NoResult(Exception):
     """An instruction has a fault, or a result that is too long to be made."""
 
 
-def wrap(number: int) -> int:
-    return (number - LEAST) % 2**64 + LEAST
-
-
-def quotient(a: int, b: int) -> int:
-    return abs(a) // abs(b) * (1 if (a < 0) == (b < 0) else -1)
-
-
-ELEMENTS: dict[str, Callable[..., int]] = {
-    "+": lambda k, a, b: wrap(a + b),
-    "-": lambda k, a, b: wrap(a - b),
-    "*": lambda k, a, b: wrap(a * b),
-    "/": lambda k, a, b: wrap(quotient(a, b)),
-    "%": lambda k, a, b: a - b * quotient(a, b),
-    "LSHIFT": lambda k, a, b: wrap(a * 2**b),
-    "RSHIFT": lambda k, a, b: a // 2**b,
-    "<": lambda k, a, b: int(a < b),
-    "<=": lambda k, a, b: int(a <= b),
-    ">": lambda k, a, b: int(a > b),
-    ">=": lambda k, a, b: int(a >= b),
-    "=": lambda k, a, b: int(a == b),
-    "!=": lambda k, a, b: int(a != b),
-    "AND": lambda k, a, b: a & b,
-    "OR": lambda k, a, b: a | b,
-    "XOR": lambda k, a, b: a ^ b,
+PAIRWISE = {**ARITHMETIC, **COMPARISONS, **LOGIC}
+# The others also go by the kind that is written after the word.
+OTHERS: dict[str, Callable[..., int]] = {
     "NOT": lambda k, a: 1 - a if k == BOOL else -1 - a,
     "SELECT": lambda k, flag, a, b: a if flag else b,
     "I_TO_B": lambda k, a: int(a != 0),
@@ -56,9 +34,9 @@ FOLDS: dict[str, tuple[int | None, Callable[[int, int], int]]] = {
     "*": (1, lambda a, b: wrap(a * b)),
     "MAX": (LEAST, max),
     "MIN": (GREATEST, min),
-    "AND": (None, lambda a, b: a & b),
-    "OR": (0, lambda a, b: a | b),
-    "XOR": (0, lambda a, b: a ^ b),
+    "AND": (None, LOGIC["AND"].result),
+    "OR": (0, LOGIC["OR"].result),
+    "XOR": (0, LOGIC["XOR"].result),
 }
 
 
@@ -69,7 +47,9 @@ def elementwise(word: str, k: str, operands: list[Vector]) -> Vector:
         raise NoResult(ZERO_DIVISOR)
     if word in ("LSHIFT", "RSHIFT") and any(not 0 <= shift <= 63 for shift in operands[1]):
         raise NoResult(BAD_SHIFT)
-    return [ELEMENTS[word](k, *elements) for elements in zip(*operands)]
+    if word in PAIRWISE:
+        return [PAIRWISE[word].result(*elements) for elements in zip(*operands)]
+    return [OTHERS[word](k, *elements) for elements in zip(*operands)]
 
 
 def check(descriptor: Vector, each: Iterable[Vector] = (), whole: Iterable[Vector] = ()) -> None:
