@@ -11,7 +11,7 @@ use crate::sources::Sources;
 use crate::spans::Spans;
 use crate::survey::{Counts, Survey};
 use crate::tally::{Count, FunctionTally, Tally};
-use crate::wide::Work;
+use crate::wide::{WideEnd, Work};
 use batch_reader::{BatchFault, JobFault};
 use job_profile::{Column, Columns, Profile};
 use refusal_notes::{Lines, batch_meaning, batch_refusal, job_meaning, printable, refusal};
@@ -23,15 +23,13 @@ use vcode_base::{Limits, Rule};
 const LINES_BESIDE: u64 = 8;
 
 /// What is said of the end of a job: its last state, the least limits within which it returns, or the work after which
-/// they were given up, or how it ends within the widest limits and after how many instructions, and the words that its
-/// last instruction wanted in all, if these are known.
+/// they were given up, or how it ends within the widest limits, if these are known.
 #[derive(Drop)]
 pub struct Told {
     pub last: Last,
     pub least: Option<Limits>,
     pub tried: Option<Work>,
-    pub widest: Option<(Ending, u64)>,
-    pub wanted: Option<usize>,
+    pub widest: Option<WideEnd>,
 }
 
 /// Adds a printable text as a JSON string that may stand in a page: `"`, `\`, `<`, `&` and LF are escaped.
@@ -372,15 +370,25 @@ fn push_end(text: &mut String, survey: &Survey) -> Result<(), AllocError> {
     push_amounts(text, "used", used)
 }
 
-/// Adds the member for how a job ends within the widest limits, if that is known and it doesn't return.
-fn push_widest(text: &mut String, widest: Option<(Ending, u64)>) -> Result<(), AllocError> {
-    let Some((ending, executed)) = widest else {
-        return Ok(());
-    };
+/// Adds the member for the words that were held and needed at a refused instruction, if the limit was that on words.
+fn push_wanted(text: &mut String, wanted: Option<usize>) -> Result<(), AllocError> {
+    if let Some(wanted) = wanted {
+        write!(text, ",\"wanted\":{wanted}")?;
+    }
+    Ok(())
+}
+
     write!(text, ",\"widest\":{{\"instructions\":{executed}")?;
-    push_ending(text, ending)?;
+    push_ending(text, end.ending)?;
+    push_wanted(text, end.wanted)?;
     text.push('}')
 }
+/// Adds the member for how a job ends within the widest limits, if that is known and it doesn't return.
+fn push_widest(text: &mut String, widest: Option<WideEnd>) -> Result<(), AllocError> {
+    let Some(end) = widest else {
+        return Ok(());
+    };
+    let executed = end.executed;
 
 /// Adds the members for what is said of the end of a job that ended so, and ends its object.
 pub fn push_told(
@@ -398,9 +406,7 @@ pub fn push_told(
 
 /// Adds the members for the words that were wanted, the least limits, and the work after which these were given up.
 fn push_limits_told(text: &mut String, told: &Told) -> Result<(), AllocError> {
-    if let Some(wanted) = told.wanted {
-        write!(text, ",\"wanted\":{wanted}")?;
-    }
+    push_wanted(text, told.last.wanted)?;
     if let Some(least) = told.least {
         push_limits(text, "least", least)?;
     }

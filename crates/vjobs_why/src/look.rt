@@ -17,12 +17,13 @@ use crate::stops::show_sought;
 use crate::survey::{Again, Survey};
 use crate::values::{Part, ValueRange, print_values};
 use crate::watch::Watch;
-use crate::wide::{Course, MOST_BEFORE, Wide, Work, run_wide};
+use crate::wide::{Course, MOST_BEFORE, WideEnd, Work, run_wide};
 use job_steps::Job;
 use refusal_notes::{Lines, printable};
 use std::alloc::{AllocError, Global};
 use std::io;
-use vcode_base::{Limits, MemoryFault, Rule};
+use vcode_base::limits::MOST_WORDS;
+use vcode_base::{Limits, Rule};
 use vcode_reader::Program;
 
 /// The rule and the lines of a batch, and whether a job that a limit ended is run again within the widest limits, to
@@ -136,14 +137,25 @@ fn print_within(rt: &HostRuntime, name: &[u8], least: Limits) -> io::Result<()> 
     )
 }
 
+/// Prints how a job of this name ends within the widest limits.
+fn print_wide_end(rt: &HostRuntime, name: &[u8], end: WideEnd) -> io::Result<()> {
+    if end.ending == Ending::Returned {
+        return print_least(rt, name, end.least);
+    }
+    print!(rt; "\nWithin the widest limits it ends so: ")?;
+    print_ending(rt, end.ending, end.executed)?;
+    match end.wanted {
+        Some(wanted) => println!(rt;
+            "There {wanted} words would be held and needed, and a job has at most {MOST_WORDS}"
+        ),
+        None => Ok(()),
+    }
+}
+
 /// Prints how a job of this name goes on within the widest limits.
 fn print_course(rt: &HostRuntime, name: &[u8], course: Course) -> io::Result<()> {
     match course {
-        Course::Ends(Ending::Returned, _, least) => print_least(rt, name, least),
-        Course::Ends(ending, executed, _) => {
-            print!(rt; "\nWithin the widest limits it ends so: ")?;
-            print_ending(rt, ending, executed)
-        }
+        Course::Ends(end) => print_wide_end(rt, name, end),
         Course::GoesOn(work) => {
             let (instructions, elements) = (work.instructions, work.elements);
             print!(rt; "\nNo limits within which it returns were found ")?;
@@ -201,7 +213,7 @@ fn wide_of(
     batch: Batch<'_>,
     job: Job<Global>,
     end: End,
-) -> Result<(Option<Wide>, Job<Global>), AllocError> {
+) -> Result<(Option<Course>, Job<Global>), AllocError> {
     match end.ending {
         Ending::Memory(..) | Ending::Budget if batch.tries_least => {
             let (wide, job) = run_wide(alloc, batch.rule, job, end)?;
@@ -220,7 +232,7 @@ fn last_told(
     (before, job): (Before, Job<Global>),
     end: End,
     most: usize,
-) -> Result<(Last, Option<Wide>, Job<Global>), AllocError> {
+) -> Result<(Last, Option<Course>, Job<Global>), AllocError> {
     match wide_of(alloc, batch, job, end) {
         Ok((wide, job)) => last_within(alloc, batch, (before, job), end, wide, most),
         Err(error) => {
@@ -236,10 +248,10 @@ fn last_within(
     batch: Batch<'_>,
     (before, job): (Before, Job<Global>),
     end: End,
-    wide: Option<Wide>,
+    wide: Option<Course>,
     most: usize,
-) -> Result<(Last, Option<Wide>, Job<Global>), AllocError> {
-    let (last, job) = last_of(alloc, batch, (before, job), end, wide, most)?;
+) -> Result<(Last, Option<Course>, Job<Global>), AllocError> {
+    let (last, job) = last_of(alloc, batch, (before, job), end, most)?;
     Ok((last, wide, job))
 }
 
@@ -250,7 +262,7 @@ struct Ended {
     end: End,
     steps: Vec<Step>,
     last: Last,
-    wide: Option<Wide>,
+    wide: Option<Course>,
 }
 
 /// What is shown of a job whose end was seen so, and the job.
@@ -314,9 +326,9 @@ fn print_all(
 }
 
 /// Prints within which limits a job of this name returns, that ended so.
-fn print_limits(rt: &HostRuntime, name: &[u8], end: End, wide: Option<Wide>) -> io::Result<()> {
+fn print_limits(rt: &HostRuntime, name: &[u8], end: End, wide: Option<Course>) -> io::Result<()> {
     match wide {
-        Some(wide) => print_course(rt, name, wide.course),
+        Some(course) => print_course(rt, name, course),
         None => print_least(rt, name, end.least),
     }
 }
@@ -410,39 +422,27 @@ fn show_profile(rt: &HostRuntime, batch: Batch<'_>, job: Job<Global>, all: bool)
 }
 
 /// The least limits within which a job returns, if it returned, or returns within wider ones.
-fn least_of(end: End, wide: Option<Wide>) -> Option<Limits> {
+fn least_of(end: End, wide: Option<Course>) -> Option<Limits> {
     match wide {
-        Some(wide) => match wide.course {
-            Course::Ends(_, _, least) => least,
-            Course::GoesOn(_) | Course::NotRun => None,
-        },
+        Some(Course::Ends(end)) => end.least,
+        Some(Course::GoesOn(_) | Course::NotRun) => None,
         None => end.least,
     }
 }
 
 /// The work after which a job was not over within the widest limits, if it was given up there.
-fn tried_of(wide: Option<Wide>) -> Option<Work> {
-    match wide?.course {
+fn tried_of(wide: Option<Course>) -> Option<Work> {
+    match wide? {
         Course::GoesOn(work) => Some(work),
-        Course::Ends(..) | Course::NotRun => None,
+        Course::Ends(_) | Course::NotRun => None,
     }
 }
 
-/// How a job ends within the widest limits and after how many instructions, if it doesn't return there.
-fn widest_of(wide: Option<Wide>) -> Option<(Ending, u64)> {
-    match wide?.course {
-        Course::Ends(Ending::Returned, ..) | Course::GoesOn(_) | Course::NotRun => None,
-        Course::Ends(ending, executed, _) => Some((ending, executed)),
-    }
-}
-
-/// The words that the last instruction of a job wanted, if they passed its limit.
-fn wanted_of(end: End, wide: Option<Wide>, limit: usize) -> Option<usize> {
-    match (end.ending, wide) {
-        (Ending::Memory(MemoryFault::Words, _), Some(wide)) if wide.wanted > limit => {
-            Some(wide.wanted)
-        }
-        _ => None,
+/// How a job ends within the widest limits, if it doesn't return there.
+fn widest_of(wide: Option<Course>) -> Option<WideEnd> {
+    match wide? {
+        Course::Ends(end) if end.ending != Ending::Returned => Some(end),
+        Course::Ends(_) | Course::GoesOn(_) | Course::NotRun => None,
     }
 }
 
@@ -454,7 +454,6 @@ fn push_last(
     (before, job): (Before, Job<Global>),
     end: End,
 ) -> Result<(), AllocError> {
-    let limit = job.limits().words;
     let (last, wide, job) = last_told(alloc, batch, (before, job), end, MOST_ENTRIES)?;
     drop(job);
     let told = Told {
@@ -462,7 +461,6 @@ fn push_last(
         least: least_of(end, wide),
         tried: tried_of(wide),
         widest: widest_of(wide),
-        wanted: wanted_of(end, wide, limit),
     };
     let pushed = push_told(text, alloc, end.ending, &told);
     drop(told);
