@@ -57,14 +57,19 @@ pub fn push_comma(text: &mut String, place: usize) -> Result<(), AllocError> {
 }
 
 /// Adds the first members: the place and the name of a job.
-fn push_job(text: &mut String, alloc: Global, place: u64, name: &[u8]) -> Result<(), AllocError> {
+pub fn push_job(
+    text: &mut String,
+    alloc: Global,
+    place: u64,
+    name: &[u8],
+) -> Result<(), AllocError> {
     write!(text, "{{\"job\":{place},\"name\":")?;
     let name = printable(alloc, name)?;
     push_quoted(text, name.as_str())
 }
 
 /// Adds how a job ended, and its last line if a fault has one.
-fn push_ending(text: &mut String, ending: Ending) -> Result<(), AllocError> {
+pub fn push_ending(text: &mut String, ending: Ending) -> Result<(), AllocError> {
     match ending {
         Ending::Returned => text.push_str(",\"end\":\"RETURNED\",\"line\":null")?,
         Ending::Budget => text.push_str(",\"end\":\"BUDGET\",\"line\":null")?,
@@ -378,17 +383,17 @@ fn push_wanted(text: &mut String, wanted: Option<usize>) -> Result<(), AllocErro
     Ok(())
 }
 
-    write!(text, ",\"widest\":{{\"instructions\":{executed}")?;
-    push_ending(text, end.ending)?;
-    push_wanted(text, end.wanted)?;
-    text.push('}')
-}
 /// Adds the member for how a job ends within the widest limits, if that is known and it doesn't return.
 fn push_widest(text: &mut String, widest: Option<WideEnd>) -> Result<(), AllocError> {
     let Some(end) = widest else {
         return Ok(());
     };
     let executed = end.executed;
+    write!(text, ",\"widest\":{{\"instructions\":{executed}")?;
+    push_ending(text, end.ending)?;
+    push_wanted(text, end.wanted)?;
+    text.push('}')
+}
 
 /// Adds the members for what is said of the end of a job that ended so, and ends its object.
 pub fn push_told(
@@ -397,7 +402,7 @@ pub fn push_told(
     ending: Ending,
     told: &Told,
 ) -> Result<(), AllocError> {
-    push_picture(text, alloc, ending, &told.last.picture)?;
+    push_picture(text, alloc, Some(ending), &told.last.picture)?;
     push_note(text, told.last.note.as_str())?;
     push_widest(text, told.widest)?;
     push_limits_told(text, told)?;

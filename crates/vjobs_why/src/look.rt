@@ -13,7 +13,7 @@ use crate::spans::Spans;
 use crate::stack::{MOST_ENTRIES, print_calls, print_stack};
 use crate::step::{Step, print_head, print_step};
 use crate::steps::show_steps;
-use crate::stops::show_sought;
+use crate::stops::{State, show_sought};
 use crate::survey::{Again, Survey};
 use crate::values::{Part, ValueRange, print_values};
 use crate::watch::Watch;
@@ -394,7 +394,7 @@ fn print_state(rt: &HostRuntime, batch: Batch<'_>, watch: &Watch, part: Part) ->
     }
 }
 
-/// Prints this of what there is after so many instructions of a run that has executed nothing.
+/// Prints this of what there is after this many instructions of a run that has executed nothing.
 fn print_after(
     rt: &HostRuntime,
     batch: Batch<'_>,
@@ -520,7 +520,7 @@ fn print_name(rt: &HostRuntime, place: u64, name: &[u8]) -> io::Result<()> {
     print!(rt; "JOB {place} {name} ")
 }
 
-/// Shows this of what there is after so many instructions of a job, on the line of its name.
+/// Shows this of what there is after this many instructions of a job, on the line of its name.
 pub fn show_after(
     rt: &HostRuntime,
     batch: Batch<'_>,
@@ -534,14 +534,27 @@ pub fn show_after(
     shown
 }
 
+/// Shows this of a state of a job, on the line of its name.
+fn show_state(
+    rt: &HostRuntime,
+    batch: Batch<'_>,
+    job: Job<Global>,
+    state: &State,
+    part: Part,
+) -> io::Result<()> {
+    match state {
+        State::Last => show_end(rt, batch, job, part),
+        State::After(count) => show_after(rt, batch, job, *count, part),
+        State::At(sought) => show_sought(rt, batch, job, sought, part),
+    }
+}
+
 /// Shows what was asked for of a job, on the line of its name.
 fn show_named(rt: &HostRuntime, batch: Batch<'_>, job: Job<Global>, look: &Look) -> io::Result<()> {
     match look {
-        Look::End(part) => show_end(rt, batch, job, *part),
+        Look::State(state, part) => show_state(rt, batch, job, state, *part),
         Look::Profile { all } => show_profile(rt, batch, job, *all),
         Look::Steps(selection) => show_steps(rt, batch, job, *selection),
-        Look::After(count, part) => show_after(rt, batch, job, *count, *part),
-        Look::At(sought, part) => show_sought(rt, batch, job, sought, *part),
         Look::Folded(unit) => print_folded(rt, batch, job, *unit),
     }
 }
