@@ -1,11 +1,10 @@
 """What `vjobs-why` has to say of the last line of a job, from the second writing."""
 import vectors
-from instructions import ELEMENTWISE, INT, SEGDES, kinds_of
+from instructions import ELEMENTWISE, SEGDES, kinds_of
 from reader import Item
 from runs import NOT_SINGLE, Run, need
-from vectors import NoResult, results, segments
+from vectors import segments
 
-GREATEST_WORDS = 1_048_576
 # The names of the operands of the instructions over segments that aren't folds or DIST, by the page on the language.
 NAMES = {
     "INDEX": "A D S", "PERMUTE": "V I S", "EXTRACT": "V I S", "BPERMUTE": "V I S R", "DPERMUTE": "V I D S R",
@@ -77,18 +76,6 @@ def fault_note(word: str, kinds: list[str], operands: list[list[int]], fault: st
     return "; ".join(length(name, kind, of[name]) for name, kind in zip(of, kinds))
 
 
-def needed(item: Item, operands: list[list[int]]) -> int | None:
-    """The words that an instruction needs, or None if it has no results."""
-    if item.what == "Const":
-        return len(item.numbers)
-    try:
-        results(item.word, item.kind or INT, operands)
-    except NoResult as end:
-        if not str(end).startswith("needs"):
-            return None
-    return need(item.word, operands)
-
-
 def depth_after(item: Item, depth: int) -> int:
     if item.what == "Const":
         return depth + 1
@@ -99,7 +86,7 @@ def depth_after(item: Item, depth: int) -> int:
 
 
 def note_of(job: Run, item: Item, end: str) -> tuple[str | None, int | None]:
-    """What is said of the instruction that a job ended before, and the words that it wanted if they are known."""
+    """What is said of the instruction that a job ended before, and the words that it wanted if these ended it."""
     limits, depth = job.limits, len(job.stack)
     if end in ("RETURNED", "BUDGET"):
         return {"RETURNED": "returns", "BUDGET": "would be next"}[end], None
@@ -114,8 +101,6 @@ def note_of(job: Run, item: Item, end: str) -> tuple[str | None, int | None]:
     operands = [entry.words for entry in job.stack[depth - len(kinds) :]]
     if end.startswith("FAULT "):
         return fault_note(item.word, kinds, operands, end.removeprefix("FAULT ")), None
-    held, more = job.words(len(kinds), 0), needed(item, operands)
+    held, more = job.words(len(kinds), 0), len(item.numbers) if item.what == "Const" else need(item.word, operands)
     below = " below the operands" if job.is_second and kinds else ""
-    if more is None or held + more > GREATEST_WORDS:
-        return f"{held} words held{below} and those needed are more than the limit, which is {limits.words}", None
     return f"{held} words held{below} and {more} needed are {held + more}, and the limit is {limits.words}", held + more

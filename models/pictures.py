@@ -163,6 +163,16 @@ def range_text(job: Pictured, data: bytes, depth: int, first: int, last: int) ->
     return [head, *(f"  {place:>9}  {' '.join(words[place : min(place + 8, last + 1)])}" for place in rows)]
 
 
+def range_data(job: Pictured, depth: int, first: int, last: int) -> dict[str, Any]:
+    """The members for the values of an entry from one place to another."""
+    if depth >= len(job.stack):
+        return {"entries": len(job.stack), "entry": None}
+    entry = job.stack[-1 - depth]
+    values = " ".join(word_text(entry.kind, word) for word in entry.words[first : last + 1])
+    return {"entries": len(job.stack), "entry": {"depth": depth, "kind": entry.kind.upper(), "length": len(entry.words),
+                                                 "line": job.makers[entry.tag], "first": first, "values": values}}
+
+
 # ---- looks
 
 def jobs_of(data: bytes) -> list[tuple[int, Any, list[Function], batches.JobText, Any]]:
@@ -261,4 +271,40 @@ def looks(data: bytes, chance: random.Random) -> list[tuple[list[str], list[str]
         until = count + chance.randint(0, 6)
         made = all_made(third, max(count, 1), until)
         found.append(([*head, "--steps", "--values", "--from", str(max(count, 1)), "--to", str(until)], made))
+    return found
+
+
+def used_at(job: Pictured, goes_on: bool) -> dict[str, Any]:
+    """The members for what a job has used up to a state, and for its next line."""
+    return {"instructions": job.executed, "peak": job.peak, "next": job.calls[-1][0].line if goes_on else None}
+
+
+def looks_at_data(data: bytes, chance: random.Random) -> list[tuple[list[str], dict[str, Any]]]:
+    """Options for states of the jobs of a batch that run, as data, with the objects that have to be printed."""
+    from profiles import end_of
+
+    found: list[tuple[list[str], dict[str, Any]]] = []
+    for (place, _, functions, text, job), (*_, again) in zip(jobs_of(data), jobs_of(data)):
+        steps = length_of(job)
+        if steps is None:
+            continue
+        names = {"job": place, "name": text[1]}
+        depth, first = chance.randint(0, len(job.stack)), chance.choice([0, 0, 1, 5])
+        last = chance.choice([first, first + 9, 10**9])
+        values = f"--values={depth}" + ("" if (first, last) == (0, 10**9) else f":{first}-{last}")
+        there, next_line = range_data(job, depth, first, last), job.calls[-1][0].line
+        end, line = end_of(job)
+        used = {"end": end, "line": line, **used_at(job, False), "next": next_line}
+        found.append((["--job", str(place), "--json", values], {**names, **used, **there}))
+        count = chance.randint(0, steps + 1)
+        goes_on = go_to(again, count)
+        options, used = ["--job", str(place), "--json", "--after", str(count)], used_at(again, goes_on)
+        if not goes_on:
+            found += [([*options, *more], {**names, **used}) for more in ([], ["--all"], [values])]
+            continue
+        found.append(([*options, values], {**names, **used, **range_data(again, depth, first, last)}))
+        state = {"functions": [function.name for function in functions], **picture(again, functions, "")}
+        found.append((options, {**names, **used, **state}))
+        whole = {**state["stack"], "left": 0, "list": entries_of(again)}
+        found.append(([*options, "--all"], {**names, **used, **state, "stack": whole}))
     return found

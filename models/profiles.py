@@ -11,13 +11,13 @@ import runs
 import sources
 from faults import Fault
 from instructions import kinds_of
-from notes import GREATEST_WORDS, note_of
+from notes import note_of
 from reader import Function
 from runs import Limits
 
 # The most columns of the words over time, and the most chains of functions.
 MOST_COLUMNS, MOST_CHAINS = 2048, 4096
-GREATEST_CELLS, GREATEST_CALLS, GREATEST_BUDGET = 4096, 1024, 1_000_000_000
+GREATEST_WORDS, GREATEST_CELLS, GREATEST_CALLS, GREATEST_BUDGET = 1_048_576, 4096, 1024, 1_000_000_000
 # What a run within wide limits may execute beside four times what the job did, or what the job did if its budget ended
 # it.
 # It may also be given up after many elements, which no run has that is as short as the next limit.
@@ -195,8 +195,11 @@ def course(job: Counted, end: str, functions: list[Function]) -> dict[str, Any]:
         return {"least": UNKNOWN, "widest": UNKNOWN}
     if end == "RETURNED":
         return {"least": limits_shown(job.peak, max(job.cells, 1), job.most_calls, job.executed), "widest": None}
-    is_known = is_ended and end != "BUDGET"
-    return {"least": None, "widest": {"instructions": job.executed, "end": end, "line": line} if is_known else None}
+    if not is_ended or end == "BUDGET":
+        return {"least": None, "widest": None}
+    widest: dict[str, Any] = {"instructions": job.executed, "end": end, "line": line}
+    wanted = note_of(job, job.item, end)[1]
+    return {"least": None, "widest": widest if wanted is None else {**widest, "wanted": wanted}}
 
 
 def profile(functions: list[Function], limits: Limits, is_second: bool, known: kinds.Signatures) -> dict[str, Any]:

@@ -7,7 +7,9 @@ instructions, at a line and at each instruction is shown too: the counts have to
 `vjobs-why` names a JOB line within which a job returns, the job has to return within it, and with any number of it one
 less it must not. The states at which `--at` and `--when` stop, the calls, stacks and values of states, and what
 `--json` prints, have to be those of the second writing, for these batches and for as many random ones as are asked for
-(300 by default). Half of the random ones have comments that name lines of a source."""
+(300 by default). So has what is said where kinds don't fit, and what is said to be left out, also for each batch with
+one word changed. Half of the random ones have comments that name lines of a source."""
+import json
 import random
 import re
 import subprocess
@@ -16,6 +18,7 @@ from collections.abc import Iterator
 
 import pictures
 import profiles
+import refusals
 import sources
 import stops
 from random_batches import RandomBatches
@@ -183,6 +186,20 @@ def wrong_pictures(program: str, batch: bytes, seed: int) -> Iterator[str]:
             yield f"{' '.join(options)}: exit {status}: {said}{shown}, and not {lines}"
 
 
+def wrong_data(program: str, batch: bytes, seed: int) -> Iterator[str]:
+    """What is wrong with states of the jobs of a batch as data."""
+    for options, wanted in pictures.looks_at_data(batch, random.Random(seed)):
+        status, shown, said = run(program, batch, *options)
+        if status or said or json.loads(shown) != wanted:
+            yield f"{' '.join(options)}: exit {status}: {said}{shown}, and not {wanted}"
+
+
+def wrong_refusals(program: str, batch: bytes, seed: int) -> Iterator[str]:
+    """What is wrong with what is shown of the refused jobs of a batch, and of the batch with a changed word."""
+    for text in (batch, refusals.broken(batch, random.Random(seed))):
+        yield from refusals.differences(run(program, text)[1], text)
+
+
 def wrong_sources(program: str, batch: bytes) -> Iterator[str]:
     """What is wrong with what is shown by lines of the source of the jobs of a batch."""
     for place, _, functions, (*_, code), run_of in pictures.jobs_of(batch):
@@ -219,11 +236,13 @@ def main(why: str, vjobs: str, count: int | str = 300, seed: int | str = 1) -> N
     batches = list(stored())
     for name, batch in batches:
         differences += [f"{name}: {text}" for text in (*wrong((why, vjobs), batch), *wrong_profiles(why, batch))]
-        looked = (*wrong_stops(why, batch, int(seed)), *wrong_pictures(why, batch, int(seed)))
+        looked = (*wrong_stops(why, batch, int(seed)), *wrong_pictures(why, batch, int(seed)),
+                  *wrong_data(why, batch, int(seed)), *wrong_refusals(why, batch, int(seed)))
         differences += [f"{name}: {text}" for text in looked]
     for place, (name, batch) in enumerate(random_ones(int(count), int(seed))):
         looked = (*wrong_profiles(why, batch), *wrong_stops(why, batch, int(seed) + place),
-                  *wrong_pictures(why, batch, int(seed) + place), *wrong_sources(why, batch))
+                  *wrong_pictures(why, batch, int(seed) + place), *wrong_sources(why, batch),
+                  *wrong_data(why, batch, int(seed) + place), *wrong_refusals(why, batch, int(seed) + place))
         differences += [f"{name}: {text}" for text in looked]
     print(*differences, sep="\n", end="\n" if differences else "")
     print(f"whys: {len(batches)} batches and {count} random ones, {len(differences)} differences")

@@ -108,10 +108,10 @@ def many_values() -> str:
             "COPY 1 1\nCONST INT (3 0 2)\nMAKE_SEGDES\nCOPY 1 1\nRET\nEND\n")
 
 
-def far() -> str:
-    """A job that wants much more than its limit."""
-    return ("JOB far 8 16 4 100\nSIGNATURES\nMAIN () -> (INT)\nCODE\nFUNC MAIN\nCONST INT 7\nCONST INT 1000\nMAKE_SEGDES\n"
-            "DIST INT\nRET\nEND\n")
+def far(count: int) -> str:
+    """A job that wants a vector of this many words, which is much more than its limit."""
+    return (f"JOB far 8 16 4 100\nSIGNATURES\nMAIN () -> (INT)\nCODE\nFUNC MAIN\nCONST INT 7\nCONST INT {count}\n"
+            "MAKE_SEGDES\nDIST INT\nRET\nEND\n")
 
 
 def tall() -> str:
@@ -143,7 +143,7 @@ def batches() -> dict[str, bytes]:
     found["budget"] = budget().encode()
     found["attacks"] = attacks().encode("latin1")
     found["long"] = long_run(22, 5).encode()
-    found |= {"narrow": narrow().encode(), "sixty_four": many().encode(), "far": far().encode(), "tall": tall().encode(),
-              "chains": chains(12).encode(),
+    found |= {"narrow": narrow().encode(), "sixty_four": many().encode(), "far": far(1000).encode(), "tall": tall().encode(),
+              "chains": chains(12).encode(), "too_far": far(4_000_000_000).encode(),
               "entries": entries().encode(), "deep": deep().encode(), "many_values": many_values().encode()}
     return found

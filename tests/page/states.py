@@ -25,6 +25,8 @@ def ends(shown: dict, job: dict, wanted: Wanted) -> Iterator[str]:
     if widest := job.get("widest"):
         at = f" at line {widest['line']}" if widest["line"] else ""
         told = f"Within the widest limits it ends so: {widest['end']}{at}, after {widest['instructions']:,} instructions."
+        if "wanted" in widest:
+            told += f" There {widest['wanted']:,} words would be held and needed."
         yield from differ("the end within the widest limits", shown["told"], [told])
     if text := job.get("text"):
         notes = text.split("\n")

@@ -19,6 +19,9 @@ const MOST_ENTRIES: usize = 24;
 /// The most names that are shown.
 const MOST_NAMES: usize = 16;
 
+/// The names of what has none.
+const NO_NAMES: &[&str] = &[];
+
 /// The lines of a batch, and the parts of a job there.
 #[derive(Clone, Copy)]
 struct Source<'a> {
@@ -73,33 +76,19 @@ fn read_parts(
     }
 }
 
-/// What is wanted at this depth of what is wanted from the bottom up.
-fn wanted_at(wanted: &[Wanted], depth: usize) -> &'static str {
-    let Some(place) = wanted.len().checked_sub(depth.saturating_add(1)) else {
-        return "";
-    };
-    match wanted.get(place) {
-        Some(Wanted::Of(kind)) => kind_text(*kind),
+/// What is at this depth of a list from the bottom up, if anything is.
+fn at_depth<T: Copy>(list: &[T], depth: usize) -> Option<T> {
+    let place = list.len().checked_sub(depth.checked_add(1)?)?;
+    list.get(place).copied()
+}
+
+/// The word for what is wanted at a place.
+fn wanted_word(wanted: Option<Wanted>) -> &'static str {
+    match wanted {
+        Some(Wanted::Of(kind)) => kind_text(kind),
         Some(Wanted::Any) => "any",
         None => "",
     }
-}
-
-/// The name at this depth of names from the bottom up.
-fn name_at(names: &'static [&'static str], depth: usize) -> &'static str {
-    let Some(place) = names.len().checked_sub(depth.saturating_add(1)) else {
-        return "";
-    };
-    match names.get(place) {
-        Some(name) => *name,
-        None => "",
-    }
-}
-
-/// The entry at this depth of a stack.
-fn entry_at(stack: &[StackEntry], depth: usize) -> Option<StackEntry> {
-    let place = stack.len().checked_sub(depth.checked_add(1)?)?;
-    stack.get(place).copied()
 }
 
 /// The kind of an entry, and the line that makes it with its code; or that there is none.
@@ -117,49 +106,116 @@ fn made_text(
     format!(in alloc; "  {kind:>6}  line {line:>6}  {code}\n")
 }
 
-/// The entries of a stack, the top first.
-fn entries_text(
-    alloc: Global,
-    source: Source<'_>,
-    stack: &[StackEntry],
-) -> Result<String, AllocError> {
-    if stack.is_empty() {
-        return String::from_str(alloc, "  nothing\n");
-    }
-    let mut text = String::new(alloc);
-    for depth in 0..stack.len() {
-        if depth == MOST_ENTRIES {
-            let more = stack.len() - depth;
-            write!(text, "  .. and {more} more\n")?;
-            break;
-        }
-        let made = made_text(alloc, source, entry_at(stack, depth))?;
-        write!(text, "  {depth:>5}{made}")?;
-    }
-    Ok(text)
+/// What the entries of a stack are compared with.
+#[derive(Clone, Copy)]
+enum Beside<'a> {
+    /// The entries that are wanted at its top, from the bottom up, with their names if they have some.
+    Operands(&'a [Wanted], &'static [&'static str]),
+    /// All entries that are wanted, from the bottom up.
+    Results(&'a [Wanted]),
+    /// The stack that the other part of an IF leaves.
+    Part(&'a [StackEntry]),
 }
 
-/// What is wanted beside the entries of a stack, the top first.
-fn wanted_text(
-    alloc: Global,
-    source: Source<'_>,
-    stack: &[StackEntry],
-    wanted: &[Wanted],
-    names: &'static [&'static str],
-) -> Result<String, AllocError> {
-    let mut text = String::from_str(alloc, "  entry  operand  wanted   there\n")?;
-    let count = stack.len().max(wanted.len());
-    for depth in 0..count {
-        if depth == MOST_ENTRIES {
-            let more = count - depth;
-            write!(text, "  .. and {more} more\n")?;
-            break;
-        }
-        let (name, kind) = (name_at(names, depth), wanted_at(wanted, depth));
-        let made = made_text(alloc, source, entry_at(stack, depth))?;
-        write!(text, "  {depth:>5}  {name:>7}  {kind:>6}{made}")?;
+/// A stack beside what its entries are compared with, a row for each depth.
+#[derive(Clone, Copy)]
+struct Table<'a> {
+    stack: &'a [StackEntry],
+    beside: Beside<'a>,
+}
+
+/// Whether an entry is there, and as it is wanted.
+fn fits(entry: Option<StackEntry>, wanted: Wanted) -> bool {
+    match (entry, wanted) {
+        (Some(entry), Wanted::Of(kind)) => entry.kind == kind,
+        (Some(_), Wanted::Any) => true,
+        (None, _) => false,
     }
-    Ok(text)
+}
+
+/// Whether another stack has no entry of the kind of the one at a depth of a stack as far above its bottom.
+fn is_apart(stack: &[StackEntry], other: &[StackEntry], depth: usize) -> bool {
+    let Some(place) = stack.len().checked_sub(depth.saturating_add(1)) else {
+        return false;
+    };
+    match (stack.get(place), other.get(place)) {
+        (Some(entry), Some(other)) => entry.kind != other.kind,
+        _ => true,
+    }
+}
+
+impl Table<'_> {
+    /// How many rows it has.
+    fn len(self) -> usize {
+        match self.beside {
+            Beside::Operands(wanted, _) | Beside::Results(wanted) => {
+                self.stack.len().max(wanted.len())
+            }
+            Beside::Part(_) => self.stack.len(),
+        }
+    }
+
+    /// Whether the row for a depth is marked, since the entry differs from what it is compared with.
+    fn is_marked(self, depth: usize) -> bool {
+        let entry = at_depth(self.stack, depth);
+        match self.beside {
+            Beside::Operands(wanted, _) => match at_depth(wanted, depth) {
+                Some(wanted) => !fits(entry, wanted),
+                None => false,
+            },
+            Beside::Results(wanted) => match at_depth(wanted, depth) {
+                Some(wanted) => !fits(entry, wanted),
+                None => entry.is_some(),
+            },
+            Beside::Part(other) => is_apart(self.stack, other, depth),
+        }
+    }
+
+    /// What the row for a depth begins with, if one of the rows from there up to another depth is marked, or none.
+    fn mark(self, depth: usize, end: usize) -> &'static str {
+        if (depth..end).any(|depth| self.is_marked(depth)) {
+            "*"
+        } else {
+            " "
+        }
+    }
+
+    /// What is wanted at a depth, with its name.
+    fn wanted_text(self, alloc: Global, depth: usize) -> Result<String, AllocError> {
+        let (wanted, names) = match self.beside {
+            Beside::Operands(wanted, names) => (wanted, names),
+            Beside::Results(wanted) => (wanted, NO_NAMES),
+            Beside::Part(_) => return Ok(String::new(alloc)),
+        };
+        let name = at_depth(names, depth).unwrap_or("");
+        let kind = wanted_word(at_depth(wanted, depth));
+        format!(in alloc; "  {name:>7}  {kind:>6}")
+    }
+
+    /// The row for a depth.
+    fn row(self, alloc: Global, source: Source<'_>, depth: usize) -> Result<String, AllocError> {
+        let mark = self.mark(depth, depth.saturating_add(1));
+        let wanted = self.wanted_text(alloc, depth)?;
+        let made = made_text(alloc, source, at_depth(self.stack, depth))?;
+        format!(in alloc; "{mark} {depth:>5}{wanted}{made}")
+    }
+
+    /// The rows, the top first. After the first of many the last row counts the others.
+    fn rows(self, alloc: Global, source: Source<'_>) -> Result<String, AllocError> {
+        let count = self.len();
+        if count == 0 {
+            return String::from_str(alloc, "  nothing\n");
+        }
+        let mut text = String::new(alloc);
+        for depth in 0..count.min(MOST_ENTRIES) {
+            text.push_str(self.row(alloc, source, depth)?.as_str())?;
+        }
+        if count > MOST_ENTRIES {
+            let (mark, more) = (self.mark(MOST_ENTRIES, count), count - MOST_ENTRIES);
+            write!(text, "{mark} .. and {more} more\n")?;
+        }
+        Ok(text)
+    }
 }
 
 /// Which instruction of its line it is, if others of the line come before it.
@@ -171,6 +227,45 @@ fn place_note(alloc: Global, before: usize) -> Result<String, AllocError> {
     format!(in alloc; "it is instruction {number} of its line\n")
 }
 
+/// What the parts of an IF leave.
+fn parts_text(
+    alloc: Global,
+    source: Source<'_>,
+    first: &[StackEntry],
+    second: &[StackEntry],
+) -> Result<String, AllocError> {
+    let if_true = Table {
+        stack: first,
+        beside: Beside::Part(second),
+    };
+    let if_false = Table {
+        stack: second,
+        beside: Beside::Part(first),
+    };
+    let (if_true, if_false) = (if_true.rows(alloc, source)?, if_false.rows(alloc, source)?);
+    format!(in alloc;
+        "if its flag is T, the IF leaves, the top first:\n{if_true}\
+         if its flag is F, the IF leaves, the top first:\n{if_false}\
+         * marks what the other part doesn't leave, counted from the bottom\n"
+    )
+}
+
+/// What is wanted beside the stack of the function of this name.
+fn wanted_text(
+    alloc: Global,
+    source: Source<'_>,
+    name: &str,
+    count: usize,
+    table: Table<'_>,
+) -> Result<String, AllocError> {
+    let there = table.stack.len();
+    let rows = table.rows(alloc, source)?;
+    format!(in alloc;
+        "entries wanted: {count}, on the stack of {name}: {there}; the top first, * marks what differs\n  \
+         entry  operand  wanted   there\n{rows}"
+    )
+}
+
 /// Where kinds don't fit in the function of this name.
 fn misfit_text(
     alloc: Global,
@@ -178,24 +273,15 @@ fn misfit_text(
     name: &str,
     misfit: &Misfit,
 ) -> Result<String, AllocError> {
-    match &misfit.clash {
-        Clash::Operands(wanted, names) => {
-            let (count, there) = (wanted.len(), misfit.stack.len());
-            let place = place_note(alloc, misfit.before)?;
-            let beside = wanted_text(alloc, source, &misfit.stack, wanted, names)?;
-            format!(in alloc;
-                "{place}entries wanted: {count}, on the stack of {name}: {there}; the top first\n{beside}"
-            )
-        }
-        Clash::Parts(second) => {
-            let first = entries_text(alloc, source, &misfit.stack)?;
-            let second = entries_text(alloc, source, second)?;
-            format!(in alloc;
-                "if its flag is T, the IF leaves, the top first:\n{first}\
-                 if its flag is F, the IF leaves, the top first:\n{second}"
-            )
-        }
-    }
+    let stack = misfit.stack.as_slice();
+    let (count, beside) = match &misfit.clash {
+        Clash::Operands(wanted, names) => (wanted.len(), Beside::Operands(wanted, names)),
+        Clash::Results(wanted) => (wanted.len(), Beside::Results(wanted)),
+        Clash::Parts(second) => return parts_text(alloc, source, stack, second),
+    };
+    let place = place_note(alloc, misfit.before)?;
+    let text = wanted_text(alloc, source, name, count, Table { stack, beside })?;
+    format!(in alloc; "{place}{text}")
 }
 
 /// Where kinds don't fit in a program, if that is at this line.

@@ -34,6 +34,8 @@ pub(crate) enum Wanted {
 pub(crate) enum Clash {
     /// The entries that an instruction takes, from the bottom up, with their names if they have some.
     Operands(Vec<Wanted>, &'static [&'static str]),
+    /// The entries that a function leaves, from the bottom up. It may leave no others.
+    Results(Vec<Wanted>),
     /// What the other part of an IF leaves, from the bottom up. What the stack has is left by the first.
     Parts(Vec<StackEntry>),
 }
@@ -204,7 +206,7 @@ impl Walk {
             return Ok(None);
         }
         let wanted = wanted_of(self.alloc, gives)?;
-        Ok(Some(Clash::Operands(wanted, &[])))
+        Ok(Some(Clash::Results(wanted)))
     }
 
     /// Keeps the stack for the other part of an IF.

@@ -13,6 +13,7 @@ mod expected;
 mod kind_notes;
 mod kind_walk;
 mod kinds;
+mod left_out;
 mod lines;
 mod meanings;
 mod motions;

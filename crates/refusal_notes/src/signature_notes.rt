@@ -1,6 +1,7 @@
 //! What was expected at a fault of a signature.
 
 use crate::expected::expected_in_signature;
+use crate::left_out::left_out_kind;
 use crate::lines::Lines;
 use crate::parts::Parts;
 use crate::words::{Text, Word, first_fault, words_of};
@@ -32,6 +33,14 @@ fn expected_note(alloc: Global, front: &[u8], place: &str) -> Result<String, All
     }
 }
 
+/// What may come after this front of a signature in place of a word, and that the word is a kind that is left out, if
+/// it is one.
+fn misplaced_note(alloc: Global, front: &[u8], word: &[u8]) -> Result<String, AllocError> {
+    let expected = expected_note(alloc, front, "here")?;
+    let left_out = left_out_kind(alloc, word)?;
+    format!(in alloc; "{expected}{left_out}")
+}
+
 /// The line of a fault with carets below the word with which it can't be a signature, and what was expected there.
 fn bad_line(alloc: Global, lines: &Lines, line: u64, note: &str) -> Result<String, AllocError> {
     let text = lines.bytes(line).unwrap_or(&[]);
@@ -39,7 +48,7 @@ fn bad_line(alloc: Global, lines: &Lines, line: u64, note: &str) -> Result<Strin
         Some(word) => {
             let front = text.get(..word.begin).unwrap_or(text);
             let around = lines.around_word(alloc, line, line, word, note)?;
-            (around, expected_note(alloc, front, "here")?)
+            (around, misplaced_note(alloc, front, word.of(text))?)
         }
         None => {
             let around = lines.around(alloc, line, note)?;

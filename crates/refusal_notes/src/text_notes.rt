@@ -4,6 +4,7 @@ ghost use Rattle.std.specs.Prelude.{◌≤◌, length};
 ghost use Rattle.vcode_reader.specs.declared.reader.TheConstants.{MOST_CODE_BYTES};
 
 use crate::expected::{expected_in_code, is_fault_next, is_name_next};
+use crate::left_out::left_out_word;
 use crate::lines::Lines;
 use crate::parts::LineSpan;
 use crate::words::{Text, Word, first_fault, open_comment, words_of};
@@ -13,12 +14,13 @@ use vcode_base::laws::line_feeds_are_few;
 use vcode_base::limits::{LONGEST_NAME, MOST_ELEMENTS, MOST_FUNCTIONS, MOST_MOVED, MOST_OPEN_IFS};
 use vcode_reader::{CodeFault, MOST_CODE_BYTES, Program, ReadFault};
 
-/// The first word of a code that can't come there, the code before it, and the code before the word before it.
+/// The first word of a code that can't come there, the code before it, the word before it, and the code before that.
 #[derive(Clone, Copy, Drop)]
 struct Misplaced<'a> {
     word: Word,
     bytes: &'a [u8],
     front: &'a [u8],
+    before: &'a [u8],
     earlier: &'a [u8],
 }
 
@@ -54,15 +56,16 @@ fn find_misplaced(alloc: Global, code: &[u8]) -> Result<Option<Misplaced<'_>>, A
     let Some(word) = words.get(place) else {
         return Ok(None);
     };
-    let earlier = match words.get(place.saturating_sub(1)) {
-        Some(earlier) => code.get(..earlier.begin).unwrap_or(code),
-        None => code,
+    let before = match words.get(place.saturating_sub(1)) {
+        Some(before) => *before,
+        None => *word,
     };
     Ok(Some(Misplaced {
         word: *word,
         bytes: word.of(code),
         front: code.get(..word.begin).unwrap_or(code),
-        earlier,
+        before: before.of(code),
+        earlier: code.get(..before.begin).unwrap_or(code),
     }))
 }
 
@@ -153,7 +156,12 @@ fn misplaced_note(
     fault: CodeFault,
 ) -> Result<String, AllocError> {
     match fault {
-        CodeFault::BadWord | CodeFault::BadNumber => expected_note(alloc, found.front, "here"),
+        CodeFault::BadWord => {
+            let expected = expected_note(alloc, found.front, "here")?;
+            let left_out = left_out_word(alloc, found.front, found.before, found.bytes)?;
+            format!(in alloc; "{expected}{left_out}")
+        }
+        CodeFault::BadNumber => expected_note(alloc, found.front, "here"),
         CodeFault::Misplaced => {
             let expected = expected_note(alloc, found.front, "here")?;
             let open = open_note(alloc, found.front, code)?;

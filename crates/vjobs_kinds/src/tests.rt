@@ -127,7 +127,8 @@ fn shows_names_of_files(rt: HostRuntime) -> Result<(), Fail> {
 /// A batch up to the `CODE` of its first job, which has no signatures.
 const FRONT: &str = "BATCH 2\nJOB one 9 9 9 9\n SIGNATURES \t\n\r\n";
 
-/// The rest of it: a job with signatures, one with a function at two kinds, and one with a bad word.
+/// The rest of it: a job with signatures, one with a function at two kinds, and one with an instruction that is left
+/// out of the profile.
 const REST: &str = "\
 CODE
 FUNC MAIN CALL f RET
@@ -153,7 +154,7 @@ END
 JOB four 9 9 9 9
 SIGNATURES
 CODE
-FUNC MAIN ADD RET
+FUNC MAIN MAX RET
 END";
 
 /// Why the last two have none.
@@ -168,11 +169,12 @@ JOB 3 three NO SIGNATURES line 23 f is used at two kinds
 JOB 4 four REFUSED line 29 S1 BAD_WORD
 
      28 | CODE
-     29 | FUNC MAIN ADD RET
+     29 | FUNC MAIN MAX RET
         |           ^^^ a word that may not come here, or a byte that no word has
      30 | END
 
 expected here: an instruction, RET
+left out of this profile: MAX
 Only this fault is sure: what comes after it in the job wasn't checked.
 
 ";

@@ -1,7 +1,7 @@
 //! The command line.
 
 use crate::selection::{Selection, line_range};
-use crate::stops::{Sought, place_sought, state_sought};
+use crate::stops::{Sought, State, place_sought, state_sought};
 use crate::values::{Part, value_range};
 use clap::parser::ValueSource;
 use clap::{Arg, ArgAction, ArgMatches, Command, value_parser};
@@ -15,12 +15,8 @@ const NAME: &str = "vjobs-why";
 /// What is to be shown of a job on a terminal.
 #[derive(Drop)]
 pub enum Look {
-    /// How it ended, with this of its last state.
-    End(Part),
-    /// This of what there is after so many instructions.
-    After(u64, Part),
-    /// This of what there is at a state that is looked for.
-    At(Sought, Part),
+    /// This of a state, and if that is the last one, how the job ended.
+    State(State, Part),
     /// A line for each instruction of a selection.
     Steps(Selection),
     /// The words over time, what held the most, and what its functions and lines did: all lines, or the first of them.
@@ -40,13 +36,22 @@ pub enum Unit {
     Source,
 }
 
+/// What is to be given of a job as data.
+#[derive(Drop)]
+pub enum Object {
+    /// All that is known of it.
+    Job,
+    /// This of a state, and if that is the last one, how the job ended.
+    State(State, Part),
+}
+
 /// How jobs are to be shown.
 #[derive(Drop)]
 pub enum Form {
     /// As texts, with this of each.
     Texts(Look),
     /// As data, an object for each.
-    Data,
+    Data(Object),
     /// As a page with this data, in the file of this name; `-` is standard output.
     Page(String),
 }
@@ -159,7 +164,7 @@ fn folded_option<'a>(alloc: Global) -> Arg<'a> {
         .default_missing_value("instructions")
         .value_parser(UNITS)
         .help(
-            "Shows instructions, also by lines of the source, or elements by stacks of functions, for flame graph tools",
+            "Shows instructions, also by lines of the source, or elements by stacks of functions, for flame graphs",
         )
 }
 
@@ -248,7 +253,7 @@ fn with_profiles<'a>(alloc: Global, command: Command<'a>) -> Result<Command<'a>,
             .arg(flag_option(
                 alloc,
                 "json",
-                "Shows the same as data, an object for each job",
+                "Shows all this as data, an object for each job, or a state alone",
             ))?
             .arg(html_option(alloc))?
             .arg(folded_option(alloc))?,
@@ -337,18 +342,18 @@ fn part_of(matches: &ArgMatches<'_>) -> Result<Part, &'static str> {
     Ok(Part::Top)
 }
 
-/// What is to be shown of a state of a job, or why the value of an option can't be taken.
-fn state_of(alloc: Global, matches: &ArgMatches<'_>) -> Result<Look, WordsFault> {
+/// A state of a job and what is to be shown of it, or why the value of an option can't be taken.
+fn state_of(alloc: Global, matches: &ArgMatches<'_>) -> Result<(State, Part), WordsFault> {
     let part = match part_of(matches) {
         Ok(part) => part,
         Err(reason) => return Err(refusal(alloc, reason)),
     };
     if let Some(count) = number(matches, "after") {
-        return Ok(Look::After(count, part));
+        return Ok((State::After(count), part));
     }
     match sought_of(alloc, matches)? {
-        Some(sought) => Ok(Look::At(sought, part)),
-        None => Ok(Look::End(part)),
+        Some(sought) => Ok((State::At(sought), part)),
+        None => Ok((State::Last, part)),
     }
 }
 
@@ -369,7 +374,10 @@ fn look_of(alloc: Global, matches: &ArgMatches<'_>) -> Result<Look, WordsFault> 
         Some("elements") => Ok(Look::Folded(Unit::Elements)),
         Some("source") => Ok(Look::Folded(Unit::Source)),
         Some(_) => Ok(Look::Folded(Unit::Instructions)),
-        None => state_of(alloc, matches),
+        None => {
+            let (state, part) = state_of(alloc, matches)?;
+            Ok(Look::State(state, part))
+        }
     }
 }
 
@@ -386,16 +394,18 @@ const PARTS: &[(&str, &str)] = &[
 /// Two options of which one changes nothing beside the other.
 const CLASHES: &[(&str, &str)] = &[
     ("all", "steps"),
-    ("all", "json"),
     ("all", "html"),
     ("all", "folded"),
     ("all", "values"),
     ("values", "profile"),
-    ("values", "json"),
     ("values", "html"),
     ("values", "folded"),
     ("values", "no-least"),
+    ("steps", "json"),
 ];
+
+/// The options for a state on the way.
+const STATES: &[&str] = &["after", "at", "when"];
 
 /// The options one of which is given at most, and whether it looks for the least limits.
 const LOOKS: &[(&str, bool)] = &[
@@ -424,8 +434,21 @@ fn lonely(matches: &ArgMatches<'_>) -> Option<(&'static str, &'static str)> {
     None
 }
 
+/// Whether a state on the way is asked for.
+fn has_state(matches: &ArgMatches<'_>) -> bool {
+    STATES.iter().any(|name| is_given(matches, name))
+}
+
+/// Whether a state is to be given as data, and not all that is known of a job.
+fn is_data_of_state(matches: &ArgMatches<'_>) -> bool {
+    matches.get_flag("json") && (has_state(matches) || is_given(matches, "values"))
+}
+
 /// Two options that are given, of which one changes nothing beside the other.
 fn idle(matches: &ArgMatches<'_>) -> Option<(&'static str, &'static str)> {
+    if is_given(matches, "all") && matches.get_flag("json") && !has_state(matches) {
+        return Some(("all", "json"));
+    }
     for (first, second) in CLASHES {
         if is_given(matches, first) && is_given(matches, second) {
             return Some((*first, *second));
@@ -441,7 +464,7 @@ fn clash(matches: &ArgMatches<'_>) -> Option<(&'static str, &'static str)> {
         other = Some("no-least");
     }
     for (look, has_least) in LOOKS {
-        if is_given(matches, look) {
+        if is_given(matches, look) && !(*look == "json" && is_data_of_state(matches)) {
             match other {
                 Some("no-least") if *has_least => {}
                 Some(other) => return Some((other, *look)),
@@ -470,15 +493,19 @@ fn misuse(alloc: Global, matches: &ArgMatches<'_>) -> Result<Option<String>, All
     }
 }
 
-/// How jobs are to be shown.
-fn form_of(alloc: Global, matches: &ArgMatches<'_>, look: Look) -> Result<Form, AllocError> {
+/// How jobs are to be shown, or why the value of an option can't be taken.
+fn form_of(alloc: Global, matches: &ArgMatches<'_>) -> Result<Form, WordsFault> {
+    if let Some(file) = matches.get_str("html") {
+        return Ok(Form::Page(String::from_str(alloc, file)?));
+    }
+    if is_data_of_state(matches) {
+        let (state, part) = state_of(alloc, matches)?;
+        return Ok(Form::Data(Object::State(state, part)));
+    }
     if matches.get_flag("json") {
-        return Ok(Form::Data);
+        return Ok(Form::Data(Object::Job));
     }
-    match matches.get_str("html") {
-        Some(file) => Ok(Form::Page(String::from_str(alloc, file)?)),
-        None => Ok(Form::Texts(look)),
-    }
+    Ok(Form::Texts(look_of(alloc, matches)?))
 }
 
 /// What was matched.
@@ -486,12 +513,11 @@ fn asked_of(alloc: Global, matches: &ArgMatches<'_>) -> Result<Line, WordsFault>
     if let Some(text) = misuse(alloc, matches)? {
         return Err(WordsFault::Refused(text));
     }
-    let look = look_of(alloc, matches)?;
-    let file = String::from_str(alloc, matches.get_str("file").unwrap_or("-"))?;
+    let form = form_of(alloc, matches)?;
     Ok(Line::Show(Asked {
-        file,
+        file: String::from_str(alloc, matches.get_str("file").unwrap_or("-"))?,
         job: number(matches, "job"),
-        form: form_of(alloc, matches, look)?,
+        form,
         tries_least: !matches.get_flag("no-least"),
     }))
 }

@@ -11,7 +11,7 @@ use crate::sources::Sources;
 use crate::spans::Spans;
 use crate::survey::{Counts, Survey};
 use crate::tally::{Count, FunctionTally, Tally};
-use crate::wide::Work;
+use crate::wide::{WideEnd, Work};
 use batch_reader::{BatchFault, JobFault};
 use job_profile::{Column, Columns, Profile};
 use refusal_notes::{Lines, batch_meaning, batch_refusal, job_meaning, printable, refusal};
@@ -23,15 +23,13 @@ use vcode_base::{Limits, Rule};
 const LINES_BESIDE: u64 = 8;
 
 /// What is said of the end of a job: its last state, the least limits within which it returns, or the work after which
-/// they were given up, or how it ends within the widest limits and after how many instructions, and the words that its
-/// last instruction wanted in all, if these are known.
+/// they were given up, or how it ends within the widest limits, if these are known.
 #[derive(Drop)]
 pub struct Told {
     pub last: Last,
     pub least: Option<Limits>,
     pub tried: Option<Work>,
-    pub widest: Option<(Ending, u64)>,
-    pub wanted: Option<usize>,
+    pub widest: Option<WideEnd>,
 }
 
 /// Adds a printable text as a JSON string that may stand in a page: `"`, `\`, `<`, `&` and LF are escaped.
@@ -59,14 +57,19 @@ pub fn push_comma(text: &mut String, place: usize) -> Result<(), AllocError> {
 }
 
 /// Adds the first members: the place and the name of a job.
-fn push_job(text: &mut String, alloc: Global, place: u64, name: &[u8]) -> Result<(), AllocError> {
+pub fn push_job(
+    text: &mut String,
+    alloc: Global,
+    place: u64,
+    name: &[u8],
+) -> Result<(), AllocError> {
     write!(text, "{{\"job\":{place},\"name\":")?;
     let name = printable(alloc, name)?;
     push_quoted(text, name.as_str())
 }
 
 /// Adds how a job ended, and its last line if a fault has one.
-fn push_ending(text: &mut String, ending: Ending) -> Result<(), AllocError> {
+pub fn push_ending(text: &mut String, ending: Ending) -> Result<(), AllocError> {
     match ending {
         Ending::Returned => text.push_str(",\"end\":\"RETURNED\",\"line\":null")?,
         Ending::Budget => text.push_str(",\"end\":\"BUDGET\",\"line\":null")?,
@@ -372,13 +375,23 @@ fn push_end(text: &mut String, survey: &Survey) -> Result<(), AllocError> {
     push_amounts(text, "used", used)
 }
 
+/// Adds the member for the words that were held and needed at a refused instruction, if the limit was that on words.
+fn push_wanted(text: &mut String, wanted: Option<usize>) -> Result<(), AllocError> {
+    if let Some(wanted) = wanted {
+        write!(text, ",\"wanted\":{wanted}")?;
+    }
+    Ok(())
+}
+
 /// Adds the member for how a job ends within the widest limits, if that is known and it doesn't return.
-fn push_widest(text: &mut String, widest: Option<(Ending, u64)>) -> Result<(), AllocError> {
-    let Some((ending, executed)) = widest else {
+fn push_widest(text: &mut String, widest: Option<WideEnd>) -> Result<(), AllocError> {
+    let Some(end) = widest else {
         return Ok(());
     };
+    let executed = end.executed;
     write!(text, ",\"widest\":{{\"instructions\":{executed}")?;
-    push_ending(text, ending)?;
+    push_ending(text, end.ending)?;
+    push_wanted(text, end.wanted)?;
     text.push('}')
 }
 
@@ -389,7 +402,7 @@ pub fn push_told(
     ending: Ending,
     told: &Told,
 ) -> Result<(), AllocError> {
-    push_picture(text, alloc, ending, &told.last.picture)?;
+    push_picture(text, alloc, Some(ending), &told.last.picture)?;
     push_note(text, told.last.note.as_str())?;
     push_widest(text, told.widest)?;
     push_limits_told(text, told)?;
@@ -398,9 +411,7 @@ pub fn push_told(
 
 /// Adds the members for the words that were wanted, the least limits, and the work after which these were given up.
 fn push_limits_told(text: &mut String, told: &Told) -> Result<(), AllocError> {
-    if let Some(wanted) = told.wanted {
-        write!(text, ",\"wanted\":{wanted}")?;
-    }
+    push_wanted(text, told.last.wanted)?;
     if let Some(least) = told.least {
         push_limits(text, "least", least)?;
     }

@@ -7,10 +7,10 @@ use crate::picture::Picture;
 use crate::reasons::reason;
 use crate::step::{Recent, Step};
 use crate::watch::{Trail, Watch};
-use crate::wide::Wide;
+use job_profile::Run;
 use job_steps::Job;
 use std::alloc::{AllocError, Global};
-use vcode_base::Rule;
+use vcode_base::{MemoryFault, Rule};
 
 /// The last state of a job before its end, or the trail that its run has there if it went on to the end at once.
 #[derive(Drop)]
@@ -27,11 +27,13 @@ pub struct Seen {
     pub before: Before,
 }
 
-/// The last state of a job before its end, and the note at its last line.
+/// The last state of a job before its end, the note at its last line, and the words that were held and needed there if
+/// the limit on words ended it.
 #[derive(Drop)]
 pub struct Last {
     pub picture: Picture,
     pub note: String,
+    pub wanted: Option<usize>,
 }
 
 /// Executes instructions up to the last RET, or until the budget is spent, unless the job ends otherwise.
@@ -118,30 +120,32 @@ fn plain_note(ending: Ending) -> &'static str {
 }
 
 /// The note at the last line of a job, at which its run is.
-fn note_of(
-    alloc: Global,
-    watch: &Watch,
-    ending: Ending,
-    wide: Option<Wide>,
-) -> Result<String, AllocError> {
+fn note_of(alloc: Global, watch: &Watch, ending: Ending) -> Result<String, AllocError> {
     match (ending, watch.next()) {
-        (Ending::Memory(fault, _), Some(next)) => memory_note(alloc, watch, next.op, fault, wide),
+        (Ending::Memory(fault, _), Some(next)) => memory_note(alloc, watch, next.op, fault),
         (Ending::Fault(fault, _), Some(next)) => reason(alloc, watch, next.op, fault),
         _ => String::from_str(alloc, plain_note(ending)),
     }
 }
 
+/// The words that are held and needed at the next instruction of a run, if the limit on words refuses it.
+pub fn wanted_at(run: &Run<Global>, ending: Ending) -> Option<usize> {
+    match ending {
+        Ending::Memory(MemoryFault::Words, _) => Some(run.demand()),
+        Ending::Returned | Ending::Fault(..) | Ending::Memory(..) | Ending::Budget => None,
+    }
+}
+
 /// The last state of a job, at which its run is.
-fn last_at(
-    alloc: Global,
-    watch: &Watch,
-    ending: Ending,
-    wide: Option<Wide>,
-    most: usize,
-) -> Result<Last, AllocError> {
-    let note = note_of(alloc, watch, ending, wide)?;
+fn last_at(alloc: Global, watch: &Watch, ending: Ending, most: usize) -> Result<Last, AllocError> {
+    let note = note_of(alloc, watch, ending)?;
     let picture = Picture::of(alloc, watch.run(), &watch.trail, most)?;
-    Ok(Last { picture, note })
+    let wanted = wanted_at(watch.run(), ending);
+    Ok(Last {
+        picture,
+        note,
+        wanted,
+    })
 }
 
 /// The last state of a job, which another run finds, and the job.
@@ -150,18 +154,21 @@ fn found_again(
     rule: Rule,
     (trail, job): (Trail, Job<Global>),
     end: End,
-    wide: Option<Wide>,
     most: usize,
 ) -> Result<(Last, Job<Global>), AllocError> {
     let watch = Watch::again(alloc, rule, job, trail, end.steps)?;
-    let last = last_at(alloc, &watch, end.ending, wide, most);
+    let last = last_at(alloc, &watch, end.ending, most);
     with_job(last, watch.into_job())
 }
 
 /// The last state of a job that returned or spent its budget, which was seen.
 fn foreseen(alloc: Global, picture: Picture, ending: Ending) -> Result<Last, AllocError> {
     match String::from_str(alloc, plain_note(ending)) {
-        Ok(note) => Ok(Last { picture, note }),
+        Ok(note) => Ok(Last {
+            picture,
+            note,
+            wanted: None,
+        }),
         Err(error) => {
             drop(picture);
             Err(error)
@@ -175,11 +182,10 @@ pub fn last_of(
     batch: Batch<'_>,
     (before, job): (Before, Job<Global>),
     end: End,
-    wide: Option<Wide>,
     most: usize,
 ) -> Result<(Last, Job<Global>), AllocError> {
     match before {
         Before::State(picture) => with_job(foreseen(alloc, picture, end.ending), job),
-        Before::Trail(trail) => found_again(alloc, batch.rule, (trail, job), end, wide, most),
+        Before::Trail(trail) => found_again(alloc, batch.rule, (trail, job), end, most),
     }
 }

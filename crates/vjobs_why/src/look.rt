@@ -13,16 +13,17 @@ use crate::spans::Spans;
 use crate::stack::{MOST_ENTRIES, print_calls, print_stack};
 use crate::step::{Step, print_head, print_step};
 use crate::steps::show_steps;
-use crate::stops::show_sought;
+use crate::stops::{State, show_sought};
 use crate::survey::{Again, Survey};
 use crate::values::{Part, ValueRange, print_values};
 use crate::watch::Watch;
-use crate::wide::{Course, MOST_BEFORE, Wide, Work, run_wide};
+use crate::wide::{Course, MOST_BEFORE, WideEnd, Work, run_wide};
 use job_steps::Job;
 use refusal_notes::{Lines, printable};
 use std::alloc::{AllocError, Global};
 use std::io;
-use vcode_base::{Limits, MemoryFault, Rule};
+use vcode_base::limits::MOST_WORDS;
+use vcode_base::{Limits, Rule};
 use vcode_reader::Program;
 
 /// The rule and the lines of a batch, and whether a job that a limit ended is run again within the widest limits, to
@@ -136,14 +137,25 @@ fn print_within(rt: &HostRuntime, name: &[u8], least: Limits) -> io::Result<()> 
     )
 }
 
+/// Prints how a job of this name ends within the widest limits.
+fn print_wide_end(rt: &HostRuntime, name: &[u8], end: WideEnd) -> io::Result<()> {
+    if end.ending == Ending::Returned {
+        return print_least(rt, name, end.least);
+    }
+    print!(rt; "\nWithin the widest limits it ends so: ")?;
+    print_ending(rt, end.ending, end.executed)?;
+    match end.wanted {
+        Some(wanted) => println!(rt;
+            "There {wanted} words would be held and needed, and a job has at most {MOST_WORDS}"
+        ),
+        None => Ok(()),
+    }
+}
+
 /// Prints how a job of this name goes on within the widest limits.
 fn print_course(rt: &HostRuntime, name: &[u8], course: Course) -> io::Result<()> {
     match course {
-        Course::Ends(Ending::Returned, _, least) => print_least(rt, name, least),
-        Course::Ends(ending, executed, _) => {
-            print!(rt; "\nWithin the widest limits it ends so: ")?;
-            print_ending(rt, ending, executed)
-        }
+        Course::Ends(end) => print_wide_end(rt, name, end),
         Course::GoesOn(work) => {
             let (instructions, elements) = (work.instructions, work.elements);
             print!(rt; "\nNo limits within which it returns were found ")?;
@@ -201,7 +213,7 @@ fn wide_of(
     batch: Batch<'_>,
     job: Job<Global>,
     end: End,
-) -> Result<(Option<Wide>, Job<Global>), AllocError> {
+) -> Result<(Option<Course>, Job<Global>), AllocError> {
     match end.ending {
         Ending::Memory(..) | Ending::Budget if batch.tries_least => {
             let (wide, job) = run_wide(alloc, batch.rule, job, end)?;
@@ -220,7 +232,7 @@ fn last_told(
     (before, job): (Before, Job<Global>),
     end: End,
     most: usize,
-) -> Result<(Last, Option<Wide>, Job<Global>), AllocError> {
+) -> Result<(Last, Option<Course>, Job<Global>), AllocError> {
     match wide_of(alloc, batch, job, end) {
         Ok((wide, job)) => last_within(alloc, batch, (before, job), end, wide, most),
         Err(error) => {
@@ -236,10 +248,10 @@ fn last_within(
     batch: Batch<'_>,
     (before, job): (Before, Job<Global>),
     end: End,
-    wide: Option<Wide>,
+    wide: Option<Course>,
     most: usize,
-) -> Result<(Last, Option<Wide>, Job<Global>), AllocError> {
-    let (last, job) = last_of(alloc, batch, (before, job), end, wide, most)?;
+) -> Result<(Last, Option<Course>, Job<Global>), AllocError> {
+    let (last, job) = last_of(alloc, batch, (before, job), end, most)?;
     Ok((last, wide, job))
 }
 
@@ -250,7 +262,7 @@ struct Ended {
     end: End,
     steps: Vec<Step>,
     last: Last,
-    wide: Option<Wide>,
+    wide: Option<Course>,
 }
 
 /// What is shown of a job whose end was seen so, and the job.
@@ -314,9 +326,9 @@ fn print_all(
 }
 
 /// Prints within which limits a job of this name returns, that ended so.
-fn print_limits(rt: &HostRuntime, name: &[u8], end: End, wide: Option<Wide>) -> io::Result<()> {
+fn print_limits(rt: &HostRuntime, name: &[u8], end: End, wide: Option<Course>) -> io::Result<()> {
     match wide {
-        Some(wide) => print_course(rt, name, wide.course),
+        Some(course) => print_course(rt, name, course),
         None => print_least(rt, name, end.least),
     }
 }
@@ -382,7 +394,7 @@ fn print_state(rt: &HostRuntime, batch: Batch<'_>, watch: &Watch, part: Part) ->
     }
 }
 
-/// Prints this of what there is after so many instructions of a run that has executed nothing.
+/// Prints this of what there is after this many instructions of a run that has executed nothing.
 fn print_after(
     rt: &HostRuntime,
     batch: Batch<'_>,
@@ -410,39 +422,27 @@ fn show_profile(rt: &HostRuntime, batch: Batch<'_>, job: Job<Global>, all: bool)
 }
 
 /// The least limits within which a job returns, if it returned, or returns within wider ones.
-fn least_of(end: End, wide: Option<Wide>) -> Option<Limits> {
+fn least_of(end: End, wide: Option<Course>) -> Option<Limits> {
     match wide {
-        Some(wide) => match wide.course {
-            Course::Ends(_, _, least) => least,
-            Course::GoesOn(_) | Course::NotRun => None,
-        },
+        Some(Course::Ends(end)) => end.least,
+        Some(Course::GoesOn(_) | Course::NotRun) => None,
         None => end.least,
     }
 }
 
 /// The work after which a job was not over within the widest limits, if it was given up there.
-fn tried_of(wide: Option<Wide>) -> Option<Work> {
-    match wide?.course {
+fn tried_of(wide: Option<Course>) -> Option<Work> {
+    match wide? {
         Course::GoesOn(work) => Some(work),
-        Course::Ends(..) | Course::NotRun => None,
+        Course::Ends(_) | Course::NotRun => None,
     }
 }
 
-/// How a job ends within the widest limits and after how many instructions, if it doesn't return there.
-fn widest_of(wide: Option<Wide>) -> Option<(Ending, u64)> {
-    match wide?.course {
-        Course::Ends(Ending::Returned, ..) | Course::GoesOn(_) | Course::NotRun => None,
-        Course::Ends(ending, executed, _) => Some((ending, executed)),
-    }
-}
-
-/// The words that the last instruction of a job wanted, if they passed its limit.
-fn wanted_of(end: End, wide: Option<Wide>, limit: usize) -> Option<usize> {
-    match (end.ending, wide) {
-        (Ending::Memory(MemoryFault::Words, _), Some(wide)) if wide.wanted > limit => {
-            Some(wide.wanted)
-        }
-        _ => None,
+/// How a job ends within the widest limits, if it doesn't return there.
+fn widest_of(wide: Option<Course>) -> Option<WideEnd> {
+    match wide? {
+        Course::Ends(end) if end.ending != Ending::Returned => Some(end),
+        Course::Ends(_) | Course::GoesOn(_) | Course::NotRun => None,
     }
 }
 
@@ -454,7 +454,6 @@ fn push_last(
     (before, job): (Before, Job<Global>),
     end: End,
 ) -> Result<(), AllocError> {
-    let limit = job.limits().words;
     let (last, wide, job) = last_told(alloc, batch, (before, job), end, MOST_ENTRIES)?;
     drop(job);
     let told = Told {
@@ -462,7 +461,6 @@ fn push_last(
         least: least_of(end, wide),
         tried: tried_of(wide),
         widest: widest_of(wide),
-        wanted: wanted_of(end, wide, limit),
     };
     let pushed = push_told(text, alloc, end.ending, &told);
     drop(told);
@@ -522,7 +520,7 @@ fn print_name(rt: &HostRuntime, place: u64, name: &[u8]) -> io::Result<()> {
     print!(rt; "JOB {place} {name} ")
 }
 
-/// Shows this of what there is after so many instructions of a job, on the line of its name.
+/// Shows this of what there is after this many instructions of a job, on the line of its name.
 pub fn show_after(
     rt: &HostRuntime,
     batch: Batch<'_>,
@@ -536,14 +534,27 @@ pub fn show_after(
     shown
 }
 
+/// Shows this of a state of a job, on the line of its name.
+fn show_state(
+    rt: &HostRuntime,
+    batch: Batch<'_>,
+    job: Job<Global>,
+    state: &State,
+    part: Part,
+) -> io::Result<()> {
+    match state {
+        State::Last => show_end(rt, batch, job, part),
+        State::After(count) => show_after(rt, batch, job, *count, part),
+        State::At(sought) => show_sought(rt, batch, job, sought, part),
+    }
+}
+
 /// Shows what was asked for of a job, on the line of its name.
 fn show_named(rt: &HostRuntime, batch: Batch<'_>, job: Job<Global>, look: &Look) -> io::Result<()> {
     match look {
-        Look::End(part) => show_end(rt, batch, job, *part),
+        Look::State(state, part) => show_state(rt, batch, job, state, *part),
         Look::Profile { all } => show_profile(rt, batch, job, *all),
         Look::Steps(selection) => show_steps(rt, batch, job, *selection),
-        Look::After(count, part) => show_after(rt, batch, job, *count, *part),
-        Look::At(sought, part) => show_sought(rt, batch, job, sought, *part),
         Look::Folded(unit) => print_folded(rt, batch, job, *unit),
     }
 }

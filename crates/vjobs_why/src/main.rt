@@ -36,6 +36,7 @@ mod source_profile;
 mod sources;
 mod spans;
 mod stack;
+mod state_data;
 mod step;
 mod steps;
 mod stops;
@@ -46,14 +47,16 @@ mod watch;
 mod wide;
 
 use batch_reader::{Batch, BatchFault, Entry, Fate, JobEntries, JobEntry, JobFault};
-use command::{Asked, Form, Line, Look, VjobsWhy, read_line};
+use command::{Asked, Form, Line, Look, Object, VjobsWhy, read_line};
 use data::{batch_refusal_object, refusal_object};
 use failure::Failure;
 use files::{read_batch, write_text};
+use job_steps::Job;
 use look::{object_of, show};
 use page::page_of;
 use program_words::{WordsFault, print_fault, words_of};
 use refusal_notes::{Lines, batch_of, batch_refusal, refusal};
+use state_data::state_object;
 use std::alloc::{AllocError, Global};
 use std::io;
 use std::process::ExitCode;
@@ -77,8 +80,8 @@ fn print_refusal(
     print!(rt; "{text}")
 }
 
-/// Shows what was asked for of an entry of the batch.
-fn show_entry(
+/// Shows as a text what was asked for of an entry of the batch.
+fn show_text(
     rt: &HostRuntime,
     batch: look::Batch<'_>,
     place: u64,
@@ -95,23 +98,50 @@ fn show_entry(
     }
 }
 
+/// A job that runs as data.
+fn job_data(
+    alloc: Global,
+    batch: look::Batch<'_>,
+    place: u64,
+    job: Job<Global>,
+    object: &Object,
+) -> Result<String, AllocError> {
+    match object {
+        Object::Job => object_of(alloc, batch, place, job),
+        Object::State(state, part) => state_object(alloc, batch, place, job, state, *part),
+    }
+}
+
 /// An entry of the batch as data.
-fn entry_object(
+fn entry_data(
     alloc: Global,
     batch: look::Batch<'_>,
     place: u64,
     entry: JobEntry<Global>,
+    object: &Object,
 ) -> Result<String, AllocError> {
     let Entry { name, fate } = entry;
     match fate {
-        Fate::Ready(job) => object_of(alloc, batch, place, job),
+        Fate::Ready(job) => job_data(alloc, batch, place, job, object),
         Fate::Refused(line, fault) => {
             refusal_object(alloc, batch.lines, place, name.as_slice(), line, fault)
         }
     }
 }
 
-/// Adds an entry of the batch as data.
+/// Prints an entry of the batch as data, on a line of its own.
+fn print_data(
+    rt: &HostRuntime,
+    batch: look::Batch<'_>,
+    place: u64,
+    entry: JobEntry<Global>,
+    object: &Object,
+) -> io::Result<()> {
+    let text = entry_data(rt.alloc(), batch, place, entry, object)?;
+    println!(rt; "{text}")
+}
+
+/// Adds all that is known of an entry of the batch as data.
 fn push_object(
     objects: &mut Vec<String>,
     alloc: Global,
@@ -119,12 +149,12 @@ fn push_object(
     place: u64,
     entry: JobEntry<Global>,
 ) -> Result<(), AllocError> {
-    let object = entry_object(alloc, batch, place, entry)?;
+    let object = entry_data(alloc, batch, place, entry, &Object::Job)?;
     objects.push(object)?;
     Ok(())
 }
 
-/// The jobs of the batch as data: the one of this place, or all.
+/// All that is known of the jobs of the batch as data: of the one of this place, or of all.
 fn objects_of(
     alloc: Global,
     batch: look::Batch<'_>,
@@ -144,40 +174,60 @@ fn objects_of(
     Ok(objects)
 }
 
-/// Prints jobs as data, an object on each line.
-fn print_objects(rt: &HostRuntime, objects: &[String]) -> io::Result<()> {
-    for object in objects {
-        println!(rt; "{object}")?;
-    }
-    Ok(())
-}
-
-/// Shows jobs as data: as a page in a file, or an object on each line.
-fn show_objects(rt: &HostRuntime, objects: &[String], form: &Form) -> Result<(), Failure> {
-    match form {
-        Form::Page(file) => {
-            let page = page_of(rt.alloc(), objects)?;
-            write_text(rt, file.as_str(), page.as_str())
-        }
-        Form::Texts(_) | Form::Data => {
-            print_objects(rt, objects).map_err(|error| Failure::of_output(rt.alloc(), error))
-        }
-    }
-}
-
-/// Shows the jobs of the batch as data. Answers whether there was one if one alone was asked for.
-fn show_data(
+/// Writes a page that shows the jobs of the batch to the file of this name. Answers whether there was one if one alone
+/// was asked for.
+fn write_page(
     rt: &HostRuntime,
     batch: look::Batch<'_>,
     entries: JobEntries<Global>,
-    asked: &Asked,
+    job: Option<u64>,
+    file: &str,
 ) -> Result<bool, Failure> {
-    let objects = objects_of(rt.alloc(), batch, entries, asked.job)?;
-    if objects.is_empty() && asked.job.is_some() {
+    let objects = objects_of(rt.alloc(), batch, entries, job)?;
+    if objects.is_empty() && job.is_some() {
         return Ok(false);
     }
-    show_objects(rt, &objects, &asked.form)?;
+    let page = page_of(rt.alloc(), &objects)?;
+    write_text(rt, file, page.as_str())?;
     Ok(true)
+}
+
+/// Shows what was asked for of an entry of the batch, in a form that is printed.
+fn show_entry(
+    rt: &HostRuntime,
+    batch: look::Batch<'_>,
+    place: u64,
+    entry: JobEntry<Global>,
+    form: &Form,
+) -> io::Result<()> {
+    match form {
+        Form::Texts(look) => show_text(rt, batch, place, entry, look),
+        Form::Data(object) => print_data(rt, batch, place, entry, object),
+        Form::Page(_) => print_data(rt, batch, place, entry, &Object::Job),
+    }
+}
+
+/// Shows what was asked for of the jobs of the batch, in a form that is printed. Answers whether there was one if one
+/// alone was asked for.
+fn show_entries(
+    rt: &HostRuntime,
+    batch: look::Batch<'_>,
+    entries: JobEntries<Global>,
+    job: Option<u64>,
+    form: &Form,
+) -> io::Result<bool> {
+    let mut place: u64 = 0;
+    let mut found = job.is_none();
+    for entry in entries.into_vec() {
+        place = place.saturating_add(1);
+        if job.is_none() || job == Some(place) {
+            found = true;
+            show_entry(rt, batch, place, entry, form)?;
+        } else {
+            drop(entry);
+        }
+    }
+    Ok(found)
 }
 
 /// Shows the jobs of the batch in the form that was asked for. Answers whether there was one if one alone was asked
@@ -189,34 +239,14 @@ fn show_jobs(
     asked: &Asked,
 ) -> Result<bool, Failure> {
     match &asked.form {
-        Form::Texts(look) => match show_entries(rt, batch, entries, asked.job, look) {
-            Ok(found) => Ok(found),
-            Err(error) => Err(Failure::of_output(rt.alloc(), error)),
-        },
-        Form::Data | Form::Page(_) => show_data(rt, batch, entries, asked),
-    }
-}
-
-/// Shows what was asked for of the jobs of the batch. Answers whether there was one if one alone was asked for.
-fn show_entries(
-    rt: &HostRuntime,
-    batch: look::Batch<'_>,
-    entries: JobEntries<Global>,
-    job: Option<u64>,
-    look: &Look,
-) -> io::Result<bool> {
-    let mut place: u64 = 0;
-    let mut found = job.is_none();
-    for entry in entries.into_vec() {
-        place = place.saturating_add(1);
-        if job.is_none() || job == Some(place) {
-            found = true;
-            show_entry(rt, batch, place, entry, look)?;
-        } else {
-            drop(entry);
+        Form::Page(file) => write_page(rt, batch, entries, asked.job, file.as_str()),
+        Form::Texts(_) | Form::Data(_) => {
+            match show_entries(rt, batch, entries, asked.job, &asked.form) {
+                Ok(found) => Ok(found),
+                Err(error) => Err(Failure::of_output(rt.alloc(), error)),
+            }
         }
     }
-    Ok(found)
 }
 
 /// Prints why a batch is refused as a whole.
@@ -250,7 +280,7 @@ fn show_refused(
     form: &Form,
 ) -> Result<u8, Failure> {
     let printed = match form {
-        Form::Data => print_batch_object(rt, lines, line, fault),
+        Form::Data(_) => print_batch_object(rt, lines, line, fault),
         Form::Texts(_) | Form::Page(_) => print_batch_fault(rt, lines, line, fault),
     };
     match printed {

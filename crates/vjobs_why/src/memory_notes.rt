@@ -1,7 +1,6 @@
 //! Which limit an instruction would pass: what there is before it, what it needs, and the limit.
 
 use crate::watch::Watch;
-use crate::wide::Wide;
 use std::alloc::{AllocError, Global};
 use vcode_base::{MemoryFault, Op, Rule, StackMove};
 
@@ -15,30 +14,6 @@ pub fn depth_after(op: Op, depth: usize) -> usize {
     }
 }
 
-/// The words of the operand at this depth, if no entry below it is a copy of it.
-fn freed_at(watch: &Watch, depth: usize) -> usize {
-    for below in depth.saturating_add(1)..watch.run().depth() {
-        if watch.run().are_copies(depth, below) {
-            return 0;
-        }
-    }
-    match watch.run().words(depth) {
-        Some(words) => words.len(),
-        None => 0,
-    }
-}
-
-/// The words that count as held while the next instruction of a run makes its results.
-fn held_at(watch: &Watch, op: Op) -> usize {
-    let mut held = watch.run().held();
-    if watch.run().rule() == Rule::Second {
-        for depth in 0..op.operand_kinds().len() {
-            held = held.saturating_sub(freed_at(watch, depth));
-        }
-    }
-    held
-}
-
 /// Which words count as held, if not all do: under the second rule those below the operands.
 fn below_text(watch: &Watch, op: Op) -> &'static str {
     if watch.run().rule() == Rule::Second && !op.operand_kinds().is_empty() {
@@ -47,27 +22,15 @@ fn below_text(watch: &Watch, op: Op) -> &'static str {
     ""
 }
 
-/// Why the words would be too many at the next instruction of a run.
-fn words_note(
-    alloc: Global,
-    watch: &Watch,
-    op: Op,
-    wide: Option<Wide>,
-) -> Result<String, AllocError> {
+/// Why the words would be too many at the next instruction of a run. What it needs is known from the lengths of its
+/// operands.
+fn words_note(alloc: Global, watch: &Watch, op: Op) -> Result<String, AllocError> {
     let limit = watch.run().job().limits().words;
-    let (held, below) = (held_at(watch, op), below_text(watch, op));
-    match wide {
-        Some(wide) if wide.wanted > limit => {
-            let wanted = wide.wanted;
-            let needed = wanted.saturating_sub(held);
-            format!(in alloc;
-                "{held} words held{below} and {needed} needed are {wanted}, and the limit is {limit}"
-            )
-        }
-        Some(_) | None => format!(in alloc;
-            "{held} words held{below} and those needed are more than the limit, which is {limit}"
-        ),
-    }
+    let (wanted, needed) = (watch.run().demand(), watch.run().need());
+    let (held, below) = (wanted.saturating_sub(needed), below_text(watch, op));
+    format!(in alloc;
+        "{held} words held{below} and {needed} needed are {wanted}, and the limit is {limit}"
+    )
 }
 
 /// Why a limit would be passed at the next instruction of a run.
@@ -76,10 +39,9 @@ pub fn memory_note(
     watch: &Watch,
     op: Op,
     fault: MemoryFault,
-    wide: Option<Wide>,
 ) -> Result<String, AllocError> {
     match fault {
-        MemoryFault::Words => words_note(alloc, watch, op, wide),
+        MemoryFault::Words => words_note(alloc, watch, op),
         MemoryFault::Cells => {
             let (limit, depth) = (watch.run().job().limits().cells, watch.run().depth());
             let wanted = depth_after(op, depth);

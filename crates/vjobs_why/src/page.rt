@@ -12,7 +12,7 @@ const HEAD: &str = r#"<!DOCTYPE html>
 <meta charset="utf-8">
 <meta http-equiv="Content-Security-Policy"
  content="default-src 'none'; base-uri 'none'; form-action 'none'; style-src 'unsafe-inline';
- script-src 'sha256-dtlJ6gOzcqmfKU9qgG2fjMSnYV5GXy97izaaIKGlCIM='">
+ script-src 'sha256-Mx+/za6sqgiLKV0o/q8SsvF5SFzsa8YcKRPqrtc9Z+E='">
 <meta name="viewport" content="width=device-width, initial-scale=1">
 <title>vjobs-why</title>
 <style>

@@ -84,14 +84,14 @@ fn push_entries(text: &mut String, alloc: Global, picture: &Picture) -> Result<(
     Ok(())
 }
 
-/// Adds the member for the stack, which are the results of a job that returned.
+/// Adds the member for the stack. At the end of a job that returned it has the results.
 fn push_stack(
     text: &mut String,
     alloc: Global,
-    ending: Ending,
+    ending: Option<Ending>,
     picture: &Picture,
 ) -> Result<(), AllocError> {
-    let member = if ending == Ending::Returned {
+    let member = if ending == Some(Ending::Returned) {
         "results"
     } else {
         "stack"
@@ -106,11 +106,11 @@ fn push_stack(
     text.push_str("]}")
 }
 
-/// Adds the members for the last state of a job that ended so.
+/// Adds the members for the last state of a job that ended so, or for a state on the way.
 pub fn push_picture(
     text: &mut String,
     alloc: Global,
-    ending: Ending,
+    ending: Option<Ending>,
     picture: &Picture,
 ) -> Result<(), AllocError> {
     push_most(text)?;

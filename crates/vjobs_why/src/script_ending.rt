@@ -29,8 +29,9 @@ function limits_found(job) {
     + `${number(tried.instructions)} instructions and ${number(tried.elements)} elements.`)];
   if (!widest) return [];
   const at = widest.line ? ` at line ${widest.line}` : '';
+  const wanted = widest.wanted ? ` There ${number(widest.wanted)} words would be held and needed.` : '';
   return [make('p', {}, `Within the widest limits it ends so: ${widest.end}${at}, after `
-    + `${plural(widest.instructions, 'instruction')}.`)];
+    + `${plural(widest.instructions, 'instruction')}.${wanted}`)];
 }
 function ending(job) {
   const last = last_of(job), text = text_of(job, last);

@@ -1,4 +1,4 @@
-//! States of a run that are looked for.
+//! States of a run, and those that are looked for.
 
 use crate::end::with_job;
 use crate::look::{Batch, show_after};
@@ -11,6 +11,17 @@ use vcode_base::{Elements, Rule, is_visible};
 
 /// The name of the function with which a job begins.
 const MAIN: &str = "MAIN";
+
+/// A state of a job.
+#[derive(Drop)]
+pub enum State {
+    /// The last one before its end.
+    Last,
+    /// The one after this many instructions.
+    After(u64),
+    /// One that is looked for.
+    At(Sought),
+}
 
 /// The K-th state of a run at which this holds, K counted from 1. Of a call of a function it is the state in which the
 /// function begins.
@@ -112,7 +123,7 @@ fn run_to(uses: &mut Uses<Global>, sought: &Sought) -> Option<u64> {
 }
 
 /// After how many instructions of a job there is a state that is looked for, if there is one, and the job.
-fn count_to(
+pub fn count_to(
     alloc: Global,
     rule: Rule,
     job: Job<Global>,

@@ -58,15 +58,29 @@ pub fn value_range(text: &str) -> Option<ValueRange> {
     Some(range)
 }
 
-/// Values of a kind with a blank between them.
-pub fn list_text(alloc: Global, kind: Kind, values: &[i64]) -> Result<String, AllocError> {
-    let mut text = String::new(alloc);
+impl ValueRange {
+    /// Those of an entry with these words. `None` if the first place is after the end of the entry.
+    pub fn of(self, words: &[i64]) -> Option<&[i64]> {
+        let end = self.last.saturating_add(1).min(words.len());
+        words.get(self.first..end)
+    }
+}
+
+/// Adds values of a kind with a blank between them.
+pub fn push_list(text: &mut String, kind: Kind, values: &[i64]) -> Result<(), AllocError> {
     for (place, value) in values.iter().enumerate() {
         if place > 0 {
             text.push(' ')?;
         }
-        push_value(&mut text, kind, *value)?;
+        push_value(text, kind, *value)?;
     }
+    Ok(())
+}
+
+/// Values of a kind with a blank between them.
+pub fn list_text(alloc: Global, kind: Kind, values: &[i64]) -> Result<String, AllocError> {
+    let mut text = String::new(alloc);
+    push_list(&mut text, kind, values)?;
     Ok(text)
 }
 
@@ -94,8 +108,8 @@ fn print_range(
     let text = lines.line(rt.alloc(), line)?;
     let text = text.trim_ascii();
     println!(rt; "\nentry {depth}: {kind}, {count} values, line {line}  {text}")?;
-    let (first, end) = (range.first, range.last.saturating_add(1).min(count));
-    match words.get(first..end) {
+    let first = range.first;
+    match range.of(words) {
         Some(values) => print_list(rt, origin.kind, first, values),
         None => println!(rt; "  there is no place {first}"),
     }

@@ -1,13 +1,14 @@
 //! How a job that a limit ended goes on within the widest limits, as far as a look may run it.
 
 use crate::end::{End, Ending, ending_of, with_job};
+use crate::last::wanted_at;
 use crate::tally::elements_of;
 use crate::watch::op_of;
 use job_profile::Uses;
 use job_steps::Job;
 use std::alloc::{AllocError, Global};
 use vcode_base::limits::{MOST_BUDGET, MOST_CALLS, MOST_CELLS, MOST_WORDS};
-use vcode_base::{Limits, Op, Rule};
+use vcode_base::{Limits, MemoryFault, Op, Rule};
 
 /// Within the widest limits a job that another limit than its budget ended may do this many times the work that it did.
 const TIMES: u64 = 4;
@@ -38,23 +39,25 @@ pub struct Work {
     pub elements: u64,
 }
 
+/// How a job ends within the widest limits, and after how many instructions: the least limits within which it returns,
+/// if it does, or the words that are held and needed at the instruction that even the widest limit on words refuses.
+#[derive(Clone, Copy, Drop)]
+pub struct WideEnd {
+    pub ending: Ending,
+    pub executed: u64,
+    pub least: Option<Limits>,
+    pub wanted: Option<usize>,
+}
+
 /// How a job goes on within the widest limits.
 #[derive(Clone, Copy, Drop)]
 pub enum Course {
-    /// It ends so after this many instructions, and if it returns, these are the least limits within which it does.
-    Ends(Ending, u64, Option<Limits>),
+    /// It ends so.
+    Ends(WideEnd),
     /// It is not over after this work, which is as much as it may do.
     GoesOn(Work),
     /// It isn't run, since its budget ended it after more than [`MOST_BEFORE`] instructions.
     NotRun,
-}
-
-/// How a job that a limit ended goes on within the widest limits.
-#[derive(Clone, Copy, Drop)]
-pub struct Wide {
-    pub course: Course,
-    /// The most words that it held and needed up to the instruction at which the limit ended it, or 0 if it isn't run.
-    pub wanted: usize,
 }
 
 /// How many entries an instruction moves.
@@ -115,7 +118,7 @@ impl Work {
 }
 
 /// How a run goes on that is within the widest limits, if the job's limits ended it so.
-fn wide_of(uses: &mut Uses<Global>, end: End) -> Result<Wide, AllocError> {
+fn course_of(uses: &mut Uses<Global>, end: End) -> Result<Course, AllocError> {
     let mut work = Work::NONE;
     let before = Work {
         instructions: end.steps,
@@ -123,15 +126,49 @@ fn wide_of(uses: &mut Uses<Global>, end: End) -> Result<Wide, AllocError> {
     };
     work.go_on(uses, before);
     let most = work.most(end.ending);
-    work.step(uses);
-    let wanted = uses.words();
-    let course = if work.go_on(uses, most) {
-        Course::GoesOn(work)
-    } else {
-        uses.collect()?;
-        Course::Ends(ending_of(uses.run()), uses.executed(), uses.least_limits())
+    if work.go_on(uses, most) {
+        return Ok(Course::GoesOn(work));
+    }
+    uses.collect()?;
+    Ok(Course::Ends(WideEnd {
+        ending: ending_of(uses.run()),
+        executed: uses.executed(),
+        least: uses.least_limits(),
+        wanted: None,
+    }))
+}
+
+/// The end of a job within the widest limits with the words that it wanted if the one on words refused them, which
+/// another run finds, and the job.
+fn with_wanted(
+    alloc: Global,
+    rule: Rule,
+    job: Job<Global>,
+    course: Course,
+) -> Result<(Course, Job<Global>), AllocError> {
+    let Course::Ends(end) = course else {
+        return Ok((course, job));
     };
-    Ok(Wide { course, wanted })
+    if !matches!(end.ending, Ending::Memory(MemoryFault::Words, _)) {
+        return Ok((course, job));
+    }
+    let mut uses = Uses::new(alloc, rule, job)?;
+    uses.go_on(end.executed);
+    let wanted = wanted_at(uses.run(), end.ending);
+    Ok((Course::Ends(WideEnd { wanted, ..end }), uses.into_job()))
+}
+
+/// How a job that is within the widest limits goes on, if its own limits ended it so, and the job.
+fn run_within(
+    alloc: Global,
+    rule: Rule,
+    job: Job<Global>,
+    end: End,
+) -> Result<(Course, Job<Global>), AllocError> {
+    let mut uses = Uses::new(alloc, rule, job)?;
+    let course = course_of(&mut uses, end);
+    let (course, job) = with_job(course, uses.into_job())?;
+    with_wanted(alloc, rule, job, course)
 }
 
 /// How a job that its limits ended so goes on within the widest limits, and the job.
@@ -140,13 +177,11 @@ pub fn run_wide(
     rule: Rule,
     job: Job<Global>,
     end: End,
-) -> Result<(Wide, Job<Global>), AllocError> {
+) -> Result<(Course, Job<Global>), AllocError> {
     if end.ending == Ending::Budget && end.executed > MOST_BEFORE {
-        let (course, wanted) = (Course::NotRun, 0);
-        return Ok((Wide { course, wanted }, job));
+        return Ok((Course::NotRun, job));
     }
     let limits = job.limits();
-    let mut uses = Uses::new(alloc, rule, job.with_limits(WIDEST))?;
-    let wide = wide_of(&mut uses, end);
-    with_job(wide, uses.into_job().with_limits(limits))
+    let (course, job) = run_within(alloc, rule, job.with_limits(WIDEST), end)?;
+    Ok((course, job.with_limits(limits)))
 }

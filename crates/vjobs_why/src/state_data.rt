@@ -1,0 +1,189 @@
+//! A state of a job as data: its calls and its stack, or values of an entry.
+
+use crate::data::{push_comma, push_ending, push_job, push_quoted};
+use crate::end::{End, run_through};
+use crate::look::Batch;
+use crate::picture::Picture;
+use crate::picture_data::push_picture;
+use crate::stack::MOST_ENTRIES;
+use crate::stops::{State, count_to};
+use crate::values::{Part, ValueRange, push_list};
+use crate::watch::{Origin, Watch};
+use job_steps::Job;
+use refusal_notes::{kind_text, printable};
+use std::alloc::{AllocError, Global};
+use std::fmt::Write;
+use vcode_base::Rule;
+
+/// Where a state of a job is: after how many instructions, if there is such a state, and how the job ends if it is its
+/// last one.
+#[derive(Clone, Copy, Drop)]
+struct Found {
+    count: Option<u64>,
+    end: Option<End>,
+}
+
+/// Where a state of a job is, and the job.
+fn find(
+    alloc: Global,
+    rule: Rule,
+    job: Job<Global>,
+    state: &State,
+) -> Result<(Found, Job<Global>), AllocError> {
+    let (count, end, job) = match state {
+        State::Last => {
+            let (end, job) = run_through(alloc, rule, job)?;
+            (Some(end.steps), Some(end), job)
+        }
+        State::After(count) => (Some(*count), None, job),
+        State::At(sought) => {
+            let (count, job) = count_to(alloc, rule, job, sought)?;
+            (count, None, job)
+        }
+    };
+    Ok((Found { count, end }, job))
+}
+
+/// Adds the object of values of an entry that has these words.
+fn push_range(
+    text: &mut String,
+    range: ValueRange,
+    origin: Origin,
+    words: &[i64],
+) -> Result<(), AllocError> {
+    let (depth, kind, length) = (range.depth, kind_text(origin.kind), words.len());
+    let (line, first) = (origin.line, range.first);
+    write!(
+        text,
+        "{{\"depth\":{depth},\"kind\":\"{kind}\",\"length\":{length},\"line\":{line},\"first\":{first}"
+    )?;
+    text.push_str(",\"values\":\"")?;
+    push_list(text, origin.kind, range.of(words).unwrap_or(&[]))?;
+    text.push_str("\"}")
+}
+
+/// Adds the members for values of an entry at the state of a run.
+fn push_values(text: &mut String, watch: &Watch, range: ValueRange) -> Result<(), AllocError> {
+    let entries = watch.run().depth();
+    write!(text, ",\"entries\":{entries},\"entry\":")?;
+    match (watch.run().words(range.depth), watch.origin(range.depth)) {
+        (Some(words), Some(origin)) => push_range(text, range, origin, words),
+        _ => text.push_str("null"),
+    }
+}
+
+/// Adds the member for the names of the functions of the job of a run.
+fn push_names(text: &mut String, alloc: Global, watch: &Watch) -> Result<(), AllocError> {
+    text.push_str(",\"functions\":[")?;
+    let program = watch.run().job().verified().program();
+    for (place, function) in program.functions().iter().enumerate() {
+        push_comma(text, place)?;
+        push_quoted(text, printable(alloc, function.name())?.as_str())?;
+    }
+    text.push(']')
+}
+
+/// Adds the members for the calls and the stack at the state of a run, of which at most this many entries are given.
+fn push_stack(
+    text: &mut String,
+    alloc: Global,
+    watch: &Watch,
+    most: usize,
+) -> Result<(), AllocError> {
+    push_names(text, alloc, watch)?;
+    let picture = Picture::of(alloc, watch.run(), &watch.trail, most)?;
+    let pushed = push_picture(text, alloc, None, &picture);
+    drop(picture);
+    pushed
+}
+
+/// Adds the members for this of the state of a run.
+fn push_part(
+    text: &mut String,
+    alloc: Global,
+    watch: &Watch,
+    part: Part,
+) -> Result<(), AllocError> {
+    match part {
+        Part::Top => push_stack(text, alloc, watch, MOST_ENTRIES),
+        Part::All => push_stack(text, alloc, watch, usize::MAX),
+        Part::Values(range) => push_values(text, watch, range),
+    }
+}
+
+/// How many instructions a job executes in all, if the state of its run is the last one, or up to this state, and the
+/// most words.
+fn used_at(watch: &Watch, found: Found) -> (u64, usize) {
+    match found.end {
+        Some(end) => (end.executed, end.words),
+        None => (watch.run().executed(), watch.run().peak()),
+    }
+}
+
+/// Adds the members for this of a state, at which a run is. If there is no such state, these are `null`.
+fn push_state(
+    text: &mut String,
+    alloc: Global,
+    watch: &Watch,
+    found: Found,
+    part: Part,
+) -> Result<(), AllocError> {
+    if found.count.is_none() {
+        return text.push_str(",\"instructions\":null,\"peak\":null,\"next\":null");
+    }
+    let (executed, peak) = used_at(watch, found);
+    write!(text, ",\"instructions\":{executed},\"peak\":{peak}")?;
+    let Some(next) = watch.next() else {
+        return text.push_str(",\"next\":null");
+    };
+    let line = next.line;
+    write!(text, ",\"next\":{line}")?;
+    push_part(text, alloc, watch, part)
+}
+
+/// Adds the members for a job of this place, whose run has executed nothing, and for this of a state of it.
+fn push_members(
+    text: &mut String,
+    alloc: Global,
+    place: u64,
+    watch: &mut Watch,
+    found: Found,
+    part: Part,
+) -> Result<(), AllocError> {
+    watch.go_to(found.count.unwrap_or(0))?;
+    push_job(text, alloc, place, watch.run().job().name())?;
+    if let Some(end) = found.end {
+        push_ending(text, end.ending)?;
+    }
+    push_state(text, alloc, watch, found, part)?;
+    text.push('}')
+}
+
+/// The object of a job of this place, whose run has executed nothing, with this of a state of it.
+fn object_at(
+    alloc: Global,
+    place: u64,
+    watch: &mut Watch,
+    found: Found,
+    part: Part,
+) -> Result<String, AllocError> {
+    let mut text = String::new(alloc);
+    push_members(&mut text, alloc, place, watch, found, part)?;
+    Ok(text)
+}
+
+/// This of a state of a job of this place as data.
+pub fn state_object(
+    alloc: Global,
+    batch: Batch<'_>,
+    place: u64,
+    job: Job<Global>,
+    state: &State,
+    part: Part,
+) -> Result<String, AllocError> {
+    let (found, job) = find(alloc, batch.rule, job, state)?;
+    let mut watch = Watch::new(alloc, batch.rule, job)?;
+    let object = object_at(alloc, place, &mut watch, found, part);
+    drop(watch);
+    object
+}
