@@ -300,10 +300,12 @@ def looks_at_data(data: bytes, chance: random.Random) -> list[tuple[list[str], d
         goes_on = go_to(again, count)
         options, used = ["--job", str(place), "--json", "--after", str(count)], used_at(again, goes_on)
         if not goes_on:
-            found += [([*options, *more], {**names, **used}) for more in ([], ["--all"], [values])]
+            ways: list[list[str]] = [options, [*options, "--all"], [*options, values]]
+            found += [(way, {**names, **used}) for way in ways]
             continue
         found.append(([*options, values], {**names, **used, **range_data(again, depth, first, last)}))
-        state = {"functions": [function.name for function in functions], **picture(again, functions, "")}
+        state: dict[str, Any] = {"functions": [function.name for function in functions]}
+        state |= picture(again, functions, "")
         found.append((options, {**names, **used, **state}))
         whole = {**state["stack"], "left": 0, "list": entries_of(again)}
         found.append(([*options, "--all"], {**names, **used, **state, "stack": whole}))
