@@ -127,8 +127,8 @@ fn shows_names_of_files(rt: HostRuntime) -> Result<(), Fail> {
 /// A batch up to the `CODE` of its first job, which has no signatures.
 const FRONT: &str = "BATCH 2\nJOB one 9 9 9 9\n SIGNATURES \t\n\r\n";
 
-/// The rest of it: a job with signatures, one with a function at two kinds, and one with an instruction that is left
-/// out of the profile.
+/// The rest of it: a job with signatures, one with a function at two kinds, one with an instruction that is left out of
+/// the profile, and one whose function calls itself on each path.
 const REST: &str = "\
 CODE
 FUNC MAIN CALL f RET
@@ -155,9 +155,15 @@ JOB four 9 9 9 9
 SIGNATURES
 CODE
 FUNC MAIN MAX RET
+END
+JOB five 9 9 9 9
+SIGNATURES
+CODE
+FUNC MAIN CONST BOOL () CALL MAIN POP 3 0
+CONST BOOL () CONST INT () RET
 END";
 
-/// Why the last two have none.
+/// Why the last three have none.
 const NOTES: &str = "\
 JOB 3 three NO SIGNATURES line 23 f is used at two kinds
 
@@ -176,6 +182,13 @@ JOB 4 four REFUSED line 29 S1 BAD_WORD
 expected here: an instruction, RET
 left out of this profile: MAX
 Only this fault is sure: what comes after it in the job wasn't checked.
+
+JOB 5 five NO SIGNATURES line 34 MAIN returns on no path
+
+     33 | CODE
+     34 | FUNC MAIN CONST BOOL () CALL MAIN POP 3 0
+        | ^^^^^^^^^^^^^^^^^^^^^^^^^^^^^^^^^^^^^^^^^ each path through it comes to a CALL that never returns
+     35 | CONST BOOL () CONST INT () RET
 
 ";
 
