@@ -1,11 +1,11 @@
-//! What a page shows of a job that is run again for it: what held the words, and the entries or calls over time.
+//! What a page shows beside what was counted: what held the words, and the entries or calls over time.
 
 use crate::data::{push_comma, push_numbers};
 use crate::end::with_job;
-use crate::holders::{Found, Holder, Holdings};
+use crate::holders::{Holder, Holdings};
 use crate::levels::Levels;
 use crate::survey::Again;
-use crate::watch::Watch;
+use job_profile::Uses;
 use job_steps::Job;
 use std::alloc::{AllocError, Global};
 use std::fmt::Write;
@@ -47,7 +47,7 @@ fn push_optional(text: &mut String, number: Option<usize>) -> Result<(), AllocEr
 }
 
 /// Adds the member for what a job held before the instruction of this number.
-fn push_held(text: &mut String, number: u64, holdings: &Holdings) -> Result<(), AllocError> {
+pub fn push_held(text: &mut String, number: u64, holdings: &Holdings) -> Result<(), AllocError> {
     let (line, words) = (holdings.line, holdings.words);
     write!(
         text,
@@ -58,16 +58,12 @@ fn push_held(text: &mut String, number: u64, holdings: &Holdings) -> Result<(), 
     text.push('}')
 }
 
-/// Adds the member for the entries or calls over time, if they are known, with how many there would be at the last
-/// instruction.
+/// Adds the member for the entries or calls over time, with how many there would be at the last instruction.
 fn push_levels(
     text: &mut String,
-    levels: &Option<Levels>,
+    levels: &Levels,
     wanted: Option<usize>,
 ) -> Result<(), AllocError> {
-    let Some(levels) = levels else {
-        return Ok(());
-    };
     let name = levels.counted.name();
     write!(text, ",\"levels\":{{\"of\":\"{name}\"")?;
     push_numbers(text, "most", levels.most.as_slice())?;
@@ -76,20 +72,19 @@ fn push_levels(
     text.push('}')
 }
 
-/// Adds the members for what is found of a run that has executed nothing, and goes to its last state.
+/// Adds the member for the entries or calls of a run that has executed nothing, and goes to its last state.
 fn push_run(
     text: &mut String,
-    alloc: Global,
-    watch: &mut Watch,
-    again: Again,
+    mut levels: Levels,
+    uses: &mut Uses<Global>,
+    count: u64,
 ) -> Result<(), AllocError> {
-    let found = Found::of(alloc, watch, again)?;
-    push_held(text, again.number, &found.holdings)?;
-    push_levels(text, &found.levels, found.wanted)
+    let wanted = levels.go_to(uses, count)?;
+    push_levels(text, &levels, wanted)
 }
 
-/// Adds the members for what held the words of a job, and for the entries or calls over time if the limit on them ended
-/// it. The job is run again for that. Answers the job.
+/// Adds the member for the entries or calls of a job over time, if the limit on them ended it. The job is run again for
+/// that. Answers the job.
 pub fn push_found(
     text: &mut String,
     alloc: Global,
@@ -97,8 +92,11 @@ pub fn push_found(
     job: Job<Global>,
     again: Again,
 ) -> Result<Job<Global>, AllocError> {
-    let mut watch = Watch::new(alloc, rule, job)?;
-    let pushed = push_run(text, alloc, &mut watch, again);
-    let ((), job) = with_job(pushed, watch.into_job())?;
+    let Some(levels) = Levels::new(alloc, again.end.ending, again.each) else {
+        return Ok(job);
+    };
+    let mut uses = Uses::new(alloc, rule, job)?;
+    let pushed = push_run(text, levels, &mut uses, again.end.steps);
+    let ((), job) = with_job(pushed, uses.into_job())?;
     Ok(job)
 }
