@@ -12,10 +12,12 @@ use job_steps::Job;
 use std::alloc::{AllocError, Global};
 use vcode_base::Rule;
 
-/// The last state of a job before its end, or the trail that its run has there if it went on to the end at once.
+/// The last state of a job before its end, also with its note, or the trail that its run has there if it went on to the
+/// end at once.
 #[derive(Drop)]
 pub enum Before {
     State(Picture),
+    Noted(Last),
     Trail(Trail),
 }
 
@@ -132,7 +134,7 @@ fn note_of(
 }
 
 /// The last state of a job, at which its run is.
-fn last_at(
+pub fn last_at(
     alloc: Global,
     watch: &Watch,
     ending: Ending,
@@ -180,6 +182,7 @@ pub fn last_of(
 ) -> Result<(Last, Job<Global>), AllocError> {
     match before {
         Before::State(picture) => with_job(foreseen(alloc, picture, end.ending), job),
+        Before::Noted(last) => Ok((last, job)),
         Before::Trail(trail) => found_again(alloc, batch.rule, (trail, job), end, wide, most),
     }
 }

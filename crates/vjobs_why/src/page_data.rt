@@ -1,11 +1,13 @@
 //! What a page shows beside what was counted: what held the words, and the entries or calls over time.
 
 use crate::data::{push_comma, push_numbers};
-use crate::end::with_job;
+use crate::end::{End, with_job};
 use crate::holders::{Holder, Holdings};
+use crate::last::{Before, Last, last_at};
 use crate::levels::Levels;
+use crate::stack::MOST_ENTRIES;
 use crate::survey::Again;
-use job_profile::Uses;
+use crate::watch::{Trail, Watch};
 use job_steps::Job;
 use std::alloc::{AllocError, Global};
 use std::fmt::Write;
@@ -72,31 +74,49 @@ fn push_levels(
     text.push('}')
 }
 
-/// Adds the member for the entries or calls of a run that has executed nothing, and goes to its last state.
+/// Adds the member for the entries or calls of a run that has executed nothing, and goes to its last state. Answers
+/// that state.
 fn push_run(
     text: &mut String,
+    alloc: Global,
     mut levels: Levels,
-    uses: &mut Uses<Global>,
-    count: u64,
-) -> Result<(), AllocError> {
-    let wanted = levels.go_to(uses, count)?;
-    push_levels(text, &levels, wanted)
+    watch: &mut Watch,
+    end: End,
+) -> Result<Last, AllocError> {
+    let wanted = levels.go_to(&mut watch.uses, end.steps)?;
+    push_levels(text, &levels, wanted)?;
+    last_at(alloc, watch, end.ending, None, MOST_ENTRIES)
 }
 
-/// Adds the member for the entries or calls of a job over time, if the limit on them ended it. The job is run again for
-/// that. Answers the job.
+/// Adds the member for the entries or calls of a job over time. The job is run again for that. Answers its last state,
+/// and the job.
+fn push_again(
+    text: &mut String,
+    alloc: Global,
+    rule: Rule,
+    (trail, job): (Trail, Job<Global>),
+    levels: Levels,
+    end: End,
+) -> Result<(Before, Job<Global>), AllocError> {
+    let mut watch = Watch::again(alloc, rule, job, trail, 0)?;
+    let pushed = push_run(text, alloc, levels, &mut watch, end);
+    let (last, job) = with_job(pushed, watch.into_job())?;
+    Ok((Before::Noted(last), job))
+}
+
+/// Adds the member for the entries or calls of a job over time, if the limit on them ended it. Answers what is known of
+/// the last state, and the job.
 pub fn push_found(
     text: &mut String,
     alloc: Global,
     rule: Rule,
-    job: Job<Global>,
+    (before, job): (Before, Job<Global>),
     again: Again,
-) -> Result<Job<Global>, AllocError> {
-    let Some(levels) = Levels::new(alloc, again.end.ending, again.each) else {
-        return Ok(job);
-    };
-    let mut uses = Uses::new(alloc, rule, job)?;
-    let pushed = push_run(text, levels, &mut uses, again.end.steps);
-    let ((), job) = with_job(pushed, uses.into_job())?;
-    Ok(job)
+) -> Result<(Before, Job<Global>), AllocError> {
+    match (Levels::new(alloc, again.end.ending, again.each), before) {
+        (Some(levels), Before::Trail(trail)) => {
+            push_again(text, alloc, rule, (trail, job), levels, again.end)
+        }
+        (_, before) => Ok((before, job)),
+    }
 }
