@@ -3,6 +3,7 @@ pub mod Drawn
 pub mod First
 pub mod Gone
 pub mod Lists
+pub mod Moved
 pub mod Shown
 pub mod Stops
 pub mod Strips

@@ -1,5 +1,6 @@
 -- What a run keeps, in the words of its job's progress.
-use Rattle.std.proofs.Common.{add-one, ◌≡◌, ℕ, ℤ, ◌+◌, suc, zero, Bool, true, false, List, [], ◌∷◌, length, map}
+use Rattle.std.proofs.Common.{add-one, ◌≡◌, ℕ, ℤ, ◌+◌, ◌<◌, ◌≤◌, suc, zero, Bool, true, false, List, [], ◌∷◌}
+use Rattle.std.proofs.Common.{length, map}
 use Rattle.std.proofs.Common.{Option, None, Some, slice_get, refl, sym, ◌∙◌, ap, subst, arith}
 use Rattle.std.proofs.lemmas.Bool.{false≢true}
 use Rattle.std.proofs.lemmas.List.Elements.{All-head, All-tail}
@@ -10,7 +11,7 @@ use Rattle.job_memory.specs.JobBlocks.{JobBlocks, own_slots}
 use Rattle.job_steps.specs.EventLaws.{EarlyEndsEnd}
 use Rattle.job_steps.specs.Events.{early_end}
 use Rattle.job_steps.specs.Frames.{StandAll, next_line}
-use Rattle.job_steps.specs.LeastLimits.{calls_in}
+use Rattle.job_steps.specs.LeastLimits.{calls_in, cells_in}
 use Rattle.job_steps.specs.Runs.{executed_count_in, progress_from, state_after}
 use Rattle.job_steps.specs.Standings as standing
 use Rattle.job_steps.specs.Standings.{Standing, held_in, held_by}
@@ -168,6 +169,52 @@ copies_at task blocks slot desk sound on m n x y at_m at_n =
     let h = running_at task blocks slot desk sound on in
     subst (λ (p : Progress). (x ≡ y) ↔ AreSame (slice_get (tags_in p) m) (slice_get (tags_in p) n)) (sym h.progress)
     (same_blocks (own_slots 1 blocks) slot.trace.cells h.run.state.stack h.run.holds m n x y at_m at_n)
+
+cell_count : (task : Task) (blocks : JobBlocks) (slot : SlotState) (desk : ℕ) → IsSound task blocks slot desk →
+    goes_on (progress_at task (standing_of slot)) ≡ true →
+    length slot.trace.cells ≡ cells_in (progress_at task (standing_of slot))
+cell_count task blocks slot desk sound on =
+    let h = running_at task blocks slot desk sound on in
+    h.run.at.cells ∙ sym (ap cells_in h.progress)
+
+there_is : {X : Type 0} (xs : List X) (n : ℕ) (x : X) → slice_get xs n ≡ Some x → n < length xs
+there_is [] n x e = absurd (none-some x e)
+there_is (y ∷ ys) zero x e = omega arith
+there_is (y ∷ ys) (suc n) x e = omega (arith, there_is ys n x e)
+
+none_is : {X : Type 0} (xs : List X) (n : ℕ) → None ≡ slice_get xs n → length xs ≤ n
+none_is [] n e = omega arith
+none_is (y ∷ ys) zero e = absurd (none-some y e)
+none_is (y ∷ ys) (suc n) e = omega (arith, none_is ys n e)
+
+-- the cell of an entry is there, and none of another
+pub cell_there : (task : Task) (blocks : JobBlocks) (slot : SlotState) (desk : ℕ) (r : RunState) →
+    IsSound task blocks slot desk → goes_on (progress_at task (standing_of slot)) ≡ true → run_by task slot ≡ r →
+    (depth id : ℕ) → slice_get slot.trace.cells depth ≡ Some id → depth < cells_in (progress_of r)
+cell_there task blocks slot desk r sound on view depth id at =
+    omega (
+      arith,
+      there_is slot.trace.cells depth id at,
+      cell_count task blocks slot desk sound on,
+      ap (λ (x : RunState). cells_in (progress_of x)) view,
+    )
+
+pub no_cell_there : (task : Task) (blocks : JobBlocks) (slot : SlotState) (desk : ℕ) (r : RunState) →
+    IsSound task blocks slot desk → goes_on (progress_at task (standing_of slot)) ≡ true → run_by task slot ≡ r →
+    (depth : ℕ) → None ≡ slice_get slot.trace.cells depth → cells_in (progress_of r) ≤ depth
+no_cell_there task blocks slot desk r sound on view depth none =
+    omega (
+      arith,
+      none_is slot.trace.cells depth none,
+      cell_count task blocks slot desk sound on,
+      ap (λ (x : RunState). cells_in (progress_of x)) view,
+    )
+
+-- no entry is there once the run is over
+pub no_cells : (p : Progress) → goes_on p ≡ false → (depth : ℕ) → cells_in p ≤ depth
+no_cells (Running s) over depth = absurd (false≢true (sym over))
+no_cells (Over ending executed peak) over depth = omega arith
+no_cells Stuck over depth = omega arith
 
 -- a job that goes on can begin its next step
 pub begins_at : StepsCanBegin ℕ → (task : Task) (blocks : JobBlocks) (slot : SlotState) (desk : ℕ)

@@ -81,6 +81,7 @@ impl<A: Allocator> Columns<A> {
     /// # Errors
     ///
     /// [`AllocError`] if memory for the counts was refused. Nothing changes then.
+    #[inline(always)]
     pub fn step(&mut self) -> Result<bool, AllocError>
         ensures run { OnOk result
             (HasCome self.old.task (progress_from self.old.task (progress_of self.old)) self.new) }
@@ -93,7 +94,7 @@ impl<A: Allocator> Columns<A> {
         reached();
         let run = self.profile.run();
         let (line, most, executed) = (next_place(run), run.demand(), run.executed());
-        let goes_on = self.profile.step()?;
+        let goes_on = self.profile.step_at(line)?;
         let run = self.profile.run();
         let least = run.held();
         if run.executed() == executed {

@@ -46,6 +46,7 @@ impl<A: Allocator> Model for Profile<A> {
 }
 
 /// The number of the line of the next instruction, and 0 if the run is over.
+#[inline(always)]
 pub(crate) fn next_place<A: Allocator>(run: &Run<A>) -> usize
     ensures { result ≡ line_in (progress_of run.now) }
 {
@@ -56,6 +57,7 @@ pub(crate) fn next_place<A: Allocator>(run: &Run<A>) -> usize
 }
 
 /// The first of two counts of instructions at which the peak is the second of these.
+#[inline(always)]
 fn first_reached(before: usize, peak: usize, after: u64, executed: u64) -> u64
     ensures { result ≡ (if nat_lt before peak then executed else after) }
 {
@@ -104,11 +106,23 @@ impl<A: Allocator> Profile<A> {
         ensures goes_on { IfOk result (λ on. on ≡ goes_on (progress_of self.new)) }
         ensures unchanged { OnErr result (self.new ≡ self.old) }
     {
+        let place = next_place(self.uses.run());
+        self.step_at(place)
+    }
+
+    /// The same, if the number of the line of the next instruction is known, which is 0 if the run is over.
+    #[inline(always)]
+    pub(crate) fn step_at(&mut self, place: usize) -> Result<bool, AllocError>
+        requires { place ≡ line_in (progress_of self.old) }
+        ensures run { OnOk result
+            (HasCome self.old.task (progress_from self.old.task (progress_of self.old)) self.new) }
+        ensures goes_on { IfOk result (λ on. on ≡ goes_on (progress_of self.new)) }
+        ensures unchanged { OnErr result (self.new ≡ self.old) }
+    {
         early_ends_end();
         others_are_ready();
         never_stuck();
         reached();
-        let place = next_place(self.uses.run());
         grow(&mut self.times, place)?;
         let (executed, peak) = (self.uses.executed(), self.uses.words());
         let goes_on = self.uses.step();

@@ -1,13 +1,14 @@
 //! The run of one job, in one go.
 
-ghost use Rattle.std.specs.Prelude.{◌≡◌, ◌+◌, ◌↔◌, IsTrue, IfOk, OnOk, OnErr, option_copied, slice_get};
+ghost use Rattle.std.specs.Prelude.{◌≡◌, ◌+◌, ◌<◌, ◌≤◌, ◌↔◌, IsTrue, IfOk, MatchOption, OnOk, OnErr};
+ghost use Rattle.std.specs.Prelude.{option_copied, slice_get};
 ghost use Rattle.job_steps.specs.LeastLimits.{cells_in, calls_in};
 ghost use Rattle.job_steps.specs.Runs.{executed_count_in, peak_in, progress_from};
 ghost use Rattle.job_steps.specs.Standings.{held_in};
 ghost use Rattle.job_steps.specs.States.{ruled};
 ghost use Rattle.job_slots.specs.Answers.{demand_in, told_demand_in, told_need_in};
 ghost use Rattle.job_profile.specs.Walks.{AreSame, HasCome, StandAt, ending_at, ending_of, first_run, goes_on};
-ghost use Rattle.job_profile.specs.Walks.{lists_in, next_line_in, progress_of, tags_in};
+ghost use Rattle.job_profile.specs.Walks.{does_move, does_move_in, lists_in, next_line_in, progress_of, tags_in};
 
 use block_memory::BlockId;
 use job_memory::JobMemory;
@@ -17,8 +18,8 @@ use job_steps::laws::{early_ends_end, ended_are_over, steps_can_begin};
 use job_steps::{Desk, Frame, Job};
 use std::alloc::{AllocError, Allocator};
 use std::marker::Model;
-use vcode_base::{Outcome, Rule, Values};
-use vcode_reader::CodeLine;
+use vcode_base::{Instr, Instruction, Outcome, Rule, Values};
+use vcode_reader::{CodeItem, CodeLine};
 
 /// The number of the job in its memory.
 const ONLY_JOB: usize = 1;
@@ -125,6 +126,7 @@ impl<A: Allocator> Run<A> {
     }
 
     /// Whether the job goes on.
+    #[inline(always)]
     pub fn goes_on(&self) -> bool
         ensures { result ≡ goes_on (progress_of self.now) }
     {
@@ -135,6 +137,7 @@ impl<A: Allocator> Run<A> {
     }
 
     /// How many instructions it executed.
+    #[inline(always)]
     pub fn executed(&self) -> u64
         ensures { result ≡ executed_count_in (progress_of self.now) }
     {
@@ -142,6 +145,7 @@ impl<A: Allocator> Run<A> {
     }
 
     /// The most words that it held and needed at an instruction that it executed.
+    #[inline(always)]
     pub fn peak(&self) -> usize
         ensures { result ≡ peak_in (progress_of self.now) }
     {
@@ -149,6 +153,7 @@ impl<A: Allocator> Run<A> {
     }
 
     /// The words that it holds, and 0 once its run is over.
+    #[inline(always)]
     pub fn held(&self) -> usize
         ensures { result ≡ held_in (progress_of self.now) }
     {
@@ -165,7 +170,21 @@ impl<A: Allocator> Run<A> {
     ///
     /// If the instruction's operands don't fit one another, these are only the words that it holds. If they are more
     /// than the greatest `u64`, they are answered as that.
+    #[inline(always)]
     pub fn demand(&self) -> usize
+        ensures executed { executed_count_in (progress_from self.now.task (progress_of self.now))
+            ≡ executed_count_in (progress_of self.now) + 1
+            → result ≡ demand_in self.now.task.rule (progress_of self.now) }
+        ensures told { result ≡ told_demand_in self.now.task.rule (progress_of self.now) }
+    {
+        if does_move_in(self.next_line()) {
+            return self.held();
+        }
+        self.read_demand()
+    }
+
+    /// The same, found from the operands of the instruction, whatever it is.
+    fn read_demand(&self) -> usize
         ensures executed { executed_count_in (progress_from self.now.task (progress_of self.now))
             ≡ executed_count_in (progress_of self.now) + 1
             → result ≡ demand_in self.now.task.rule (progress_of self.now) }
@@ -202,6 +221,7 @@ impl<A: Allocator> Run<A> {
     }
 
     /// How many entries its stack has, and 0 once its run is over.
+    #[inline(always)]
     pub fn depth(&self) -> usize
         ensures { result ≡ cells_in (progress_of self.now) }
     {
@@ -213,6 +233,7 @@ impl<A: Allocator> Run<A> {
     }
 
     /// How many calls are active, and 0 once its run is over.
+    #[inline(always)]
     pub fn calls(&self) -> usize
         ensures { result ≡ calls_in (progress_of self.now) }
     {
@@ -224,6 +245,7 @@ impl<A: Allocator> Run<A> {
     }
 
     /// The words of the entry of the stack at this depth, 0 at the top, if there is one and the job goes on.
+    #[inline(always)]
     pub fn words(&self, depth: usize) -> Option<&[i64]>
         ensures { option_copied result ≡ slice_get (lists_in (progress_of self.now)) depth }
     {
@@ -234,6 +256,21 @@ impl<A: Allocator> Run<A> {
         }
         let id = cell(&self.slot, depth)?;
         Some(self.blocks.words(id))
+    }
+
+    /// The number of the block that has the words of the entry of the stack at this depth, 0 at the top, if there is
+    /// one and the job goes on. Entries at one state have one number if they are copies of one another, and else
+    /// others. A run that is made anew has the same numbers.
+    #[inline(always)]
+    pub fn block(&self, depth: usize) -> Option<usize>
+        ensures { MatchOption result (cells_in (progress_of self.now) ≤ depth)
+            (λ _. depth < cells_in (progress_of self.now)) }
+    {
+        if !self.goes_on() {
+            return None;
+        }
+        let block = cell(&self.slot, depth)?;
+        Some(block.number())
     }
 
     /// Whether the entries at these depths are there and are copies of one another: they share their words.
@@ -251,6 +288,7 @@ impl<A: Allocator> Run<A> {
     }
 
     /// The places at which the active calls go on, that of the innermost last.
+    #[inline(always)]
     pub fn frames(&self) -> &[Frame]
         ensures { StandAt self.now.task result.now (progress_of self.now) }
     {
@@ -298,7 +336,32 @@ impl<A: Allocator> Run<A> {
     }
 }
 
+/// Whether an instruction moves entries or calls: it takes no operand and has no result.
+#[inline(always)]
+fn does_move(item: &CodeItem<Instruction<'_>>) -> bool
+    ensures { result ≡ does_move item.now }
+{
+    match item {
+        CodeItem::Do(Instr::Move(..)) => true,
+        CodeItem::Do(Instr::Call(_)) => true,
+        CodeItem::Do(Instr::Return) => true,
+        CodeItem::Do(_) | CodeItem::If | CodeItem::Else | CodeItem::Endif => false,
+    }
+}
+
+/// Whether there is a line, and its instruction moves entries or calls.
+#[inline(always)]
+fn does_move_in(line: Option<CodeLine<'_>>) -> bool
+    ensures { result ≡ does_move_in line.entry }
+{
+    match line {
+        Some(line) => does_move(&line.item),
+        None => false,
+    }
+}
+
 /// The cell at this depth, 0 at the top, if there is one.
+#[inline(always)]
 fn cell<A: Allocator>(slot: &Slot<A>, depth: usize) -> Option<BlockId>
     ensures { result ≡ slice_get slot.now.trace.cells depth }
 {

@@ -23,6 +23,7 @@ pub struct Column {
 }
 
 /// Two columns that follow one another as one.
+#[inline(always)]
 fn joined(first: Column, second: Column) -> Column
     ensures { result ≡ joined first second }
 {
@@ -71,6 +72,7 @@ impl<A: Allocator> Strip<A> {
     }
 
     /// Adds an instruction.
+    #[inline(always)]
     pub(crate) fn add(&mut self, next: Column)
         requires { (n : ℕ) × HasShape n (length self.old.columns.items) self.old.each self.old.room × (n < 2 ^ 64) }
         ensures strip { (of : ℕ → Column) (n : ℕ) → IsStrip of n self.old.columns.items self.old.each self.old.room
@@ -88,6 +90,7 @@ impl<A: Allocator> Strip<A> {
     }
 
     /// Makes each two columns one if there are as many as there may be. The last column has no room.
+    #[inline(never)]
     fn make_room(&mut self)
         requires few { length self.old.columns.items ≤ MOST_COLUMNS }
         requires fits { length self.old.columns.items ≡ MOST_COLUMNS → self.old.each * 2 < 2 ^ 64 }
@@ -107,6 +110,7 @@ impl<A: Allocator> Strip<A> {
 
 impl<A: Allocator> Strip<A> {
     /// The last column is of one instruction more.
+    #[inline(always)]
     fn widen(&mut self, next: Column)
         requires { (0 < length self.old.columns.items) × (0 < self.old.room) }
         ensures columns { self.new.columns.items ≡ slice_set self.old.columns.items (length self.old.columns.items - 1)

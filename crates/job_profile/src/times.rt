@@ -6,6 +6,7 @@ ghost use Rattle.job_profile.specs.Sound.{CountAlike};
 use std::alloc::{AllocError, Allocator};
 
 /// Appends counts of 0 until there is one at this place. An error means that the allocator refused memory.
+#[inline(always)]
 pub(crate) fn grow<A: Allocator>(times: &mut Vec<u64, A>, place: usize) -> Result<(), AllocError>
     ensures same { CountAlike times.old.items times.new.items }
     ensures long { OnOk result (place < length times.new.items) }

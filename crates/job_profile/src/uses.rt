@@ -71,6 +71,7 @@ impl<A: Allocator + Clone> Uses<A> {
 
 impl<A: Allocator> Uses<A> {
     /// Executes the next instruction; true if the job goes on. A job whose run is over stays as it is. Takes no memory.
+    #[inline(always)]
     pub fn step(&mut self) -> bool
         ensures run { HasCome self.old.task (progress_from self.old.task (progress_of self.old)) self.new }
         ensures goes_on { result ≡ goes_on (progress_of self.new) }

@@ -2,93 +2,88 @@
 
 use job_profile::Run;
 use std::alloc::{AllocError, Global};
+use std::mem;
 
-/// How many instructions each function executed itself in each column, one column after the other. A column is of
-/// `each` instructions that follow one another. The last column has room for those up to the number `end`.
-#[derive(Drop)]
-pub struct Bands {
-    each: u64,
-    functions: usize,
-    counts: Vec<u32>,
-    end: u64,
+/// How many instructions of a column a function executed itself.
+#[derive(Clone, Copy, Drop)]
+struct Part {
+    column: u64,
+    function: usize,
+    count: u64,
 }
 
-/// A number of instructions of a column.
-fn count_of(number: u64) -> u32 {
-    u32::try_from(number).unwrap_or(u32::MAX)
+/// How many instructions each function executed itself in each column, one column after the other. A column is of
+/// `each` instructions that follow one another. The last column has room for those up to the number `end`, and its
+/// parts begin at the place `begin`. Of each function there is the place of its last part, or 0.
+#[derive(Drop)]
+pub struct Bands {
+    alloc: Global,
+    each: u64,
+    column: u64,
+    end: u64,
+    parts: Vec<Part>,
+    begin: usize,
+    places: Vec<usize>,
 }
 
 impl Bands {
     /// The bands of a run that has executed nothing.
-    pub fn new(alloc: Global, run: &Run<Global>) -> Bands {
+    pub fn new(alloc: Global, run: &Run<Global>) -> Result<Bands, AllocError> {
         let functions = run.job().verified().program().functions().len();
-        Bands {
+        Ok(Bands {
+            alloc,
             each: 1,
-            functions,
-            counts: Vec::new(alloc),
-            end: 0,
+            column: 0,
+            end: 1,
+            parts: Vec::new(alloc),
+            begin: 0,
+            places: vec![in alloc; 0; functions]?,
+        })
+    }
+
+    /// The place of the part of a function in the last column, if it has one.
+    #[inline(always)]
+    fn place(&self, function: usize) -> Option<usize> {
+        let place = *self.places.get(function)?;
+        match self.parts.get(place) {
+            Some(part) if part.function == function && place >= self.begin => Some(place),
+            Some(_) | None => None,
         }
     }
 
-    /// How many instructions a function executed in a column.
-    fn count_at(&self, column: usize, function: usize) -> u32 {
-        let index = column
-            .saturating_mul(self.functions)
-            .saturating_add(function);
-        self.counts.get(index).copied().unwrap_or(0)
-    }
-
-    /// Adds a number of instructions of a function to a column, which is there.
-    fn add(&mut self, column: usize, function: usize, count: u32) {
-        let index = column
-            .saturating_mul(self.functions)
-            .saturating_add(function);
-        if let Some(entry) = self.counts.get_mut(index) {
-            *entry = entry.saturating_add(count);
+    /// Adds the first part of a function in the last column.
+    #[inline(never)]
+    fn push(&mut self, function: usize, count: u64) -> Result<(), AllocError> {
+        if let Some(place) = self.places.get_mut(function) {
+            *place = self.parts.len();
         }
-    }
-
-    /// Makes room for the columns up to this one.
-    fn reach(&mut self, column: usize) -> Result<(), AllocError> {
-        let end = column.saturating_add(1).saturating_mul(self.functions);
-        for _ in self.counts.len()..end {
-            self.counts.push(0)?;
-        }
+        self.parts.push(Part {
+            column: self.column,
+            function,
+            count,
+        })?;
         Ok(())
     }
 
-    /// Two columns as one, at this place of other bands.
-    fn join_at(&self, joined: &mut Bands, column: usize) -> Result<(), AllocError> {
-        joined.reach(column)?;
-        let first = column.saturating_mul(2);
-        for function in 0..self.functions {
-            joined.add(column, function, self.count_at(first, function));
-            joined.add(
-                column,
-                function,
-                self.count_at(first.saturating_add(1), function),
-            );
-        }
-        Ok(())
-    }
-
-    /// The same with each two columns as one.
-    fn joined(&self, alloc: Global) -> Result<Bands, AllocError> {
-        let mut joined = Bands {
-            each: self.each.saturating_mul(2),
-            functions: self.functions,
-            counts: Vec::new(alloc),
-            end: 0,
+    /// Adds a number of instructions of a function to the last column.
+    #[inline(always)]
+    fn add(&mut self, function: usize, count: u64) -> Result<(), AllocError> {
+        let Some(place) = self.place(function) else {
+            return self.push(function, count);
         };
-        for column in 0..self.columns().div_ceil(2) {
-            self.join_at(&mut joined, column)?;
+        if let Some(part) = self.parts.get_mut(place) {
+            part.count = part.count.wrapping_add(count);
         }
-        Ok(joined)
+        Ok(())
     }
 
-    /// How many columns there are.
-    fn columns(&self) -> usize {
-        self.counts.len() / self.functions.max(1)
+    /// Adds a number of instructions of a function to a column, which is the last one or comes after it.
+    fn put(&mut self, column: u64, function: usize, count: u64) -> Result<(), AllocError> {
+        if column != self.column {
+            self.column = column;
+            self.begin = self.parts.len();
+        }
+        self.add(function, count)
     }
 
     /// Counts instructions of a function that come after those that were counted: this many, up to the one of this
@@ -96,66 +91,85 @@ impl Bands {
     #[inline(always)]
     pub fn count(
         &mut self,
-        alloc: Global,
         function: usize,
         number: u64,
         last: u64,
         each: u64,
     ) -> Result<(), AllocError> {
         if each == self.each && last <= self.end {
-            let column = self.columns().saturating_sub(1);
-            self.add(column, function, count_of(number));
-            return Ok(());
+            return self.add(function, number);
         }
-        self.widen(alloc, each)?;
-        self.spread(function, number, last)
+        self.spread(function, number, last, each)
     }
 
-    /// Counts instructions that are not all of the last column.
-    fn spread(&mut self, function: usize, number: u64, last: u64) -> Result<(), AllocError> {
+    /// The same for instructions that are not all of the last column.
+    #[inline(never)]
+    fn spread(
+        &mut self,
+        function: usize,
+        number: u64,
+        last: u64,
+        each: u64,
+    ) -> Result<(), AllocError> {
+        self.widen(each)?;
         let each = self.each.max(1);
         let begin = last.saturating_sub(number);
         for column in begin / each..=last.saturating_sub(1) / each {
             let from = column.saturating_mul(each);
             self.end = from.saturating_add(each);
-            self.reach(column as usize)?;
             let part = last.min(self.end).saturating_sub(begin.max(from));
-            self.add(column as usize, function, count_of(part));
+            self.put(column, function, part)?;
         }
         Ok(())
     }
 
     /// Makes each two columns one until they are of `each` instructions.
-    fn widen(&mut self, alloc: Global, each: u64) -> Result<(), AllocError> {
+    fn widen(&mut self, each: u64) -> Result<(), AllocError> {
         for _ in 0..u64::BITS {
             if each <= self.each {
                 break;
             }
-            *self = self.joined(alloc)?;
+            self.each = self.each.saturating_mul(2);
+            self.join()?;
         }
         Ok(())
     }
 
-    /// The function that executed the most instructions in a column: the first of them in the code, if some executed
-    /// as many.
-    fn greatest(&self, column: usize) -> usize {
-        let (mut found, mut most) = (0, 0);
-        for function in 0..self.functions {
-            let count = self.count_at(column, function);
-            if count > most {
-                found = function;
-                most = count;
-            }
+    /// Makes each two columns one.
+    fn join(&mut self) -> Result<(), AllocError> {
+        let parts = mem::replace(&mut self.parts, Vec::new(self.alloc));
+        self.column = 0;
+        self.begin = 0;
+        for part in &parts {
+            self.put(part.column / 2, part.function, part.count)?;
         }
-        found
+        Ok(())
     }
 
-    /// Of each column the function that executed the most instructions in it.
+    /// Of each column the function that executed the most instructions in it: the first of them in the code, if some
+    /// executed as many.
     pub fn places(&self, alloc: Global) -> Result<Vec<usize>, AllocError> {
         let mut places = Vec::new(alloc);
-        for column in 0..self.columns() {
-            places.push(self.greatest(column))?;
+        let Some(first) = self.parts.first() else {
+            return Ok(places);
+        };
+        let mut greatest = *first;
+        for part in &self.parts {
+            if part.column == greatest.column {
+                greatest = greater(greatest, *part);
+            } else {
+                places.push(greatest.function)?;
+                greatest = *part;
+            }
         }
+        places.push(greatest.function)?;
         Ok(places)
     }
+}
+
+/// Of two parts of a column the one with more instructions, or that of the function that comes first in the code.
+fn greater(part: Part, other: Part) -> Part {
+    let is_more = other.count > part.count;
+    let is_first = other.count == part.count && other.function < part.function;
+    if is_more || is_first { other } else { part }
 }

@@ -38,6 +38,7 @@ pub struct Chains {
 }
 
 /// The function of the innermost call.
+#[inline(always)]
 pub fn innermost(run: &Run<Global>) -> usize {
     match run.frames().last() {
         Some(frame) => frame.function,
@@ -67,6 +68,7 @@ impl Chains {
     }
 
     /// The place of the chain of the innermost call.
+    #[inline(always)]
     pub fn place(&self) -> usize {
         match self.calls.last() {
             Some(place) => *place,
@@ -75,13 +77,15 @@ impl Chains {
     }
 
     /// The index of a function in the row of the chain at a place.
+    #[inline(always)]
     fn index(&self, place: usize, function: usize) -> usize {
         place
-            .saturating_mul(self.functions.saturating_add(1))
-            .saturating_add(function)
+            .wrapping_mul(self.functions.wrapping_add(1))
+            .wrapping_add(function)
     }
 
     /// The place of the chain in which a function goes on that is called in the chain at a place, if it is known.
+    #[inline(always)]
     fn known(&self, place: usize, function: usize) -> Option<usize> {
         match self.rows.get(self.index(place, function)) {
             Some(Some(known)) => Some(usize::from(*known)),
@@ -124,34 +128,47 @@ impl Chains {
         Ok(place)
     }
 
-    /// The place of the chain of a function inside the chain at a place, which is added if it is missing.
-    fn inside(&mut self, outer: usize, function: usize) -> Result<usize, AllocError> {
-        if let Some(place) = self.known(outer, function) {
-            return Ok(place);
-        }
+    /// Adds the chain of a function inside the chain at a place. Answers its place.
+    fn push(&mut self, outer: usize, function: usize) -> Result<usize, AllocError> {
         self.push_row(outer)?;
         self.push_chain(outer, function)
     }
 
-    /// The place of the chain of a function that is called in the chain at a place. One that runs already goes on in
-    /// its chain, so that a recursion is one chain. If a chain is missing and there are too many, it is the rest.
-    fn inner(&mut self, outer: usize, function: usize) -> Result<usize, AllocError> {
-        if self.chains.len() < MOST_CHAINS || self.known(outer, function).is_some() {
-            return self.inside(outer, function);
+    /// The place of the chain of a function inside the chain at a place, which isn't known yet. If there are too many
+    /// chains, it is the rest.
+    #[inline(never)]
+    fn unknown(&mut self, outer: usize, function: usize) -> Result<usize, AllocError> {
+        if self.chains.len() < MOST_CHAINS {
+            return self.push(outer, function);
         }
-        self.inside(outer, self.functions)
+        match self.known(outer, self.functions) {
+            Some(place) => Ok(place),
+            None => self.push(outer, self.functions),
+        }
+    }
+
+    /// The place of the chain of a function that is called in the chain at a place. One that runs already goes on in
+    /// its chain, so that a recursion is one chain.
+    #[inline(always)]
+    fn inner(&mut self, outer: usize, function: usize) -> Result<usize, AllocError> {
+        match self.known(outer, function) {
+            Some(place) => Ok(place),
+            None => self.unknown(outer, function),
+        }
     }
 
     /// Counts a call in the chain at a place, which is the innermost then.
+    #[inline(always)]
     fn enter(&mut self, place: usize) -> Result<(), AllocError> {
         if let Some(chain) = self.chains.get_mut(place) {
-            chain.calls = chain.calls.saturating_add(1);
+            chain.calls = chain.calls.wrapping_add(1);
         }
         self.calls.push(place)?;
         Ok(())
     }
 
     /// Adds the call of a function.
+    #[inline(always)]
     fn call(&mut self, function: usize) -> Result<(), AllocError> {
         let place = self.inner(self.place(), function)?;
         self.enter(place)
@@ -167,6 +184,7 @@ impl Chains {
     }
 
     /// Counts a call that begins, or the end of one, at an instruction that a run has executed.
+    #[inline(always)]
     pub fn change(&mut self, before: Before, run: &Run<Global>) -> Result<(), AllocError> {
         match before.next.op {
             Op::Call => self.call(innermost(run)),

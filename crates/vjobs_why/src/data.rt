@@ -4,6 +4,7 @@ use crate::chains::Chains;
 use crate::end::Ending;
 use crate::last::Last;
 use crate::look::Batch;
+use crate::page_data::push_held;
 use crate::picture_data::push_picture;
 use crate::profile::{FunctionHead, function_places, functions_of, last_line_of, lines_of};
 use crate::source_data::push_source;
@@ -507,7 +508,8 @@ fn push_members(
     push_carets(text, alloc, lines, survey)?;
     push_counts(text, alloc, survey)?;
     push_sources(text, alloc, lines, survey)?;
-    push_program(text, alloc, lines, survey)
+    push_program(text, alloc, lines, survey)?;
+    push_held(text, survey.again().number, &survey.holdings(alloc)?)
 }
 
 /// The object of a job of this place that has run to its end, up to what is said of its end.

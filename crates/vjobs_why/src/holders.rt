@@ -1,20 +1,44 @@
-//! What a job holds at a state, by the lines that made it, and what of it is read later.
+//! What a job holds at its peak, by the lines that made it, and what of it is read later.
 
-use crate::end::{Ending, ending_of, with_job};
-use crate::levels::{Levels, wanted_by};
-use crate::survey::Again;
-use crate::watch::{Next, Watch};
-use job_steps::Job;
+use crate::tally::has_vectors;
+use crate::watch::{Next, Origin, Trail};
+use job_profile::Run;
 use std::alloc::{AllocError, Global};
-use vcode_base::limits::MOST_BUDGET;
-use vcode_base::{Op, Rule};
+use std::ops::Range;
+use vcode_base::{Op, StackMove};
 
-/// An entry that is held: the line that made its vector, how many entries were made before that, and its words.
+/// A vector that a run holds: its words, how many entries have it, after how many peaks it was made, and the peak of
+/// which it has a note, with the place of that.
 #[derive(Clone, Copy, Drop)]
-struct Held {
-    line: u64,
-    before: u64,
+struct Vector {
     words: usize,
+    entries: usize,
+    made_in: u64,
+    noted_in: u64,
+    note: usize,
+}
+
+/// A vector that was held at the last peak: where it comes from, its words, how many entries had it there, and whether
+/// it was read from there on.
+#[derive(Clone, Copy, Drop)]
+struct Note {
+    origin: Origin,
+    words: usize,
+    entries: usize,
+    is_read: bool,
+}
+
+/// What a run holds: its vectors, each at the number of its block; the blocks of the operands of the next instruction;
+/// the most words so far, how often they were passed, and the line at which they were passed last; and notes on the
+/// vectors that were held before that, each from the first change on.
+#[derive(Drop)]
+pub struct Holds {
+    vectors: Vec<Vector>,
+    taken: Vec<usize>,
+    peak: usize,
+    peaks: u64,
+    line: u64,
+    notes: Vec<Note>,
 }
 
 /// What is held of the vectors that a line made, and how many words of it are never read again.
@@ -27,278 +51,6 @@ pub struct Holder {
     pub unread: usize,
 }
 
-impl Holder {
-    /// Adds what is held of another vector of its line.
-    fn add(&mut self, other: Holder) {
-        self.words = self.words.saturating_add(other.words);
-        self.vectors = self.vectors.saturating_add(other.vectors);
-        self.entries = self.entries.saturating_add(other.entries);
-        self.unread = self.unread.saturating_add(other.unread);
-    }
-}
-
-/// After how many instructions it is looked again whether any vector is left that may be read.
-const LOOK_AFTER: u64 = 4_096;
-
-/// The vectors that were held at a state, which of them were read from there on, and how many weren't. They are named by
-/// how many entries were made before each, the least first.
-#[derive(Drop)]
-struct Reads {
-    vectors: Vec<u64>,
-    are_read: Vec<bool>,
-    unread: usize,
-}
-
-/// How many entries from the top an instruction reads. The last RET reads all, since they are the results.
-fn read_count(watch: &Watch, next: Next) -> usize {
-    match next.op {
-        Op::Return if watch.run().calls() == 1 => watch.run().depth(),
-        _ => next.op.operand_kinds().len(),
-    }
-}
-
-impl Reads {
-    /// None of the vectors of these entries was read yet.
-    fn new(alloc: Global, entries: &[Held]) -> Result<Reads, AllocError> {
-        let mut vectors = Vec::new(alloc);
-        for entry in entries {
-            vectors.push(entry.before)?;
-        }
-        vectors.sort()?;
-        vectors.dedup();
-        let unread = vectors.len();
-        let are_read = vec![in alloc; false; unread]?;
-        Ok(Reads {
-            vectors,
-            are_read,
-            unread,
-        })
-    }
-
-    /// The place of a vector.
-    fn place(&self, vector: u64) -> usize {
-        self.vectors.partition_point(|other| *other < vector)
-    }
-
-    /// Notes that a vector is read, if it is one of these.
-    fn note(&mut self, vector: u64) {
-        let place = self.place(vector);
-        if self.vectors.get(place) != Some(&vector) {
-            return;
-        }
-        match self.are_read.get_mut(place) {
-            Some(is_read) if !*is_read => {
-                *is_read = true;
-                self.unread = self.unread.saturating_sub(1);
-            }
-            Some(_) | None => {}
-        }
-    }
-
-    /// Whether a vector is one of these and wasn't read.
-    fn is_unread(&self, vector: u64) -> bool {
-        let place = self.place(vector);
-        self.vectors.get(place) == Some(&vector) && self.are_read.get(place) == Some(&false)
-    }
-
-    /// Whether one of the entries of a run is one of these vectors and wasn't read.
-    fn are_held(&self, watch: &Watch) -> bool {
-        for depth in 0..watch.run().depth() {
-            if let Some(origin) = watch.origin(depth) {
-                if self.is_unread(origin.before) {
-                    return true;
-                }
-            }
-        }
-        false
-    }
-
-    /// Whether it is known that no more of them are read from the state of a run on. It isn't looked at each state.
-    fn are_over(&self, watch: &Watch) -> bool {
-        if self.unread == 0 {
-            return true;
-        }
-        watch.run().executed() % LOOK_AFTER == 0 && !self.are_held(watch)
-    }
-
-    /// Whether a vector was read.
-    fn has(&self, vector: u64) -> bool {
-        match self.are_read.get(self.place(vector)) {
-            Some(is_read) => *is_read,
-            None => false,
-        }
-    }
-
-    /// Notes what the next instruction of a run reads.
-    fn note_next(&mut self, watch: &Watch, next: Next) {
-        for depth in 0..read_count(watch, next) {
-            if let Some(origin) = watch.origin(depth) {
-                self.note(origin.before);
-            }
-        }
-    }
-
-    /// Runs a job to its end, and notes what it reads.
-    fn note_all(&mut self, watch: &mut Watch) -> Result<(), AllocError> {
-        for _ in 0..=MOST_BUDGET {
-            let Some(next) = watch.next() else {
-                break;
-            };
-            self.note_next(watch, next);
-            watch.step()?;
-        }
-        Ok(())
-    }
-}
-
-/// What is noted at the states of a run: which vectors are read, and how many entries or calls there are.
-#[derive(Drop)]
-struct Notes {
-    reads: Option<Reads>,
-    levels: Option<Levels>,
-}
-
-impl Notes {
-    /// Notes what there is at the state of a run, and what its next instruction reads.
-    fn note(&mut self, watch: &Watch, next: Next) -> Result<(), AllocError> {
-        if let Some(reads) = &mut self.reads {
-            reads.note_next(watch, next);
-        }
-        match &mut self.levels {
-            Some(levels) => levels.note(watch.run()),
-            None => Ok(()),
-        }
-    }
-
-    /// Notes the state of a run, and executes the next instruction.
-    fn step(&mut self, watch: &mut Watch) -> Result<(), AllocError> {
-        if let Some(next) = watch.next() {
-            self.note(watch, next)?;
-            watch.take(next)?;
-        }
-        Ok(())
-    }
-
-    /// Whether nothing is left to be noted from the state of a run on.
-    fn are_over(&self, watch: &Watch) -> bool {
-        if self.levels.is_some() {
-            return false;
-        }
-        match &self.reads {
-            Some(reads) => reads.are_over(watch),
-            None => true,
-        }
-    }
-
-    /// Notes the states of a run up to the one after this many instructions, and goes there.
-    fn go_to(&mut self, watch: &mut Watch, count: u64) -> Result<(), AllocError> {
-        for _ in watch.run().executed()..count {
-            self.step(watch)?;
-        }
-        Ok(())
-    }
-
-    /// The same as far as anything is left to be noted, with the state after these instructions too.
-    fn go_on(&mut self, watch: &mut Watch, count: u64) -> Result<(), AllocError> {
-        for _ in watch.run().executed()..count {
-            if self.are_over(watch) {
-                return Ok(());
-            }
-            self.step(watch)?;
-        }
-        match watch.next() {
-            Some(next) => self.note(watch, next),
-            None => Ok(()),
-        }
-    }
-}
-
-/// The vectors of these entries that are read from the state of a run on, which is run to its end. `None` if it doesn't
-/// return.
-fn reads_of(
-    alloc: Global,
-    entries: &[Held],
-    watch: &mut Watch,
-) -> Result<Option<Reads>, AllocError> {
-    let mut reads = Reads::new(alloc, entries)?;
-    reads.note_all(watch)?;
-    watch.uses.collect()?;
-    if ending_of(watch.run()) == Ending::Returned {
-        Ok(Some(reads))
-    } else {
-        Ok(None)
-    }
-}
-
-/// The entries of a run, those of one line together, and of these the copies of one vector.
-fn entries_of(alloc: Global, watch: &Watch) -> Result<Vec<Held>, AllocError> {
-    let mut entries = Vec::new(alloc);
-    for depth in 0..watch.run().depth() {
-        if let (Some(words), Some(origin)) = (watch.run().words(depth), watch.origin(depth)) {
-            entries.push(Held {
-                line: origin.line,
-                before: origin.before,
-                words: words.len(),
-            })?;
-        }
-    }
-    entries.sort_by_key(|entry| (entry.line, entry.before))?;
-    Ok(entries)
-}
-
-/// Adds a vector to what its line holds, and how many of its words are never read again; or a copy of the vector before
-/// it.
-fn add_entry(
-    holders: &mut Vec<Holder>,
-    entry: Held,
-    is_copy: bool,
-    is_read: bool,
-) -> Result<(), AllocError> {
-    let (words, vectors) = if is_copy { (0, 0) } else { (entry.words, 1) };
-    let added = Holder {
-        line: entry.line,
-        words,
-        vectors,
-        entries: 1,
-        unread: if is_read { 0 } else { words },
-    };
-    match holders.last_mut() {
-        Some(holder) if holder.line == entry.line => {
-            holder.add(added);
-            Ok(())
-        }
-        Some(_) | None => {
-            holders.push(added)?;
-            Ok(())
-        }
-    }
-}
-
-/// Whether a vector is read, as far as that is known.
-fn is_read(reads: &Option<Reads>, vector: u64) -> bool {
-    match reads {
-        Some(reads) => reads.has(vector),
-        None => true,
-    }
-}
-
-/// What the lines hold of these entries, those with the most words first.
-fn holders_of(
-    alloc: Global,
-    entries: &[Held],
-    reads: &Option<Reads>,
-) -> Result<Vec<Holder>, AllocError> {
-    let mut holders = Vec::new(alloc);
-    let mut last = None;
-    for entry in entries {
-        let is_copy = last == Some(entry.before);
-        add_entry(&mut holders, *entry, is_copy, is_read(reads, entry.before))?;
-        last = Some(entry.before);
-    }
-    holders.sort_by_key(|holder| usize::MAX - holder.words)?;
-    Ok(holders)
-}
-
 /// What is held before an instruction of a job, the line of the instruction, and how many words of it this run never
 /// reads again, if it returns.
 #[derive(Drop)]
@@ -309,119 +61,349 @@ pub struct Holdings {
     pub unread: Option<usize>,
 }
 
-impl Holdings {
-    /// What is held after this many instructions of a run that has executed nothing, which is run to its end.
-    fn after(alloc: Global, watch: &mut Watch, count: u64) -> Result<Holdings, AllocError> {
-        watch.go_to(count)?;
-        let state = State::of(watch);
-        let entries = entries_of(alloc, watch)?;
-        let reads = reads_of(alloc, entries.as_slice(), watch)?;
-        Holdings::of(alloc, state, entries.as_slice(), &reads)
-    }
-
-    /// What is held at the state of a run, and which of it is read later as far as that is known.
-    fn of(
-        alloc: Global,
-        state: State,
-        entries: &[Held],
-        reads: &Option<Reads>,
-    ) -> Result<Holdings, AllocError> {
-        let holders = holders_of(alloc, entries, reads)?;
-        let unread = match reads {
-            Some(_) => Some(unread_words(holders.as_slice())),
-            None => None,
-        };
-        Ok(Holdings {
-            holders,
-            words: state.words,
-            line: state.line,
-            unread,
-        })
-    }
-
-    /// What is held before the instruction of this number of a job, and the job.
-    pub fn before(
-        alloc: Global,
-        rule: Rule,
-        job: Job<Global>,
-        number: u64,
-    ) -> Result<(Holdings, Job<Global>), AllocError> {
-        let mut watch = Watch::new(alloc, rule, job)?;
-        let holdings = Holdings::after(alloc, &mut watch, number.saturating_sub(1));
-        with_job(holdings, watch.into_job())
-    }
+/// The depths of the entries that a COPY or a POP moves.
+fn moved(lower: u16, upper: u16) -> Range<usize> {
+    let first = usize::from(upper);
+    first..first.saturating_add(usize::from(lower))
 }
 
-/// The words that are held at a state of a run, and the line of the next instruction, which is 0 if the run is over.
-#[derive(Clone, Copy, Drop)]
-struct State {
-    words: usize,
-    line: u64,
-}
+impl Vector {
+    /// No vector.
+    const NONE: Vector = Vector {
+        words: 0,
+        entries: 0,
+        made_in: 0,
+        noted_in: 0,
+        note: 0,
+    };
 
-impl State {
-    /// That of a run.
-    fn of(watch: &Watch) -> State {
-        State {
-            words: watch.run().held(),
-            line: next_line(watch),
+    /// Whether it was held at the last of so many peaks and has no note of that.
+    #[inline(always)]
+    fn lacks_note(&self, peaks: u64) -> bool {
+        self.made_in < peaks && self.noted_in != peaks
+    }
+
+    /// What it is, by where it comes from.
+    fn noted(&self, origin: Origin) -> Note {
+        Note {
+            origin,
+            words: self.words,
+            entries: self.entries,
+            is_read: false,
         }
     }
 }
 
-/// What is found of a job that is run again: what it held before an instruction, the entries or calls over time, and how
-/// many of these there would be at its last instruction.
-#[derive(Drop)]
-pub struct Found {
-    pub holdings: Holdings,
-    pub levels: Option<Levels>,
-    pub wanted: Option<usize>,
-}
+impl Holds {
+    /// What a run holds that has executed nothing.
+    pub fn new(alloc: Global, run: &Run<Global>) -> Holds {
+        Holds {
+            vectors: Vec::new(alloc),
+            taken: Vec::new(alloc),
+            peak: 0,
+            peaks: 0,
+            line: match Next::of(run) {
+                Some(next) => next.line,
+                None => 0,
+            },
+            notes: Vec::new(alloc),
+        }
+    }
 
-/// The vectors of these entries, none of which was read yet, if the job ended so that it is known which are read.
-fn reads_to(alloc: Global, entries: &[Held], ending: Ending) -> Result<Option<Reads>, AllocError> {
-    if ending == Ending::Returned {
-        Ok(Some(Reads::new(alloc, entries)?))
-    } else {
-        Ok(None)
+    /// Makes a note of the vector of a block, if it was held at the last peak and has none.
+    #[inline(always)]
+    fn note(&mut self, trail: &Trail, block: usize) -> Result<(), AllocError> {
+        let lacks_note = match self.vectors.get(block) {
+            Some(vector) => vector.lacks_note(self.peaks),
+            None => false,
+        };
+        if lacks_note {
+            return self.push_note(trail, block);
+        }
+        Ok(())
+    }
+
+    /// Makes a note of the vector of a block.
+    #[inline(never)]
+    fn push_note(&mut self, trail: &Trail, block: usize) -> Result<(), AllocError> {
+        if let (Some(vector), Some(origin)) = (
+            self.vectors.get_mut(block),
+            trail.origin_at(block),
+        ) {
+            vector.noted_in = self.peaks;
+            vector.note = self.notes.len();
+            self.notes.push(vector.noted(origin))?;
+        }
+        Ok(())
+    }
+
+    /// Notes that the vector of a block is read.
+    #[inline(always)]
+    fn read(&mut self, trail: &Trail, block: usize) -> Result<(), AllocError> {
+        self.note(trail, block)?;
+        if let Some(vector) = self.vectors.get(block) {
+            if vector.made_in < self.peaks {
+                if let Some(note) = self.notes.get_mut(vector.note) {
+                    note.is_read = true;
+                }
+            }
+        }
+        Ok(())
+    }
+
+    /// Counts an entry less of the vector of a block.
+    #[inline(always)]
+    fn drop_entry(&mut self, block: usize) {
+        if let Some(vector) = self.vectors.get_mut(block) {
+            vector.entries = vector.entries.saturating_sub(1);
+        }
+    }
+
+    /// Counts copies of entries of a run.
+    fn copy(
+        &mut self,
+        trail: &Trail,
+        run: &Run<Global>,
+        depths: Range<usize>,
+    ) -> Result<(), AllocError> {
+        for depth in depths {
+            if let Some(block) = run.block(depth) {
+                self.note(trail, block)?;
+                if let Some(vector) = self.vectors.get_mut(block) {
+                    vector.entries = vector.entries.saturating_add(1);
+                }
+            }
+        }
+        Ok(())
+    }
+
+    /// Counts entries of a run that go.
+    fn pop(
+        &mut self,
+        trail: &Trail,
+        run: &Run<Global>,
+        depths: Range<usize>,
+    ) -> Result<(), AllocError> {
+        for depth in depths {
+            if let Some(block) = run.block(depth) {
+                self.note(trail, block)?;
+                self.drop_entry(block);
+            }
+        }
+        Ok(())
+    }
+
+    /// Notes which blocks the operands of the next instruction of a run have.
+    fn take(&mut self, run: &Run<Global>, op: Op) -> Result<(), AllocError> {
+        self.taken.clear();
+        for depth in 0..op.operand_kinds().len() {
+            if let Some(block) = run.block(depth) {
+                self.taken.push(block)?;
+            }
+        }
+        Ok(())
+    }
+
+    /// Looks at the next instruction of a run: at the entries that it copies or pops, or at its operands.
+    #[inline(always)]
+    pub fn look(&mut self, trail: &Trail, run: &Run<Global>, op: Op) -> Result<(), AllocError> {
+        match op {
+            Op::Call | Op::Return | Op::Move(StackMove::MoveToTop, ..) => Ok(()),
+            Op::Move(StackMove::Copy, lower, upper) => self.copy(trail, run, moved(lower, upper)),
+            Op::Move(StackMove::Pop, lower, upper) => self.pop(trail, run, moved(lower, upper)),
+            Op::Const(_) | Op::Elementwise(_) | Op::Segmented(_) | Op::If => self.take(run, op),
+        }
+    }
+
+    /// Follows an instruction that a run has executed, after it was looked at.
+    #[inline(always)]
+    pub fn follow(
+        &mut self,
+        trail: &Trail,
+        run: &Run<Global>,
+        next: Next,
+    ) -> Result<(), AllocError> {
+        if has_vectors(next.op) {
+            self.replace(trail, run, next)
+        } else {
+            Ok(())
+        }
+    }
+
+    /// Follows an instruction with operands or results.
+    fn replace(&mut self, trail: &Trail, run: &Run<Global>, next: Next) -> Result<(), AllocError> {
+        if run.peak() > self.peak {
+            self.pass(run.peak(), next.line);
+        }
+        for place in 0..self.taken.len() {
+            if let Some(block) = self.taken.get(place).copied() {
+                self.read(trail, block)?;
+                self.drop_entry(block);
+            }
+        }
+        self.make(run, next.op.result_kinds().len())
+    }
+
+    /// Notes that the most words were passed at a line.
+    fn pass(&mut self, peak: usize, line: u64) {
+        self.peak = peak;
+        self.peaks = self.peaks.saturating_add(1);
+        self.line = line;
+        self.notes.clear();
+    }
+
+    /// Adds the vectors of this many entries at the top of the stack of a run.
+    fn make(&mut self, run: &Run<Global>, count: usize) -> Result<(), AllocError> {
+        for depth in 0..count {
+            if let (Some(block), Some(words)) = (run.block(depth), run.words(depth)) {
+                self.put(block, words.len())?;
+            }
+        }
+        Ok(())
+    }
+
+    /// Adds a vector of this many words, of which there is one entry, in a block.
+    #[inline(always)]
+    fn put(&mut self, block: usize, words: usize) -> Result<(), AllocError> {
+        for _ in self.vectors.len()..=block {
+            self.vectors.push(Vector::NONE)?;
+        }
+        let made_in = self.peaks;
+        if let Some(vector) = self.vectors.get_mut(block) {
+            *vector = Vector {
+                words,
+                entries: 1,
+                made_in,
+                noted_in: 0,
+                note: 0,
+            };
+        }
+        Ok(())
+    }
+
+    /// Notes that all entries of a run are read.
+    pub fn read_all(&mut self, trail: &Trail, run: &Run<Global>) -> Result<(), AllocError> {
+        for depth in 0..run.depth() {
+            if let Some(block) = run.block(depth) {
+                self.read(trail, block)?;
+            }
+        }
+        Ok(())
+    }
+
+    /// What was held before the first instruction at the peak of a run that is over, and which of it was read from
+    /// there on, if the run returned.
+    pub fn at_peak(
+        &self,
+        alloc: Global,
+        trail: &Trail,
+        returned: bool,
+    ) -> Result<Holdings, AllocError> {
+        let mut notes = self.notes.to_vec(alloc)?;
+        for (block, vector) in self.vectors.iter().enumerate() {
+            if vector.entries > 0 && vector.lacks_note(self.peaks) {
+                push_vector(&mut notes, trail, block, vector)?;
+            }
+        }
+        Holdings::of(alloc, notes, self.line, returned)
+    }
+
+    /// What was held before the last instruction of a run, which is of a line and was refused.
+    pub fn at_end(&self, alloc: Global, trail: &Trail, line: u64) -> Result<Holdings, AllocError> {
+        let mut notes = Vec::new(alloc);
+        for (block, vector) in self.vectors.iter().enumerate() {
+            if vector.entries > 0 {
+                push_vector(&mut notes, trail, block, vector)?;
+            }
+        }
+        Holdings::of(alloc, notes, line, false)
     }
 }
 
-impl Found {
-    /// What is found of a run that has executed nothing, and goes on as far as something is noted of it.
-    pub fn of(alloc: Global, watch: &mut Watch, again: Again) -> Result<Found, AllocError> {
-        let Again { end, number, each } = again;
-        let levels = Levels::new(alloc, end.ending, each);
-        let mut notes = Notes {
-            reads: None,
-            levels,
-        };
-        notes.go_to(watch, number.saturating_sub(1))?;
-        let state = State::of(watch);
-        let entries = entries_of(alloc, watch)?;
-        notes.reads = reads_to(alloc, entries.as_slice(), end.ending)?;
-        notes.go_on(watch, end.steps)?;
-        Ok(Found {
-            holdings: Holdings::of(alloc, state, entries.as_slice(), &notes.reads)?,
-            wanted: wanted_by(&notes.levels, watch),
-            levels: notes.levels,
+/// Adds a note on the vector of a block.
+fn push_vector(
+    notes: &mut Vec<Note>,
+    trail: &Trail,
+    block: usize,
+    vector: &Vector,
+) -> Result<(), AllocError> {
+    if let Some(origin) = trail.origin_at(block) {
+        notes.push(vector.noted(origin))?;
+    }
+    Ok(())
+}
+
+impl Holder {
+    /// Adds what is held of another vector of its line.
+    fn add(&mut self, other: Holder) {
+        self.words = self.words.saturating_add(other.words);
+        self.vectors = self.vectors.saturating_add(other.vectors);
+        self.entries = self.entries.saturating_add(other.entries);
+        self.unread = self.unread.saturating_add(other.unread);
+    }
+}
+
+/// Adds a vector to what its line holds, the last of these lines or a new one.
+fn add_vector(
+    holders: &mut Vec<Holder>,
+    note: &Note,
+    are_reads_known: bool,
+) -> Result<(), AllocError> {
+    let is_unread = are_reads_known && !note.is_read;
+    let added = Holder {
+        line: note.origin.line,
+        words: note.words,
+        vectors: 1,
+        entries: note.entries,
+        unread: if is_unread { note.words } else { 0 },
+    };
+    match holders.last_mut() {
+        Some(holder) if holder.line == added.line => {
+            holder.add(added);
+            Ok(())
+        }
+        Some(_) | None => {
+            holders.push(added)?;
+            Ok(())
+        }
+    }
+}
+
+/// What the lines hold of these vectors, those with the most words first.
+fn holders_of(
+    alloc: Global,
+    mut notes: Vec<Note>,
+    are_reads_known: bool,
+) -> Result<Vec<Holder>, AllocError> {
+    notes.sort_by_key(|note| (note.origin.line, note.origin.before))?;
+    let mut holders = Vec::new(alloc);
+    for note in &notes {
+        add_vector(&mut holders, note, are_reads_known)?;
+    }
+    holders.sort_by_key(|holder| usize::MAX - holder.words)?;
+    Ok(holders)
+}
+
+impl Holdings {
+    /// What is held of these vectors before an instruction of a line, and which of them are read later, if that is
+    /// known.
+    fn of(
+        alloc: Global,
+        notes: Vec<Note>,
+        line: u64,
+        are_reads_known: bool,
+    ) -> Result<Holdings, AllocError> {
+        let holders = holders_of(alloc, notes, are_reads_known)?;
+        let (mut words, mut unread): (usize, usize) = (0, 0);
+        for holder in &holders {
+            words = words.saturating_add(holder.words);
+            unread = unread.saturating_add(holder.unread);
+        }
+        Ok(Holdings {
+            holders,
+            words,
+            line,
+            unread: if are_reads_known { Some(unread) } else { None },
         })
     }
-}
-
-/// The line of the next instruction, and 0 if the run is over.
-fn next_line(watch: &Watch) -> u64 {
-    match watch.next() {
-        Some(next) => next.line,
-        None => 0,
-    }
-}
-
-/// How many words are never read again.
-fn unread_words(holders: &[Holder]) -> usize {
-    let mut words: usize = 0;
-    for holder in holders {
-        words = words.saturating_add(holder.unread);
-    }
-    words
 }

@@ -12,10 +12,12 @@ use job_steps::Job;
 use std::alloc::{AllocError, Global};
 use vcode_base::{MemoryFault, Rule};
 
-/// The last state of a job before its end, or the trail that its run has there if it went on to the end at once.
+/// The last state of a job before its end, also with its note, or the trail that its run has there if it went on to the
+/// end at once.
 #[derive(Drop)]
 pub enum Before {
     State(Picture),
+    Noted(Last),
     Trail(Trail),
 }
 
@@ -137,7 +139,12 @@ pub fn wanted_at(run: &Run<Global>, ending: Ending) -> Option<usize> {
 }
 
 /// The last state of a job, at which its run is.
-fn last_at(alloc: Global, watch: &Watch, ending: Ending, most: usize) -> Result<Last, AllocError> {
+pub fn last_at(
+    alloc: Global,
+    watch: &Watch,
+    ending: Ending,
+    most: usize,
+) -> Result<Last, AllocError> {
     let note = note_of(alloc, watch, ending)?;
     let picture = Picture::of(alloc, watch.run(), &watch.trail, most)?;
     let wanted = wanted_at(watch.run(), ending);
@@ -186,6 +193,7 @@ pub fn last_of(
 ) -> Result<(Last, Job<Global>), AllocError> {
     match before {
         Before::State(picture) => with_job(foreseen(alloc, picture, end.ending), job),
+        Before::Noted(last) => Ok((last, job)),
         Before::Trail(trail) => found_again(alloc, batch.rule, (trail, job), end, most),
     }
 }

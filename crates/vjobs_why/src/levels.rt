@@ -2,8 +2,8 @@
 
 use crate::end::Ending;
 use crate::memory_notes::depth_after;
-use crate::watch::Watch;
-use job_profile::Run;
+use crate::watch::Next;
+use job_profile::{Run, Uses};
 use std::alloc::{AllocError, Global};
 use vcode_base::MemoryFault;
 
@@ -15,12 +15,14 @@ pub enum Counted {
 }
 
 /// The most entries or calls that a run had after the instructions of each column. A column is of `each` instructions
-/// that follow one another. What there is before the first instruction counts in the first column.
+/// that follow one another, and the last has room for those up to the number `end`. What there is before the first
+/// instruction counts in the first column.
 #[derive(Drop)]
 pub struct Levels {
     pub counted: Counted,
     pub most: Vec<usize>,
     each: u64,
+    end: u64,
 }
 
 impl Counted {
@@ -42,11 +44,11 @@ impl Counted {
     }
 
     /// How many there would be after the next instruction of a run, which the limit refuses.
-    fn wanted(self, watch: &Watch) -> Option<usize> {
-        let next = watch.next()?;
+    fn wanted(self, run: &Run<Global>) -> Option<usize> {
+        let next = Next::of(run)?;
         match self {
-            Counted::Entries => Some(depth_after(next.op, watch.run().depth())),
-            Counted::Calls => Some(watch.run().calls().saturating_add(1)),
+            Counted::Entries => Some(depth_after(next.op, run.depth())),
+            Counted::Calls => Some(run.calls().saturating_add(1)),
         }
     }
 
@@ -67,27 +69,41 @@ impl Levels {
             counted,
             most: Vec::new(alloc),
             each,
+            end: each,
         })
     }
 
-    /// Counts what there is at the state of a run.
-    pub fn note(&mut self, run: &Run<Global>) -> Result<(), AllocError> {
-        let (count, number) = (self.counted.count(run), run.executed().saturating_sub(1));
-        let column = (number / self.each.max(1)) as usize;
-        for _ in self.most.len()..=column {
-            self.most.push(0)?;
+    /// Counts what there is at the state of a run, one instruction after the state that was counted last.
+    #[inline(always)]
+    fn note(&mut self, run: &Run<Global>) -> Result<(), AllocError> {
+        let count = self.counted.count(run);
+        if run.executed() > self.end {
+            self.end = self.end.saturating_add(self.each);
+            self.most.push(count)?;
+            return Ok(());
         }
-        if let Some(most) = self.most.get_mut(column) {
-            *most = (*most).max(count);
+        match self.most.last_mut() {
+            Some(most) => *most = (*most).max(count),
+            None => {
+                self.most.push(count)?;
+            }
         }
         Ok(())
     }
-}
 
-/// How many there would be after the next instruction of a run, which the limit on them refuses.
-pub fn wanted_by(levels: &Option<Levels>, watch: &Watch) -> Option<usize> {
-    match levels {
-        Some(levels) => levels.counted.wanted(watch),
-        None => None,
+    /// Counts what there is at the states of a run that has executed nothing, up to the one after this many
+    /// instructions, and goes there. Answers how many there would be after the next instruction, which the limit
+    /// refuses.
+    pub fn go_to(
+        &mut self,
+        uses: &mut Uses<Global>,
+        count: u64,
+    ) -> Result<Option<usize>, AllocError> {
+        for _ in 0..count {
+            self.note(uses.run())?;
+            uses.step();
+        }
+        self.note(uses.run())?;
+        Ok(self.counted.wanted(uses.run()))
     }
 }

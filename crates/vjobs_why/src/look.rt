@@ -479,7 +479,7 @@ fn with_last(
     Ok(text)
 }
 
-/// The object of a job that is run again for a page, of which this is the text up to what is found then.
+/// The object of a job that ended so, of which this is the text up to the entries or calls over time.
 fn with_found(
     mut text: String,
     alloc: Global,
@@ -487,13 +487,8 @@ fn with_found(
     (before, job): (Before, Job<Global>),
     again: Again,
 ) -> Result<String, AllocError> {
-    match push_found(&mut text, alloc, batch.rule, job, again) {
-        Ok(job) => with_last(text, alloc, batch, (before, job), again.end),
-        Err(error) => {
-            drop(before);
-            Err(error)
-        }
-    }
+    let (before, job) = push_found(&mut text, alloc, batch.rule, (before, job), again)?;
+    with_last(text, alloc, batch, (before, job), again.end)
 }
 
 /// A job of this place as data.

@@ -1,11 +1,13 @@
-//! What a page shows of a job that is run again for it: what held the words, and the entries or calls over time.
+//! What a page shows beside what was counted: what held the words, and the entries or calls over time.
 
 use crate::data::{push_comma, push_numbers};
-use crate::end::with_job;
-use crate::holders::{Found, Holder, Holdings};
+use crate::end::{End, with_job};
+use crate::holders::{Holder, Holdings};
+use crate::last::{Before, Last, last_at};
 use crate::levels::Levels;
+use crate::stack::MOST_ENTRIES;
 use crate::survey::Again;
-use crate::watch::Watch;
+use crate::watch::{Trail, Watch};
 use job_steps::Job;
 use std::alloc::{AllocError, Global};
 use std::fmt::Write;
@@ -47,7 +49,7 @@ fn push_optional(text: &mut String, number: Option<usize>) -> Result<(), AllocEr
 }
 
 /// Adds the member for what a job held before the instruction of this number.
-fn push_held(text: &mut String, number: u64, holdings: &Holdings) -> Result<(), AllocError> {
+pub fn push_held(text: &mut String, number: u64, holdings: &Holdings) -> Result<(), AllocError> {
     let (line, words) = (holdings.line, holdings.words);
     write!(
         text,
@@ -58,16 +60,12 @@ fn push_held(text: &mut String, number: u64, holdings: &Holdings) -> Result<(), 
     text.push('}')
 }
 
-/// Adds the member for the entries or calls over time, if they are known, with how many there would be at the last
-/// instruction.
+/// Adds the member for the entries or calls over time, with how many there would be at the last instruction.
 fn push_levels(
     text: &mut String,
-    levels: &Option<Levels>,
+    levels: &Levels,
     wanted: Option<usize>,
 ) -> Result<(), AllocError> {
-    let Some(levels) = levels else {
-        return Ok(());
-    };
     let name = levels.counted.name();
     write!(text, ",\"levels\":{{\"of\":\"{name}\"")?;
     push_numbers(text, "most", levels.most.as_slice())?;
@@ -76,29 +74,49 @@ fn push_levels(
     text.push('}')
 }
 
-/// Adds the members for what is found of a run that has executed nothing, and goes to its last state.
+/// Adds the member for the entries or calls of a run that has executed nothing, and goes to its last state. Answers
+/// that state.
 fn push_run(
     text: &mut String,
     alloc: Global,
+    mut levels: Levels,
     watch: &mut Watch,
-    again: Again,
-) -> Result<(), AllocError> {
-    let found = Found::of(alloc, watch, again)?;
-    push_held(text, again.number, &found.holdings)?;
-    push_levels(text, &found.levels, found.wanted)
+    end: End,
+) -> Result<Last, AllocError> {
+    let wanted = levels.go_to(&mut watch.uses, end.steps)?;
+    push_levels(text, &levels, wanted)?;
+    last_at(alloc, watch, end.ending, MOST_ENTRIES)
 }
 
-/// Adds the members for what held the words of a job, and for the entries or calls over time if the limit on them ended
-/// it. The job is run again for that. Answers the job.
+/// Adds the member for the entries or calls of a job over time. The job is run again for that. Answers its last state,
+/// and the job.
+fn push_again(
+    text: &mut String,
+    alloc: Global,
+    rule: Rule,
+    (trail, job): (Trail, Job<Global>),
+    levels: Levels,
+    end: End,
+) -> Result<(Before, Job<Global>), AllocError> {
+    let mut watch = Watch::again(alloc, rule, job, trail, 0)?;
+    let pushed = push_run(text, alloc, levels, &mut watch, end);
+    let (last, job) = with_job(pushed, watch.into_job())?;
+    Ok((Before::Noted(last), job))
+}
+
+/// Adds the member for the entries or calls of a job over time, if the limit on them ended it. Answers what is known of
+/// the last state, and the job.
 pub fn push_found(
     text: &mut String,
     alloc: Global,
     rule: Rule,
-    job: Job<Global>,
+    (before, job): (Before, Job<Global>),
     again: Again,
-) -> Result<Job<Global>, AllocError> {
-    let mut watch = Watch::new(alloc, rule, job)?;
-    let pushed = push_run(text, alloc, &mut watch, again);
-    let ((), job) = with_job(pushed, watch.into_job())?;
-    Ok(job)
+) -> Result<(Before, Job<Global>), AllocError> {
+    match (Levels::new(alloc, again.end.ending, again.each), before) {
+        (Some(levels), Before::Trail(trail)) => {
+            push_again(text, alloc, rule, (trail, job), levels, again.end)
+        }
+        (_, before) => Ok((before, job)),
+    }
 }

@@ -89,7 +89,7 @@ fn entries_of(
 ) -> Result<Vec<ShownEntry>, AllocError> {
     let mut entries = Vec::new(alloc);
     for depth in 0..run.depth().min(most) {
-        if let (Some(words), Some(origin)) = (run.words(depth), trail.origin(depth)) {
+        if let (Some(words), Some(origin)) = (run.words(depth), trail.origin(run, depth)) {
             entries.push(entry_of(alloc, run, depth, origin, words)?)?;
         }
     }

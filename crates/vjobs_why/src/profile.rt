@@ -4,6 +4,7 @@ use crate::drawing::print_drawing;
 use crate::holders::{Holder, Holdings};
 use crate::source_profile::print_sources;
 use crate::sources::{Sources, push_place};
+use crate::survey::Survey;
 use crate::tally::{FunctionTally, LineTally, Tally};
 use job_profile::{Columns, Profile, Run};
 use job_steps::Job;
@@ -290,55 +291,43 @@ fn print_peak(
 /// What is shown of a job that has ended, beside how it ended.
 #[derive(Drop)]
 pub struct Shown {
-    columns: Columns<Global>,
+    survey: Survey,
     tally: Tally,
     holdings: Holdings,
-}
-
-/// Executes all instructions of a job, and stores how it ended.
-fn run_out(columns: &mut Columns<Global>) -> Result<(), AllocError> {
-    columns.run_out()?;
-    columns.collect()
-}
-
-/// The columns of a job that has run to its end.
-fn columns_of(alloc: Global, rule: Rule, job: Job<Global>) -> Result<Columns<Global>, AllocError> {
-    let mut columns = Columns::new(alloc, rule, job)?;
-    match run_out(&mut columns) {
-        Ok(()) => Ok(columns),
-        Err(error) => {
-            drop(columns);
-            Err(error)
-        }
-    }
 }
 
 impl Shown {
     /// What is shown of a job that has run to its end.
     pub fn of(alloc: Global, rule: Rule, job: Job<Global>) -> Result<Shown, AllocError> {
         let (tally, job) = Tally::of(alloc, rule, job)?;
-        Shown::with_tally(alloc, rule, job, tally)
+        match Survey::of(alloc, rule, job) {
+            Ok(survey) => Shown::with_survey(alloc, survey, tally),
+            Err(error) => {
+                drop(tally);
+                Err(error)
+            }
+        }
     }
 
-    /// What is shown of a job that has this tally.
-    fn with_tally(
-        alloc: Global,
-        rule: Rule,
-        job: Job<Global>,
-        tally: Tally,
-    ) -> Result<Shown, AllocError> {
-        let (holdings, job) = Holdings::before(alloc, rule, job, tally.peak_after)?;
-        let columns = columns_of(alloc, rule, job)?;
-        Ok(Shown {
-            columns,
-            tally,
-            holdings,
-        })
+    /// What is shown of a job that has this survey and this tally.
+    fn with_survey(alloc: Global, survey: Survey, tally: Tally) -> Result<Shown, AllocError> {
+        match survey.at_peak(alloc) {
+            Ok(holdings) => Ok(Shown {
+                survey,
+                tally,
+                holdings,
+            }),
+            Err(error) => {
+                drop(tally);
+                drop(survey);
+                Err(error)
+            }
+        }
     }
 
     /// The run.
     pub fn run(&self) -> &Run<Global> {
-        self.columns.profile().run()
+        self.survey.profile().run()
     }
 }
 
@@ -378,8 +367,8 @@ fn print_all(
 
 /// Prints the profile of a job that has ended, after how it ended; all lines, or the first of them.
 pub fn print_profile(rt: &HostRuntime, lines: &Lines, shown: &Shown, all: bool) -> io::Result<()> {
-    let profile = shown.columns.profile();
-    print_words(rt, &shown.columns)?;
+    let profile = shown.survey.profile();
+    print_words(rt, &shown.survey.columns)?;
     print_peak(rt, lines, profile, &shown.holdings)?;
     print_functions(rt, profile, &shown.tally)?;
     print_executed(rt, lines, profile, &shown.tally, all)

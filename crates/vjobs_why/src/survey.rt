@@ -2,7 +2,8 @@
 
 use crate::bands::Bands;
 use crate::chains::Chains;
-use crate::end::{End, Ending, end_of};
+use crate::end::{End, Ending, end_of, ending_of};
+use crate::holders::{Holdings, Holds};
 use crate::last::{Before as BeforeEnd, before_of};
 use crate::picture::Picture;
 use crate::stack::MOST_ENTRIES;
@@ -22,20 +23,21 @@ pub struct Counts {
     stretch: Stretch,
 }
 
-/// A run of a job: its words, its counts and its trail, how many instructions lead to the last state before its end,
-/// that state if the end was foreseen there, and the last instruction that was next.
+/// A run of a job: its words, its counts, its trail and what it holds, how many instructions lead to the last state
+/// before its end, that state if the end was foreseen there, and the last instruction that was next.
 #[derive(Drop)]
 pub struct Survey {
     pub columns: Columns<Global>,
     pub counts: Counts,
     trail: Trail,
+    holds: Holds,
     steps: u64,
     picture: Option<Picture>,
     pub last: Option<Before>,
 }
 
-/// What is looked at when a job that ended so is run again: what it holds before the instruction of this number, which
-/// is the one that the limit on words refused, or the first at the peak. Columns are of `each` instructions.
+/// How a job ended; the number of the instruction before which it is shown what was held: the one that the limit on
+/// words refused, or the first at the peak; and of how many instructions each column is.
 #[derive(Clone, Copy, Drop)]
 pub struct Again {
     pub end: End,
@@ -49,14 +51,15 @@ impl Counts {
         Ok(Counts {
             tally: Tally::new(alloc, run)?,
             chains: Chains::new(alloc, run)?,
-            bands: Bands::new(alloc, run),
+            bands: Bands::new(alloc, run)?,
             stretch: Stretch::NONE,
         })
     }
 
     /// Counts what the innermost call, which is of a function, has executed itself since it began or went on. Columns
     /// are of `each` instructions now.
-    fn end_stretch(&mut self, alloc: Global, function: usize, each: u64) -> Result<(), AllocError> {
+    #[inline(always)]
+    fn end_stretch(&mut self, function: usize, each: u64) -> Result<(), AllocError> {
         let own = self.stretch.end();
         if own.instructions == 0 {
             return Ok(());
@@ -64,26 +67,20 @@ impl Counts {
         self.tally.count_own(function, own);
         self.chains.count(own);
         let last = self.stretch.all.instructions;
-        self.bands
-            .count(alloc, function, own.instructions, last, each)
+        self.bands.count(function, own.instructions, last, each)
     }
 
     /// Counts an instruction that a run has executed and after which another call is the innermost.
-    fn change(
-        &mut self,
-        alloc: Global,
-        before: Before,
-        each: u64,
-        run: &Run<Global>,
-    ) -> Result<(), AllocError> {
-        self.end_stretch(alloc, before.function, each)?;
+    #[inline(always)]
+    fn change(&mut self, before: Before, each: u64, run: &Run<Global>) -> Result<(), AllocError> {
+        self.end_stretch(before.function, each)?;
         self.tally.change(before, self.stretch.all, run);
         self.chains.change(before, run)
     }
 
     /// Counts the ends of all calls, of which the innermost is of a function.
-    fn end_all(&mut self, alloc: Global, function: usize, each: u64) -> Result<(), AllocError> {
-        self.end_stretch(alloc, function, each)?;
+    fn end_all(&mut self, function: usize, each: u64) -> Result<(), AllocError> {
+        self.end_stretch(function, each)?;
         self.tally.leave_all(self.stretch.all);
         Ok(())
     }
@@ -93,16 +90,19 @@ impl Survey {
     /// The survey of a job that has executed nothing.
     fn new(alloc: Global, rule: Rule, job: Job<Global>) -> Result<Survey, AllocError> {
         let columns = Columns::new(alloc, rule, job)?;
+        let holds = Holds::new(alloc, columns.profile().run());
         match Counts::new(alloc, columns.profile().run()) {
             Ok(counts) => Ok(Survey {
                 columns,
                 counts,
                 trail: Trail::new(alloc),
+                holds,
                 steps: 0,
                 picture: None,
                 last: None,
             }),
             Err(error) => {
+                drop(holds);
                 drop(columns);
                 Err(error)
             }
@@ -128,72 +128,103 @@ impl Survey {
     }
 
     /// Counts an instruction that was executed, whose operands and results have this many elements.
-    fn count(&mut self, alloc: Global, before: Before, elements: u64) -> Result<(), AllocError> {
+    #[inline(always)]
+    fn count(&mut self, before: Before, elements: u64) -> Result<(), AllocError> {
         self.counts.stretch.all.add(elements);
         self.counts.tally.count(before, elements)?;
         if changes_call(before.next.op) {
             let (each, _) = self.columns.columns();
             let run = self.columns.profile().run();
-            return self.counts.change(alloc, before, each, run);
+            return self.counts.change(before, each, run);
         }
         Ok(())
     }
 
-    /// Executes and counts the next instruction, which is this one; true if the job goes on.
-    fn step(&mut self, alloc: Global, before: Before) -> Result<bool, AllocError> {
+    /// Follows an instruction that was executed, whose operands and results have this many elements.
+    #[inline(always)]
+    fn follow(&mut self, before: Before, elements: u64) -> Result<(), AllocError> {
+        self.count(before, elements)?;
+        let run = self.columns.profile().run();
+        self.holds.follow(&self.trail, run, before.next)?;
+        self.trail.follow(before.next, run)
+    }
+
+    /// Executes and follows the next instruction, which is this one; true if the job goes on.
+    #[inline(always)]
+    fn step(&mut self, before: Before) -> Result<bool, AllocError> {
+        let run = self.columns.profile().run();
+        self.holds.look(&self.trail, run, before.next.op)?;
         let goes_on = self.columns.step()?;
         if let Some(elements) = before.elements(self.run()) {
-            self.count(alloc, before, elements)?;
+            self.follow(before, elements)?;
         }
-        if goes_on {
-            self.trail.follow(before.next)?;
-        } else {
+        if !goes_on {
             self.last = Some(before);
         }
         Ok(goes_on)
     }
 
-    /// Executes and counts instructions up to the last RET, or until the budget is spent, unless the job ends
-    /// otherwise.
-    fn go_to_last(&mut self, alloc: Global) -> Result<(), AllocError> {
-        let budget = self.run().job().limits().budget;
-        for _ in 0..budget {
-            let Some(before) = Before::of(self.run()) else {
-                break;
-            };
-            if self.trail.ends_with(before.next) || !self.step(alloc, before)? {
-                break;
-            }
-        }
-        self.steps = self.run().executed();
+    /// Keeps the state of the run, which is the last before its end.
+    fn keep_last(&mut self, alloc: Global) -> Result<(), AllocError> {
+        let run = self.columns.profile().run();
+        self.picture = Some(Picture::of(alloc, run, &self.trail, MOST_ENTRIES)?);
+        self.holds.read_all(&self.trail, run)?;
+        self.steps = run.executed();
         Ok(())
     }
 
-    /// Keeps the last state, if the run is there, and makes the last step.
-    fn end_there(&mut self, alloc: Global) -> Result<(), AllocError> {
-        let run = self.columns.profile().run();
-        let Some(before) = Before::of(run) else {
-            return Ok(());
-        };
-        self.picture = Some(Picture::of(alloc, run, &self.trail, MOST_ENTRIES)?);
-        self.step(alloc, before)?;
+    /// Executes and follows all instructions, and keeps the last state if the end is foreseen there: before the last
+    /// RET, or when the budget is spent.
+    fn go_to_end(&mut self, alloc: Global) -> Result<(), AllocError> {
+        let budget = self.run().job().limits().budget;
+        for _ in 0..=budget {
+            let Some(before) = Before::of(self.run()) else {
+                break;
+            };
+            if self.trail.ends_with(before.next) || before.executed == budget {
+                self.keep_last(alloc)?;
+            }
+            if !self.step(before)? {
+                break;
+            }
+        }
         Ok(())
     }
 
     /// Executes and counts all instructions.
     fn run_out(&mut self, alloc: Global) -> Result<(), AllocError> {
-        self.go_to_last(alloc)?;
-        self.end_there(alloc)?;
+        self.go_to_end(alloc)?;
+        if self.picture.is_none() {
+            self.steps = self.run().executed();
+        }
         let function = match self.last {
             Some(last) => last.function,
             None => 0,
         };
         let (each, _) = self.columns.columns();
-        self.counts.end_all(alloc, function, each)?;
+        self.counts.end_all(function, each)?;
         self.columns.collect()
     }
 
-    /// What is looked at when the job is run again.
+    /// What was held before the first instruction at the peak.
+    pub fn at_peak(&self, alloc: Global) -> Result<Holdings, AllocError> {
+        let returned = ending_of(self.run()) == Ending::Returned;
+        self.holds.at_peak(alloc, &self.trail, returned)
+    }
+
+    /// What was held before the instruction that the limit on words refused, or before the first at the peak.
+    pub fn holdings(&self, alloc: Global) -> Result<Holdings, AllocError> {
+        match ending_of(self.run()) {
+            Ending::Memory(MemoryFault::Words, _) => {
+                self.holds.at_end(alloc, &self.trail, self.last_line())
+            }
+            Ending::Returned | Ending::Fault(..) | Ending::Memory(..) | Ending::Budget => {
+                self.at_peak(alloc)
+            }
+        }
+    }
+
+    /// How the job ended, and of what more is shown.
     pub fn again(&self) -> Again {
         let end = self.end();
         let (each, _) = self.columns.columns();
@@ -217,10 +248,12 @@ impl Survey {
             columns,
             counts,
             trail,
+            holds,
             steps: _,
             picture,
             last: _,
         } = self;
+        drop(holds);
         drop(counts);
         (before_of(picture, trail), columns.into_job())
     }

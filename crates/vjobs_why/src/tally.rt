@@ -30,7 +30,7 @@ pub struct Before {
     pub next: Next,
     pub function: usize,
     pub place: usize,
-    executed: u64,
+    pub executed: u64,
     read: u64,
 }
 
@@ -59,13 +59,11 @@ pub struct LineTally {
     pub most: usize,
 }
 
-/// What the functions and the lines of a run did, and after how many instructions its peak was what it is for the first
-/// time.
+/// What the functions and the lines of a run did.
 #[derive(Drop)]
 pub struct Tally {
     functions: Vec<FunctionTally>,
     lines: Vec<LineTally>,
-    pub peak_after: u64,
 }
 
 impl Count {
@@ -78,21 +76,23 @@ impl Count {
     /// Adds an instruction whose operands and results have this many elements.
     #[inline(always)]
     pub fn add(&mut self, elements: u64) {
-        self.instructions = self.instructions.saturating_add(1);
-        self.elements = self.elements.saturating_add(elements);
+        self.instructions = self.instructions.wrapping_add(1);
+        self.elements = self.elements.wrapping_add(elements);
     }
 
     /// Adds another count.
+    #[inline(always)]
     pub fn join(&mut self, other: Count) {
-        self.instructions = self.instructions.saturating_add(other.instructions);
-        self.elements = self.elements.saturating_add(other.elements);
+        self.instructions = self.instructions.wrapping_add(other.instructions);
+        self.elements = self.elements.wrapping_add(other.elements);
     }
 
     /// What was executed from an earlier count on.
+    #[inline(always)]
     fn after(self, earlier: Count) -> Count {
         Count {
-            instructions: self.instructions.saturating_sub(earlier.instructions),
-            elements: self.elements.saturating_sub(earlier.elements),
+            instructions: self.instructions.wrapping_sub(earlier.instructions),
+            elements: self.elements.wrapping_sub(earlier.elements),
         }
     }
 }
@@ -105,6 +105,7 @@ impl Stretch {
     };
 
     /// What was executed in the innermost call since it began or went on. It is to count anew from now on.
+    #[inline(always)]
     pub fn end(&mut self) -> Count {
         let count = self.all.after(self.since);
         self.since = self.all;
@@ -118,6 +119,32 @@ pub fn changes_call(op: Op) -> bool {
     matches!(op, Op::Call | Op::Return)
 }
 
+/// Whether an instruction has operands or results.
+#[inline(always)]
+pub fn has_vectors(op: Op) -> bool {
+    !matches!(op, Op::Call | Op::Return | Op::Move(..))
+}
+
+/// The elements of the entries at the top of the stack of a run that are the operands of an instruction.
+#[inline(always)]
+fn read_by(run: &Run<Global>, op: Op) -> u64 {
+    if has_vectors(op) {
+        elements_of(run, op.operand_kinds().len())
+    } else {
+        0
+    }
+}
+
+/// The elements of the entries at the top of the stack of a run that are the results of an instruction.
+#[inline(always)]
+fn made_by(run: &Run<Global>, op: Op) -> u64 {
+    if has_vectors(op) {
+        elements_of(run, op.result_kinds().len())
+    } else {
+        0
+    }
+}
+
 impl Before {
     /// The next instruction of a run, if it goes on.
     #[inline(always)]
@@ -129,7 +156,7 @@ impl Before {
             function: frame.function,
             place: frame.place,
             executed: run.executed(),
-            read: elements_of(run, next.op.operand_kinds().len()),
+            read: read_by(run, next.op),
         })
     }
 
@@ -139,8 +166,7 @@ impl Before {
         if run.executed() == self.executed {
             return None;
         }
-        let made = elements_of(run, self.next.op.result_kinds().len());
-        Some(self.read.saturating_add(made))
+        Some(self.read.saturating_add(made_by(run, self.next.op)))
     }
 }
 
@@ -158,15 +184,17 @@ impl FunctionTally {
     }
 
     /// Counts a call that begins when the job has executed this.
+    #[inline(always)]
     fn enter(&mut self, all: Count) {
-        self.calls = self.calls.saturating_add(1);
+        self.calls = self.calls.wrapping_add(1);
         if self.active == 0 {
             self.since = all;
         }
-        self.active = self.active.saturating_add(1);
+        self.active = self.active.wrapping_add(1);
     }
 
     /// Counts the end of a call when the job has executed this.
+    #[inline(always)]
     fn leave(&mut self, all: Count) {
         self.active = self.active.saturating_sub(1);
         if self.active == 0 {
@@ -194,7 +222,6 @@ impl LineTally {
 }
 
 /// The elements of the entries at the top of the stack of a run, this many of them.
-#[inline(always)]
 pub fn elements_of(run: &Run<Global>, count: usize) -> u64 {
     let mut elements: u64 = 0;
     for depth in 0..count {
@@ -215,13 +242,13 @@ impl Tally {
         let mut tally = Tally {
             functions,
             lines: Vec::new(alloc),
-            peak_after: 0,
         };
         tally.enter(innermost(run), Count::NONE);
         Ok(tally)
     }
 
     /// Counts a call of a function that begins when the job has executed this.
+    #[inline(always)]
     fn enter(&mut self, function: usize, all: Count) {
         if let Some(tally) = self.functions.get_mut(function) {
             tally.enter(all);
@@ -229,6 +256,7 @@ impl Tally {
     }
 
     /// Counts the end of a call of a function when the job has executed this.
+    #[inline(always)]
     fn leave(&mut self, function: usize, all: Count) {
         if let Some(tally) = self.functions.get_mut(function) {
             tally.leave(all);
@@ -244,6 +272,7 @@ impl Tally {
     }
 
     /// Counts the elements of an instruction that was executed.
+    #[inline(always)]
     pub fn count(&mut self, before: Before, elements: u64) -> Result<(), AllocError> {
         if elements == 0 {
             return Ok(());
@@ -278,6 +307,7 @@ impl Tally {
     }
 
     /// Counts a call that begins, or the end of one, at an instruction after which the job has executed this.
+    #[inline(always)]
     pub fn change(&mut self, before: Before, all: Count, run: &Run<Global>) {
         match before.next.op {
             Op::Call => self.enter(innermost(run), all),
@@ -309,14 +339,11 @@ impl Tally {
         stretch: &mut Stretch,
         run: &mut Run<Global>,
     ) -> Result<bool, AllocError> {
-        let (peak, words) = (run.peak(), run.demand());
+        let words = run.demand();
         let goes_on = run.step();
         if let Some(elements) = before.elements(run) {
             self.follow(before, elements, stretch, run)?;
             self.count_words(before, words)?;
-        }
-        if run.peak() > peak {
-            self.peak_after = run.executed();
         }
         Ok(goes_on)
     }

@@ -1,14 +1,13 @@
-//! A run that is watched: for each entry of its stack where it comes from, and for each call where it was made.
+//! A run that is watched: for each vector that it holds where it comes from, and for each call where it was made.
 
 use job_profile::{Run, Uses};
 use job_steps::Job;
-use refusal_notes::move_entries;
 use std::alloc::{AllocError, Global};
 use vcode_base::{Kind, Op, Rule};
 use vcode_reader::{CodeItem, CodeLine};
 
-/// Where an entry of the stack comes from: its kind, the line that made it, and how many entries were made before it.
-/// Copies have one origin.
+/// Where a vector comes from: its kind, the line that made it, and how many vectors were made before it. An entry of
+/// the stack and its copies have one vector.
 #[derive(Clone, Copy, Drop)]
 pub struct Origin {
     pub kind: Kind,
@@ -30,7 +29,8 @@ pub struct Caller {
     pub depth: usize,
 }
 
-/// The origins of the entries of a run, and where its active calls were made, but for that of `MAIN`.
+/// The origins of the vectors of a run, each at the number of its block, and where its active calls were made, but for
+/// that of `MAIN`.
 #[derive(Drop)]
 pub struct Trail {
     origins: Vec<Origin>,
@@ -51,6 +51,15 @@ pub fn op_of(line: &CodeLine<'_>) -> Op {
         CodeItem::Do(instruction) => instruction.op(),
         CodeItem::If | CodeItem::Else | CodeItem::Endif => Op::If,
     }
+}
+
+impl Origin {
+    /// That of no vector.
+    const NONE: Origin = Origin {
+        kind: Kind::Int,
+        line: 0,
+        before: 0,
+    };
 }
 
 impl Next {
@@ -75,11 +84,14 @@ impl Trail {
         }
     }
 
-    /// The origin of the entry at a depth, 0 at the top.
-    pub fn origin(&self, depth: usize) -> Option<Origin> {
-        let above = depth.checked_add(1)?;
-        let place = self.origins.len().checked_sub(above)?;
-        Some(*self.origins.get(place)?)
+    /// The origin of the entry at a depth of a run, 0 at the top.
+    pub fn origin(&self, run: &Run<Global>, depth: usize) -> Option<Origin> {
+        self.origin_at(run.block(depth)?)
+    }
+
+    /// The origin of the vector in the block of a number.
+    pub fn origin_at(&self, block: usize) -> Option<Origin> {
+        Some(*self.origins.get(block)?)
     }
 
     /// Where the call was made that the call at this place made, that of `MAIN` at 0. `None` if it is the innermost.
@@ -93,43 +105,50 @@ impl Trail {
         matches!(next.op, Op::Return) && self.callers.is_empty()
     }
 
-    /// The trail after an instruction.
+    /// The trail after an instruction that a run has executed.
     #[inline(always)]
-    pub fn follow(&mut self, next: Next) -> Result<(), AllocError> {
+    pub fn follow(&mut self, next: Next, run: &Run<Global>) -> Result<(), AllocError> {
         match next.op {
-            Op::Call => self.call(next.line),
+            Op::Call => self.call(next.line, run.depth()),
             Op::Return => {
                 self.callers.pop();
                 Ok(())
             }
-            Op::Move(motion, lower, upper) => {
-                let (lower, upper) = (usize::from(lower), usize::from(upper));
-                move_entries(&mut self.origins, motion, lower, upper)
-            }
-            Op::Const(_) | Op::Elementwise(_) | Op::Segmented(_) | Op::If => self.replace(next),
+            Op::Const(_) | Op::Elementwise(_) | Op::Segmented(_) => self.make(next, run),
+            Op::Move(..) | Op::If => Ok(()),
         }
     }
 
-    /// The trail after a CALL of a line.
-    fn call(&mut self, line: u64) -> Result<(), AllocError> {
-        let depth = self.origins.len();
+    /// The trail after a CALL of a line, which leaves this many entries.
+    #[inline(always)]
+    fn call(&mut self, line: u64, depth: usize) -> Result<(), AllocError> {
         self.callers.push(Caller { line, depth })?;
         Ok(())
     }
 
-    /// The trail after an instruction with results in place of its operands.
-    fn replace(&mut self, next: Next) -> Result<(), AllocError> {
-        let taken = next.op.operand_kinds().len();
-        let kept = self.origins.len().saturating_sub(taken);
-        self.origins.truncate(kept);
-        for kind in next.op.result_kinds() {
-            self.origins.push(Origin {
-                kind: *kind,
-                line: next.line,
-                before: self.made,
-            })?;
-            self.made = self.made.saturating_add(1);
+    /// The trail after an instruction with results, which are at the top of the stack.
+    fn make(&mut self, next: Next, run: &Run<Global>) -> Result<(), AllocError> {
+        let kinds = next.op.result_kinds();
+        for (place, kind) in kinds.iter().enumerate() {
+            let above = kinds.len().saturating_sub(place).saturating_sub(1);
+            if let Some(block) = run.block(above) {
+                self.put(block, *kind, next.line)?;
+            }
         }
+        Ok(())
+    }
+
+    /// Notes that a line has made a vector of a kind in the block of this number.
+    #[inline(always)]
+    fn put(&mut self, block: usize, kind: Kind, line: u64) -> Result<(), AllocError> {
+        for _ in self.origins.len()..=block {
+            self.origins.push(Origin::NONE)?;
+        }
+        let before = self.made;
+        if let Some(origin) = self.origins.get_mut(block) {
+            *origin = Origin { kind, line, before };
+        }
+        self.made = self.made.saturating_add(1);
         Ok(())
     }
 }
@@ -176,7 +195,7 @@ impl Watch {
 
     /// The origin of the entry at a depth, 0 at the top.
     pub fn origin(&self, depth: usize) -> Option<Origin> {
-        self.trail.origin(depth)
+        self.trail.origin(self.run(), depth)
     }
 
     /// Executes the next instruction, which is this one; true if the job goes on.
@@ -185,7 +204,7 @@ impl Watch {
         if !self.uses.step() {
             return Ok(false);
         }
-        self.trail.follow(next)?;
+        self.trail.follow(next, self.uses.run())?;
         Ok(true)
     }
 
