@@ -77,7 +77,7 @@ impl Vector {
         note: 0,
     };
 
-    /// Whether it was held at the last of so many peaks and has no note of that.
+    /// Whether it was held at the last peak, the one of this number, and has no note of that.
     #[inline(always)]
     fn lacks_note(&self, peaks: u64) -> bool {
         self.made_in < peaks && self.noted_in != peaks
