@@ -1,27 +1,32 @@
 //! A job as data: one JSON object.
 
-use crate::chains::Chains;
+use crate::chains::{Chain, Chains};
 use crate::end::Ending;
 use crate::last::Last;
-use crate::look::Batch;
 use crate::page_data::push_held;
 use crate::picture_data::push_picture;
-use crate::profile::{FunctionHead, function_places, functions_of, last_line_of, lines_of};
+use crate::pieces::{push_number, push_size};
+use crate::profile::{
+    FunctionHead, LineCount, function_places, functions_of, last_line_of, lines_of,
+};
 use crate::source_data::push_source;
 use crate::sources::Sources;
 use crate::spans::Spans;
 use crate::survey::{Counts, Survey};
-use crate::tally::{Count, FunctionTally, Tally};
+use crate::tally::{FunctionTally, Tally};
+use crate::text::Text;
 use crate::wide::{WideEnd, Work};
 use batch_reader::{BatchFault, JobFault};
 use job_profile::{Column, Columns, Profile};
 use refusal_notes::{Lines, batch_meaning, batch_refusal, job_meaning, printable, refusal};
 use std::alloc::{AllocError, Global};
-use std::fmt::Write;
 use vcode_base::{Limits, Rule};
 
 /// How many lines are given before and after that of a refusal.
 const LINES_BESIDE: u64 = 8;
+
+/// What there is before the fault of a refusal.
+const REFUSED: &str = ",\"end\":\"REFUSED ";
 
 /// What is said of the end of a job: its last state, the least limits within which it returns, or the work after which
 /// they were given up, or how it ends within the widest limits, if these are known.
@@ -34,174 +39,171 @@ pub struct Told {
 }
 
 /// Adds a printable text as a JSON string that may stand in a page: `"`, `\`, `<`, `&` and LF are escaped.
-pub fn push_quoted(text: &mut String, value: &str) -> Result<(), AllocError> {
-    text.push('"')?;
+pub fn push_quoted(text: &mut Text, value: &str) {
+    text.push('"');
     for letter in value.chars() {
         match letter {
-            '"' => text.push_str("\\\"")?,
-            '\\' => text.push_str("\\\\")?,
-            '<' => text.push_str("\\u003c")?,
-            '&' => text.push_str("\\u0026")?,
-            '\n' => text.push_str("\\n")?,
-            _ => text.push(letter)?,
+            '"' => text.push_str("\\\""),
+            '\\' => text.push_str("\\\\"),
+            '<' => text.push_str("\\u003c"),
+            '&' => text.push_str("\\u0026"),
+            '\n' => text.push_str("\\n"),
+            _ => text.push(letter),
         }
     }
-    text.push('"')
+    text.push('"');
+}
+
+/// Adds a printable text that takes memory as such a string.
+pub fn push_shown(text: &mut Text, shown: Result<String, AllocError>) {
+    if let Some(shown) = text.get(shown) {
+        push_quoted(text, shown.as_str());
+    }
 }
 
 /// Adds a comma before each item of a list but the first.
-pub fn push_comma(text: &mut String, place: usize) -> Result<(), AllocError> {
+pub fn push_comma(text: &mut Text, place: usize) {
     if place > 0 {
-        text.push(',')?;
+        text.push(',');
     }
-    Ok(())
 }
 
 /// Adds the first members: the place and the name of a job.
-pub fn push_job(
-    text: &mut String,
-    alloc: Global,
-    place: u64,
-    name: &[u8],
-) -> Result<(), AllocError> {
-    write!(text, "{{\"job\":{place},\"name\":")?;
-    let name = printable(alloc, name)?;
-    push_quoted(text, name.as_str())
+pub fn push_job(text: &mut Text, alloc: Global, place: u64, name: &[u8]) {
+    push_number(text, "{\"job\":", place);
+    text.push_str(",\"name\":");
+    push_shown(text, printable(alloc, name));
+}
+
+/// Adds a fault with this text before it, and its line.
+fn push_fault(text: &mut Text, before: &str, fault: &str, line: u64) {
+    text.push_str(before);
+    text.push_str(fault);
+    push_number(text, "\",\"line\":", line);
 }
 
 /// Adds how a job ended, and its last line if a fault has one.
-pub fn push_ending(text: &mut String, ending: Ending) -> Result<(), AllocError> {
+pub fn push_ending(text: &mut Text, ending: Ending) {
     match ending {
-        Ending::Returned => text.push_str(",\"end\":\"RETURNED\",\"line\":null")?,
-        Ending::Budget => text.push_str(",\"end\":\"BUDGET\",\"line\":null")?,
-        Ending::Fault(fault, line) => {
-            let fault = fault.text();
-            write!(text, ",\"end\":\"FAULT {fault}\",\"line\":{line}")?;
-        }
-        Ending::Memory(fault, line) => {
-            let fault = fault.text();
-            write!(text, ",\"end\":\"MEMORY {fault}\",\"line\":{line}")?;
-        }
+        Ending::Returned => text.push_str(",\"end\":\"RETURNED\",\"line\":null"),
+        Ending::Budget => text.push_str(",\"end\":\"BUDGET\",\"line\":null"),
+        Ending::Fault(fault, line) => push_fault(text, ",\"end\":\"FAULT ", fault.text(), line),
+        Ending::Memory(fault, line) => push_fault(text, ",\"end\":\"MEMORY ", fault.text(), line),
     }
-    Ok(())
 }
 
-/// Adds a member of this name for numbers of words, cells, calls and instructions.
+/// Adds numbers of words, cells, calls and instructions, and ends the object that begins with this text.
 fn push_amounts(
-    text: &mut String,
-    member: &str,
+    text: &mut Text,
+    before: &str,
     (words, cells, calls, budget): (usize, usize, usize, u64),
-) -> Result<(), AllocError> {
-    write!(
-        text,
-        ",\"{member}\":{{\"words\":{words},\"cells\":{cells},\"calls\":{calls},\"budget\":{budget}}}"
-    )?;
-    Ok(())
+) {
+    text.push_str(before);
+    push_size(text, "\"words\":", words);
+    push_size(text, ",\"cells\":", cells);
+    push_size(text, ",\"calls\":", calls);
+    push_number(text, ",\"budget\":", budget);
+    text.push('}');
 }
 
-/// Adds a member of this name for limits.
-fn push_limits(text: &mut String, member: &str, limits: Limits) -> Result<(), AllocError> {
+/// Adds limits, and ends the object that begins with this text.
+fn push_limits(text: &mut Text, before: &str, limits: Limits) {
     let amounts = (limits.words, limits.cells, limits.calls, limits.budget);
-    push_amounts(text, member, amounts)
+    push_amounts(text, before, amounts);
 }
 
-/// Adds two members for what was executed, the first of which comes right after an opening bracket or a comma.
-fn push_count(text: &mut String, count: Count) -> Result<(), AllocError> {
-    let (instructions, elements) = (count.instructions, count.elements);
-    write!(
-        text,
-        "\"instructions\":{instructions},\"elements\":{elements}"
-    )?;
-    Ok(())
+/// Adds two members for what was executed, with this text before them.
+fn push_count(text: &mut Text, before: &str, instructions: u64, elements: u64) {
+    text.push_str(before);
+    push_number(text, "\"instructions\":", instructions);
+    push_number(text, ",\"elements\":", elements);
 }
 
 /// Adds the object of a function.
-fn push_function(
-    text: &mut String,
-    function: &FunctionHead,
-    tally: FunctionTally,
-) -> Result<(), AllocError> {
-    let (line, calls) = (function.line, tally.calls);
-    text.push_str("{\"name\":")?;
-    push_quoted(text, function.name.as_str())?;
-    write!(text, ",\"line\":{line},\"calls\":{calls},")?;
-    push_count(text, tally.own)?;
-    text.push_str(",\"with_callees\":{")?;
-    push_count(text, tally.whole)?;
-    text.push_str("}}")
+fn push_function(text: &mut Text, function: &FunctionHead, tally: FunctionTally) {
+    text.push_str("{\"name\":");
+    push_quoted(text, function.name.as_str());
+    push_number(text, ",\"line\":", function.line);
+    push_number(text, ",\"calls\":", tally.calls);
+    let (own, whole) = (tally.own, tally.whole);
+    push_count(text, ",", own.instructions, own.elements);
+    text.push_str(",\"with_callees\":");
+    push_count(text, "{", whole.instructions, whole.elements);
+    text.push_str("}}");
 }
 
 /// Adds the objects of functions.
-fn push_function_list(
-    text: &mut String,
-    functions: &[FunctionHead],
-    tally: &Tally,
-) -> Result<(), AllocError> {
+fn push_function_list(text: &mut Text, functions: &[FunctionHead], tally: &Tally) {
     for (place, function) in functions.iter().enumerate() {
-        push_comma(text, place)?;
-        push_function(text, function, tally.function(place))?;
+        push_comma(text, place);
+        push_function(text, function, tally.function(place));
     }
-    Ok(())
 }
 
 /// Adds the member for the functions.
-fn push_functions(
-    text: &mut String,
-    alloc: Global,
-    profile: &Profile<Global>,
-    tally: &Tally,
-) -> Result<(), AllocError> {
-    text.push_str(",\"functions\":[")?;
-    let functions = functions_of(alloc, profile)?;
-    let pushed = push_function_list(text, &functions, tally);
-    drop(functions);
-    pushed?;
-    text.push(']')
+fn push_functions(text: &mut Text, alloc: Global, profile: &Profile<Global>, tally: &Tally) {
+    text.push_str(",\"functions\":[");
+    if let Some(functions) = text.get(functions_of(alloc, profile)) {
+        push_function_list(text, &functions, tally);
+    }
+    text.push(']');
+}
+
+/// Adds what was counted of lines.
+fn push_line_list(text: &mut Text, lines: &[LineCount], tally: &Tally) {
+    for (place, count) in lines.iter().enumerate() {
+        push_comma(text, place);
+        push_size(text, "[", count.line);
+        push_number(text, ",", count.times);
+        push_number(text, ",", tally.line(count.line).elements);
+        text.push(']');
+    }
 }
 
 /// Adds the member for the lines.
-fn push_lines(
-    text: &mut String,
-    alloc: Global,
-    profile: &Profile<Global>,
-    tally: &Tally,
-) -> Result<(), AllocError> {
-    text.push_str(",\"lines\":[")?;
-    for (place, count) in lines_of(alloc, profile)?.iter().enumerate() {
-        push_comma(text, place)?;
-        let (line, times) = (count.line, count.times);
-        let elements = tally.line(line).elements;
-        write!(text, "[{line},{times},{elements}]")?;
+fn push_lines(text: &mut Text, alloc: Global, profile: &Profile<Global>, tally: &Tally) {
+    text.push_str(",\"lines\":[");
+    if let Some(lines) = text.get(lines_of(alloc, profile)) {
+        push_line_list(text, &lines, tally);
     }
-    text.push(']')
+    text.push(']');
 }
 
-/// Adds a member that is a list of numbers.
-pub fn push_numbers(text: &mut String, member: &str, numbers: &[usize]) -> Result<(), AllocError> {
-    write!(text, ",\"{member}\":[")?;
+/// Adds numbers, and ends the list that begins with this text.
+pub fn push_numbers(text: &mut Text, before: &str, numbers: &[usize]) {
+    text.push_str(before);
     for (place, number) in numbers.iter().enumerate() {
-        push_comma(text, place)?;
-        write!(text, "{number}")?;
+        push_comma(text, place);
+        text.push_number(*number as u64);
     }
-    text.push(']')
+    text.push(']');
+}
+
+/// Adds numbers that take memory, and ends the list that begins with this text.
+fn push_numbers_of(text: &mut Text, before: &str, numbers: Result<Vec<usize>, AllocError>) {
+    if let Some(numbers) = text.get(numbers) {
+        push_numbers(text, before, numbers.as_slice());
+    }
 }
 
 /// Adds the member for the most words of each column.
-fn push_most(text: &mut String, alloc: Global, columns: &[Column]) -> Result<(), AllocError> {
-    let mut numbers = Vec::new(alloc);
-    for column in columns {
-        numbers.push(column.most)?;
+fn push_most(text: &mut Text, columns: &[Column]) {
+    text.push_str(",\"most\":[");
+    for (place, column) in columns.iter().enumerate() {
+        push_comma(text, place);
+        text.push_number(column.most as u64);
     }
-    push_numbers(text, "most", numbers.as_slice())
+    text.push(']');
 }
 
 /// Adds the member for the least words of each column.
-fn push_least(text: &mut String, alloc: Global, columns: &[Column]) -> Result<(), AllocError> {
-    let mut numbers = Vec::new(alloc);
-    for column in columns {
-        numbers.push(column.least)?;
+fn push_least(text: &mut Text, columns: &[Column]) {
+    text.push_str(",\"least\":[");
+    for (place, column) in columns.iter().enumerate() {
+        push_comma(text, place);
+        text.push_number(column.least as u64);
     }
-    push_numbers(text, "least", numbers.as_slice())
+    text.push(']');
 }
 
 /// The line of the most words of each column.
@@ -214,96 +216,79 @@ fn lines_at(alloc: Global, columns: &[Column]) -> Result<Vec<usize>, AllocError>
 }
 
 /// Adds the members for the line of the most words of each column and for its function.
-fn push_places(
-    text: &mut String,
-    alloc: Global,
-    columns: &Columns<Global>,
-) -> Result<(), AllocError> {
+fn push_places(text: &mut Text, alloc: Global, columns: &Columns<Global>) {
     let (_, list) = columns.columns();
-    let lines = lines_at(alloc, list)?;
-    push_numbers(text, "line", lines.as_slice())?;
-    let functions = function_places(alloc, columns.profile(), lines.as_slice())?;
-    push_numbers(text, "function", functions.as_slice())
+    if let Some(lines) = text.get(lines_at(alloc, list)) {
+        push_numbers(text, ",\"line\":[", lines.as_slice());
+        let functions = function_places(alloc, columns.profile(), lines.as_slice());
+        push_numbers_of(text, ",\"function\":[", functions);
+    }
 }
 
 /// Adds the member for the words over time.
-fn push_columns(
-    text: &mut String,
-    alloc: Global,
-    columns: &Columns<Global>,
-    counts: &Counts,
-) -> Result<(), AllocError> {
+fn push_columns(text: &mut Text, alloc: Global, columns: &Columns<Global>, counts: &Counts) {
     let (each, list) = columns.columns();
-    write!(text, ",\"columns\":{{\"each\":{each}")?;
-    push_most(text, alloc, list)?;
-    push_least(text, alloc, list)?;
-    push_places(text, alloc, columns)?;
-    let places = counts.bands.places(alloc)?;
-    push_numbers(text, "ran", &places)?;
-    text.push('}')
+    push_number(text, ",\"columns\":{\"each\":", each);
+    push_most(text, list);
+    push_least(text, list);
+    push_places(text, alloc, columns);
+    push_numbers_of(text, ",\"ran\":[", counts.bands.places(alloc));
+    text.push('}');
+}
+
+/// Adds a chain of functions that ran inside one another.
+fn push_chain(text: &mut Text, chain: &Chain) {
+    push_size(text, "[", chain.outer);
+    push_size(text, ",", chain.function);
+    push_number(text, ",", chain.calls);
+    push_number(text, ",", chain.count.instructions);
+    push_number(text, ",", chain.count.elements);
+    text.push(']');
 }
 
 /// Adds the member for the functions that ran inside one another.
-fn push_calls(text: &mut String, chains: &Chains) -> Result<(), AllocError> {
-    text.push_str(",\"calls\":[")?;
+fn push_calls(text: &mut Text, chains: &Chains) {
+    text.push_str(",\"calls\":[");
     for (place, chain) in chains.chains().iter().enumerate() {
-        push_comma(text, place)?;
-        let (outer, function, calls) = (chain.outer, chain.function, chain.calls);
-        let (own, elements) = (chain.count.instructions, chain.count.elements);
-        write!(text, "[{outer},{function},{calls},{own},{elements}]")?;
+        push_comma(text, place);
+        push_chain(text, chain);
     }
-    text.push(']')
+    text.push(']');
 }
 
 /// Adds the member for what is said of the last line.
-fn push_note(text: &mut String, note: &str) -> Result<(), AllocError> {
-    text.push_str(",\"note\":")?;
-    push_quoted(text, note)
+fn push_note(text: &mut Text, note: &str) {
+    text.push_str(",\"note\":");
+    push_quoted(text, note);
 }
 
 /// Adds the member for the lines of code from one number to another, as they may be shown.
-fn push_code(
-    text: &mut String,
-    alloc: Global,
-    lines: &Lines,
-    first: u64,
-    last: u64,
-) -> Result<(), AllocError> {
-    write!(text, ",\"code\":{{\"first\":{first},\"lines\":[")?;
+fn push_code(text: &mut Text, alloc: Global, lines: &Lines, first: u64, last: u64) {
+    push_number(text, ",\"code\":{\"first\":", first);
+    text.push_str(",\"lines\":[");
     for number in first..=last {
         if number > first {
-            text.push(',')?;
+            text.push(',');
         }
-        push_quoted(text, lines.line(alloc, number)?.as_str())?;
+        push_shown(text, lines.line(alloc, number));
     }
-    text.push_str("]}")
+    text.push_str("]}");
 }
 
-/// What a fault is called, what it means, and the text that is shown of a refusal by it.
-#[derive(Clone, Copy)]
-struct Refused<'a> {
-    fault: &'a str,
-    meaning: &'a str,
-    shown: &'a str,
-}
-
-/// Adds the members for a refusal at a line, and ends the object.
+/// Adds the members for what is shown of a refusal at a line and for the code beside it, and ends the object.
 fn push_refusal(
-    text: &mut String,
+    text: &mut Text,
     alloc: Global,
     lines: &Lines,
     line: u64,
-    refused: Refused<'_>,
-) -> Result<(), AllocError> {
-    let fault = refused.fault;
-    write!(text, ",\"end\":\"REFUSED {fault}\",\"line\":{line}")?;
-    push_note(text, refused.meaning)?;
-    text.push_str(",\"text\":")?;
-    push_quoted(text, refused.shown)?;
+    shown: Result<String, AllocError>,
+) {
+    text.push_str(",\"text\":");
+    push_shown(text, shown);
     let first = line.saturating_sub(LINES_BESIDE).max(1);
     let last = line.saturating_add(LINES_BESIDE).min(lines.count());
-    push_code(text, alloc, lines, first, last)?;
-    text.push('}')
+    push_code(text, alloc, lines, first, last);
+    text.push('}');
 }
 
 /// The object of a job of this place and this name that was refused at a line for a fault.
@@ -315,16 +300,13 @@ pub fn refusal_object(
     line: u64,
     fault: JobFault,
 ) -> Result<String, AllocError> {
-    let mut text = String::new(alloc);
-    push_job(&mut text, alloc, place, name)?;
-    let shown = refusal(alloc, lines, place, name, line, fault)?;
-    let refused = Refused {
-        fault: fault.text(),
-        meaning: job_meaning(fault),
-        shown: shown.as_str(),
-    };
-    push_refusal(&mut text, alloc, lines, line, refused)?;
-    Ok(text)
+    let mut text = Text::new(alloc);
+    push_job(&mut text, alloc, place, name);
+    push_fault(&mut text, REFUSED, fault.text(), line);
+    push_note(&mut text, job_meaning(fault));
+    let shown = refusal(alloc, lines, place, name, line, fault);
+    push_refusal(&mut text, alloc, lines, line, shown);
+    text.finish()
 }
 
 /// The object of a batch that was refused as a whole at a line for a fault.
@@ -334,96 +316,79 @@ pub fn batch_refusal_object(
     line: u64,
     fault: BatchFault,
 ) -> Result<String, AllocError> {
-    let mut text = String::from_str(alloc, "{\"job\":null,\"name\":null")?;
-    let shown = batch_refusal(alloc, lines, line, fault)?;
-    let refused = Refused {
-        fault: fault.text(),
-        meaning: batch_meaning(fault),
-        shown: shown.as_str(),
-    };
-    push_refusal(&mut text, alloc, lines, line, refused)?;
-    Ok(text)
+    let mut text = Text::new(alloc);
+    text.push_str("{\"job\":null,\"name\":null");
+    push_fault(&mut text, REFUSED, fault.text(), line);
+    push_note(&mut text, batch_meaning(fault));
+    let shown = batch_refusal(alloc, lines, line, fault);
+    push_refusal(&mut text, alloc, lines, line, shown);
+    text.finish()
 }
 
 /// Adds the members for the instructions, the peak and the last line of a job.
-fn push_peak(text: &mut String, survey: &Survey) -> Result<(), AllocError> {
+fn push_peak(text: &mut Text, survey: &Survey) {
     let end = survey.end();
-    let (executed, peak) = (end.executed, end.words);
-    let (after, last) = (survey.profile().peak_after(), survey.last_line());
-    write!(
-        text,
-        ",\"instructions\":{executed},\"peak\":{peak},\"peak_at\":{after},\"last\":{last}"
-    )?;
-    Ok(())
+    push_number(text, ",\"instructions\":", end.executed);
+    push_size(text, ",\"peak\":", end.words);
+    push_number(text, ",\"peak_at\":", survey.profile().peak_after());
+    push_number(text, ",\"last\":", survey.last_line());
 }
 
 /// Adds the member for a rule.
-fn push_rule(text: &mut String, rule: Rule) -> Result<(), AllocError> {
+fn push_rule(text: &mut Text, rule: Rule) {
     text.push_str(match rule {
         Rule::First => ",\"rule\":1",
         Rule::Second => ",\"rule\":2",
-    })
+    });
 }
 
 /// Adds the members for how a job ended and what it used.
-fn push_end(text: &mut String, survey: &Survey) -> Result<(), AllocError> {
-    let end = survey.end();
-    push_ending(text, end.ending)?;
-    push_peak(text, survey)?;
-    push_limits(text, "limits", survey.profile().run().job().limits())?;
-    push_rule(text, survey.profile().run().rule())?;
+fn push_end(text: &mut Text, survey: &Survey) {
+    let (end, run) = (survey.end(), survey.profile().run());
+    push_ending(text, end.ending);
+    push_peak(text, survey);
+    push_limits(text, ",\"limits\":{", run.job().limits());
+    push_rule(text, run.rule());
     let used = (end.words, end.cells, end.calls, end.executed);
-    push_amounts(text, "used", used)
+    push_amounts(text, ",\"used\":{", used);
 }
 
 /// Adds the member for the words that were held and needed at a refused instruction, if the limit was that on words.
-fn push_wanted(text: &mut String, wanted: Option<usize>) -> Result<(), AllocError> {
+fn push_wanted(text: &mut Text, wanted: Option<usize>) {
     if let Some(wanted) = wanted {
-        write!(text, ",\"wanted\":{wanted}")?;
+        push_size(text, ",\"wanted\":", wanted);
     }
-    Ok(())
 }
 
 /// Adds the member for how a job ends within the widest limits, if that is known and it doesn't return.
-fn push_widest(text: &mut String, widest: Option<WideEnd>) -> Result<(), AllocError> {
-    let Some(end) = widest else {
-        return Ok(());
-    };
-    let executed = end.executed;
-    write!(text, ",\"widest\":{{\"instructions\":{executed}")?;
-    push_ending(text, end.ending)?;
-    push_wanted(text, end.wanted)?;
-    text.push('}')
+fn push_widest(text: &mut Text, widest: Option<WideEnd>) {
+    if let Some(end) = widest {
+        push_number(text, ",\"widest\":{\"instructions\":", end.executed);
+        push_ending(text, end.ending);
+        push_wanted(text, end.wanted);
+        text.push('}');
+    }
 }
 
 /// Adds the members for what is said of the end of a job that ended so, and ends its object.
-pub fn push_told(
-    text: &mut String,
-    alloc: Global,
-    ending: Ending,
-    told: &Told,
-) -> Result<(), AllocError> {
-    push_picture(text, alloc, Some(ending), &told.last.picture)?;
-    push_note(text, told.last.note.as_str())?;
-    push_widest(text, told.widest)?;
-    push_limits_told(text, told)?;
-    text.push('}')
+pub fn push_told(text: &mut Text, ending: Ending, told: &Told) {
+    push_picture(text, Some(ending), &told.last.picture);
+    push_note(text, told.last.note.as_str());
+    push_widest(text, told.widest);
+    push_limits_told(text, told);
+    text.push('}');
 }
 
 /// Adds the members for the words that were wanted, the least limits, and the work after which these were given up.
-fn push_limits_told(text: &mut String, told: &Told) -> Result<(), AllocError> {
-    push_wanted(text, told.last.wanted)?;
+fn push_limits_told(text: &mut Text, told: &Told) {
+    push_wanted(text, told.last.wanted);
     if let Some(least) = told.least {
-        push_limits(text, "least", least)?;
+        push_limits(text, ",\"least\":{", least);
     }
     if let Some(work) = told.tried {
-        let (instructions, elements) = (work.instructions, work.elements);
-        write!(
-            text,
-            ",\"tried\":{{\"instructions\":{instructions},\"elements\":{elements}}}"
-        )?;
+        push_count(text, ",\"tried\":{", work.instructions, work.elements);
+        text.push('}');
     }
-    Ok(())
 }
 
 /// The columns at which the last instruction that was next begins and ends in its line, if it is a part of what is
@@ -445,81 +410,49 @@ fn last_columns(
 }
 
 /// Adds the member for the columns of the last instruction, if they are known.
-fn push_carets(
-    text: &mut String,
-    alloc: Global,
-    lines: &Lines,
-    survey: &Survey,
-) -> Result<(), AllocError> {
-    if let Some((begin, end)) = last_columns(alloc, lines, survey)? {
-        write!(text, ",\"carets\":[{begin},{end}]")?;
+fn push_carets(text: &mut Text, alloc: Global, lines: &Lines, survey: &Survey) {
+    let columns = last_columns(alloc, lines, survey);
+    if let Some(Some((begin, end))) = text.get(columns) {
+        push_size(text, ",\"carets\":[", begin);
+        push_size(text, ",", end);
+        text.push(']');
     }
-    Ok(())
 }
 
 /// Adds the member for the lines of the source of a job, if it names some.
-fn push_sources(
-    text: &mut String,
-    alloc: Global,
-    lines: &Lines,
-    survey: &Survey,
-) -> Result<(), AllocError> {
+fn push_sources(text: &mut Text, alloc: Global, lines: &Lines, survey: &Survey) {
     let profile = survey.profile();
-    let sources = Sources::of(alloc, lines, profile.run().job().verified().program())?;
-    push_source(text, alloc, &sources, profile, &survey.counts.tally)
+    let sources = Sources::of(alloc, lines, profile.run().job().verified().program());
+    if let Some(sources) = text.get(sources) {
+        push_source(text, alloc, &sources, profile, &survey.counts.tally);
+    }
 }
 
 /// Adds the member for the code of a job.
-fn push_program(
-    text: &mut String,
-    alloc: Global,
-    lines: &Lines,
-    survey: &Survey,
-) -> Result<(), AllocError> {
+fn push_program(text: &mut Text, alloc: Global, lines: &Lines, survey: &Survey) {
     let program = survey.profile().run().job().verified().program();
-    push_code(
-        text,
-        alloc,
-        lines,
-        program.first_line(),
-        last_line_of(program),
-    )
+    let (first, last) = (program.first_line(), last_line_of(program));
+    push_code(text, alloc, lines, first, last);
 }
 
 /// Adds the members for what was counted of a job.
-fn push_counts(text: &mut String, alloc: Global, survey: &Survey) -> Result<(), AllocError> {
+fn push_counts(text: &mut Text, alloc: Global, survey: &Survey) {
     let (profile, counts) = (survey.profile(), &survey.counts);
-    push_functions(text, alloc, profile, &counts.tally)?;
-    push_lines(text, alloc, profile, &counts.tally)?;
-    push_columns(text, alloc, &survey.columns, counts)?;
-    push_calls(text, &counts.chains)
+    push_functions(text, alloc, profile, &counts.tally);
+    push_lines(text, alloc, profile, &counts.tally);
+    push_columns(text, alloc, &survey.columns, counts);
+    push_calls(text, &counts.chains);
 }
 
 /// Adds the members of a job of this place that has run to its end, up to what is said of its end.
-fn push_members(
-    text: &mut String,
-    alloc: Global,
-    lines: &Lines,
-    place: u64,
-    survey: &Survey,
-) -> Result<(), AllocError> {
-    push_job(text, alloc, place, survey.profile().run().job().name())?;
-    push_end(text, survey)?;
-    push_carets(text, alloc, lines, survey)?;
-    push_counts(text, alloc, survey)?;
-    push_sources(text, alloc, lines, survey)?;
-    push_program(text, alloc, lines, survey)?;
-    push_held(text, survey.again().number, &survey.holdings(alloc)?)
-}
-
-/// The object of a job of this place that has run to its end, up to what is said of its end.
-pub fn job_object(
-    alloc: Global,
-    batch: Batch<'_>,
-    place: u64,
-    survey: &Survey,
-) -> Result<String, AllocError> {
-    let mut text = String::new(alloc);
-    push_members(&mut text, alloc, batch.lines, place, survey)?;
-    Ok(text)
+pub fn push_survey(text: &mut Text, alloc: Global, lines: &Lines, place: u64, survey: &Survey) {
+    push_job(text, alloc, place, survey.profile().run().job().name());
+    push_end(text, survey);
+    push_carets(text, alloc, lines, survey);
+    push_counts(text, alloc, survey);
+    push_sources(text, alloc, lines, survey);
+    push_program(text, alloc, lines, survey);
+    if let Some(holdings) = text.get(survey.holdings(alloc)) {
+        push_held(text, survey.again().number, &holdings);
+    }
 }

@@ -1,8 +1,10 @@
 //! The words that a job holds over time, as a drawing of text.
 
+use crate::padding::push_column;
+use crate::pieces::push_number;
+use crate::text::Text;
 use job_profile::Column;
 use std::alloc::{AllocError, Global};
-use std::io;
 
 /// The most columns of a drawing.
 const MOST_DRAWN: usize = 64;
@@ -91,54 +93,68 @@ impl Drawing {
     }
 
     /// The row of words above `below`, up to `words`.
-    fn row(&self, alloc: Global, below: usize, words: usize) -> Result<String, AllocError> {
+    fn row(&self, alloc: Global, below: usize, words: usize) -> Text {
         let peak = greatest(self.columns.as_slice());
         let is_limit = below < self.limit && self.limit <= words;
         let blank = if is_limit { '-' } else { ' ' };
-        let mut row = String::new(alloc);
+        let mut row = Text::new(alloc);
         for column in &self.columns {
-            row.push(mark(*column, below, peak, blank))?;
+            row.push(mark(*column, below, peak, blank));
         }
         if is_limit {
-            row.push_str(" the limit")?;
+            row.push_str(" the limit");
         }
-        Ok(row)
+        row
     }
 
-    /// Prints the rows, the greatest words first.
-    fn print_rows(&self, rt: &HostRuntime) -> io::Result<()> {
+    /// Adds the row of words above `below`, up to `words`, with this number.
+    fn push_row(&self, text: &mut Text, alloc: Global, below: usize, words: usize) {
+        text.push(' ');
+        push_column(text, words as u64, 12);
+        text.push_str(" |");
+        if let Some(row) = text.get(self.row(alloc, below, words).finish()) {
+            text.push_str(row.as_str().trim_ascii_end());
+        }
+        text.push('\n');
+    }
+
+    /// Adds the rows, the greatest words first.
+    fn push_rows(&self, text: &mut Text, alloc: Global) {
         let top = self.top();
         let unit = top.div_ceil(MOST_ROWS).max(1);
         for place in (0..top.div_ceil(unit)).rev() {
             let below = place.saturating_mul(unit);
-            let words = below.saturating_add(unit);
-            let row = self.row(rt.alloc(), below, words)?;
-            println!(rt; "  {words:>12} |{}", row.trim_ascii_end())?;
+            self.push_row(text, alloc, below, below.saturating_add(unit));
         }
-        Ok(())
     }
 
-    /// Prints the axis.
-    fn print_axis(&self, rt: &HostRuntime) -> io::Result<()> {
-        let mut axis = String::new(rt.alloc());
+    /// Adds the axis.
+    fn push_axis(&self, text: &mut Text) {
+        text.push(' ');
+        push_column(text, 0, 12);
+        text.push_str(" +");
         for _ in 0..self.columns.len() {
-            axis.push('-')?;
+            text.push('-');
         }
-        println!(rt; "  {:>12} +{axis}", 0)
+        text.push('\n');
+    }
+
+    /// Adds the drawing with what is said of it.
+    fn push_all(&self, text: &mut Text, alloc: Global) {
+        push_number(
+            text,
+            "\nthe words over time; instructions to a column: ",
+            self.each,
+        );
+        text.push_str("\n# held after each, : held and needed at one, * the column of the peak\n");
+        self.push_rows(text, alloc);
+        self.push_axis(text);
     }
 }
 
-/// Prints the words that a job held over time, by columns of `each` instructions.
-pub fn print_drawing(
-    rt: &HostRuntime,
-    columns: &[Column],
-    each: u64,
-    limit: usize,
-) -> io::Result<()> {
-    let drawing = Drawing::of(rt.alloc(), columns, each, limit)?;
-    let each = drawing.each;
-    println!(rt; "\nthe words over time; instructions to a column: {each}")?;
-    println!(rt; "# held after each, : held and needed at one, * the column of the peak")?;
-    drawing.print_rows(rt)?;
-    drawing.print_axis(rt)
+/// Adds the words that a job held over time, by columns of `each` instructions.
+pub fn push_drawing(text: &mut Text, alloc: Global, columns: &[Column], each: u64, limit: usize) {
+    if let Some(drawing) = text.get(Drawing::of(alloc, columns, each, limit)) {
+        drawing.push_all(text, alloc);
+    }
 }

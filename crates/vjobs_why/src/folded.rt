@@ -4,23 +4,32 @@ use crate::chains::Chains;
 use crate::command::Unit;
 use crate::folded_source::{Row, SourceCounts};
 use crate::look::Batch;
+use crate::output::print_text;
+use crate::pieces::push_number;
 use crate::sources::{Sources, push_place};
 use crate::tally::{Before, Count, Stretch, changes_call};
+use crate::text::Text;
 use job_profile::Run;
 use job_steps::Job;
 use refusal_notes::printable;
 use std::alloc::{AllocError, Global};
 use std::io;
-use std::io::Write;
 use vcode_base::limits::MOST_BUDGET;
 
-/// A name as it may be shown, with a question mark for a semicolon, since that parts the names.
-fn name_of(alloc: Global, name: &[u8]) -> Result<String, AllocError> {
-    let mut text = String::new(alloc);
-    for letter in printable(alloc, name)?.chars() {
-        text.push(if letter == ';' { '?' } else { letter })?;
+/// Adds a name, with a question mark for a semicolon, since that parts the names.
+fn push_name(text: &mut Text, name: &str) {
+    for letter in name.chars() {
+        text.push(if letter == ';' { '?' } else { letter });
     }
-    Ok(text)
+}
+
+/// A name as it may be shown.
+fn name_of(alloc: Global, name: &[u8]) -> Result<String, AllocError> {
+    let mut text = Text::new(alloc);
+    if let Some(name) = text.get(printable(alloc, name)) {
+        push_name(&mut text, name.as_str());
+    }
+    text.finish()
 }
 
 /// What the rest of a chain is called.
@@ -44,19 +53,17 @@ fn number_of(count: Count, unit: Unit) -> u64 {
     }
 }
 
-/// A chain among the chains around one: its place, and where its names end.
+/// A chain among the chains around one: its place, and its innermost function.
 #[derive(Clone, Copy, Drop)]
 struct Level {
     place: usize,
-    end: usize,
+    function: usize,
 }
 
-/// The names of the functions of a chain with semicolons between them, and the chain and those around it, that of
-/// `MAIN` first.
+/// A chain and those around it, that of `MAIN` first.
 #[derive(Drop)]
 struct Stack {
     alloc: Global,
-    text: Vec<u8>,
     levels: Vec<Level>,
 }
 
@@ -65,71 +72,57 @@ impl Stack {
     fn new(alloc: Global) -> Stack {
         Stack {
             alloc,
-            text: Vec::new(alloc),
             levels: Vec::new(alloc),
         }
     }
 
-    /// Cuts the names after those of the chain at a place; false if that is none of these chains.
+    /// Leaves out the chains after the one at a place; false if that is none of these chains.
     fn cut(&mut self, place: usize) -> bool {
         for _ in 0..self.levels.len() {
             let Some(level) = self.levels.last() else {
                 return false;
             };
-            let Level { place: last, end } = *level;
-            if last <= place {
-                self.text.truncate(end);
-                return last == place;
+            if level.place <= place {
+                return level.place == place;
             }
             self.levels.pop();
         }
         false
     }
 
-    /// Adds the name of the last function of the chain at a place.
-    fn push(&mut self, place: usize, name: &str) -> Result<(), AllocError> {
-        if !self.text.is_empty() {
-            self.text.push(b';')?;
-        }
-        self.text.extend_from_slice(name.as_bytes())?;
-        let end = self.text.len();
-        self.levels.push(Level { place, end })?;
+    /// Adds the chain at a place, inside the last one.
+    fn push(&mut self, place: usize, function: usize) -> Result<(), AllocError> {
+        self.levels.push(Level { place, function })?;
         Ok(())
     }
 
-    /// Takes the names of the chain at a place.
-    fn take_all(
-        &mut self,
-        chains: &Chains,
-        names: &[String],
-        place: usize,
-    ) -> Result<(), AllocError> {
-        self.text.clear();
+    /// Takes the chain at a place and those around it.
+    fn take_all(&mut self, chains: &Chains, place: usize) -> Result<(), AllocError> {
         self.levels.clear();
         for place in chains.path(self.alloc, place)?.iter().rev() {
             if let Some(chain) = chains.chains().get(*place) {
-                self.push(*place, name_at(names, chain.function))?;
+                self.push(*place, chain.function)?;
             }
         }
         Ok(())
     }
 
-    /// Takes the names of the chain at a place. Those that it shares with the chain before stay as they are.
-    fn take(&mut self, chains: &Chains, names: &[String], place: usize) -> Result<(), AllocError> {
+    /// Takes the chain at a place and those around it. Those that it shares with the chain before stay as they are.
+    fn take(&mut self, chains: &Chains, place: usize) -> Result<(), AllocError> {
         match chains.chains().get(place) {
-            Some(chain) if place > 0 && self.cut(chain.outer) => {
-                self.push(place, name_at(names, chain.function))
-            }
-            Some(_) | None => self.take_all(chains, names, place),
+            Some(chain) if place > 0 && self.cut(chain.outer) => self.push(place, chain.function),
+            Some(_) | None => self.take_all(chains, place),
         }
     }
 
-    /// The line for this number of instructions or elements, with more after the names.
-    fn line(&self, more: &str, count: u64) -> Result<Vec<u8>, AllocError> {
-        let mut line = self.text.to_vec(self.alloc)?;
-        let end = format!(in self.alloc; "{more} {count}\n")?;
-        line.extend_from_slice(end.as_bytes())?;
-        Ok(line)
+    /// Adds the names of the functions with semicolons between them.
+    fn push_names(&self, text: &mut Text, names: &[String]) {
+        for (place, level) in self.levels.iter().enumerate() {
+            if place > 0 {
+                text.push(';');
+            }
+            text.push_str(name_at(names, level.function));
+        }
     }
 }
 
@@ -172,15 +165,24 @@ fn run_out(chains: &mut Chains, run: &mut Run<Global>) -> Result<(), AllocError>
     Ok(())
 }
 
+/// The line of a chain, with what it executed itself. There is none if it executed nothing.
+fn chain_text(stack: &Stack, names: &[String], number: u64) -> Text {
+    let mut text = Text::new(stack.alloc);
+    if number > 0 {
+        stack.push_names(&mut text, names);
+        push_number(&mut text, " ", number);
+        text.push('\n');
+    }
+    text
+}
+
 /// Prints a line for each chain of functions that executed something itself: their names, and how much.
 fn print_chains(rt: &HostRuntime, chains: &Chains, names: &[String], unit: Unit) -> io::Result<()> {
     let mut stack = Stack::new(rt.alloc());
     for (place, chain) in chains.chains().iter().enumerate() {
-        stack.take(chains, names, place)?;
+        stack.take(chains, place)?;
         let number = number_of(chain.count, unit);
-        if number > 0 {
-            rt.stdout().write_all(&stack.line("", number)?)?;
-        }
+        print_text(rt, chain_text(&stack, names, number))?;
     }
     Ok(())
 }
@@ -221,22 +223,41 @@ fn run_out_by_source(
     counts.end()
 }
 
-/// What is after the names of functions for a line of the source.
-fn source_name(alloc: Global, sources: &Sources, line: usize) -> Result<String, AllocError> {
-    let mut place = String::new(alloc);
+/// Adds what is after the names of functions for a line of the source.
+fn push_source_name(text: &mut Text, alloc: Global, sources: &Sources, line: usize) {
+    text.push(';');
     if let Some(source) = sources.lines.get(line) {
-        push_place(&mut place, sources, source)?;
+        let mut place = Text::new(alloc);
+        push_place(&mut place, sources, source);
+        if let Some(place) = text.get(place.finish()) {
+            push_name(text, place.as_str());
+        }
     }
-    let name = name_of(alloc, place.as_bytes())?;
-    format!(in alloc; ";{name}")
 }
 
-/// Prints a line for each line of the source that was executed in the chain whose names these are, and answers how many
-/// instructions that are. They are the first of the rows.
+/// The line of a line of the source of which this many instructions were executed in a chain.
+fn source_line_text(
+    sources: &Sources,
+    stack: &Stack,
+    names: &[String],
+    line: usize,
+    count: u64,
+) -> Text {
+    let mut text = Text::new(stack.alloc);
+    stack.push_names(&mut text, names);
+    push_source_name(&mut text, stack.alloc, sources, line);
+    push_number(&mut text, " ", count);
+    text.push('\n');
+    text
+}
+
+/// Prints a line for each line of the source that was executed in the last chain of a stack, which is at a place, and
+/// answers how many instructions that are. They are the first of the rows.
 fn print_rows(
     rt: &HostRuntime,
     sources: &Sources,
     stack: &Stack,
+    names: &[String],
     chain: usize,
     rows: &[(Row, u64)],
 ) -> io::Result<u64> {
@@ -245,8 +266,10 @@ fn print_rows(
         if row.chain != chain {
             break;
         }
-        let name = source_name(rt.alloc(), sources, row.line)?;
-        rt.stdout().write_all(&stack.line(name.as_str(), *count)?)?;
+        print_text(
+            rt,
+            source_line_text(sources, stack, names, row.line, *count),
+        )?;
         all = all.saturating_add(*count);
     }
     Ok(all)
@@ -257,18 +280,15 @@ fn print_chain_by_source(
     rt: &HostRuntime,
     sources: &Sources,
     stack: &Stack,
+    names: &[String],
     rows: &[(Row, u64)],
     place: usize,
     own: u64,
 ) -> io::Result<()> {
     let first = rows.partition_point(|row| row.0.chain < place);
     let rest = rows.get(first..).unwrap_or(&[]);
-    let counted = print_rows(rt, sources, stack, place, rest)?;
-    if own > counted {
-        rt.stdout()
-            .write_all(&stack.line("", own.saturating_sub(counted))?)?;
-    }
-    Ok(())
+    let counted = print_rows(rt, sources, stack, names, place, rest)?;
+    print_text(rt, chain_text(stack, names, own.saturating_sub(counted)))
 }
 
 /// Prints the same for each chain.
@@ -281,8 +301,9 @@ fn print_chains_by_source(
 ) -> io::Result<()> {
     let mut stack = Stack::new(rt.alloc());
     for (place, chain) in chains.chains().iter().enumerate() {
-        stack.take(chains, names, place)?;
-        print_chain_by_source(rt, sources, &stack, rows, place, chain.count.instructions)?;
+        stack.take(chains, place)?;
+        let own = chain.count.instructions;
+        print_chain_by_source(rt, sources, &stack, names, rows, place, own)?;
     }
     Ok(())
 }
@@ -300,16 +321,34 @@ fn counted_by_source(
     Ok((chains, rows))
 }
 
+/// Prints the lines of a job of these chains by lines of the source, of these counts.
+fn print_counts(
+    rt: &HostRuntime,
+    job: &Job<Global>,
+    chains: &Chains,
+    sources: &Sources,
+    rows: &[(Row, u64)],
+) -> io::Result<()> {
+    let names = names_of(rt.alloc(), job)?;
+    print_chains_by_source(rt, chains, &names, sources, rows)
+}
+
+/// Prints the lines of a run that has executed nothing, which goes to its end, by these lines of the source.
+fn print_counted(rt: &HostRuntime, sources: &Sources, run: &mut Run<Global>) -> io::Result<()> {
+    let (chains, rows) = counted_by_source(rt.alloc(), sources, run)?;
+    print_counts(rt, run.job(), &chains, sources, &rows)
+}
+
 /// Prints the lines of a run that has executed nothing, which goes to its end, by lines of the source.
 fn print_run_by_source(
     rt: &HostRuntime,
     batch: Batch<'_>,
     run: &mut Run<Global>,
 ) -> io::Result<()> {
-    let names = names_of(rt.alloc(), run.job())?;
     let sources = Sources::of(rt.alloc(), batch.lines, run.job().verified().program())?;
-    let (chains, rows) = counted_by_source(rt.alloc(), &sources, run)?;
-    print_chains_by_source(rt, &chains, &names, &sources, &rows)
+    let printed = print_counted(rt, &sources, run);
+    drop(sources);
+    printed
 }
 
 /// The chains of a run that has executed nothing, which goes to its end.
@@ -319,11 +358,16 @@ fn chains_of(alloc: Global, run: &mut Run<Global>) -> Result<Chains, AllocError>
     Ok(chains)
 }
 
+/// Prints the lines of a job of these chains.
+fn print_named(rt: &HostRuntime, job: &Job<Global>, chains: &Chains, unit: Unit) -> io::Result<()> {
+    let names = names_of(rt.alloc(), job)?;
+    print_chains(rt, chains, &names, unit)
+}
+
 /// Prints the lines of a run that has executed nothing, which goes to its end.
 fn print_run(rt: &HostRuntime, run: &mut Run<Global>, unit: Unit) -> io::Result<()> {
-    let names = names_of(rt.alloc(), run.job())?;
     let chains = chains_of(rt.alloc(), run)?;
-    print_chains(rt, &chains, names.as_slice(), unit)
+    print_named(rt, run.job(), &chains, unit)
 }
 
 /// Prints the lines of a run that has executed nothing, which goes to its end, in this unit.

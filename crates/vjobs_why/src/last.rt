@@ -2,10 +2,11 @@
 
 use crate::end::{End, Ending, end_of, with_job};
 use crate::look::Batch;
-use crate::memory_notes::memory_note;
+use crate::memory_notes::push_memory_note;
 use crate::picture::Picture;
-use crate::reasons::reason;
+use crate::reasons::push_reason;
 use crate::step::{Recent, Step};
+use crate::text::Text;
 use crate::watch::{Trail, Watch};
 use job_profile::Run;
 use job_steps::Job;
@@ -121,13 +122,20 @@ fn plain_note(ending: Ending) -> &'static str {
     }
 }
 
+/// Adds the note at the last line of a job, at which its run is.
+fn push_note(text: &mut Text, alloc: Global, watch: &Watch, ending: Ending) {
+    match (ending, watch.next()) {
+        (Ending::Memory(fault, _), Some(next)) => push_memory_note(text, watch, next.op, fault),
+        (Ending::Fault(fault, _), Some(next)) => push_reason(text, alloc, watch, next.op, fault),
+        _ => text.push_str(plain_note(ending)),
+    }
+}
+
 /// The note at the last line of a job, at which its run is.
 fn note_of(alloc: Global, watch: &Watch, ending: Ending) -> Result<String, AllocError> {
-    match (ending, watch.next()) {
-        (Ending::Memory(fault, _), Some(next)) => memory_note(alloc, watch, next.op, fault),
-        (Ending::Fault(fault, _), Some(next)) => reason(alloc, watch, next.op, fault),
-        _ => String::from_str(alloc, plain_note(ending)),
-    }
+    let mut note = Text::new(alloc);
+    push_note(&mut note, alloc, watch, ending);
+    note.finish()
 }
 
 /// The words that are held and needed at the next instruction of a run, if the limit on words refuses it.

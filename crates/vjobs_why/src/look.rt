@@ -1,20 +1,24 @@
 //! What is shown of a job.
 
 use crate::command::Look;
-use crate::data::{Told, job_object, push_told};
+use crate::data::{Told, push_survey, push_told};
 use crate::end::{End, Ending, ending_of, run_through};
 use crate::folded::print_folded;
 use crate::last::{Before, Last, Seen, last_of, picture_of, see};
+use crate::output::print_text;
+use crate::padding::{push_column, push_left};
 use crate::page_data::push_found;
 use crate::picture::Picture;
+use crate::pieces::{push_answer, push_number, push_size};
 use crate::profile::{Shown, print_profile};
-use crate::sources::{Sources, source_text};
+use crate::sources::{Sources, push_source};
 use crate::spans::Spans;
-use crate::stack::{MOST_ENTRIES, print_calls, print_stack};
-use crate::step::{Step, print_head, print_step};
+use crate::stack::{MOST_ENTRIES, push_calls, push_stack};
+use crate::step::{Step, push_head, push_step};
 use crate::steps::show_steps;
 use crate::stops::{State, show_sought};
-use crate::survey::{Again, Survey};
+use crate::survey::Survey;
+use crate::text::Text;
 use crate::values::{Part, ValueRange, print_values};
 use crate::watch::Watch;
 use crate::wide::{Course, MOST_BEFORE, WideEnd, Work, run_wide};
@@ -52,54 +56,70 @@ impl Places {
     }
 }
 
-/// Prints the line of the source of which a line of the code is, if it is of one.
-fn print_source(rt: &HostRuntime, sources: &Sources, line: u64) -> io::Result<()> {
-    match sources.at(line) {
-        Some(source) => {
-            let text = source_text(rt.alloc(), sources, source)?;
-            println!(rt; "of the source {text}\n")
-        }
-        None => Ok(()),
+/// Adds the line of the source of which a line of the code is, if it is of one.
+fn push_source_of(text: &mut Text, sources: &Sources, line: u64) {
+    if let Some(source) = sources.at(line) {
+        text.push_str("of the source ");
+        push_source(text, sources, source);
+        text.push_str("\n\n");
     }
 }
 
-/// Prints the next line of a state, with a note at its instruction, and the line of its source.
-fn print_place(
-    rt: &HostRuntime,
+/// The next line of a state between those beside it, with a note at its instruction.
+fn around_next(
+    alloc: Global,
+    lines: &Lines,
+    spans: &Spans,
+    (function, place): (usize, usize),
+    line: u64,
+    note: &str,
+) -> Result<String, AllocError> {
+    match spans.at(function, place) {
+        Some(word) => lines.around_word(alloc, line, spans.first, word, note),
+        None => lines.around(alloc, line, note),
+    }
+}
+
+/// Adds the next line of a state, with a note at its instruction, and the line of its source.
+fn push_next(
+    text: &mut Text,
+    alloc: Global,
     lines: &Lines,
     places: &Places,
     picture: &Picture,
     note: &str,
-) -> io::Result<()> {
-    let Some(next) = picture.next else {
-        return Ok(());
-    };
-    let (function, place) = picture.place;
-    let text = match places.spans.at(function, place) {
-        Some(word) => lines.around_word(rt.alloc(), next.line, places.spans.first, word, note)?,
-        None => lines.around(rt.alloc(), next.line, note)?,
-    };
-    print!(rt; "{text}")?;
-    print_source(rt, &places.sources, next.line)
+) {
+    if let Some(next) = picture.next {
+        let around = around_next(alloc, lines, &places.spans, picture.place, next.line, note);
+        push_answer(text, around);
+        push_source_of(text, &places.sources, next.line);
+    }
 }
 
-/// Prints where a state is, with a note at its next instruction, and its calls and its stack.
-fn print_picture(
-    rt: &HostRuntime,
+/// Where a state is, with a note at its next instruction, and its calls and its stack.
+fn picture_text(
+    alloc: Global,
     lines: &Lines,
     program: &Program<Global>,
     places: &Places,
     picture: &Picture,
     note: &str,
-) -> io::Result<()> {
-    print_place(rt, lines, places, picture, note)?;
-    print_calls(rt, program, &places.sources, picture)?;
-    print_stack(rt, lines, picture)
+) -> Text {
+    let mut text = Text::new(alloc);
+    push_next(&mut text, alloc, lines, places, picture, note);
+    push_calls(&mut text, alloc, program, &places.sources, picture);
+    push_stack(&mut text, alloc, lines, picture);
+    text
 }
 
-/// Prints what a job used beside its limit.
-fn print_use(rt: &HostRuntime, name: &str, used: u64, limit: u64) -> io::Result<()> {
-    println!(rt; "  {name:<12} {used:>13} of {limit:>13}")
+/// Adds what a job used beside its limit.
+fn push_use(text: &mut Text, name: &str, used: u64, limit: u64) {
+    text.push_str("  ");
+    push_left(text, name, 12);
+    push_column(text, used, 13);
+    text.push_str(" of");
+    push_column(text, limit, 13);
+    text.push('\n');
 }
 
 /// The name of a rule.
@@ -110,87 +130,102 @@ fn rule_text(rule: Rule) -> &'static str {
     }
 }
 
-/// Prints what a job used beside its limits.
-fn print_used(rt: &HostRuntime, rule: Rule, end: End, limits: Limits) -> io::Result<()> {
-    let rule = rule_text(rule);
-    println!(rt; "\nused, by the {rule} rule")?;
-    print_use(rt, "instructions", end.executed, limits.budget)?;
-    print_use(rt, "words", end.words as u64, limits.words as u64)?;
-    print_use(rt, "cells", end.cells as u64, limits.cells as u64)?;
-    print_use(rt, "calls", end.calls as u64, limits.calls as u64)
+/// Adds what a job used beside its limits.
+fn push_used(text: &mut Text, rule: Rule, end: End, limits: Limits) {
+    text.push_str("\nused, by the ");
+    text.push_str(rule_text(rule));
+    text.push_str(" rule\n");
+    push_use(text, "instructions", end.executed, limits.budget);
+    push_use(text, "words", end.words as u64, limits.words as u64);
+    push_use(text, "cells", end.cells as u64, limits.cells as u64);
+    push_use(text, "calls", end.calls as u64, limits.calls as u64);
 }
 
-/// Prints the least limits within which a job of this name returns, if they are known.
-fn print_least(rt: &HostRuntime, name: &[u8], least: Option<Limits>) -> io::Result<()> {
-    match least {
-        Some(least) => print_within(rt, name, least),
-        None => Ok(()),
+/// Adds the least limits within which a job of this name returns, if they are known.
+fn push_least(text: &mut Text, alloc: Global, name: &[u8], least: Option<Limits>) {
+    if let Some(least) = least {
+        text.push_str("\nWithin these limits, and no less, it returns: JOB ");
+        push_answer(text, printable(alloc, name));
+        push_size(text, " ", least.words);
+        push_size(text, " ", least.cells);
+        push_size(text, " ", least.calls);
+        push_number(text, " ", least.budget);
+        text.push('\n');
     }
 }
 
-/// Prints the least limits within which a job of this name returns.
-fn print_within(rt: &HostRuntime, name: &[u8], least: Limits) -> io::Result<()> {
-    let name = printable(rt.alloc(), name)?;
-    let (words, cells, calls, budget) = (least.words, least.cells, least.calls, least.budget);
-    println!(rt;
-        "\nWithin these limits, and no less, it returns: JOB {name} {words} {cells} {calls} {budget}"
-    )
-}
-
-/// Prints how a job of this name ends within the widest limits.
-fn print_wide_end(rt: &HostRuntime, name: &[u8], end: WideEnd) -> io::Result<()> {
-    if end.ending == Ending::Returned {
-        return print_least(rt, name, end.least);
-    }
-    print!(rt; "\nWithin the widest limits it ends so: ")?;
-    print_ending(rt, end.ending, end.executed)?;
-    match end.wanted {
-        Some(wanted) => println!(rt;
-            "There {wanted} words would be held and needed, and a job has at most {MOST_WORDS}"
-        ),
-        None => Ok(()),
+/// Adds how a job ends within the widest limits, if it doesn't return there.
+fn push_widest(text: &mut Text, end: WideEnd) {
+    text.push_str("\nWithin the widest limits it ends so: ");
+    push_ending(text, end.ending, end.executed);
+    if let Some(wanted) = end.wanted {
+        push_size(text, "There ", wanted);
+        push_size(
+            text,
+            " words would be held and needed, and a job has at most ",
+            MOST_WORDS,
+        );
+        text.push('\n');
     }
 }
 
-/// Prints how a job of this name goes on within the widest limits.
-fn print_course(rt: &HostRuntime, name: &[u8], course: Course) -> io::Result<()> {
+/// Adds how a job of this name goes on within the widest limits.
+fn push_course(text: &mut Text, alloc: Global, name: &[u8], course: Course) {
     match course {
-        Course::Ends(end) => print_wide_end(rt, name, end),
-        Course::GoesOn(work) => {
-            let (instructions, elements) = (work.instructions, work.elements);
-            print!(rt; "\nNo limits within which it returns were found ")?;
-            println!(rt; "within {instructions} instructions and {elements} elements")
+        Course::Ends(end) if end.ending == Ending::Returned => {
+            push_least(text, alloc, name, end.least);
         }
-        Course::NotRun => println!(rt;
-            "\nIt is not run within wider limits, since it executed more than {MOST_BEFORE} instructions"
-        ),
+        Course::Ends(end) => push_widest(text, end),
+        Course::GoesOn(work) => {
+            let piece = "\nNo limits within which it returns were found within ";
+            push_number(text, piece, work.instructions);
+            push_number(text, " instructions and ", work.elements);
+            text.push_str(" elements\n");
+        }
+        Course::NotRun => {
+            let piece = "\nIt is not run within wider limits, since it executed more than ";
+            push_number(text, piece, MOST_BEFORE);
+            text.push_str(" instructions\n");
+        }
     }
+}
+
+/// Adds the line of a fault and its name.
+fn push_fault(text: &mut Text, piece: &str, line: u64, fault: &str) {
+    push_number(text, piece, line);
+    text.push(' ');
+    text.push_str(fault);
+    text.push(',');
+}
+
+/// Adds how a job ended after this many instructions, on the line of its name.
+fn push_ending(text: &mut Text, ending: Ending, count: u64) {
+    match ending {
+        Ending::Returned => text.push_str("RETURNED"),
+        Ending::Budget => text.push_str("BUDGET"),
+        Ending::Fault(fault, line) => push_fault(text, "FAULT line ", line, fault.text()),
+        Ending::Memory(fault, line) => push_fault(text, "MEMORY line ", line, fault.text()),
+    }
+    push_number(text, " after ", count);
+    text.push_str(" instructions\n");
 }
 
 /// Prints how a job ended after this many instructions, on the line of its name.
 fn print_ending(rt: &HostRuntime, ending: Ending, count: u64) -> io::Result<()> {
-    match ending {
-        Ending::Returned => println!(rt; "RETURNED after {count} instructions"),
-        Ending::Budget => println!(rt; "BUDGET after {count} instructions"),
-        Ending::Fault(fault, line) => {
-            let text = fault.text();
-            println!(rt; "FAULT line {line} {text}, after {count} instructions")
-        }
-        Ending::Memory(fault, line) => {
-            let text = fault.text();
-            println!(rt; "MEMORY line {line} {text}, after {count} instructions")
-        }
-    }
+    let mut text = Text::new(rt.alloc());
+    push_ending(&mut text, ending, count);
+    print_text(rt, text)
 }
 
-/// Prints the last instructions of a job.
-fn print_steps(rt: &HostRuntime, lines: &Lines, spans: &Spans, steps: &[Step]) -> io::Result<()> {
-    println!(rt; "\nthe last instructions")?;
-    print_head(rt)?;
+/// The last instructions of a job.
+fn steps_text(alloc: Global, lines: &Lines, spans: &Spans, steps: &[Step]) -> Text {
+    let mut text = Text::new(alloc);
+    text.push_str("\nthe last instructions\n");
+    push_head(&mut text);
     for step in steps {
-        print_step(rt, lines, spans, *step)?;
+        push_step(&mut text, alloc, lines, spans, *step);
     }
-    Ok(())
+    text
 }
 
 /// Prints what there was before the end of a job, and its last instructions.
@@ -202,9 +237,26 @@ fn print_last(
     steps: &[Step],
 ) -> io::Result<()> {
     let places = Places::of(rt.alloc(), lines, program)?;
-    let note = last.note.as_str();
-    print_picture(rt, lines, program, &places, &last.picture, note)?;
-    print_steps(rt, lines, &places.spans, steps)
+    let printed = print_before(rt, lines, program, &places, last, steps);
+    drop(places);
+    printed
+}
+
+/// The same of a program whose instructions are at these places.
+fn print_before(
+    rt: &HostRuntime,
+    lines: &Lines,
+    program: &Program<Global>,
+    places: &Places,
+    last: &Last,
+    steps: &[Step],
+) -> io::Result<()> {
+    let (picture, note) = (&last.picture, last.note.as_str());
+    print_text(
+        rt,
+        picture_text(rt.alloc(), lines, program, places, picture, note),
+    )?;
+    print_text(rt, steps_text(rt.alloc(), lines, &places.spans, steps))
 }
 
 /// How a job goes on within the widest limits if a limit ended it and this is to be tried, and the job.
@@ -319,18 +371,25 @@ fn print_all(
     job: &Job<Global>,
 ) -> io::Result<()> {
     print_ending(rt, ended.end.ending, ended.end.executed)?;
-    let program = job.verified().program();
-    print_last(rt, batch.lines, program, &ended.last, &ended.steps)?;
-    print_used(rt, batch.rule, ended.end, job.limits())?;
-    print_limits(rt, job.name(), ended.end, ended.wide)
+    print_last(
+        rt,
+        batch.lines,
+        job.verified().program(),
+        &ended.last,
+        &ended.steps,
+    )?;
+    print_text(rt, limits_text(rt.alloc(), batch.rule, ended, job))
 }
 
-/// Prints within which limits a job of this name returns, that ended so.
-fn print_limits(rt: &HostRuntime, name: &[u8], end: End, wide: Option<Course>) -> io::Result<()> {
-    match wide {
-        Some(course) => print_course(rt, name, course),
-        None => print_least(rt, name, end.least),
+/// What a job used, and within which limits it returns.
+fn limits_text(alloc: Global, rule: Rule, ended: &Ended, job: &Job<Global>) -> Text {
+    let mut text = Text::new(alloc);
+    push_used(&mut text, rule, ended.end, job.limits());
+    match ended.wide {
+        Some(course) => push_course(&mut text, alloc, job.name(), course),
+        None => push_least(&mut text, alloc, job.name(), ended.end.least),
     }
+    text
 }
 
 /// Prints how a job ended, and values of an entry of its last state.
@@ -371,26 +430,56 @@ fn show_end(rt: &HostRuntime, batch: Batch<'_>, job: Job<Global>, part: Part) ->
 
 /// Prints the state of a run that goes on, with at most this many entries.
 fn print_there(rt: &HostRuntime, batch: Batch<'_>, watch: &Watch, most: usize) -> io::Result<()> {
-    let Some(picture) = picture_of(rt.alloc(), watch, most)? else {
-        return Ok(());
-    };
-    let program = watch.run().job().verified().program();
-    let places = Places::of(rt.alloc(), batch.lines, program)?;
-    print_picture(rt, batch.lines, program, &places, &picture, "is next")
+    match picture_of(rt.alloc(), watch, most)? {
+        Some(picture) => {
+            let printed = print_picture(rt, batch.lines, watch.run().job(), &picture);
+            drop(picture);
+            printed
+        }
+        None => Ok(()),
+    }
+}
+
+/// Prints a state of a job that goes on.
+fn print_picture(
+    rt: &HostRuntime,
+    lines: &Lines,
+    job: &Job<Global>,
+    picture: &Picture,
+) -> io::Result<()> {
+    let program = job.verified().program();
+    let places = Places::of(rt.alloc(), lines, program)?;
+    let text = picture_text(rt.alloc(), lines, program, &places, picture, "is next");
+    drop(places);
+    print_text(rt, text)
+}
+
+/// What is said of the state of a run.
+fn state_text(alloc: Global, watch: &Watch) -> Text {
+    let (mut text, executed) = (Text::new(alloc), watch.run().executed());
+    if watch.run().goes_on() {
+        push_number(&mut text, "after ", executed);
+        push_size(
+            &mut text,
+            " instructions, with a peak of ",
+            watch.run().peak(),
+        );
+        text.push_str(" words\n");
+    } else {
+        push_number(&mut text, "is over after ", executed);
+        text.push_str(" instructions\n");
+    }
+    text
 }
 
 /// Prints this of the state of a run.
 fn print_state(rt: &HostRuntime, batch: Batch<'_>, watch: &Watch, part: Part) -> io::Result<()> {
-    let executed = watch.run().executed();
-    if !watch.run().goes_on() {
-        return println!(rt; "is over after {executed} instructions");
-    }
-    let peak = watch.run().peak();
-    println!(rt; "after {executed} instructions, with a peak of {peak} words")?;
+    print_text(rt, state_text(rt.alloc(), watch))?;
     match part {
         Part::Top => print_there(rt, batch, watch, MOST_ENTRIES),
         Part::All => print_there(rt, batch, watch, usize::MAX),
-        Part::Values(range) => print_values(rt, batch.lines, watch, range),
+        Part::Values(range) if watch.run().goes_on() => print_values(rt, batch.lines, watch, range),
+        Part::Values(_) => Ok(()),
     }
 }
 
@@ -448,7 +537,7 @@ fn widest_of(wide: Option<Course>) -> Option<WideEnd> {
 
 /// Adds what is said of a job that ended so, and ends its object.
 fn push_last(
-    text: &mut String,
+    text: &mut Text,
     alloc: Global,
     batch: Batch<'_>,
     (before, job): (Before, Job<Global>),
@@ -462,33 +551,8 @@ fn push_last(
         tried: tried_of(wide),
         widest: widest_of(wide),
     };
-    let pushed = push_told(text, alloc, end.ending, &told);
-    drop(told);
-    pushed
-}
-
-/// The object of a job that ended so, of which this is the text up to what is said of its end.
-fn with_last(
-    mut text: String,
-    alloc: Global,
-    batch: Batch<'_>,
-    (before, job): (Before, Job<Global>),
-    end: End,
-) -> Result<String, AllocError> {
-    push_last(&mut text, alloc, batch, (before, job), end)?;
-    Ok(text)
-}
-
-/// The object of a job that ended so, of which this is the text up to the entries or calls over time.
-fn with_found(
-    mut text: String,
-    alloc: Global,
-    batch: Batch<'_>,
-    (before, job): (Before, Job<Global>),
-    again: Again,
-) -> Result<String, AllocError> {
-    let (before, job) = push_found(&mut text, alloc, batch.rule, (before, job), again)?;
-    with_last(text, alloc, batch, (before, job), again.end)
+    push_told(text, end.ending, &told);
+    Ok(())
 }
 
 /// A job of this place as data.
@@ -500,19 +564,21 @@ pub fn object_of(
 ) -> Result<String, AllocError> {
     let survey = Survey::of(alloc, batch.rule, job)?;
     let again = survey.again();
-    match job_object(alloc, batch, place, &survey) {
-        Ok(text) => with_found(text, alloc, batch, survey.into_parts(), again),
-        Err(error) => {
-            drop(survey);
-            Err(error)
-        }
-    }
+    let mut text = Text::new(alloc);
+    push_survey(&mut text, alloc, batch.lines, place, &survey);
+    let (before, job) = push_found(&mut text, alloc, batch.rule, survey.into_parts(), again)?;
+    push_last(&mut text, alloc, batch, (before, job), again.end)?;
+    text.finish()
 }
 
 /// Prints the place and the name of a job, without an LF.
 fn print_name(rt: &HostRuntime, place: u64, name: &[u8]) -> io::Result<()> {
-    let name = printable(rt.alloc(), name)?;
-    print!(rt; "JOB {place} {name} ")
+    let mut text = Text::new(rt.alloc());
+    push_number(&mut text, "JOB ", place);
+    text.push(' ');
+    push_answer(&mut text, printable(rt.alloc(), name));
+    text.push(' ');
+    print_text(rt, text)
 }
 
 /// Shows this of what there is after this many instructions of a job, on the line of its name.

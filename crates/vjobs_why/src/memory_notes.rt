@@ -1,7 +1,8 @@
 //! Which limit an instruction would pass: what there is before it, what it needs, and the limit.
 
+use crate::pieces::push_size;
+use crate::text::Text;
 use crate::watch::Watch;
-use std::alloc::{AllocError, Global};
 use vcode_base::{MemoryFault, Op, Rule, StackMove};
 
 /// How many entries there would be after an instruction of a stack of this depth.
@@ -22,37 +23,38 @@ fn below_text(watch: &Watch, op: Op) -> &'static str {
     ""
 }
 
-/// Why the words would be too many at the next instruction of a run. What it needs is known from the lengths of its
-/// operands.
-fn words_note(alloc: Global, watch: &Watch, op: Op) -> Result<String, AllocError> {
-    let limit = watch.run().job().limits().words;
+/// Adds why the words would be too many at the next instruction of a run. What it needs is known from the lengths of
+/// its operands.
+fn push_words_note(text: &mut Text, watch: &Watch, op: Op) {
     let (wanted, needed) = (watch.run().demand(), watch.run().need());
-    let (held, below) = (wanted.saturating_sub(needed), below_text(watch, op));
-    format!(in alloc;
-        "{held} words held{below} and {needed} needed are {wanted}, and the limit is {limit}"
-    )
+    push_size(text, "", wanted.saturating_sub(needed));
+    text.push_str(" words held");
+    text.push_str(below_text(watch, op));
+    push_size(text, " and ", needed);
+    push_size(text, " needed are ", wanted);
+    push_size(
+        text,
+        ", and the limit is ",
+        watch.run().job().limits().words,
+    );
 }
 
-/// Why a limit would be passed at the next instruction of a run.
-pub fn memory_note(
-    alloc: Global,
-    watch: &Watch,
-    op: Op,
-    fault: MemoryFault,
-) -> Result<String, AllocError> {
+/// Adds why a limit would be passed at the next instruction of a run.
+pub fn push_memory_note(text: &mut Text, watch: &Watch, op: Op, fault: MemoryFault) {
+    let limits = watch.run().job().limits();
     match fault {
-        MemoryFault::Words => words_note(alloc, watch, op),
+        MemoryFault::Words => push_words_note(text, watch, op),
         MemoryFault::Cells => {
-            let (limit, depth) = (watch.run().job().limits().cells, watch.run().depth());
-            let wanted = depth_after(op, depth);
-            format!(in alloc; "{depth} entries now and {wanted} after it, and the limit is {limit}")
+            let depth = watch.run().depth();
+            push_size(text, "", depth);
+            push_size(text, " entries now and ", depth_after(op, depth));
+            push_size(text, " after it, and the limit is ", limits.cells);
         }
         MemoryFault::Calls => {
-            let (limit, calls) = (watch.run().job().limits().calls, watch.run().calls());
-            let wanted = calls.saturating_add(1);
-            format!(in alloc;
-                "{calls} calls are active now and {wanted} in it, and the limit is {limit}"
-            )
+            let calls = watch.run().calls();
+            push_size(text, "", calls);
+            push_size(text, " calls are active now and ", calls.saturating_add(1));
+            push_size(text, " in it, and the limit is ", limits.calls);
         }
     }
 }

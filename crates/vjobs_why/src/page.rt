@@ -2,6 +2,7 @@
 
 use crate::page_script::SCRIPT;
 use crate::page_style::STYLE;
+use crate::text::Text;
 use std::alloc::{AllocError, Global};
 
 /// The page up to its style. It may fetch nothing and send nothing, and run no script but its own: the hash is the
@@ -34,33 +35,31 @@ const BEFORE_SCRIPT: &str = "\n]</script>\n<script>\n";
 const END: &str = "</script>\n</body>\n</html>\n";
 
 /// Adds the objects of the jobs, one on each line.
-fn push_objects(page: &mut String, objects: &[String]) -> Result<(), AllocError> {
+fn push_objects(page: &mut Text, objects: &[String]) {
     for (place, object) in objects.iter().enumerate() {
         if place > 0 {
-            page.push_str(",\n")?;
+            page.push_str(",\n");
         }
-        page.push_str(object.as_str())?;
+        page.push_str(object.as_str());
     }
-    Ok(())
 }
 
 /// Adds the parts of the script.
-fn push_script(page: &mut String) -> Result<(), AllocError> {
+fn push_script(page: &mut Text) {
     for part in SCRIPT {
-        page.push_str(part)?;
+        page.push_str(part);
     }
-    Ok(())
 }
 
 /// The page that shows the jobs of these objects.
 pub fn page_of(alloc: Global, objects: &[String]) -> Result<String, AllocError> {
-    let mut page = String::new(alloc);
+    let mut page = Text::new(alloc);
     for part in [HEAD, STYLE, BODY] {
-        page.push_str(part)?;
+        page.push_str(part);
     }
-    push_objects(&mut page, objects)?;
-    page.push_str(BEFORE_SCRIPT)?;
-    push_script(&mut page)?;
-    page.push_str(END)?;
-    Ok(page)
+    push_objects(&mut page, objects);
+    page.push_str(BEFORE_SCRIPT);
+    push_script(&mut page);
+    page.push_str(END);
+    page.finish()
 }

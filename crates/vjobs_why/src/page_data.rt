@@ -5,93 +5,86 @@ use crate::end::{End, with_job};
 use crate::holders::{Holder, Holdings};
 use crate::last::{Before, Last, last_at};
 use crate::levels::Levels;
+use crate::pieces::{push_number, push_size};
 use crate::stack::MOST_ENTRIES;
 use crate::survey::Again;
+use crate::text::Text;
 use crate::watch::{Trail, Watch};
 use job_steps::Job;
 use std::alloc::{AllocError, Global};
-use std::fmt::Write;
 use vcode_base::Rule;
 
 /// The most lines that are given of what they hold.
 const MOST_HOLDERS: usize = 32;
 
 /// Adds what a line holds.
-fn push_holder(text: &mut String, holder: Holder) -> Result<(), AllocError> {
-    let (line, words, vectors) = (holder.line, holder.words, holder.vectors);
-    let (entries, unread) = (holder.entries, holder.unread);
-    write!(text, "[{line},{words},{vectors},{entries},{unread}]")?;
-    Ok(())
+fn push_holder(text: &mut Text, holder: Holder) {
+    push_number(text, "[", holder.line);
+    push_size(text, ",", holder.words);
+    push_size(text, ",", holder.vectors);
+    push_size(text, ",", holder.entries);
+    push_size(text, ",", holder.unread);
+    text.push(']');
 }
 
 /// Adds what lines hold, those with the most words first, and how many lines are left out.
-fn push_holders(text: &mut String, holders: &[Holder]) -> Result<(), AllocError> {
+fn push_holders(text: &mut Text, holders: &[Holder]) {
     let shown = holders.get(..MOST_HOLDERS).unwrap_or(holders);
-    text.push_str(",\"list\":[")?;
+    text.push_str(",\"list\":[");
     for (place, holder) in shown.iter().enumerate() {
-        push_comma(text, place)?;
-        push_holder(text, *holder)?;
+        push_comma(text, place);
+        push_holder(text, *holder);
     }
     let left = holders.len().saturating_sub(shown.len());
-    write!(text, "],\"left\":{left}")?;
-    Ok(())
+    push_size(text, "],\"left\":", left);
 }
 
-/// Adds a number, or `null` if there is none.
-fn push_optional(text: &mut String, number: Option<usize>) -> Result<(), AllocError> {
+/// Adds a number with this text before it, or `null` if there is none.
+fn push_optional(text: &mut Text, before: &str, number: Option<usize>) {
+    text.push_str(before);
     match number {
-        Some(number) => {
-            write!(text, "{number}")?;
-            Ok(())
-        }
+        Some(number) => text.push_number(number as u64),
         None => text.push_str("null"),
     }
 }
 
 /// Adds the member for what a job held before the instruction of this number.
-pub fn push_held(text: &mut String, number: u64, holdings: &Holdings) -> Result<(), AllocError> {
-    let (line, words) = (holdings.line, holdings.words);
-    write!(
-        text,
-        ",\"held\":{{\"before\":{number},\"line\":{line},\"words\":{words},\"unread\":"
-    )?;
-    push_optional(text, holdings.unread)?;
-    push_holders(text, holdings.holders.as_slice())?;
-    text.push('}')
+pub fn push_held(text: &mut Text, number: u64, holdings: &Holdings) {
+    push_number(text, ",\"held\":{\"before\":", number);
+    push_number(text, ",\"line\":", holdings.line);
+    push_size(text, ",\"words\":", holdings.words);
+    push_optional(text, ",\"unread\":", holdings.unread);
+    push_holders(text, holdings.holders.as_slice());
+    text.push('}');
 }
 
 /// Adds the member for the entries or calls over time, with how many there would be at the last instruction.
-fn push_levels(
-    text: &mut String,
-    levels: &Levels,
-    wanted: Option<usize>,
-) -> Result<(), AllocError> {
-    let name = levels.counted.name();
-    write!(text, ",\"levels\":{{\"of\":\"{name}\"")?;
-    push_numbers(text, "most", levels.most.as_slice())?;
-    text.push_str(",\"wanted\":")?;
-    push_optional(text, wanted)?;
-    text.push('}')
+fn push_levels(text: &mut Text, levels: &Levels, wanted: Option<usize>) {
+    text.push_str(",\"levels\":{\"of\":\"");
+    text.push_str(levels.counted.name());
+    push_numbers(text, "\",\"most\":[", levels.most.as_slice());
+    push_optional(text, ",\"wanted\":", wanted);
+    text.push('}');
 }
 
 /// Adds the member for the entries or calls of a run that has executed nothing, and goes to its last state. Answers
 /// that state.
 fn push_run(
-    text: &mut String,
+    text: &mut Text,
     alloc: Global,
     mut levels: Levels,
     watch: &mut Watch,
     end: End,
 ) -> Result<Last, AllocError> {
     let wanted = levels.go_to(&mut watch.uses, end.steps)?;
-    push_levels(text, &levels, wanted)?;
+    push_levels(text, &levels, wanted);
     last_at(alloc, watch, end.ending, MOST_ENTRIES)
 }
 
 /// Adds the member for the entries or calls of a job over time. The job is run again for that. Answers its last state,
 /// and the job.
 fn push_again(
-    text: &mut String,
+    text: &mut Text,
     alloc: Global,
     rule: Rule,
     (trail, job): (Trail, Job<Global>),
@@ -107,7 +100,7 @@ fn push_again(
 /// Adds the member for the entries or calls of a job over time, if the limit on them ended it. Answers what is known of
 /// the last state, and the job.
 pub fn push_found(
-    text: &mut String,
+    text: &mut Text,
     alloc: Global,
     rule: Rule,
     (before, job): (Before, Job<Global>),

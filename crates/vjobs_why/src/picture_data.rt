@@ -3,117 +3,106 @@
 use crate::data::push_comma;
 use crate::end::Ending;
 use crate::picture::{MOST_KEPT_VALUES, MOST_SHOWN_CALLS, Picture, ShownEntry};
+use crate::pieces::{push_number, push_signed, push_size};
 use crate::stack::{MOST_ENTRIES, name_at};
-use crate::values::list_text;
+use crate::text::Text;
+use crate::values::push_list;
 use refusal_notes::kind_text;
-use std::alloc::{AllocError, Global};
-use std::fmt::Write;
+use vcode_base::Kind;
 
 /// Adds the member for the most entries, calls and values that are shown.
-fn push_most(text: &mut String) -> Result<(), AllocError> {
-    write!(
-        text,
-        ",\"most\":{{\"entries\":{MOST_ENTRIES},\"calls\":{MOST_SHOWN_CALLS},\"values\":{MOST_KEPT_VALUES}}}"
-    )?;
-    Ok(())
+fn push_most(text: &mut Text) {
+    push_size(text, ",\"most\":{\"entries\":", MOST_ENTRIES);
+    push_size(text, ",\"calls\":", MOST_SHOWN_CALLS);
+    push_size(text, ",\"values\":", MOST_KEPT_VALUES);
+    text.push('}');
 }
 
 /// Adds the calls, the innermost first.
-fn push_call_list(text: &mut String, picture: &Picture) -> Result<(), AllocError> {
+fn push_call_list(text: &mut Text, picture: &Picture) {
     for (place, call) in picture.list.iter().enumerate() {
-        push_comma(text, place)?;
-        let (function, line, entries) = (call.function, call.line, call.entries);
-        write!(text, "[{function},{line},{entries}]")?;
+        push_comma(text, place);
+        push_size(text, "[", call.function);
+        push_number(text, ",", call.line);
+        push_size(text, ",", call.entries);
+        text.push(']');
     }
-    Ok(())
 }
 
 /// Adds the member for the calls.
-fn push_active(text: &mut String, picture: &Picture) -> Result<(), AllocError> {
-    let (calls, left) = (
-        picture.calls,
-        picture.calls.saturating_sub(picture.list.len()),
-    );
-    write!(
-        text,
-        ",\"active\":{{\"calls\":{calls},\"left\":{left},\"list\":["
-    )?;
-    push_call_list(text, picture)?;
-    text.push_str("]}")
+fn push_active(text: &mut Text, picture: &Picture) {
+    let left = picture.calls.saturating_sub(picture.list.len());
+    push_size(text, ",\"active\":{\"calls\":", picture.calls);
+    push_size(text, ",\"left\":", left);
+    text.push_str(",\"list\":[");
+    push_call_list(text, picture);
+    text.push_str("]}");
 }
 
-/// Adds the first values of an entry, and how many are left out.
-fn push_values(text: &mut String, alloc: Global, entry: &ShownEntry) -> Result<(), AllocError> {
-    let left = entry.length.saturating_sub(entry.values.len());
-    let values = list_text(alloc, entry.kind, &entry.values)?;
-    write!(text, ",\"values\":\"{values}\",\"left\":{left}")?;
-    Ok(())
+/// Adds the member for values of a kind.
+pub fn push_values(text: &mut Text, kind: Kind, values: &[i64]) {
+    text.push_str(",\"values\":\"");
+    push_list(text, kind, values);
+    text.push('"');
+}
+
+/// Adds the first values of an entry, and how many are left out, or the entry that it is a copy of.
+fn push_content(text: &mut Text, entry: &ShownEntry) {
+    match entry.copy {
+        Some(above) => push_size(text, ",\"copy\":", above),
+        None => {
+            push_values(text, entry.kind, &entry.values);
+            let left = entry.length.saturating_sub(entry.values.len());
+            push_size(text, ",\"left\":", left);
+        }
+    }
 }
 
 /// Adds the object of an entry, which has this name if it is an operand.
-fn push_entry(
-    text: &mut String,
-    alloc: Global,
-    name: Option<&'static str>,
-    entry: &ShownEntry,
-) -> Result<(), AllocError> {
-    let (kind, length, line) = (kind_text(entry.kind), entry.length, entry.line);
-    write!(
-        text,
-        "{{\"kind\":\"{kind}\",\"length\":{length},\"line\":{line}"
-    )?;
+fn push_entry(text: &mut Text, name: Option<&'static str>, entry: &ShownEntry) {
+    text.push_str("{\"kind\":\"");
+    text.push_str(kind_text(entry.kind));
+    push_size(text, "\",\"length\":", entry.length);
+    push_number(text, ",\"line\":", entry.line);
     if let Some(name) = name {
-        write!(text, ",\"name\":\"{name}\"")?;
+        text.push_str(",\"name\":\"");
+        text.push_str(name);
+        text.push('"');
     }
     if let Some(total) = entry.total {
-        write!(text, ",\"total\":{total}")?;
+        push_signed(text, ",\"total\":", total);
     }
-    match entry.copy {
-        Some(above) => write!(text, ",\"copy\":{above}")?,
-        None => push_values(text, alloc, entry)?,
-    }
-    text.push('}')
+    push_content(text, entry);
+    text.push('}');
 }
 
 /// Adds the entries, the top first.
-fn push_entries(text: &mut String, alloc: Global, picture: &Picture) -> Result<(), AllocError> {
+fn push_entries(text: &mut Text, picture: &Picture) {
     for (depth, entry) in picture.entries.iter().enumerate() {
-        push_comma(text, depth)?;
-        push_entry(text, alloc, name_at(picture, depth), entry)?;
+        push_comma(text, depth);
+        push_entry(text, name_at(picture, depth), entry);
     }
-    Ok(())
 }
 
 /// Adds the member for the stack. At the end of a job that returned it has the results.
-fn push_stack(
-    text: &mut String,
-    alloc: Global,
-    ending: Option<Ending>,
-    picture: &Picture,
-) -> Result<(), AllocError> {
-    let member = if ending == Some(Ending::Returned) {
-        "results"
+fn push_stack(text: &mut Text, ending: Option<Ending>, picture: &Picture) {
+    text.push_str(if ending == Some(Ending::Returned) {
+        ",\"results\":{"
     } else {
-        "stack"
-    };
-    let (entries, words) = (picture.depth, picture.held);
+        ",\"stack\":{"
+    });
+    push_size(text, "\"entries\":", picture.depth);
+    push_size(text, ",\"words\":", picture.held);
     let left = picture.depth.saturating_sub(picture.entries.len());
-    write!(
-        text,
-        ",\"{member}\":{{\"entries\":{entries},\"words\":{words},\"left\":{left},\"list\":["
-    )?;
-    push_entries(text, alloc, picture)?;
-    text.push_str("]}")
+    push_size(text, ",\"left\":", left);
+    text.push_str(",\"list\":[");
+    push_entries(text, picture);
+    text.push_str("]}");
 }
 
 /// Adds the members for the last state of a job that ended so, or for a state on the way.
-pub fn push_picture(
-    text: &mut String,
-    alloc: Global,
-    ending: Option<Ending>,
-    picture: &Picture,
-) -> Result<(), AllocError> {
-    push_most(text)?;
-    push_active(text, picture)?;
-    push_stack(text, alloc, ending, picture)
+pub fn push_picture(text: &mut Text, ending: Option<Ending>, picture: &Picture) {
+    push_most(text);
+    push_active(text, picture);
+    push_stack(text, ending, picture);
 }

@@ -1,11 +1,15 @@
 //! The profile of a job: how often its functions and lines were executed, as a text.
 
-use crate::drawing::print_drawing;
+use crate::drawing::push_drawing;
 use crate::holders::{Holder, Holdings};
+use crate::output::{print_more, print_text};
+use crate::padding::{push_column, push_right, push_text_right};
+use crate::pieces::{push_answer, push_more, push_number, push_size};
 use crate::source_profile::print_sources;
 use crate::sources::{Sources, push_place};
 use crate::survey::Survey;
 use crate::tally::{FunctionTally, LineTally, Tally};
+use crate::text::Text;
 use job_profile::{Columns, Profile, Run};
 use job_steps::Job;
 use refusal_notes::{Lines, printable};
@@ -101,12 +105,13 @@ pub fn lines_of(alloc: Global, profile: &Profile<Global>) -> Result<Vec<LineCoun
     Ok(lines)
 }
 
-/// A share as a percentage with one digit after the point.
-pub fn share_text(alloc: Global, part: u64, whole: u64) -> Result<String, AllocError> {
+/// Adds a blank, and a share as a percentage with one digit after the point.
+pub fn push_share(text: &mut Text, part: u64, whole: u64) {
     let whole = whole.max(1);
     let tenths = part.saturating_mul(1000).saturating_add(whole / 2) / whole;
-    let (percent, tenth) = (tenths / 10, tenths % 10);
-    format!(in alloc; "{percent}.{tenth}%")
+    push_column(text, tenths / 10, 4);
+    push_number(text, ".", tenths % 10);
+    text.push('%');
 }
 
 /// The functions, those with the most instructions first, and what they did.
@@ -123,38 +128,55 @@ fn sorted_functions(
     Ok(rows)
 }
 
-/// Prints a number of instructions and its share of `whole`, after two blanks.
-fn print_share(rt: &HostRuntime, part: u64, whole: u64) -> io::Result<()> {
-    let share = share_text(rt.alloc(), part, whole)?;
-    print!(rt; "  {part:>12} {share:>7}")
+/// Adds a number of instructions and its share of `whole`, after two blanks.
+fn push_part(text: &mut Text, part: u64, whole: u64) {
+    text.push(' ');
+    push_column(text, part, 12);
+    push_share(text, part, whole);
 }
 
-/// Prints a function of a job that executed `whole` instructions.
-fn print_function(
+/// A function of a job that executed `whole` instructions.
+fn function_text(alloc: Global, function: &FunctionHead, tally: FunctionTally, whole: u64) -> Text {
+    let mut text = Text::new(alloc);
+    text.push(' ');
+    push_column(&mut text, tally.calls, 10);
+    push_part(&mut text, tally.own.instructions, whole);
+    push_part(&mut text, tally.whole.instructions, whole);
+    push_column(&mut text, tally.most as u64, 12);
+    push_column(&mut text, function.line, 8);
+    text.push_str("  ");
+    text.push_str(function.name.as_str());
+    text.push('\n');
+    text
+}
+
+/// What comes before the functions.
+fn functions_head(alloc: Global) -> Text {
+    let mut text = Text::new(alloc);
+    text.push_str("\nthe functions, by their own instructions\n");
+    text.push_str(
+        "       calls           own   share  with callees   share   most words     line  name\n",
+    );
+    text
+}
+
+/// Prints functions of a job that executed `whole` instructions.
+fn print_rows(
     rt: &HostRuntime,
-    function: &FunctionHead,
-    tally: FunctionTally,
+    rows: &[(FunctionHead, FunctionTally)],
     whole: u64,
 ) -> io::Result<()> {
-    let (calls, most, line) = (tally.calls, tally.most, function.line);
-    let name = function.name.as_str();
-    print!(rt; "  {calls:>10}")?;
-    print_share(rt, tally.own.instructions, whole)?;
-    print_share(rt, tally.whole.instructions, whole)?;
-    println!(rt; " {most:>12} {line:>8}  {name}")
+    print_text(rt, functions_head(rt.alloc()))?;
+    for (function, tally) in rows {
+        print_text(rt, function_text(rt.alloc(), function, *tally, whole))?;
+    }
+    Ok(())
 }
 
 /// Prints the functions, those with the most instructions first.
 fn print_functions(rt: &HostRuntime, profile: &Profile<Global>, tally: &Tally) -> io::Result<()> {
-    println!(rt; "\nthe functions, by their own instructions")?;
-    println!(rt;
-        "       calls           own   share  with callees   share   most words     line  name"
-    )?;
-    let whole = profile.run().executed();
-    for (function, tally) in &sorted_functions(rt.alloc(), profile, tally)? {
-        print_function(rt, function, *tally, whole)?;
-    }
-    Ok(())
+    let rows = sorted_functions(rt.alloc(), profile, tally)?;
+    print_rows(rt, &rows, profile.run().executed())
 }
 
 /// The lines that were executed, those of the most elements first, and of these those that were executed most often.
@@ -172,40 +194,37 @@ fn sorted_lines(
     Ok(rows)
 }
 
-/// The code of a line, and the place of the line of the source of which it is, if it is of one.
+/// A line that was executed: its code, and the place of the line of the source of which it is, if it is of one.
 fn line_text(
     alloc: Global,
     lines: &Lines,
     sources: &Sources,
-    line: u64,
-) -> Result<String, AllocError> {
-    let mut text = lines.code(alloc, line)?;
-    if let Some(source) = sources.at(line) {
-        text.push_str("  ")?;
-        push_place(&mut text, sources, source)?;
-    }
-    Ok(text)
-}
-
-/// Prints a line that was executed.
-fn print_line(
-    rt: &HostRuntime,
-    lines: &Lines,
-    sources: &Sources,
     count: LineCount,
     tally: LineTally,
-) -> io::Result<()> {
-    let (times, line, elements, words) = (count.times, count.line, tally.elements, tally.most);
-    let text = line_text(rt.alloc(), lines, sources, line as u64)?;
-    println!(rt; "  {times:>12}  {elements:>12} {words:>12} {line:>8}  {text}")
+) -> Text {
+    let (mut text, line) = (Text::new(alloc), count.line as u64);
+    text.push(' ');
+    push_column(&mut text, count.times, 12);
+    text.push(' ');
+    push_column(&mut text, tally.elements, 12);
+    push_column(&mut text, tally.most as u64, 12);
+    push_column(&mut text, line, 8);
+    text.push_str("  ");
+    push_answer(&mut text, lines.code(alloc, line));
+    if let Some(source) = sources.at(line) {
+        text.push_str("  ");
+        push_place(&mut text, sources, source);
+    }
+    text.push('\n');
+    text
 }
 
-/// Prints how many more there are than were shown, if there are some.
-fn print_more(rt: &HostRuntime, more: usize) -> io::Result<()> {
-    if more == 0 {
-        return Ok(());
-    }
-    println!(rt; "  .. and {more} more")
+/// What comes before the lines that were executed.
+fn lines_head(alloc: Global) -> Text {
+    let mut text = Text::new(alloc);
+    text.push_str("\nthe lines, by the elements of their operands and results\n");
+    text.push_str("         times      elements   most words     line  instruction\n");
+    text
 }
 
 /// Prints the lines that were executed, or the first of them.
@@ -216,75 +235,75 @@ fn print_lines(
     rows: &[(LineCount, LineTally)],
     most: usize,
 ) -> io::Result<()> {
-    println!(rt; "\nthe lines, by the elements of their operands and results")?;
-    println!(rt; "         times      elements   most words     line  instruction")?;
+    print_text(rt, lines_head(rt.alloc()))?;
     let shown = rows.get(..most).unwrap_or(rows);
     for (count, tally) in shown {
-        print_line(rt, lines, sources, *count, *tally)?;
+        print_text(rt, line_text(rt.alloc(), lines, sources, *count, *tally))?;
     }
-    print_more(rt, rows.len().saturating_sub(shown.len()))
+    print_more(rt, rows.len().saturating_sub(shown.len()) as u64)
 }
 
-/// How many words of a line are not read again, or a dash if that isn't known, since the job doesn't return.
-fn unread_text(alloc: Global, holdings: &Holdings, holder: Holder) -> Result<String, AllocError> {
+/// Adds how many words of a line are not read again, or a dash if that isn't known, since the job doesn't return.
+fn push_unread(text: &mut Text, holdings: &Holdings, holder: Holder) {
+    text.push(' ');
     match holdings.unread {
-        Some(_) => {
-            let unread = holder.unread;
-            format!(in alloc; "{unread}")
-        }
-        None => String::from_str(alloc, "-"),
+        Some(_) => push_right(text, holder.unread as u64, 9),
+        None => push_text_right(text, "-", 9),
     }
 }
 
-/// Prints what a line holds.
-fn print_holder(
-    rt: &HostRuntime,
-    lines: &Lines,
-    holdings: &Holdings,
-    holder: Holder,
-) -> io::Result<()> {
-    let (words, vectors, entries) = (holder.words, holder.vectors, holder.entries);
-    let share = share_text(rt.alloc(), words as u64, holdings.words as u64)?;
-    print!(rt; "  {words:>12} {share:>7} {vectors:>8} {entries:>8}")?;
-    let (unread, line) = (unread_text(rt.alloc(), holdings, holder)?, holder.line);
-    print!(rt; " {unread:>9} {line:>8}")?;
-    let code = lines.code(rt.alloc(), line)?;
-    println!(rt; "  {code}")
+/// Adds what a line holds.
+fn push_holder(text: &mut Text, alloc: Global, lines: &Lines, holdings: &Holdings, holder: Holder) {
+    push_part(text, holder.words as u64, holdings.words as u64);
+    push_column(text, holder.vectors as u64, 8);
+    push_column(text, holder.entries as u64, 8);
+    push_unread(text, holdings, holder);
+    push_column(text, holder.line, 8);
+    text.push_str("  ");
+    push_answer(text, lines.code(alloc, holder.line));
+    text.push('\n');
 }
 
-/// Prints what is held at the peak by the lines that made it.
-fn print_holders(rt: &HostRuntime, lines: &Lines, holdings: &Holdings) -> io::Result<()> {
-    println!(rt; "         words   share  vectors  entries  not read     line  instruction")?;
+/// Adds what is held at the peak by the lines that made it.
+fn push_holders(text: &mut Text, alloc: Global, lines: &Lines, holdings: &Holdings) {
+    text.push_str("         words   share  vectors  entries  not read     line  instruction\n");
     let holders = holdings.holders.as_slice();
     let shown = holders.get(..MOST_HOLDERS).unwrap_or(holders);
     for holder in shown {
-        print_holder(rt, lines, holdings, *holder)?;
+        push_holder(text, alloc, lines, holdings, *holder);
     }
-    print_more(rt, holders.len().saturating_sub(shown.len()))
+    push_more(text, holders.len().saturating_sub(shown.len()) as u64);
 }
 
-/// Prints the most words that a job held and needed, and what it held before it, by the lines that made it.
-fn print_peak(
-    rt: &HostRuntime,
+/// Adds what a job held before the peak, which it first had at the instruction of this number.
+fn push_held(text: &mut Text, alloc: Global, lines: &Lines, after: u64, holdings: &Holdings) {
+    push_number(text, ", first at instruction ", after);
+    push_number(text, ", line ", holdings.line);
+    push_size(text, "\nheld before it are ", holdings.words);
+    text.push_str(" words, by the lines that made them\n");
+    push_holders(text, alloc, lines, holdings);
+    if let Some(unread) = holdings.unread {
+        if unread > 0 {
+            push_size(text, "", unread);
+            text.push_str(" words of these are not read again in this run\n");
+        }
+    }
+}
+
+/// Adds the most words that a job held and needed, and what it held before it, by the lines that made it.
+fn push_peak(
+    text: &mut Text,
+    alloc: Global,
     lines: &Lines,
     profile: &Profile<Global>,
     holdings: &Holdings,
-) -> io::Result<()> {
-    let (peak, limit) = (profile.run().peak(), profile.run().job().limits().words);
-    let (after, line, held) = (profile.peak_after(), holdings.line, holdings.words);
-    if after == 0 {
-        return println!(rt; "\nthe peak is {peak} of {limit} words");
-    }
-    println!(rt;
-        "\nthe peak is {peak} of {limit} words, first at instruction {after}, line {line}"
-    )?;
-    println!(rt; "held before it are {held} words, by the lines that made them")?;
-    print_holders(rt, lines, holdings)?;
-    match holdings.unread {
-        Some(unread) if unread > 0 => println!(rt;
-            "{unread} words of these are not read again in this run"
-        ),
-        Some(_) | None => Ok(()),
+) {
+    push_size(text, "\nthe peak is ", profile.run().peak());
+    push_size(text, " of ", profile.run().job().limits().words);
+    text.push_str(" words");
+    match profile.peak_after() {
+        0 => text.push('\n'),
+        after => push_held(text, alloc, lines, after, holdings),
     }
 }
 
@@ -331,11 +350,11 @@ impl Shown {
     }
 }
 
-/// Prints the words that a job held over time.
-fn print_words(rt: &HostRuntime, columns: &Columns<Global>) -> io::Result<()> {
+/// Adds the words that a job held over time.
+fn push_words(text: &mut Text, alloc: Global, columns: &Columns<Global>) {
     let limit = columns.profile().run().job().limits().words;
     let (each, list) = columns.columns();
-    print_drawing(rt, list, each, limit)
+    push_drawing(text, alloc, list, each, limit);
 }
 
 /// Prints the lines of a job that were executed, and those of its source: all, or the first of them.
@@ -348,12 +367,13 @@ fn print_executed(
 ) -> io::Result<()> {
     let sources = Sources::of(rt.alloc(), lines, profile.run().job().verified().program())?;
     let most = if all { usize::MAX } else { MOST_LINES };
-    print_sources(rt, &sources, profile, tally, most)?;
-    print_all(rt, lines, &sources, profile, tally, most)
+    let printed = print_both(rt, lines, &sources, profile, tally, most);
+    drop(sources);
+    printed
 }
 
-/// Prints the lines of a job that were executed, at most this many.
-fn print_all(
+/// Prints the lines of the source of a job and those of its code that were executed, of each at most this many.
+fn print_both(
     rt: &HostRuntime,
     lines: &Lines,
     sources: &Sources,
@@ -361,15 +381,29 @@ fn print_all(
     tally: &Tally,
     most: usize,
 ) -> io::Result<()> {
+    print_sources(rt, sources, profile, tally, most)?;
     let rows = sorted_lines(rt.alloc(), profile, tally)?;
-    print_lines(rt, lines, sources, rows.as_slice(), most)
+    print_lines(rt, lines, sources, &rows, most)
+}
+
+/// The words that a job held over time, and what it held at the peak.
+fn words_text(alloc: Global, lines: &Lines, shown: &Shown) -> Text {
+    let mut text = Text::new(alloc);
+    push_words(&mut text, alloc, &shown.survey.columns);
+    push_peak(
+        &mut text,
+        alloc,
+        lines,
+        shown.survey.profile(),
+        &shown.holdings,
+    );
+    text
 }
 
 /// Prints the profile of a job that has ended, after how it ended; all lines, or the first of them.
 pub fn print_profile(rt: &HostRuntime, lines: &Lines, shown: &Shown, all: bool) -> io::Result<()> {
     let profile = shown.survey.profile();
-    print_words(rt, &shown.survey.columns)?;
-    print_peak(rt, lines, profile, &shown.holdings)?;
+    print_text(rt, words_text(rt.alloc(), lines, shown))?;
     print_functions(rt, profile, &shown.tally)?;
     print_executed(rt, lines, profile, &shown.tally, all)
 }

@@ -1,9 +1,10 @@
 //! Why an instruction has no results: its operands' lengths, or the first place whose value has none.
 
+use crate::pieces::{push_number, push_signed, push_size};
+use crate::text::Text;
 use crate::watch::Watch;
 use refusal_notes::operand_names;
 use std::alloc::{AllocError, Global};
-use std::fmt::Write;
 use vcode_base::limits::MOST_TOTAL;
 use vcode_base::{DataFault, Kind, Op, Segmented};
 
@@ -14,6 +15,15 @@ struct Outside {
     index: i64,
     segment: usize,
     places: i64,
+}
+
+/// Two places with the same index in a segment.
+#[derive(Clone, Copy, Drop)]
+struct Twice {
+    first: usize,
+    second: usize,
+    index: i64,
+    segment: usize,
 }
 
 /// The operand at a place among `count` operands, the bottom one at 0.
@@ -46,62 +56,62 @@ pub fn total(lengths: &[i64]) -> i64 {
 }
 
 /// Adds the length of an operand of this name, and of a descriptor its segments and its total.
-fn push_length(
-    text: &mut String,
-    name: &str,
-    kind: Option<&Kind>,
-    words: &[i64],
-) -> Result<(), AllocError> {
-    let len = words.len();
-    match kind {
-        Some(Kind::Segdes) => {
-            let total = total(words);
-            write!(text, "segments of {name}: {len}, elements: {total}")?
-        }
-        _ => write!(text, "elements of {name}: {len}")?,
+fn push_length(text: &mut Text, name: &str, kind: Option<&Kind>, words: &[i64]) {
+    let is_descriptor = matches!(kind, Some(Kind::Segdes));
+    text.push_str(if is_descriptor {
+        "segments of "
+    } else {
+        "elements of "
+    });
+    text.push_str(name);
+    push_size(text, ": ", words.len());
+    if is_descriptor {
+        push_signed(text, ", elements: ", total(words));
     }
-    Ok(())
 }
 
-/// The length of each operand, and of a descriptor its segments and its total.
-fn lengths(alloc: Global, watch: &Watch, op: Op) -> Result<String, AllocError> {
-    let mut text = String::new(alloc);
+/// Adds the length of each operand, and of a descriptor its segments and its total.
+fn push_lengths(text: &mut Text, watch: &Watch, op: Op) {
     let names = operand_names(op);
     let kinds = op.operand_kinds();
     for (place, name) in names.iter().enumerate() {
         if place > 0 {
-            text.push_str("; ")?;
+            text.push_str("; ");
         }
         let words = operand(watch, place, names.len());
-        push_length(&mut text, name, kinds.get(place), words)?;
+        push_length(text, name, kinds.get(place), words);
     }
-    Ok(text)
 }
 
-/// The first divisor that is 0.
-fn zero_divisor(alloc: Global, watch: &Watch, op: Op) -> Result<String, AllocError> {
+/// Adds a place among `count` places.
+fn push_place(text: &mut Text, place: usize, count: usize) {
+    push_size(text, "at place ", place);
+    push_size(text, " of ", count);
+}
+
+/// Adds the first divisor that is 0.
+fn push_zero_divisor(text: &mut Text, watch: &Watch, op: Op) {
     let (left, right) = (named(watch, op, "a"), named(watch, op, "b"));
-    let count = right.len();
-    for place in 0..left.len().min(count) {
-        if right[place] == 0 {
-            let dividend = left[place];
-            return format!(in alloc; "at place {place} of {count}, {dividend} is divided by 0");
+    for (place, (dividend, divisor)) in left.iter().zip(right.iter()).enumerate() {
+        if *divisor == 0 {
+            push_place(text, place, right.len());
+            push_signed(text, ", ", *dividend);
+            text.push_str(" is divided by 0");
+            break;
         }
     }
-    Ok(String::new(alloc))
 }
 
-/// The first shift that isn't by 0 to 63.
-fn bad_shift(alloc: Global, watch: &Watch, op: Op) -> Result<String, AllocError> {
+/// Adds the first shift that isn't by 0 to 63.
+fn push_bad_shift(text: &mut Text, watch: &Watch, op: Op) {
     let shifts = named(watch, op, "b");
-    let count = shifts.len();
-    for place in 0..count {
-        let shift = shifts[place];
-        if shift < 0 || shift > 63 {
-            return format!(in alloc; "at place {place} of {count}, the shift is by {shift}");
+    for (place, shift) in shifts.iter().enumerate() {
+        if *shift < 0 || *shift > 63 {
+            push_place(text, place, shifts.len());
+            push_signed(text, ", the shift is by ", *shift);
+            break;
         }
     }
-    Ok(String::new(alloc))
 }
 
 /// Whether an index is outside a segment of `places` places.
@@ -150,29 +160,25 @@ fn outside_by_element(indices: &[i64], lengths: &[i64], places: &[i64]) -> Optio
 }
 
 /// The first index that is outside its segment.
-fn bad_index(alloc: Global, watch: &Watch, op: Op) -> Result<String, AllocError> {
+fn find_outside(watch: &Watch, op: Op) -> Option<Outside> {
     let indices = named(watch, op, "I");
     let (lengths, others) = (named(watch, op, "S"), named(watch, op, "R"));
-    let count = indices.len();
-    let found = match op {
+    match op {
         Op::Segmented(Segmented::BackPermute(_)) => outside_by_element(indices, others, lengths),
         Op::Segmented(Segmented::DefaultPermute(_)) => outside_by_element(indices, lengths, others),
         Op::Segmented(Segmented::Permute(_)) => outside_by_element(indices, lengths, lengths),
         _ => outside_by_segment(indices, lengths),
-    };
-    match found {
-        Some(found) => {
-            let (place, index, segment, places) = (
-                found.place,
-                found.index,
-                found.segment,
-                found.places,
-            );
-            format!(in alloc;
-                "at place {place} of {count}, I is {index}, and segment {segment} has {places} places"
-            )
-        }
-        None => Ok(String::new(alloc)),
+    }
+}
+
+/// Adds the first index that is outside its segment.
+fn push_bad_index(text: &mut Text, watch: &Watch, op: Op) {
+    if let Some(found) = find_outside(watch, op) {
+        push_place(text, found.place, named(watch, op, "I").len());
+        push_signed(text, ", I is ", found.index);
+        push_size(text, ", and segment ", found.segment);
+        push_signed(text, " has ", found.places);
+        text.push_str(" places");
     }
 }
 
@@ -198,83 +204,86 @@ fn second_place(
     Ok(None)
 }
 
-/// What there is to say of a place of a segment whose index an earlier place has too. The segment begins at `begin`.
-fn twice_text(
-    alloc: Global,
-    indices: &[i64],
-    place: usize,
-    begin: usize,
-    segment: usize,
-) -> Result<String, AllocError> {
-    let Some(index) = indices.get(place) else {
-        return Ok(String::new(alloc));
-    };
-    let index = *index;
-    let first = indices
-        .iter()
-        .position(|other| *other == index)
-        .unwrap_or(place);
-    let (first, second) = (begin.saturating_add(first), begin.saturating_add(place));
-    format!(in alloc; "at places {first} and {second}, I is {index}, both in segment {segment}")
+/// The first two places of a segment that have the same index, and the segment, which begins at `begin`. The second
+/// place is known.
+fn twice_at(indices: &[i64], second: usize, begin: usize, segment: usize) -> Option<Twice> {
+    let index = *indices.get(second)?;
+    let first = indices.iter().position(|other| *other == index)?;
+    Some(Twice {
+        first: begin.saturating_add(first),
+        second: begin.saturating_add(second),
+        index,
+        segment,
+    })
 }
 
-/// The first place whose index an earlier place of its segment has too.
-fn index_twice(alloc: Global, watch: &Watch, op: Op) -> Result<String, AllocError> {
+/// The first place whose index an earlier place of its segment has too. The indices lie in segments of these lengths,
+/// and are below these numbers of places.
+fn find_twice(
+    alloc: Global,
+    indices: &[i64],
+    lengths: &[i64],
+    places: &[i64],
+) -> Result<Option<Twice>, AllocError> {
+    let mut begin: usize = 0;
+    for segment in 0..lengths.len().min(places.len()) {
+        let end = begin.saturating_add(count_of(lengths[segment]));
+        let part = indices.get(begin..end).unwrap_or(&[]);
+        if let Some(second) = second_place(alloc, part, count_of(places[segment]))? {
+            return Ok(twice_at(part, second, begin, segment));
+        }
+        begin = end;
+    }
+    Ok(None)
+}
+
+/// Adds the first place whose index an earlier place of its segment has too.
+fn push_index_twice(text: &mut Text, alloc: Global, watch: &Watch, op: Op) {
     let (indices, lengths) = (named(watch, op, "I"), named(watch, op, "S"));
     let places = match op {
         Op::Segmented(Segmented::DefaultPermute(_)) => named(watch, op, "R"),
         _ => lengths,
     };
-    let mut begin: usize = 0;
-    for segment in 0..lengths.len().min(places.len()) {
-        let end = begin.saturating_add(count_of(lengths[segment]));
-        let Some(part) = indices.get(begin..end) else {
-            return Ok(String::new(alloc));
-        };
-        if let Some(place) = second_place(alloc, part, count_of(places[segment]))? {
-            return twice_text(alloc, part, place, begin, segment);
-        }
-        begin = end;
+    if let Some(Some(twice)) = text.get(find_twice(alloc, indices, lengths, places)) {
+        push_size(text, "at places ", twice.first);
+        push_size(text, " and ", twice.second);
+        push_signed(text, ", I is ", twice.index);
+        push_size(text, ", both in segment ", twice.segment);
     }
-    Ok(String::new(alloc))
 }
 
-/// The first length that is negative, or at which the total is too great.
-fn bad_length(alloc: Global, watch: &Watch, op: Op) -> Result<String, AllocError> {
+/// Adds the first length that is negative, or at which the total is too great.
+fn push_bad_length(text: &mut Text, watch: &Watch, op: Op) {
     let lengths = named(watch, op, "I");
-    let count = lengths.len();
     let mut total: u64 = 0;
-    for place in 0..count {
-        let length = lengths[place];
-        let Ok(size) = u64::try_from(length) else {
-            return format!(in alloc; "at place {place} of {count}, the length is {length}");
+    for (place, length) in lengths.iter().enumerate() {
+        let Ok(size) = u64::try_from(*length) else {
+            push_place(text, place, lengths.len());
+            push_signed(text, ", the length is ", *length);
+            break;
         };
         total = total.saturating_add(size);
         if total > MOST_TOTAL {
-            return format!(in alloc;
-                "at place {place} of {count}, the total is {total}, and at most {MOST_TOTAL} are allowed"
-            );
+            push_place(text, place, lengths.len());
+            push_number(text, ", the total is ", total);
+            push_number(text, ", and at most ", MOST_TOTAL);
+            text.push_str(" are allowed");
+            break;
         }
     }
-    Ok(String::new(alloc))
 }
 
-/// Why the next instruction of a run has this fault.
-pub fn reason(
-    alloc: Global,
-    watch: &Watch,
-    op: Op,
-    fault: DataFault,
-) -> Result<String, AllocError> {
+/// Adds why the next instruction of a run has this fault.
+pub fn push_reason(text: &mut Text, alloc: Global, watch: &Watch, op: Op, fault: DataFault) {
     match fault {
         DataFault::LengthsDiffer
         | DataFault::SegmentTotal
         | DataFault::SegmentCount
-        | DataFault::NotSingle => lengths(alloc, watch, op),
-        DataFault::ZeroDivisor => zero_divisor(alloc, watch, op),
-        DataFault::BadShift => bad_shift(alloc, watch, op),
-        DataFault::BadIndex => bad_index(alloc, watch, op),
-        DataFault::IndexTwice => index_twice(alloc, watch, op),
-        DataFault::BadLength => bad_length(alloc, watch, op),
+        | DataFault::NotSingle => push_lengths(text, watch, op),
+        DataFault::ZeroDivisor => push_zero_divisor(text, watch, op),
+        DataFault::BadShift => push_bad_shift(text, watch, op),
+        DataFault::BadIndex => push_bad_index(text, watch, op),
+        DataFault::IndexTwice => push_index_twice(text, alloc, watch, op),
+        DataFault::BadLength => push_bad_length(text, watch, op),
     }
 }

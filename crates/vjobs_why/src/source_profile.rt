@@ -1,8 +1,11 @@
 //! What the lines of a source did.
 
-use crate::profile::share_text;
-use crate::sources::{Mark, Sources, source_text};
+use crate::output::{print_more, print_text};
+use crate::padding::push_column;
+use crate::profile::push_share;
+use crate::sources::{Mark, Sources, push_source};
 use crate::tally::{LineTally, Tally};
+use crate::text::Text;
 use job_profile::Profile;
 use std::alloc::{AllocError, Global};
 use std::io;
@@ -90,21 +93,45 @@ fn sorted_totals(
     Ok(totals)
 }
 
-/// Prints what a line of a source did.
-fn print_total(
+/// What a line of a source did, in a job that executed `whole` instructions.
+fn total_text(alloc: Global, sources: &Sources, total: SourceTotal, whole: u64) -> Text {
+    let mut text = Text::new(alloc);
+    if let Some(source) = sources.lines.get(total.place) {
+        text.push(' ');
+        push_column(&mut text, total.instructions, 12);
+        push_share(&mut text, total.instructions, whole);
+        text.push(' ');
+        push_column(&mut text, total.elements, 12);
+        push_column(&mut text, total.most as u64, 12);
+        text.push_str("  ");
+        push_source(&mut text, sources, source);
+        text.push('\n');
+    }
+    text
+}
+
+/// What comes before the lines of a source.
+fn totals_head(alloc: Global) -> Text {
+    let mut text = Text::new(alloc);
+    text.push_str("\nthe lines of the source, by the elements of their operands and results\n");
+    text.push_str("  instructions   share      elements   most words  line\n");
+    text
+}
+
+/// Prints what lines of a source did, at most this many.
+fn print_totals(
     rt: &HostRuntime,
     sources: &Sources,
-    total: SourceTotal,
+    totals: &[SourceTotal],
     whole: u64,
+    most: usize,
 ) -> io::Result<()> {
-    let Some(source) = sources.lines.get(total.place) else {
-        return Ok(());
-    };
-    let share = share_text(rt.alloc(), total.instructions, whole)?;
-    let (instructions, elements, most) = (total.instructions, total.elements, total.most);
-    print!(rt; "  {instructions:>12} {share:>7}  {elements:>12} {most:>12}  ")?;
-    let text = source_text(rt.alloc(), sources, source)?;
-    println!(rt; "{text}")
+    print_text(rt, totals_head(rt.alloc()))?;
+    let shown = totals.get(..most).unwrap_or(totals);
+    for total in shown {
+        print_text(rt, total_text(rt.alloc(), sources, *total, whole))?;
+    }
+    print_more(rt, totals.len().saturating_sub(shown.len()) as u64)
 }
 
 /// Prints what the lines of the source of a job did, all or at most this many, if it names some.
@@ -118,16 +145,6 @@ pub fn print_sources(
     if sources.is_empty() {
         return Ok(());
     }
-    println!(rt; "\nthe lines of the source, by the elements of their operands and results")?;
-    println!(rt; "  instructions   share      elements   most words  line")?;
     let totals = sorted_totals(rt.alloc(), sources, profile, tally)?;
-    let whole = profile.run().executed();
-    for total in totals.get(..most).unwrap_or(&totals) {
-        print_total(rt, sources, *total, whole)?;
-    }
-    let more = totals.len().saturating_sub(most);
-    if more > 0 {
-        return println!(rt; "  .. and {more} more");
-    }
-    Ok(())
+    print_totals(rt, sources, &totals, profile.run().executed(), most)
 }

@@ -3,10 +3,11 @@
 //! Such a mark holds for the code of its line and of the lines after it, up to the next mark or the next `FUNC`. No
 //! file is read.
 
+use crate::pieces::push_number;
 use crate::profile::last_line_of;
+use crate::text::Text;
 use refusal_notes::{Lines, Word, printable};
 use std::alloc::{AllocError, Global};
-use std::fmt::Write;
 use vcode_reader::Program;
 
 /// The most files of a source. A mark of a further one is a comment like any other.
@@ -282,30 +283,18 @@ impl Sources {
 }
 
 /// Adds the place of a line of a source.
-pub fn push_place(
-    text: &mut String,
-    sources: &Sources,
-    source: &SourceLine,
-) -> Result<(), AllocError> {
-    let number = source.number;
+pub fn push_place(text: &mut Text, sources: &Sources, source: &SourceLine) {
     if let Some(file) = sources.files.get(source.file) {
-        text.push_str(file.as_str())?;
+        text.push_str(file.as_str());
     }
-    write!(text, ":{number}")?;
-    Ok(())
+    push_number(text, ":", source.number);
 }
 
-/// The place of a line of a source, and its text.
-pub fn source_text(
-    alloc: Global,
-    sources: &Sources,
-    source: &SourceLine,
-) -> Result<String, AllocError> {
-    let mut text = String::new(alloc);
-    push_place(&mut text, sources, source)?;
+/// Adds the place of a line of a source, and its text.
+pub fn push_source(text: &mut Text, sources: &Sources, source: &SourceLine) {
+    push_place(text, sources, source);
     if !source.text.is_empty() {
-        text.push_str("  ")?;
-        text.push_str(source.text.as_str())?;
+        text.push_str("  ");
+        text.push_str(source.text.as_str());
     }
-    Ok(text)
 }

@@ -1,11 +1,12 @@
 //! The stack and the calls of a run, as they are shown.
 
+use crate::padding::{push_column, push_left, push_right, push_text_right};
 use crate::picture::{Picture, ShownCall, ShownEntry};
+use crate::pieces::{push_answer, push_more, push_number, push_signed, push_size};
 use crate::sources::{Sources, push_place};
+use crate::text::Text;
 use refusal_notes::{Lines, kind_text, operand_names, printable};
 use std::alloc::{AllocError, Global};
-use std::fmt::Write;
-use std::io;
 use vcode_base::Kind;
 use vcode_reader::Program;
 
@@ -15,68 +16,83 @@ pub const MOST_ENTRIES: usize = 24;
 /// The most values of an entry that are shown.
 const MOST_VALUES: usize = 6;
 
-/// Adds a value of a kind to a text.
-pub fn push_value(text: &mut String, kind: Kind, word: i64) -> Result<(), AllocError> {
+/// Adds a value of a kind.
+pub fn push_value(text: &mut Text, kind: Kind, word: i64) {
     match kind {
         Kind::Bool if word == 0 => text.push('F'),
         Kind::Bool => text.push('T'),
-        Kind::Int | Kind::Segdes => {
-            write!(text, "{word}")?;
-            Ok(())
-        }
+        Kind::Int | Kind::Segdes => push_signed(text, "", word),
     }
 }
 
-/// The first of `count` values of a kind that begin so.
-pub fn values_text(
-    alloc: Global,
-    kind: Kind,
-    count: usize,
-    words: &[i64],
-) -> Result<String, AllocError> {
-    let mut text = String::from_str(alloc, "(")?;
+/// Adds the first of `count` values of a kind that begin so.
+pub fn push_values(text: &mut Text, kind: Kind, count: usize, words: &[i64]) {
+    text.push('(');
     for (place, word) in words.iter().enumerate() {
         if place > 0 {
-            text.push(' ')?;
+            text.push(' ');
         }
         if place == MOST_VALUES {
             break;
         }
-        push_value(&mut text, kind, *word)?;
+        push_value(text, kind, *word);
     }
     if count > MOST_VALUES {
-        text.push_str("..")?;
+        text.push_str("..");
     }
-    text.push(')')?;
-    Ok(text)
+    text.push(')');
+}
+
+/// Adds what is shown of the values of an entry.
+fn push_held(text: &mut Text, entry: &ShownEntry) {
+    match entry.copy {
+        Some(above) => push_size(text, "a copy of entry ", above),
+        None => push_values(text, entry.kind, entry.length, &entry.values),
+    }
+    if let (None, Some(total)) = (entry.copy, entry.total) {
+        push_signed(text, ", total ", total);
+    }
 }
 
 /// What is shown of the values of an entry.
-fn entry_text(alloc: Global, entry: &ShownEntry) -> Result<String, AllocError> {
-    if let Some(above) = entry.copy {
-        return format!(in alloc; "a copy of entry {above}");
-    }
-    let mut text = values_text(alloc, entry.kind, entry.length, &entry.values)?;
-    if let Some(total) = entry.total {
-        write!(text, ", total {total}")?;
-    }
-    Ok(text)
+fn held_text(alloc: Global, entry: &ShownEntry) -> Result<String, AllocError> {
+    let mut text = Text::new(alloc);
+    push_held(&mut text, entry);
+    text.finish()
 }
 
-/// Prints an entry at a depth, with its name as an operand and the line that made it.
-fn print_entry(
-    rt: &HostRuntime,
+/// Adds a line of the batch without the blanks at its ends, and an LF.
+pub fn push_line(text: &mut Text, alloc: Global, lines: &Lines, line: u64) {
+    if let Some(line) = text.get(lines.line(alloc, line)) {
+        text.push_str(line.as_str().trim_ascii());
+    }
+    text.push('\n');
+}
+
+/// Adds an entry at a depth, with its name as an operand and the line that made it.
+fn push_entry(
+    text: &mut Text,
+    alloc: Global,
     lines: &Lines,
     depth: usize,
     name: &str,
     entry: &ShownEntry,
-) -> io::Result<()> {
-    let (kind, length, line) = (kind_text(entry.kind), entry.length, entry.line);
-    let values = entry_text(rt.alloc(), entry)?;
-    print!(rt; "  {depth:>4}  {name:>4}  {kind:>6} {length:>9}  line {line:>6}  {values:<20}  ")?;
-    let text = lines.line(rt.alloc(), line)?;
-    let text = text.trim_ascii();
-    println!(rt; "{text}")
+) {
+    text.push(' ');
+    push_column(text, depth as u64, 4);
+    text.push_str("  ");
+    push_text_right(text, name, 4);
+    text.push_str("  ");
+    push_text_right(text, kind_text(entry.kind), 6);
+    push_column(text, entry.length as u64, 9);
+    text.push_str("  line ");
+    push_right(text, entry.line, 6);
+    text.push_str("  ");
+    if let Some(held) = text.get(held_text(alloc, entry)) {
+        push_left(text, held.as_str(), 20);
+    }
+    text.push_str("  ");
+    push_line(text, alloc, lines, entry.line);
 }
 
 /// The name of the entry at a depth as an operand of the next instruction, if it is one.
@@ -86,78 +102,69 @@ pub fn name_at(picture: &Picture, depth: usize) -> Option<&'static str> {
     Some(*names.get(place)?)
 }
 
-/// Prints the stack.
-pub fn print_stack(rt: &HostRuntime, lines: &Lines, picture: &Picture) -> io::Result<()> {
-    let (depth, held) = (picture.depth, picture.held);
-    println!(rt; "\nthe stack, its top first: {depth} entries, {held} words")?;
+/// Adds how many of `count` are left out if `shown` are shown.
+fn push_left_out(text: &mut Text, count: usize, shown: usize) {
+    push_more(text, count.saturating_sub(shown) as u64);
+}
+
+/// Adds the stack.
+pub fn push_stack(text: &mut Text, alloc: Global, lines: &Lines, picture: &Picture) {
+    push_size(text, "\nthe stack, its top first: ", picture.depth);
+    push_size(text, " entries, ", picture.held);
+    text.push_str(" words\n");
     for (depth, entry) in picture.entries.iter().enumerate() {
         let name = name_at(picture, depth).unwrap_or("");
-        print_entry(rt, lines, depth, name, entry)?;
+        push_entry(text, alloc, lines, depth, name, entry);
     }
-    print_left(rt, depth, picture.entries.len())
+    push_left_out(text, picture.depth, picture.entries.len());
 }
 
-/// Prints how many of `count` are left out if `shown` are shown.
-fn print_left(rt: &HostRuntime, count: usize, shown: usize) -> io::Result<()> {
-    let more = count.saturating_sub(shown);
-    if more == 0 {
-        return Ok(());
-    }
-    println!(rt; "  .. and {more} more")
-}
-
-/// The name of the function at a place of the code.
-fn function_name(
-    alloc: Global,
-    program: &Program<Global>,
-    place: usize,
-) -> Result<String, AllocError> {
-    match program.functions().get(place) {
-        Some(function) => printable(alloc, function.name()),
-        None => Ok(String::new(alloc)),
-    }
-}
-
-/// Which entries belong to a call.
-fn owned_text(alloc: Global, call: ShownCall) -> Result<String, AllocError> {
+/// Adds which entries belong to a call.
+fn push_owned(text: &mut Text, call: ShownCall) {
     let first = call.first;
     match call.entries.checked_sub(1) {
-        None => String::from_str(alloc, "no entries"),
-        Some(0) => format!(in alloc; "entry {first}"),
+        None => text.push_str("no entries"),
+        Some(0) => push_size(text, "entry ", first),
         Some(more) => {
-            let last = first.saturating_add(more);
-            format!(in alloc; "entries {first} to {last}")
+            push_size(text, "entries ", first);
+            push_size(text, " to ", first.saturating_add(more));
         }
     }
 }
 
-/// Prints a call.
-fn print_call(
-    rt: &HostRuntime,
+/// Adds a call.
+fn push_call(
+    text: &mut Text,
+    alloc: Global,
     program: &Program<Global>,
     sources: &Sources,
     call: ShownCall,
-) -> io::Result<()> {
-    let mut text = function_name(rt.alloc(), program, call.function)?;
-    let (line, owned) = (call.line, owned_text(rt.alloc(), call)?);
-    write!(text, " at line {line}: {owned}")?;
-    if let Some(source) = sources.at(line) {
-        text.push_str(", ")?;
-        push_place(&mut text, sources, source)?;
+) {
+    text.push_str("  ");
+    if let Some(function) = program.functions().get(call.function) {
+        push_answer(text, printable(alloc, function.name()));
     }
-    println!(rt; "  {text}")
+    push_number(text, " at line ", call.line);
+    text.push_str(": ");
+    push_owned(text, call);
+    if let Some(source) = sources.at(call.line) {
+        text.push_str(", ");
+        push_place(text, sources, source);
+    }
+    text.push('\n');
 }
 
-/// Prints the calls that are active, the innermost first.
-pub fn print_calls(
-    rt: &HostRuntime,
+/// Adds the calls that are active, the innermost first.
+pub fn push_calls(
+    text: &mut Text,
+    alloc: Global,
     program: &Program<Global>,
     sources: &Sources,
     picture: &Picture,
-) -> io::Result<()> {
-    println!(rt; "the calls, the innermost first")?;
+) {
+    text.push_str("the calls, the innermost first\n");
     for call in &picture.list {
-        print_call(rt, program, sources, *call)?;
+        push_call(text, alloc, program, sources, *call);
     }
-    print_left(rt, picture.calls, picture.list.len())
+    push_left_out(text, picture.calls, picture.list.len());
 }

@@ -1,18 +1,19 @@
 //! A state of a job as data: its calls and its stack, or values of an entry.
 
-use crate::data::{push_comma, push_ending, push_job, push_quoted};
+use crate::data::{push_comma, push_ending, push_job, push_shown};
 use crate::end::{End, run_through};
 use crate::look::Batch;
 use crate::picture::Picture;
-use crate::picture_data::push_picture;
+use crate::picture_data::{push_picture, push_values};
+use crate::pieces::{push_number, push_size};
 use crate::stack::MOST_ENTRIES;
 use crate::stops::{State, count_to};
-use crate::values::{Part, ValueRange, push_list};
+use crate::text::Text;
+use crate::values::{Part, ValueRange};
 use crate::watch::{Origin, Watch};
 use job_steps::Job;
 use refusal_notes::{kind_text, printable};
 use std::alloc::{AllocError, Global};
-use std::fmt::Write;
 use vcode_base::Rule;
 
 /// Where a state of a job is: after how many instructions, if there is such a state, and how the job ends if it is its
@@ -45,27 +46,22 @@ fn find(
 }
 
 /// Adds the object of values of an entry that has these words.
-fn push_range(
-    text: &mut String,
-    range: ValueRange,
-    origin: Origin,
-    words: &[i64],
-) -> Result<(), AllocError> {
-    let (depth, kind, length) = (range.depth, kind_text(origin.kind), words.len());
-    let (line, first) = (origin.line, range.first);
-    write!(
-        text,
-        "{{\"depth\":{depth},\"kind\":\"{kind}\",\"length\":{length},\"line\":{line},\"first\":{first}"
-    )?;
-    text.push_str(",\"values\":\"")?;
-    push_list(text, origin.kind, range.of(words).unwrap_or(&[]))?;
-    text.push_str("\"}")
+fn push_range(text: &mut Text, range: ValueRange, origin: Origin, words: &[i64]) {
+    push_size(text, "{\"depth\":", range.depth);
+    text.push_str(",\"kind\":\"");
+    text.push_str(kind_text(origin.kind));
+    push_size(text, "\",\"length\":", words.len());
+    push_number(text, ",\"line\":", origin.line);
+    push_size(text, ",\"first\":", range.first);
+    let values = range.of(words).unwrap_or(&[]);
+    push_values(text, origin.kind, values);
+    text.push('}');
 }
 
 /// Adds the members for values of an entry at the state of a run.
-fn push_values(text: &mut String, watch: &Watch, range: ValueRange) -> Result<(), AllocError> {
-    let entries = watch.run().depth();
-    write!(text, ",\"entries\":{entries},\"entry\":")?;
+fn push_entry(text: &mut Text, watch: &Watch, range: ValueRange) {
+    push_size(text, ",\"entries\":", watch.run().depth());
+    text.push_str(",\"entry\":");
     match (watch.run().words(range.depth), watch.origin(range.depth)) {
         (Some(words), Some(origin)) => push_range(text, range, origin, words),
         _ => text.push_str("null"),
@@ -73,41 +69,31 @@ fn push_values(text: &mut String, watch: &Watch, range: ValueRange) -> Result<()
 }
 
 /// Adds the member for the names of the functions of the job of a run.
-fn push_names(text: &mut String, alloc: Global, watch: &Watch) -> Result<(), AllocError> {
-    text.push_str(",\"functions\":[")?;
+fn push_names(text: &mut Text, alloc: Global, watch: &Watch) {
+    text.push_str(",\"functions\":[");
     let program = watch.run().job().verified().program();
     for (place, function) in program.functions().iter().enumerate() {
-        push_comma(text, place)?;
-        push_quoted(text, printable(alloc, function.name())?.as_str())?;
+        push_comma(text, place);
+        push_shown(text, printable(alloc, function.name()));
     }
-    text.push(']')
+    text.push(']');
 }
 
 /// Adds the members for the calls and the stack at the state of a run, of which at most this many entries are given.
-fn push_stack(
-    text: &mut String,
-    alloc: Global,
-    watch: &Watch,
-    most: usize,
-) -> Result<(), AllocError> {
-    push_names(text, alloc, watch)?;
-    let picture = Picture::of(alloc, watch.run(), &watch.trail, most)?;
-    let pushed = push_picture(text, alloc, None, &picture);
-    drop(picture);
-    pushed
+fn push_stack(text: &mut Text, alloc: Global, watch: &Watch, most: usize) {
+    push_names(text, alloc, watch);
+    let picture = Picture::of(alloc, watch.run(), &watch.trail, most);
+    if let Some(picture) = text.get(picture) {
+        push_picture(text, None, &picture);
+    }
 }
 
 /// Adds the members for this of the state of a run.
-fn push_part(
-    text: &mut String,
-    alloc: Global,
-    watch: &Watch,
-    part: Part,
-) -> Result<(), AllocError> {
+fn push_part(text: &mut Text, alloc: Global, watch: &Watch, part: Part) {
     match part {
         Part::Top => push_stack(text, alloc, watch, MOST_ENTRIES),
         Part::All => push_stack(text, alloc, watch, usize::MAX),
-        Part::Values(range) => push_values(text, watch, range),
+        Part::Values(range) => push_entry(text, watch, range),
     }
 }
 
@@ -120,43 +106,27 @@ fn used_at(watch: &Watch, found: Found) -> (u64, usize) {
     }
 }
 
-/// Adds the members for this of a state, at which a run is. If there is no such state, these are `null`.
-fn push_state(
-    text: &mut String,
-    alloc: Global,
-    watch: &Watch,
-    found: Found,
-    part: Part,
-) -> Result<(), AllocError> {
-    if found.count.is_none() {
-        return text.push_str(",\"instructions\":null,\"peak\":null,\"next\":null");
+/// Adds the members for the next instruction of a run and for this of its state. If there is no next one, it is `null`.
+fn push_next(text: &mut Text, alloc: Global, watch: &Watch, part: Part) {
+    match watch.next() {
+        Some(next) => {
+            push_number(text, ",\"next\":", next.line);
+            push_part(text, alloc, watch, part);
+        }
+        None => text.push_str(",\"next\":null"),
     }
-    let (executed, peak) = used_at(watch, found);
-    write!(text, ",\"instructions\":{executed},\"peak\":{peak}")?;
-    let Some(next) = watch.next() else {
-        return text.push_str(",\"next\":null");
-    };
-    let line = next.line;
-    write!(text, ",\"next\":{line}")?;
-    push_part(text, alloc, watch, part)
 }
 
-/// Adds the members for a job of this place, whose run has executed nothing, and for this of a state of it.
-fn push_members(
-    text: &mut String,
-    alloc: Global,
-    place: u64,
-    watch: &mut Watch,
-    found: Found,
-    part: Part,
-) -> Result<(), AllocError> {
-    watch.go_to(found.count.unwrap_or(0))?;
-    push_job(text, alloc, place, watch.run().job().name())?;
-    if let Some(end) = found.end {
-        push_ending(text, end.ending)?;
+/// Adds the members for this of a state, at which a run is. If there is no such state, these are `null`.
+fn push_state(text: &mut Text, alloc: Global, watch: &Watch, found: Found, part: Part) {
+    if found.count.is_none() {
+        text.push_str(",\"instructions\":null,\"peak\":null,\"next\":null");
+        return;
     }
-    push_state(text, alloc, watch, found, part)?;
-    text.push('}')
+    let (executed, peak) = used_at(watch, found);
+    push_number(text, ",\"instructions\":", executed);
+    push_size(text, ",\"peak\":", peak);
+    push_next(text, alloc, watch, part);
 }
 
 /// The object of a job of this place, whose run has executed nothing, with this of a state of it.
@@ -167,9 +137,15 @@ fn object_at(
     found: Found,
     part: Part,
 ) -> Result<String, AllocError> {
-    let mut text = String::new(alloc);
-    push_members(&mut text, alloc, place, watch, found, part)?;
-    Ok(text)
+    watch.go_to(found.count.unwrap_or(0))?;
+    let mut text = Text::new(alloc);
+    push_job(&mut text, alloc, place, watch.run().job().name());
+    if let Some(end) = found.end {
+        push_ending(&mut text, end.ending);
+    }
+    push_state(&mut text, alloc, watch, found, part);
+    text.push('}');
+    text.finish()
 }
 
 /// This of a state of a job of this place as data.

@@ -1,13 +1,15 @@
 //! An instruction of a run that was executed.
 
+use crate::padding::{push_column, push_right};
+use crate::pieces::push_answer;
 use crate::spans::Spans;
-use crate::stack::values_text;
+use crate::stack::push_values;
+use crate::text::Text;
 use crate::watch::{Next, Watch};
 use job_profile::Run;
 use refusal_notes::{Lines, kind_text};
 use std::alloc::{AllocError, Global};
-use std::io;
-use vcode_base::Op;
+use vcode_base::{Kind, Op};
 
 /// The last instructions that are shown of a job.
 const MOST_STEPS: u64 = 6;
@@ -125,9 +127,9 @@ impl Recent {
     }
 }
 
-/// Prints the head of a list of instructions.
-pub fn print_head(rt: &HostRuntime) -> io::Result<()> {
-    println!(rt; "       step     line  entries       held  instruction")
+/// Adds the head of a list of instructions.
+pub fn push_head(text: &mut Text) {
+    text.push_str("       step     line  entries       held  instruction\n");
 }
 
 /// The text of an instruction that was executed, or the code of its line.
@@ -138,26 +140,36 @@ fn text_of(alloc: Global, lines: &Lines, spans: &Spans, step: Step) -> Result<St
     }
 }
 
-/// Prints an instruction that was executed.
-pub fn print_step(rt: &HostRuntime, lines: &Lines, spans: &Spans, step: Step) -> io::Result<()> {
-    let (number, line, entries, held) = (step.number, step.line, step.entries, step.held);
-    let text = text_of(rt.alloc(), lines, spans, step)?;
-    println!(rt; "  {number:>9} {line:>8} {entries:>8} {held:>10}  {text}")
+/// Adds an instruction that was executed.
+pub fn push_step(text: &mut Text, alloc: Global, lines: &Lines, spans: &Spans, step: Step) {
+    text.push(' ');
+    push_column(text, step.number, 9);
+    push_column(text, step.line, 8);
+    push_column(text, step.entries as u64, 8);
+    push_column(text, step.held as u64, 10);
+    text.push_str("  ");
+    push_answer(text, text_of(alloc, lines, spans, step));
+    text.push('\n');
 }
 
-/// Prints what the instruction made that a run has executed last, from the bottom of the stack up.
-pub fn print_made(rt: &HostRuntime, run: &Run<Global>, step: Step) -> io::Result<()> {
+/// Adds a result of a kind that has these words.
+fn push_result(text: &mut Text, kind: Kind, words: &[i64]) {
+    text.push_str("                              ");
+    push_right(text, words.len() as u64, 10);
+    text.push_str("    ");
+    text.push_str(kind_text(kind));
+    text.push(' ');
+    push_values(text, kind, words.len(), words);
+    text.push('\n');
+}
+
+/// Adds what the instruction made that a run has executed last, from the bottom of the stack up.
+pub fn push_made(text: &mut Text, run: &Run<Global>, step: Step) {
     let kinds = step.op.result_kinds();
     for (place, kind) in kinds.iter().enumerate() {
         let above = kinds.len().saturating_sub(place).saturating_sub(1);
         if let Some(words) = run.words(above) {
-            let (count, kind) = (words.len(), *kind);
-            let (name, values) = (
-                kind_text(kind),
-                values_text(rt.alloc(), kind, count, words)?,
-            );
-            println!(rt; "                              {count:>10}    {name} {values}")?;
+            push_result(text, *kind, words);
         }
     }
-    Ok(())
 }

@@ -2,9 +2,11 @@
 
 use crate::end::with_job;
 use crate::look::Batch;
+use crate::output::{print_more, print_text};
 use crate::selection::{Picker, Selection};
 use crate::spans::Spans;
-use crate::step::{Step, print_head, print_made, print_step, step_of};
+use crate::step::{Step, push_head, push_made, push_step, step_of};
+use crate::text::Text;
 use crate::watch::Watch;
 use job_steps::Job;
 use std::alloc::{AllocError, Global};
@@ -31,20 +33,21 @@ fn spans_of(alloc: Global, batch: Batch<'_>, watch: &Watch) -> Result<Spans, All
     Spans::of(alloc, batch.lines, program)
 }
 
-/// Prints the instruction that a run has executed last, and what it made if that is to be shown.
-fn print_whole(
-    rt: &HostRuntime,
+/// The instruction that a run has executed last, and what it made if that is to be shown.
+fn whole_text(
+    alloc: Global,
     batch: Batch<'_>,
     spans: &Spans,
     watch: &Watch,
     step: Step,
     values: bool,
-) -> io::Result<()> {
-    print_step(rt, batch.lines, spans, step)?;
+) -> Text {
+    let mut text = Text::new(alloc);
+    push_step(&mut text, alloc, batch.lines, spans, step);
     if values {
-        return print_made(rt, watch.run(), step);
+        push_made(&mut text, watch.run(), step);
     }
-    Ok(())
+    text
 }
 
 /// Prints the instruction that a run has executed last and that was chosen, if it is listed, or how many are left out
@@ -59,12 +62,24 @@ fn print_listed(
     total: u64,
 ) -> io::Result<()> {
     if picker.is_listed(total) {
-        return print_whole(rt, batch, spans, watch, step, picker.shows_values());
+        let values = picker.shows_values();
+        return print_text(
+            rt,
+            whole_text(rt.alloc(), batch, spans, watch, step, values),
+        );
     }
     match picker.left_out(total) {
-        Some(count) => println!(rt; "  .. and {count} more"),
+        Some(count) => print_more(rt, count),
         None => Ok(()),
     }
+}
+
+/// What comes before the instructions.
+fn head_text(alloc: Global) -> Text {
+    let mut text = Text::new(alloc);
+    text.push_str("step by step\n");
+    push_head(&mut text);
+    text
 }
 
 /// Prints the instructions of a run that has executed nothing, if this many are chosen in all.
@@ -75,9 +90,22 @@ fn print_chosen(
     selection: Selection,
     total: u64,
 ) -> io::Result<()> {
-    println!(rt; "step by step")?;
-    print_head(rt)?;
+    print_text(rt, head_text(rt.alloc()))?;
     let spans = spans_of(rt.alloc(), batch, watch)?;
+    let printed = print_each(rt, batch, &spans, watch, selection, total);
+    drop(spans);
+    printed
+}
+
+/// Prints the same without a head. The instructions are at these places.
+fn print_each(
+    rt: &HostRuntime,
+    batch: Batch<'_>,
+    spans: &Spans,
+    watch: &mut Watch,
+    selection: Selection,
+    total: u64,
+) -> io::Result<()> {
     let mut picker = Picker::new(selection);
     let before = selection.from.saturating_sub(1);
     watch.go_to(before)?;
@@ -86,7 +114,7 @@ fn print_chosen(
             break;
         };
         if picker.takes(step.line) {
-            print_listed(rt, batch, &spans, watch, step, picker, total)?;
+            print_listed(rt, batch, spans, watch, step, picker, total)?;
         }
         if picker.is_done() {
             break;

@@ -2,6 +2,9 @@
 
 use crate::end::with_job;
 use crate::look::{Batch, show_after};
+use crate::output::print_text;
+use crate::pieces::{push_number, push_size};
+use crate::text::Text;
 use crate::values::Part;
 use job_profile::{Stop, Uses};
 use job_steps::Job;
@@ -134,16 +137,33 @@ pub fn count_to(
     with_job(Ok(count), uses.into_job())
 }
 
+/// Adds that there is no state that was looked for.
+fn push_none(text: &mut Text, sought: &Sought) {
+    match &sought.stop {
+        Stop::Line(line) => {
+            push_number(text, "line ", *line);
+            push_number(text, " is not next ", sought.time);
+        }
+        Stop::Call(name) => {
+            text.push_str(name.as_str());
+            push_number(text, " is not called ", sought.time);
+        }
+        Stop::Words(most) => push_size(text, "never holds more than ", *most),
+        Stop::Entries(most) => push_size(text, "never has more than ", *most),
+        Stop::Makes(most) => push_size(text, "has no instruction that makes more than ", *most),
+    }
+    text.push_str(match &sought.stop {
+        Stop::Line(_) | Stop::Call(_) => " times\n",
+        Stop::Words(_) | Stop::Makes(_) => " words\n",
+        Stop::Entries(_) => " entries\n",
+    });
+}
+
 /// Prints that there is no state that was looked for.
 fn print_none(rt: &HostRuntime, sought: &Sought) -> io::Result<()> {
-    let time = sought.time;
-    match &sought.stop {
-        Stop::Line(line) => println!(rt; "line {line} is not next {time} times"),
-        Stop::Call(name) => println!(rt; "{name} is not called {time} times"),
-        Stop::Words(most) => println!(rt; "never holds more than {most} words"),
-        Stop::Entries(most) => println!(rt; "never has more than {most} entries"),
-        Stop::Makes(most) => println!(rt; "has no instruction that makes more than {most} words"),
-    }
+    let mut text = Text::new(rt.alloc());
+    push_none(&mut text, sought);
+    print_text(rt, text)
 }
 
 /// Shows this of a state of a job that is looked for, on the line of its name.

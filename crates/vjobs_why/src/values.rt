@@ -1,9 +1,13 @@
 //! The values of an entry of the stack.
 
-use crate::stack::push_value;
+use crate::output::print_text;
+use crate::padding::push_column;
+use crate::pieces::{push_number, push_size};
+use crate::stack::{push_line, push_value};
+use crate::text::Text;
 use crate::watch::{Origin, Watch};
 use refusal_notes::{Lines, kind_text};
-use std::alloc::{AllocError, Global};
+use std::alloc::Global;
 use std::io;
 use vcode_base::Kind;
 
@@ -67,32 +71,61 @@ impl ValueRange {
 }
 
 /// Adds values of a kind with a blank between them.
-pub fn push_list(text: &mut String, kind: Kind, values: &[i64]) -> Result<(), AllocError> {
+pub fn push_list(text: &mut Text, kind: Kind, values: &[i64]) {
     for (place, value) in values.iter().enumerate() {
         if place > 0 {
-            text.push(' ')?;
+            text.push(' ');
         }
-        push_value(text, kind, *value)?;
+        push_value(text, kind, *value);
     }
-    Ok(())
 }
 
-/// Values of a kind with a blank between them.
-pub fn list_text(alloc: Global, kind: Kind, values: &[i64]) -> Result<String, AllocError> {
-    let mut text = String::new(alloc);
-    push_list(&mut text, kind, values)?;
-    Ok(text)
+/// A line of values of a kind, the first of which has this place.
+fn row_text(alloc: Global, kind: Kind, place: usize, values: &[i64]) -> Text {
+    let mut text = Text::new(alloc);
+    text.push(' ');
+    push_column(&mut text, place as u64, 9);
+    text.push_str("  ");
+    push_list(&mut text, kind, values);
+    text.push('\n');
+    text
 }
 
 /// Prints values of a kind, each line with the place of its first value. The first of all has this place.
 fn print_list(rt: &HostRuntime, kind: Kind, first: usize, values: &[i64]) -> io::Result<()> {
     let mut place = first;
     for row in values.chunks(ON_A_LINE) {
-        let text = list_text(rt.alloc(), kind, row)?;
-        println!(rt; "  {place:>9}  {text}")?;
+        print_text(rt, row_text(rt.alloc(), kind, place, row))?;
         place = place.saturating_add(ON_A_LINE);
     }
     Ok(())
+}
+
+/// What comes before values of an entry that has this many.
+fn head_text(
+    alloc: Global,
+    lines: &Lines,
+    range: ValueRange,
+    origin: Origin,
+    count: usize,
+) -> Text {
+    let mut text = Text::new(alloc);
+    push_size(&mut text, "\nentry ", range.depth);
+    text.push_str(": ");
+    text.push_str(kind_text(origin.kind));
+    push_size(&mut text, ", ", count);
+    push_number(&mut text, " values, line ", origin.line);
+    text.push_str("  ");
+    push_line(&mut text, alloc, lines, origin.line);
+    text
+}
+
+/// What is said if an entry has no place of this number.
+fn no_place_text(alloc: Global, place: usize) -> Text {
+    let mut text = Text::new(alloc);
+    push_size(&mut text, "  there is no place ", place);
+    text.push('\n');
+    text
 }
 
 /// Prints values of an entry that has these words.
@@ -103,16 +136,20 @@ fn print_range(
     origin: Origin,
     words: &[i64],
 ) -> io::Result<()> {
-    let (depth, count, line) = (range.depth, words.len(), origin.line);
-    let kind = kind_text(origin.kind);
-    let text = lines.line(rt.alloc(), line)?;
-    let text = text.trim_ascii();
-    println!(rt; "\nentry {depth}: {kind}, {count} values, line {line}  {text}")?;
-    let first = range.first;
+    print_text(rt, head_text(rt.alloc(), lines, range, origin, words.len()))?;
     match range.of(words) {
-        Some(values) => print_list(rt, origin.kind, first, values),
-        None => println!(rt; "  there is no place {first}"),
+        Some(values) => print_list(rt, origin.kind, range.first, values),
+        None => print_text(rt, no_place_text(rt.alloc(), range.first)),
     }
+}
+
+/// What is said if a stack of this many entries has none at a depth.
+fn no_entry_text(alloc: Global, depth: usize, entries: usize) -> Text {
+    let mut text = Text::new(alloc);
+    push_size(&mut text, "\nthere is no entry ", depth);
+    push_size(&mut text, " on the stack: ", entries);
+    text.push_str(" entries\n");
+    text
 }
 
 /// Prints values of an entry at the state of a run.
@@ -124,9 +161,9 @@ pub fn print_values(
 ) -> io::Result<()> {
     match (watch.run().words(range.depth), watch.origin(range.depth)) {
         (Some(words), Some(origin)) => print_range(rt, lines, range, origin, words),
-        _ => {
-            let (depth, entries) = (range.depth, watch.run().depth());
-            println!(rt; "\nthere is no entry {depth} on the stack: {entries} entries")
-        }
+        _ => print_text(
+            rt,
+            no_entry_text(rt.alloc(), range.depth, watch.run().depth()),
+        ),
     }
 }

@@ -1,0 +1,18 @@
+//! What is printed.
+
+use crate::pieces::push_more;
+use crate::text::Text;
+use std::io;
+
+/// Prints a text, unless memory was refused for it.
+pub fn print_text(rt: &HostRuntime, text: Text) -> io::Result<()> {
+    let text = text.finish()?;
+    print!(rt; "{text}")
+}
+
+/// Prints a line for how many more there are than are shown, if there are some.
+pub fn print_more(rt: &HostRuntime, more: u64) -> io::Result<()> {
+    let mut text = Text::new(rt.alloc());
+    push_more(&mut text, more);
+    print_text(rt, text)
+}
