@@ -43,19 +43,19 @@ pub fn fill(
         (λ fault. segmented_fault op (contents ops.now) ≡ Some fault) }
 {
     match op {
+        Segmented::Permute(_) => return permute(ops[0], ops[1], ops[2], first),
+        Segmented::BackPermute(_) => return back_permute(ops[0], ops[1], ops[2], ops[3], first),
+        Segmented::DefaultPermute(_) => {
+            return default_permute(ops[0], ops[1], ops[2], ops[3], ops[4], first);
+        }
+        Segmented::Extract(_) => return extract(ops[0], ops[1], ops[2], first),
+        Segmented::Replace(_) => return replace(ops[0], ops[1], ops[2], ops[3], first),
+        Segmented::MakeSegdes => return make_descriptor(ops[0], first),
         Segmented::Scan(fold) => scan(fold, ops[0], ops[1], first),
         Segmented::Reduce(fold) => reduce(fold, ops[0], ops[1], first),
         Segmented::Distribute(_) => distribute(ops[0], ops[1], first),
         Segmented::Index => index(ops[0], ops[1], ops[2], first),
-        Segmented::Permute(_) => permute(ops[0], ops[1], ops[2], first)?,
-        Segmented::BackPermute(_) => back_permute(ops[0], ops[1], ops[2], ops[3], first)?,
-        Segmented::DefaultPermute(_) => {
-            default_permute(ops[0], ops[1], ops[2], ops[3], ops[4], first)?;
-        }
-        Segmented::Extract(_) => extract(ops[0], ops[1], ops[2], first)?,
-        Segmented::Replace(_) => replace(ops[0], ops[1], ops[2], ops[3], first)?,
         Segmented::Pack(_) => pack(ops[0], ops[1], ops[2], first, second),
-        Segmented::MakeSegdes => make_descriptor(ops[0], first)?,
         Segmented::Lengths => lengths(ops[0], first),
     }
     Ok(())

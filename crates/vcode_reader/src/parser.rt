@@ -2,7 +2,7 @@
 
 ghost use Rattle.std.specs.Prelude.{◌≡◌, ℕ, List, [], ◌∷◌, None, Some, true, false, codes, OnOk, IfOk, IfSome};
 ghost use Rattle.vcode_reader.specs.declared.head.Head.TheVariants.{Return, If, Else, Endif};
-ghost use Rattle.vcode_reader.specs.declared.place.Place.TheVariants.{Inside};
+ghost use Rattle.vcode_reader.specs.declared.place.Place.TheVariants.{Inside, InsideOrInt};
 ghost use Rattle.vcode_reader.specs.declared.keyword.Keyword.TheVariants.{Const, Move};
 ghost use Rattle.vcode_reader.specs.Ahead.{BeginsItem, IsDigit, awaits_number};
 ghost use Rattle.vcode_reader.specs.Drafts.{is_open};
@@ -11,7 +11,7 @@ ghost use Rattle.vcode_reader.specs.Keywords.{ItemParts, keyword_slots, takes_ki
 ghost use Rattle.vcode_reader.specs.Parsing.{start, with_fault, after_slot, item_place, after_part};
 ghost use Rattle.vcode_reader.specs.Parsing.{with_kind, with_value, counted_parts};
 ghost use Rattle.vcode_reader.specs.Parsing.{with_count, with_callee, in_slot, one_element, in_list, outside, has_name};
-ghost use Rattle.vcode_reader.specs.Parsing.{after_name, after_return, inside, take};
+ghost use Rattle.vcode_reader.specs.Parsing.{after_name, after_return, inside, at_place, take};
 ghost use Rattle.vcode_reader.specs.Parsing.{is_no_name, no_value, int_of, kind_of, count_in};
 ghost use Rattle.vcode_reader.specs.Numbers.{natural_of, number_of, value_of};
 ghost use Rattle.vcode_reader.specs.Reading.{result_at_end, unless, Gives};
@@ -103,13 +103,13 @@ impl<A: Allocator + Clone> Parser<A> {
         ensures { IfOk result (λ p. p ≡ start) }
     {
         Ok(Parser {
+            name: FunctionName::from_vec(Vec::new(alloc.clone()?)),
+            parts: no_parts(&alloc)?,
+            draft: Draft::new(alloc.clone()?)?,
             functions: Vec::new(alloc.clone()?),
             place: Place::Outside,
-            name: FunctionName::from_vec(Vec::new(alloc.clone()?)),
             line: 0,
-            draft: Draft::new(alloc.clone()?)?,
             slots: Slots::none(),
-            parts: no_parts(&alloc)?,
             fault: None,
             alloc,
         })
@@ -468,15 +468,28 @@ impl<A: Allocator + Clone> Parser<A> {
         ensures { OnOk result (self.new ≡ inside head (head_slots head) line self.old) }
     {
         match head {
-            Head::Return => self.at_return(line)?,
-            Head::If => self.at_if(line)?,
-            Head::Else => self.at_else(line)?,
-            Head::Endif => self.at_endif(line)?,
-            Head::Start(keyword) => self.begin_instruction(keyword, line)?,
+            Head::Return => return self.at_return(line),
+            Head::If => return self.at_if(line),
+            Head::Else => return self.at_else(line),
+            Head::Endif => return self.at_endif(line),
+            Head::Start(keyword) => return self.begin_instruction(keyword, line),
             Head::Other => self.refuse(CodeFault::BadWord, line),
             Head::Func => self.refuse(CodeFault::Misplaced, line),
         }
         Ok(())
+    }
+
+    /// Takes a word at the place of an item, where a word `INT` may also stand, which says nothing.
+    #[tactic(auto, using(crate::proofs::Spelling::slots_by_head))]
+    fn inside_or_int(&mut self, word: &[u8], line: u64) -> Result<(), AllocError>
+        requires fits { FitsParse (at_place InsideOrInt word.now line self.old) }
+        ensures { OnOk result (self.new ≡ at_place InsideOrInt word.now line self.old) }
+    {
+        if word == b"INT".as_slice() {
+            self.place = Place::Inside;
+            return Ok(());
+        }
+        self.inside(head_of(word), line)
     }
 
     /// The first fault of the words so far.
@@ -566,22 +579,16 @@ impl<A: Allocator + Clone> Parser<A> {
             return Ok(());
         }
         match self.place {
-            Place::Outside => self.outside(head_of(word), line),
-            Place::Name => self.name_function(word, line)?,
-            Place::Inside => self.inside(head_of(word), line)?,
-            Place::InsideOrInt => {
-                if word == b"INT".as_slice() {
-                    self.place = Place::Inside;
-                } else {
-                    self.inside(head_of(word), line)?;
-                }
+            Place::Outside => {
+                self.outside(head_of(word), line);
+                Ok(())
             }
-            Place::Words(keyword, slot, begun) => {
-                self.in_slot(slot, keyword, begun, word, line)?
-            }
-            Place::Elements(keyword, begun, _) => self.in_list(keyword, begun, word, line)?,
+            Place::Name => self.name_function(word, line),
+            Place::Inside => self.inside(head_of(word), line),
+            Place::InsideOrInt => self.inside_or_int(word, line),
+            Place::Words(keyword, slot, begun) => self.in_slot(slot, keyword, begun, word, line),
+            Place::Elements(keyword, begun, _) => self.in_list(keyword, begun, word, line),
         }
-        Ok(())
     }
 
     /// Whether the next word is in a list of numbers.
@@ -640,7 +647,10 @@ impl<A: Allocator + Clone> Parser<A> {
         ensures { Gives result (result_at_end self.fault comment self) }
     {
         match self.refused_at_end(comment) {
-            Some((fault, line)) => Err(ReadFault::At(fault, line)),
+            Some((fault, line)) => {
+                drop(self);
+                Err(ReadFault::At(fault, line))
+            }
             None => Ok(self.into_functions()),
         }
     }

@@ -87,8 +87,7 @@ impl<A: Allocator + Clone> Scanner<A> {
         requires { FitsParse (lone_word take byte self.old).found }
         ensures { OnOk result (self.new ≡ lone_word take byte self.old) }
     {
-        self.parser.take(&[byte], self.line)?;
-        Ok(())
+        self.parser.take(&[byte], self.line)
     }
 
     fn in_text(&mut self, class: Class, byte: u8) -> Result<(), AllocError>
@@ -101,14 +100,14 @@ impl<A: Allocator + Clone> Scanner<A> {
                 self.end_word()?;
                 self.line += 1;
             }
-            Class::Blank => self.end_word()?,
+            Class::Blank => return self.end_word(),
             Class::OpenBrace => {
                 self.end_word()?;
                 self.comment = Some(self.line);
             }
             Class::CloseBrace | Class::Parenthesis | Class::Refused => {
                 self.end_word()?;
-                self.lone_word(byte)?;
+                return self.lone_word(byte);
             }
             Class::Plain => self.word.push(byte)?,
         }

@@ -42,10 +42,10 @@ pub(crate) fn fill_arith(
         Arith::Add => fill_pairs::<Sum>(left, right, out),
         Arith::Subtract => fill_pairs::<Difference>(left, right, out),
         Arith::Multiply => fill_pairs::<Product>(left, right, out),
-        Arith::Divide => fill_pairs_unless::<IsZero, Quotient>(zero, left, right, out)?,
-        Arith::Remainder => fill_pairs_unless::<IsZero, Remainder>(zero, left, right, out)?,
-        Arith::ShiftLeft => fill_shifts::<LeftShift>(left, right, out)?,
-        Arith::ShiftRight => fill_shifts::<RightShift>(left, right, out)?,
+        Arith::Divide => return fill_pairs_unless::<IsZero, Quotient>(zero, left, right, out),
+        Arith::Remainder => return fill_pairs_unless::<IsZero, Remainder>(zero, left, right, out),
+        Arith::ShiftLeft => return fill_shifts::<LeftShift>(left, right, out),
+        Arith::ShiftRight => return fill_shifts::<RightShift>(left, right, out),
     }
     Ok(())
 }

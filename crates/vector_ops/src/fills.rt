@@ -30,7 +30,7 @@ pub fn fill(op: Elementwise, ops: &[&[i64]], out: &mut [i64]) -> Result<(), Data
         (λ fault. elementwise_fault op (contents ops.now) ≡ Some fault) }
 {
     match op {
-        Elementwise::Arith(op) => fill_arith(op, ops[0], ops[1], out)?,
+        Elementwise::Arith(op) => return fill_arith(op, ops[0], ops[1], out),
         Elementwise::Compare(op) => fill_comparison(op, ops[0], ops[1], out),
         Elementwise::Logic(op, _) => fill_logic(op, ops[0], ops[1], out),
         Elementwise::Not(elements) => fill_not(elements, ops[0], out),
