@@ -12,9 +12,10 @@ sum that docs/OPERATING.md gives; lanes have to do with that for one thread. The
 processors for each 10 million words and instructions that the limits of the jobs allow, and a second more.
 
 A run differs if its report or its exit isn't that of the second writing, if it takes more memory than the sum, or more
-time. A run with less memory may also end with `vjobs: out of memory` and nothing written. The seed of each batch that
-differs is printed; the second command prints the batch. At the end it is printed how often each end of a job and each
-refusal occurred. The last line says how many batches ran and how many runs differ, and the status is 1 if any does.
+time, four times one after the other. A run with less memory may also end with `vjobs: out of memory` and nothing
+written. The seed of each batch that differs is printed; the second command prints the batch. At the end it is printed
+how often each end of a job and each refusal occurred. The last line says how many batches ran and how many runs differ,
+and the status is 1 if any does.
 """
 import re
 import resource
@@ -44,6 +45,8 @@ MOST_WORK, LOWERED_BUDGET = 150_000, 150
 PROGRAM_BYTES, WORKER_BYTES = 4_000_000, 9_000_000
 # Seconds after which a run is taken to hang.
 HANGS = 120
+# How often a run that takes too long is made at most. Its least time counts, since a busy machine adds time of its own.
+RUNS = 4
 NAMES = """RETURNED BUDGET M1 M2 M3 F1 F2 F3 F4 F5 F6 F7 F8 F9
 B1 B2 B3 B4 G1 G2 G3 S1 S2 S3 S4 S5 S6 V1 V2 V3 V4 V5 V6 V7 V8""".split()
 OUT_OF_MEMORY = ("", 3), b"vjobs: out of memory\n"
@@ -361,6 +364,9 @@ def how_it_ends(program: Path | str, text: bytes, region: int, want: tuple[str, 
     """Whether a run ends as wanted or, where it may, for lack of memory; else what is wrong about it."""
     try:
         answer, seconds = answered(program, text, region, trial)
+        for _ in range(1, RUNS):
+            if seconds > most_seconds(text):
+                seconds = min(seconds, answered(program, text, region, trial)[1])
     except subprocess.TimeoutExpired:
         return f"no end after {HANGS} seconds"
     if seconds > most_seconds(text):
