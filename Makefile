@@ -71,7 +71,7 @@ check: ## CRATE=name: proves one crate and runs its tests
 	.ci/check $(CRATE)
 
 gate: ## every proof from nothing, the wrong bodies to be refused, all tests, tables and examples
-	rt ci
+	RT_JOBS=$$(python3 -B .ci/side_by_side.py) rt ci
 
 ## Check, outside the gate
 page-test: ## pages of bin/vjobs-why in a browser; pictures in bin/page; as root it installs chromium

@@ -1,4 +1,4 @@
-"""The crates of crates.txt, and work on them side by side."""
+"""The crates of crates.txt, and work on them side by side. As a program it prints how many checks may run at once."""
 import concurrent.futures
 import os
 import pathlib
@@ -67,3 +67,7 @@ def timed(work: Work, crate: str, jobs: int) -> tuple[str, bool, str, float]:
     begun = time.monotonic()
     good, text = work(crate, jobs)
     return crate, good, text, time.monotonic() - begun
+
+
+if __name__ == "__main__":
+    print(most_jobs())
