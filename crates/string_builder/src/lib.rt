@@ -88,6 +88,29 @@ impl<A: Allocator> StringBuilder<A> {
         self.refused
     }
 
+    /// The text so far.
+    ///
+    /// # Errors
+    ///
+    /// [`AllocError`] if memory was refused.
+    pub fn as_str(&self) -> Result<&str, AllocError>
+        ensures text { IfOk result (λ text. text.now ≡ self.now.bytes) }
+        ensures refused { IsErr result ↔ IsTrue self.now.refused }
+    {
+        if self.refused {
+            return Err(AllocError);
+        }
+        Ok(self.text.as_str())
+    }
+
+    /// Takes away what was added. Its memory is kept for what is added next, and so is whether memory was refused.
+    pub fn clear(&mut self)
+        ensures bytes { self.new.bytes ≡ [] }
+        ensures refused { self.new.refused ≡ self.old.refused }
+    {
+        self.text.clear();
+    }
+
     /// The text.
     ///
     /// # Errors

@@ -17,7 +17,7 @@ use crate::stack::{MOST_ENTRIES, push_calls, push_stack};
 use crate::step::{Step, push_head, push_step};
 use crate::steps::show_steps;
 use crate::stops::{State, show_sought};
-use crate::survey::Survey;
+use crate::survey::{Survey, Words};
 use crate::text::Text;
 use crate::values::{Part, ValueRange, print_values};
 use crate::watch::Watch;
@@ -562,7 +562,7 @@ pub fn object_of(
     place: u64,
     job: Job<Global>,
 ) -> Result<String, AllocError> {
-    let survey = Survey::of(alloc, batch.rule, job)?;
+    let survey = Survey::of(alloc, batch.rule, job, Words::LeftOut)?;
     let again = survey.again();
     let mut text = Text::new(alloc);
     push_survey(&mut text, alloc, batch.lines, place, &survey);

@@ -7,7 +7,7 @@ use crate::padding::{push_column, push_right, push_text_right};
 use crate::pieces::{push_answer, push_more, push_number, push_size};
 use crate::source_profile::print_sources;
 use crate::sources::{Sources, push_place};
-use crate::survey::Survey;
+use crate::survey::{Survey, Words};
 use crate::tally::{FunctionTally, LineTally, Tally};
 use crate::text::Text;
 use job_profile::{Columns, Profile, Run};
@@ -311,33 +311,16 @@ fn push_peak(
 #[derive(Drop)]
 pub struct Shown {
     survey: Survey,
-    tally: Tally,
     holdings: Holdings,
 }
 
 impl Shown {
     /// What is shown of a job that has run to its end.
     pub fn of(alloc: Global, rule: Rule, job: Job<Global>) -> Result<Shown, AllocError> {
-        let (tally, job) = Tally::of(alloc, rule, job)?;
-        match Survey::of(alloc, rule, job) {
-            Ok(survey) => Shown::with_survey(alloc, survey, tally),
-            Err(error) => {
-                drop(tally);
-                Err(error)
-            }
-        }
-    }
-
-    /// What is shown of a job that has this survey and this tally.
-    fn with_survey(alloc: Global, survey: Survey, tally: Tally) -> Result<Shown, AllocError> {
+        let survey = Survey::of(alloc, rule, job, Words::Counted)?;
         match survey.at_peak(alloc) {
-            Ok(holdings) => Ok(Shown {
-                survey,
-                tally,
-                holdings,
-            }),
+            Ok(holdings) => Ok(Shown { survey, holdings }),
             Err(error) => {
-                drop(tally);
                 drop(survey);
                 Err(error)
             }
@@ -402,8 +385,8 @@ fn words_text(alloc: Global, lines: &Lines, shown: &Shown) -> Text {
 
 /// Prints the profile of a job that has ended, after how it ended; all lines, or the first of them.
 pub fn print_profile(rt: &HostRuntime, lines: &Lines, shown: &Shown, all: bool) -> io::Result<()> {
-    let profile = shown.survey.profile();
+    let (profile, tally) = (shown.survey.profile(), &shown.survey.counts.tally);
     print_text(rt, words_text(rt.alloc(), lines, shown))?;
-    print_functions(rt, profile, &shown.tally)?;
-    print_executed(rt, lines, profile, &shown.tally, all)
+    print_functions(rt, profile, tally)?;
+    print_executed(rt, lines, profile, tally, all)
 }

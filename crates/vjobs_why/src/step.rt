@@ -6,7 +6,7 @@ use crate::spans::Spans;
 use crate::stack::push_values;
 use crate::text::Text;
 use crate::watch::{Next, Watch};
-use job_profile::Run;
+use job_profile::{Run, Uses};
 use refusal_notes::{Lines, kind_text};
 use std::alloc::{AllocError, Global};
 use vcode_base::{Kind, Op};
@@ -43,33 +43,53 @@ pub fn place_of(run: &Run<Global>) -> (usize, usize) {
     }
 }
 
-/// Executes the next instruction, which is this one. `None` if it isn't executed, since it ends the job.
-#[inline(always)]
-fn step_by(watch: &mut Watch, next: Next) -> Result<Option<Step>, AllocError> {
-    let before = watch.run().executed();
-    let (function, place) = place_of(watch.run());
-    watch.take(next)?;
-    let number = watch.run().executed();
-    if number == before {
-        return Ok(None);
+/// The next instruction of a run that has executed as many.
+#[derive(Clone, Copy, Drop)]
+struct Coming {
+    next: Next,
+    function: usize,
+    place: usize,
+    executed: u64,
+}
+
+impl Coming {
+    /// The next instruction of a run, if the job goes on.
+    #[inline(always)]
+    fn of(run: &Run<Global>) -> Option<Coming> {
+        let next = Next::of(run)?;
+        let (function, place) = place_of(run);
+        Some(Coming {
+            next,
+            function,
+            place,
+            executed: run.executed(),
+        })
     }
-    Ok(Some(Step {
-        number,
-        function,
-        place,
-        op: next.op,
-        line: next.line,
-        entries: watch.run().depth(),
-        held: watch.run().held(),
-    }))
+
+    /// The instruction after the run has made a step. `None` if it wasn't executed, since it ended the job.
+    #[inline(always)]
+    fn step(self, run: &Run<Global>) -> Option<Step> {
+        let number = run.executed();
+        if number == self.executed {
+            return None;
+        }
+        Some(Step {
+            number,
+            function: self.function,
+            place: self.place,
+            op: self.next.op,
+            line: self.next.line,
+            entries: run.depth(),
+            held: run.held(),
+        })
+    }
 }
 
 /// Executes the next instruction. `None` if it isn't executed, since it ends the job, or if there is none.
-pub fn step_of(watch: &mut Watch) -> Result<Option<Step>, AllocError> {
-    match watch.next() {
-        Some(next) => step_by(watch, next),
-        None => Ok(None),
-    }
+pub fn step_of(uses: &mut Uses<Global>) -> Option<Step> {
+    let coming = Coming::of(uses.run())?;
+    uses.step();
+    coming.step(uses.run())
 }
 
 impl Recent {
@@ -90,13 +110,14 @@ impl Recent {
 
     /// Executes the next instruction of a run, unless it is the last RET. True if the job goes on after it.
     pub fn step(&mut self, watch: &mut Watch) -> Result<bool, AllocError> {
-        let Some(next) = Next::of(watch.run()) else {
+        let Some(coming) = Coming::of(watch.run()) else {
             return Ok(false);
         };
-        if watch.trail.ends_with(next) {
+        if watch.trail.ends_with(coming.next) {
             return Ok(false);
         }
-        match step_by(watch, next)? {
+        watch.take(coming.next)?;
+        match coming.step(watch.run()) {
             Some(step) => {
                 self.keep(step);
                 Ok(true)

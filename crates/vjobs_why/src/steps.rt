@@ -1,76 +1,71 @@
 //! The instructions of a job that were executed, one by one.
 
-use crate::end::with_job;
 use crate::look::Batch;
-use crate::output::{print_more, print_text};
+use crate::output::{print_and_clear, print_text};
+use crate::pieces::push_more;
 use crate::selection::{Picker, Selection};
 use crate::spans::Spans;
 use crate::step::{Step, push_head, push_made, push_step, step_of};
 use crate::text::Text;
-use crate::watch::Watch;
+use job_profile::{Run, Uses};
 use job_steps::Job;
+use refusal_notes::Lines;
 use std::alloc::{AllocError, Global};
 use std::io;
 use vcode_base::Rule;
 
+/// A list of instructions: the lines of the batch, where the instructions are, and how many are chosen in all.
+#[derive(Clone, Copy)]
+struct Listing<'a> {
+    lines: &'a Lines,
+    spans: &'a Spans,
+    total: u64,
+}
+
+/// Executes this many instructions of a run, or all that are left.
+fn pass(uses: &mut Uses<Global>, count: u64) {
+    for _ in 0..count {
+        if !uses.step() {
+            return;
+        }
+    }
+}
+
 /// How many instructions of a run that has executed nothing are chosen, but for the first and the last ones.
-fn count_chosen(watch: &mut Watch, selection: Selection) -> Result<u64, AllocError> {
+fn count_chosen(uses: &mut Uses<Global>, selection: Selection) -> u64 {
     let mut picker = Picker::new(selection);
     let before = selection.from.saturating_sub(1);
-    watch.go_to(before)?;
+    pass(uses, before);
     for _ in before..selection.to {
-        match step_of(watch)? {
+        match step_of(uses) {
             Some(step) => picker.takes(step.line),
             None => break,
         };
     }
-    Ok(picker.taken)
+    picker.taken
 }
 
-/// Where the instructions of the job of a run are.
-fn spans_of(alloc: Global, batch: Batch<'_>, watch: &Watch) -> Result<Spans, AllocError> {
-    let program = watch.run().job().verified().program();
-    Spans::of(alloc, batch.lines, program)
+/// Where the instructions of a job are.
+fn spans_of(alloc: Global, batch: Batch<'_>, job: &Job<Global>) -> Result<Spans, AllocError> {
+    Spans::of(alloc, batch.lines, job.verified().program())
 }
 
-/// The instruction that a run has executed last, and what it made if that is to be shown.
-fn whole_text(
+/// Adds the instruction that a run has executed last and that was chosen, and what it made if that is to be shown, if
+/// it is listed. If it is the first that is left out, adds how many are from it on.
+fn push_listed(
+    text: &mut Text,
     alloc: Global,
-    batch: Batch<'_>,
-    spans: &Spans,
-    watch: &Watch,
-    step: Step,
-    values: bool,
-) -> Text {
-    let mut text = Text::new(alloc);
-    push_step(&mut text, alloc, batch.lines, spans, step);
-    if values {
-        push_made(&mut text, watch.run(), step);
-    }
-    text
-}
-
-/// Prints the instruction that a run has executed last and that was chosen, if it is listed, or how many are left out
-/// from it on, if it is the first of these.
-fn print_listed(
-    rt: &HostRuntime,
-    batch: Batch<'_>,
-    spans: &Spans,
-    watch: &Watch,
+    listing: Listing<'_>,
+    run: &Run<Global>,
     step: Step,
     picker: Picker,
-    total: u64,
-) -> io::Result<()> {
-    if picker.is_listed(total) {
-        let values = picker.shows_values();
-        return print_text(
-            rt,
-            whole_text(rt.alloc(), batch, spans, watch, step, values),
-        );
+) {
+    if !picker.is_listed(listing.total) {
+        return push_more(text, picker.left_out(listing.total).unwrap_or(0));
     }
-    match picker.left_out(total) {
-        Some(count) => print_more(rt, count),
-        None => Ok(()),
+    push_step(text, alloc, listing.lines, listing.spans, step);
+    if picker.shows_values() {
+        push_made(text, run, step);
     }
 }
 
@@ -86,35 +81,39 @@ fn head_text(alloc: Global) -> Text {
 fn print_chosen(
     rt: &HostRuntime,
     batch: Batch<'_>,
-    watch: &mut Watch,
+    uses: &mut Uses<Global>,
     selection: Selection,
     total: u64,
 ) -> io::Result<()> {
     print_text(rt, head_text(rt.alloc()))?;
-    let spans = spans_of(rt.alloc(), batch, watch)?;
-    let printed = print_each(rt, batch, &spans, watch, selection, total);
+    let spans = spans_of(rt.alloc(), batch, uses.run().job())?;
+    let listing = Listing {
+        lines: batch.lines,
+        spans: &spans,
+        total,
+    };
+    let printed = print_each(rt, listing, uses, selection);
     drop(spans);
     printed
 }
 
-/// Prints the same without a head. The instructions are at these places.
+/// Prints the same without a head.
 fn print_each(
     rt: &HostRuntime,
-    batch: Batch<'_>,
-    spans: &Spans,
-    watch: &mut Watch,
+    listing: Listing<'_>,
+    uses: &mut Uses<Global>,
     selection: Selection,
-    total: u64,
 ) -> io::Result<()> {
-    let mut picker = Picker::new(selection);
+    let (mut text, mut picker) = (Text::new(rt.alloc()), Picker::new(selection));
     let before = selection.from.saturating_sub(1);
-    watch.go_to(before)?;
+    pass(uses, before);
     for _ in before..selection.to {
-        let Some(step) = step_of(watch)? else {
+        let Some(step) = step_of(uses) else {
             break;
         };
         if picker.takes(step.line) {
-            print_listed(rt, batch, spans, watch, step, picker, total)?;
+            push_listed(&mut text, rt.alloc(), listing, uses.run(), step, picker);
+            print_and_clear(rt, &mut text)?;
         }
         if picker.is_done() {
             break;
@@ -130,9 +129,9 @@ fn count_steps(
     job: Job<Global>,
     selection: Selection,
 ) -> Result<(u64, Job<Global>), AllocError> {
-    let mut watch = Watch::new(alloc, rule, job)?;
-    let total = count_chosen(&mut watch, selection);
-    with_job(total, watch.into_job())
+    let mut uses = Uses::new(alloc, rule, job)?;
+    let total = count_chosen(&mut uses, selection);
+    Ok((total, uses.into_job()))
 }
 
 /// Prints the instructions of a job, if this many are chosen in all.
@@ -143,9 +142,9 @@ fn print_steps(
     selection: Selection,
     total: u64,
 ) -> io::Result<()> {
-    let mut watch = Watch::new(rt.alloc(), batch.rule, job)?;
-    let printed = print_chosen(rt, batch, &mut watch, selection, total);
-    drop(watch);
+    let mut uses = Uses::new(rt.alloc(), batch.rule, job)?;
+    let printed = print_chosen(rt, batch, &mut uses, selection, total);
+    drop(uses);
     printed
 }
 

@@ -14,6 +14,14 @@ use job_steps::Job;
 use std::alloc::{AllocError, Global};
 use vcode_base::{MemoryFault, Rule};
 
+/// Whether the words that are held and needed at each instruction are counted for its line and its function. That
+/// takes a look more at each instruction.
+#[derive(Clone, Copy, PartialEq, Eq)]
+pub enum Words {
+    Counted,
+    LeftOut,
+}
+
 /// What is counted of a run: what its functions and lines did, its chains of functions, and which functions ran most.
 #[derive(Drop)]
 pub struct Counts {
@@ -21,6 +29,7 @@ pub struct Counts {
     pub chains: Chains,
     pub bands: Bands,
     stretch: Stretch,
+    words: Words,
 }
 
 /// A run of a job: its words, its counts, its trail and what it holds, how many instructions lead to the last state
@@ -47,13 +56,23 @@ pub struct Again {
 
 impl Counts {
     /// The counts of a run that has executed nothing.
-    fn new(alloc: Global, run: &Run<Global>) -> Result<Counts, AllocError> {
+    fn new(alloc: Global, run: &Run<Global>, words: Words) -> Result<Counts, AllocError> {
         Ok(Counts {
             tally: Tally::new(alloc, run)?,
             chains: Chains::new(alloc, run)?,
             bands: Bands::new(alloc, run)?,
             stretch: Stretch::NONE,
+            words,
         })
+    }
+
+    /// The words that are held and needed at the next instruction of a run, if they are counted.
+    #[inline(always)]
+    fn words_at(&self, run: &Run<Global>) -> Option<usize> {
+        match self.words {
+            Words::Counted => Some(run.demand()),
+            Words::LeftOut => None,
+        }
     }
 
     /// Counts what the innermost call, which is of a function, has executed itself since it began or went on. Columns
@@ -88,10 +107,15 @@ impl Counts {
 
 impl Survey {
     /// The survey of a job that has executed nothing.
-    fn new(alloc: Global, rule: Rule, job: Job<Global>) -> Result<Survey, AllocError> {
+    fn new(
+        alloc: Global,
+        rule: Rule,
+        job: Job<Global>,
+        words: Words,
+    ) -> Result<Survey, AllocError> {
         let columns = Columns::new(alloc, rule, job)?;
         let holds = Holds::new(alloc, columns.profile().run());
-        match Counts::new(alloc, columns.profile().run()) {
+        match Counts::new(alloc, columns.profile().run(), words) {
             Ok(counts) => Ok(Survey {
                 columns,
                 counts,
@@ -127,11 +151,20 @@ impl Survey {
         self.columns.profile().run()
     }
 
-    /// Counts an instruction that was executed, whose operands and results have this many elements.
+    /// Counts an instruction that was executed, whose operands and results have this many elements, and at which these
+    /// words were held and needed, if they are counted.
     #[inline(always)]
-    fn count(&mut self, before: Before, elements: u64) -> Result<(), AllocError> {
+    fn count(
+        &mut self,
+        before: Before,
+        elements: u64,
+        words: Option<usize>,
+    ) -> Result<(), AllocError> {
         self.counts.stretch.all.add(elements);
         self.counts.tally.count(before, elements)?;
+        if let Some(words) = words {
+            self.counts.tally.count_words(before, words)?;
+        }
         if changes_call(before.next.op) {
             let (each, _) = self.columns.columns();
             let run = self.columns.profile().run();
@@ -140,10 +173,9 @@ impl Survey {
         Ok(())
     }
 
-    /// Follows an instruction that was executed, whose operands and results have this many elements.
+    /// Follows an instruction that was executed and counted.
     #[inline(always)]
-    fn follow(&mut self, before: Before, elements: u64) -> Result<(), AllocError> {
-        self.count(before, elements)?;
+    fn follow(&mut self, before: Before) -> Result<(), AllocError> {
         let run = self.columns.profile().run();
         self.holds.follow(&self.trail, run, before.next)?;
         self.trail.follow(before.next, run)
@@ -154,9 +186,11 @@ impl Survey {
     fn step(&mut self, before: Before) -> Result<bool, AllocError> {
         let run = self.columns.profile().run();
         self.holds.look(&self.trail, run, before.next.op)?;
+        let words = self.counts.words_at(run);
         let goes_on = self.columns.step()?;
         if let Some(elements) = before.elements(self.run()) {
-            self.follow(before, elements)?;
+            self.count(before, elements, words)?;
+            self.follow(before)?;
         }
         if !goes_on {
             self.last = Some(before);
@@ -259,8 +293,13 @@ impl Survey {
     }
 
     /// The survey of a job that has run to its end.
-    pub fn of(alloc: Global, rule: Rule, job: Job<Global>) -> Result<Survey, AllocError> {
-        let mut survey = Survey::new(alloc, rule, job)?;
+    pub fn of(
+        alloc: Global,
+        rule: Rule,
+        job: Job<Global>,
+        words: Words,
+    ) -> Result<Survey, AllocError> {
+        let mut survey = Survey::new(alloc, rule, job, words)?;
         match survey.run_out(alloc) {
             Ok(()) => Ok(survey),
             Err(error) => {

@@ -1,13 +1,10 @@
-//! What the functions and the lines of a job did, counted in a run of its own.
+//! What the functions and the lines of a job did.
 
 use crate::chains::innermost;
-use crate::end::with_job;
 use crate::watch::Next;
 use job_profile::Run;
-use job_steps::Job;
 use std::alloc::{AllocError, Global};
-use vcode_base::limits::MOST_BUDGET;
-use vcode_base::{Op, Rule};
+use vcode_base::Op;
 
 /// What was executed: how many instructions, and how many elements their operands and results had.
 #[derive(Clone, Copy, Drop)]
@@ -286,7 +283,7 @@ impl Tally {
     }
 
     /// Counts the words that were held and needed at an instruction that was executed.
-    fn count_words(&mut self, before: Before, words: usize) -> Result<(), AllocError> {
+    pub fn count_words(&mut self, before: Before, words: usize) -> Result<(), AllocError> {
         let line = before.next.line as usize;
         self.reach(line)?;
         if let Some(tally) = self.lines.get_mut(line) {
@@ -315,78 +312,11 @@ impl Tally {
         }
     }
 
-    /// Counts an instruction that was executed with this many elements.
-    fn follow(
-        &mut self,
-        before: Before,
-        elements: u64,
-        stretch: &mut Stretch,
-        run: &Run<Global>,
-    ) -> Result<(), AllocError> {
-        stretch.all.add(elements);
-        self.count(before, elements)?;
-        if changes_call(before.next.op) {
-            self.count_own(before.function, stretch.end());
-            self.change(before, stretch.all, run);
-        }
-        Ok(())
-    }
-
-    /// Executes and counts the next instruction, which is this one; true if the job goes on.
-    fn step(
-        &mut self,
-        before: Before,
-        stretch: &mut Stretch,
-        run: &mut Run<Global>,
-    ) -> Result<bool, AllocError> {
-        let words = run.demand();
-        let goes_on = run.step();
-        if let Some(elements) = before.elements(run) {
-            self.follow(before, elements, stretch, run)?;
-            self.count_words(before, words)?;
-        }
-        Ok(goes_on)
-    }
-
-    /// Executes and counts all instructions.
-    fn run_out(&mut self, run: &mut Run<Global>) -> Result<(), AllocError> {
-        let mut stretch = Stretch::NONE;
-        let mut function = innermost(run);
-        for _ in 0..=MOST_BUDGET {
-            let Some(before) = Before::of(run) else {
-                break;
-            };
-            function = before.function;
-            self.step(before, &mut stretch, run)?;
-        }
-        self.count_own(function, stretch.end());
-        self.leave_all(stretch.all);
-        Ok(())
-    }
-
     /// Counts the ends of the calls that are still active when the job has executed this.
     pub fn leave_all(&mut self, all: Count) {
         for tally in self.functions.iter_mut() {
             tally.leave_all(all);
         }
-    }
-
-    /// The tally of a run that has executed nothing, which goes to its end.
-    fn of_run(alloc: Global, run: &mut Run<Global>) -> Result<Tally, AllocError> {
-        let mut tally = Tally::new(alloc, run)?;
-        tally.run_out(run)?;
-        Ok(tally)
-    }
-
-    /// The tally of a job that has run to its end, and the job.
-    pub fn of(
-        alloc: Global,
-        rule: Rule,
-        job: Job<Global>,
-    ) -> Result<(Tally, Job<Global>), AllocError> {
-        let mut run = Run::new(alloc, rule, job)?;
-        let tally = Tally::of_run(alloc, &mut run);
-        with_job(tally, run.into_job())
     }
 
     /// What the function at this place of the code did.

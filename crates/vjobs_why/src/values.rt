@@ -1,6 +1,6 @@
 //! The values of an entry of the stack.
 
-use crate::output::print_text;
+use crate::output::{print_and_clear, print_text};
 use crate::padding::push_column;
 use crate::pieces::{push_number, push_size};
 use crate::stack::{push_line, push_value};
@@ -80,22 +80,21 @@ pub fn push_list(text: &mut Text, kind: Kind, values: &[i64]) {
     }
 }
 
-/// A line of values of a kind, the first of which has this place.
-fn row_text(alloc: Global, kind: Kind, place: usize, values: &[i64]) -> Text {
-    let mut text = Text::new(alloc);
+/// Adds a line of values of a kind, the first of which has this place.
+fn push_row(text: &mut Text, kind: Kind, place: usize, values: &[i64]) {
     text.push(' ');
-    push_column(&mut text, place as u64, 9);
+    push_column(text, place as u64, 9);
     text.push_str("  ");
-    push_list(&mut text, kind, values);
+    push_list(text, kind, values);
     text.push('\n');
-    text
 }
 
 /// Prints values of a kind, each line with the place of its first value. The first of all has this place.
 fn print_list(rt: &HostRuntime, kind: Kind, first: usize, values: &[i64]) -> io::Result<()> {
-    let mut place = first;
+    let (mut text, mut place) = (Text::new(rt.alloc()), first);
     for row in values.chunks(ON_A_LINE) {
-        print_text(rt, row_text(rt.alloc(), kind, place, row))?;
+        push_row(&mut text, kind, place, row);
+        print_and_clear(rt, &mut text)?;
         place = place.saturating_add(ON_A_LINE);
     }
     Ok(())
