@@ -23,7 +23,7 @@ import steps
 
 TOP = Path(__file__).resolve().parent.parent
 LENGTHS, TIMES = [1, 10, 100, 1_000, 30_000], 10
-# The nanoseconds that a row is to take, and those of an instruction by a guess: so many, and two for each word.
+# The nanoseconds that a row is to take. An instruction is guessed to take EACH of them, and two more for each word.
 WANTED, EACH = 150_000_000, 200
 # Rounds are fewer where valgrind counts.
 FEWER = 100
