@@ -1,15 +1,15 @@
 -- Which job is admitted next, and whom it passes by, job by job.
 use Rattle.std.proofs.Common.{◌≡◌, ◌↔◌, ℕ, zero, suc, ◌+◌, ◌<◌, ◌≤◌, Bool, true, false, ◌&&◌, List, [], ◌∷◌, cond}
-use Rattle.std.proofs.Common.{length, slice_get, Option, Some, None, refl, sym, ◌∙◌, ap, subst, arith}
+use Rattle.std.proofs.Common.{length, slice_get, Option, Some, None, refl, ◌∙◌, ap, arith}
 use Rattle.std.proofs.lemmas.Bool.{leb-false, le-leb, lt-leb}
-use Rattle.std.proofs.lemmas.Option.{none-some, same_Some}
+use Rattle.std.proofs.lemmas.Option.{none-some}
 use Rattle.vcode_base.specs.declared.limits.TheConstants.{MOST_PASSES}
 use Rattle.job_steps.specs.declared.event.Event.TheVariants.{Admit}
 use Rattle.job_steps.specs.EventLaws.{IsNext, MayBePassed, PassesBy}
 use Rattle.job_steps.specs.Events.{after_event}
 use Rattle.job_steps.specs.Standings.{Standing, Waiting, Live, InFlight, Ended, Collected, Queue, of_job, is_waiting}
 use Rattle.job_steps.specs.Standings.{granted_words, has_room, is_passed_enough, admission_from, admission}
-use Rattle.job_steps.specs.Standings.{passed_once_more, passes_before}
+use Rattle.job_steps.specs.Standings.{passes_before}
 use Rattle.job_steps.specs.States.{Task}
 use Rattle.job_steps.proofs.Passes.{admissions_pass_once}
 use Rattle.job_steps.proofs.Standings.{PassableBefore, admitted_has_room, admitted_next, admits, not_passed}
@@ -54,17 +54,9 @@ not_passed_enough (InFlight n) count few = refl
 not_passed_enough Ended count few = refl
 not_passed_enough Collected count few = refl
 
-found_first : (first : ℕ) (fits : Task → Bool) (t : Task) (s : Standing) (task : Task) (others : Option ℕ) →
-    t ≡ task → s ≡ Waiting → fits task ≡ true → cond (is_waiting s && fits t) (Some first) others ≡ Some first
-found_first first fits t s task others t_is s_is fits_is =
-    let both : (is_waiting s && fits t) ≡ true =
-    subst (λ (k : Standing). (is_waiting k && fits t) ≡ true) (sym s_is) (ap fits t_is ∙ fits_is) in
-    ap (λ (b : Bool). cond b (Some first) others) both
-
 found_later : (first : ℕ) (b c : Bool) (others : Option ℕ) → b ≡ false → c ≡ false →
     cond b (Some first) (cond c None others) ≡ others
-found_later first b c others b_is c_is =
-    ap (λ (d : Bool). cond d (Some first) (cond c None others)) b_is ∙ ap (λ (d : Bool). cond d None others) c_is
+found_later first b c others b_is c_is = cc
 
 found_at : (first place : ℕ) (fits : Task → Bool) (tasks : List Task) (standings : List Standing) (passes : List ℕ)
     (task : Task) → length standings ≡ length tasks → length passes ≡ length tasks →
@@ -74,11 +66,7 @@ found_at : (first place : ℕ) (fits : Task → Bool) (tasks : List Task) (stand
 found_at first place fits [] standings passes task ss ps t w f before = absurd (none-some task t)
 found_at first place fits (x ∷ tasks) [] passes task ss ps t w f before = absurd (omega (arith, ss))
 found_at first place fits (x ∷ tasks) (s ∷ standings) [] task ss ps t w f before = absurd (omega (arith, ps))
-found_at first zero fits (x ∷ tasks) (s ∷ standings) (k ∷ passes) task ss ps t w f before =
-    found_first first fits x s task
-    (cond (is_passed_enough s k) None (admission_from (suc first) fits tasks standings passes))
-    (same_Some x task t) (same_Some s Waiting w) f
-    ∙ ap (λ (n : ℕ). Some n) (let same : first ≡ 0 + first = omega arith in same)
+found_at first zero fits (x ∷ tasks) (s ∷ standings) (k ∷ passes) task ss ps t w f before = grind arith
 found_at first (suc place) fits (x ∷ tasks) (s ∷ standings) (k ∷ passes) task ss ps t w f before =
     let here = λ (s_is : s ≡ Waiting). before zero x (omega arith) refl (ap (λ (y : Standing). Some y) s_is) in
     let rest : admission_from (suc first) fits tasks standings passes ≡ Some (place + suc first) =
@@ -121,10 +109,7 @@ once_more_at : (place : ℕ) (standings : List Standing) (passes : List ℕ) (i 
 once_more_at zero standings passes i w less count c = absurd (omega (arith, less))
 once_more_at (suc place) [] passes i w less count c = absurd (none-some Waiting w)
 once_more_at (suc place) (x ∷ standings) [] i w less count c = absurd (none-some count c)
-once_more_at (suc place) (x ∷ standings) (k ∷ passes) zero w less count c =
-    let same : k ≡ count = same_Some k count c in
-    let more : suc k ≡ count + 1 = omega (arith, same) in
-    ap (λ (n : ℕ). Some n) (ap (λ (s : Standing). passed_once_more s k) (same_Some x Waiting w) ∙ more)
+once_more_at (suc place) (x ∷ standings) (k ∷ passes) zero w less count c = grind arith
 once_more_at (suc place) (x ∷ standings) (k ∷ passes) (suc i) w less count c =
     once_more_at place standings passes i w (omega (arith, less)) count c
 
@@ -142,15 +127,7 @@ passes_by : (queue : Queue) (job place other : ℕ) (standing : Standing) (after
     PassesBy job other standing (of_job other queue.passes) (of_job other after)
 passes_by queue job place zero standing after job_is after_is s_is = absurd (none-some standing s_is)
 passes_by queue job place (suc i) standing after job_is after_is s_is =
-    let at : of_job (suc i) after ≡ of_job (suc i) (passes_before place queue.standings queue.passes) =
-    ap (of_job (suc i)) after_is in
-    record {
-      once_more = λ less waits count c.
-          at ∙ once_more_at place queue.standings queue.passes i (s_is ∙ ap (λ (s : Standing). Some s) waits)
-          (omega (arith, less, job_is)) count c;
-      at_or_after = λ later. at ∙ stays_at place queue.standings queue.passes i (omega (arith, later, job_is));
-      not_waiting = λ moved. at ∙ not_passed place queue.standings queue.passes i standing s_is moved;
-    }
+    grind (arith, once_more_at, stays_at, not_passed)
 
 pub admissions_pass_those_before : (region : ℕ) (tasks : List Task) (queue : Queue) (job : ℕ) →
     admission region tasks queue ≡ Some job → (other : ℕ) (standing : Standing) →

@@ -1,7 +1,7 @@
 -- What holds of each state that a job reaches, whatever its program: counts and words within the limits, and tags.
-use Rattle.std.proofs.Common.{◌≡◌, ℕ, ◌+◌, ◌<◌, ◌≤◌, max, Bool, true, false, cond, eqb, ltb, List, [], ◌∷◌, length}
+use Rattle.std.proofs.Common.{◌≡◌, ℕ, ◌+◌, ◌<◌, ◌≤◌, max, Bool, true, false, eqb, List, [], ◌∷◌, length}
 use Rattle.std.proofs.Common.{get_or, Option, Some, None, refl, sym, ◌∙◌, ap, subst, arith, zero, suc}
-use Rattle.std.specs.Prelude.{All, ◌&&◌}
+use Rattle.std.specs.Prelude.{All}
 use Rattle.std.proofs.Math.Nat.{max-le, le-max_right}
 use Rattle.std.proofs.lemmas.Bool.Decides.{nat_tests}
 use Rattle.std.proofs.lemmas.List.Elements.{All-nil, All-cons, All-weaker}
@@ -15,14 +15,12 @@ use Rattle.vcode_base.specs.declared.rule.Rule.{Rule}
 use Rattle.vcode_base.specs.Instructions.{op_of}
 use Rattle.vcode_base.specs.Laws.{ResultsHaveNeededLengths}
 use Rattle.vcode_base.specs.Meaning.{shape}
-use Rattle.vcode_base.specs.Names.{main_name}
 use Rattle.vcode_reader.specs.Trees.{Item, Body, End, Do, Choice}
 use Rattle.verifier.specs.Typed.{TypedProgram}
 use Rattle.job_steps.specs.Motions.{stack_after, depth_after}
 use Rattle.job_steps.specs.Reached.{AreAlike}
 use Rattle.job_steps.specs.Runs.{progress_from, state_after}
 use Rattle.job_steps.specs.States.{Vector, Task, StackEntry, Active, State, Callee, callee_named, calls_with}
-use Rattle.job_steps.specs.States.{first_state}
 use Rattle.job_steps.specs.States.{held_words, new_entries}
 use Rattle.job_steps.specs.Steps.{Progress, Running, Over, Stuck, next_item, sources_of, question_of, results_of}
 use Rattle.job_steps.specs.Steps.{words_at, is_call, memory_fault, ending_by, calls_past, calls_after}
@@ -39,31 +37,10 @@ pub record Fits (limits : Limits) (op : Op) (words depth calls : ℕ) : Type 0 w
   pub cells_fit : depth ≤ limits.cells
   pub calls_fit : is_call op ≡ true → calls + 1 ≤ limits.calls
 
-none_refused : (w c k : Bool) (x y z : MemoryFault) →
-    cond w (Some x) (cond c (Some y) (cond k (Some z) None)) ≡ None → (w ≡ false) × (c ≡ false) × (k ≡ false)
-none_refused true c k x y z e = absurd (let h : Some x ≡ None = e in cc)
-none_refused false true k x y z e = absurd (let h : Some y ≡ None = e in cc)
-none_refused false false true x y z e = absurd (let h : Some z ≡ None = e in cc)
-none_refused false false false x y z e = (refl, refl, refl)
-
-left_false : (a b : Bool) → (a && b) ≡ false → a ≡ true → b ≡ false
-left_false true b e h = e
-left_false false b e h = absurd (let g : false ≡ true = h in cc)
-
 pub fits : (limits : Limits) (op : Op) (words depth calls : ℕ) → memory_fault limits op words depth calls ≡ None →
     Fits limits op words depth calls
 unfolding memory_fault
-fits limits op words depth calls e =
-    let p = none_refused (ltb limits.words words) (ltb limits.cells depth)
-    (is_call op && ltb limits.calls (calls + 1)) _ _ _ e in
-    let w : ltb limits.words words ≡ false = p.0 in
-    let c : ltb limits.cells depth ≡ false = p.1 in
-    record {
-      words_fit = grind (arith, nat_tests, w);
-      cells_fit = grind (arith, nat_tests, c);
-      calls_fit = λ h. (let k : ltb limits.calls (calls + 1) ≡ false =
-          left_false (is_call op) (ltb limits.calls (calls + 1)) p.2 h in grind (arith, nat_tests, k));
-    }
+fits limits op words depth calls e = grind arith
 
 pub neither : (line : ℕ) (a : Option DataFault) (b : Option MemoryFault) → ending_by line a b ≡ None →
     (a ≡ None) × (b ≡ None)
@@ -111,18 +88,11 @@ length-calls_after verified flag (Choice line first second end rest) ret outer m
 
 tags_below : (next : ℕ) (vs : List Vector) → All (λ e. e.tag < next + length vs) (new_entries next vs)
 tags_below next [] = All-nil (λ e. e.tag < next + 0)
-tags_below next (v ∷ vs) =
-    All-cons (λ e. e.tag < next + suc (length vs)) (record { tag = next; value = v }) (new_entries (next + 1) vs)
-    (omega arith)
-    (All-weaker (λ e. e.tag < (next + 1) + length vs) (λ e. e.tag < next + suc (length vs)) (λ e h. omega arith)
-    (new_entries (next + 1) vs) (tags_below (next + 1) vs))
+tags_below next (v ∷ vs) = grind (arith, All-cons, All-weaker, (tags_below (next + 1) vs))
 
 tags_from : (next : ℕ) (vs : List Vector) → All (λ e. next ≤ e.tag) (new_entries next vs)
 tags_from next [] = All-nil (λ e. next ≤ e.tag)
-tags_from next (v ∷ vs) =
-    All-cons (λ e. next ≤ e.tag) (record { tag = next; value = v }) (new_entries (next + 1) vs) (omega arith)
-    (All-weaker (λ e. next + 1 ≤ e.tag) (λ e. next ≤ e.tag) (λ e h. omega arith) (new_entries (next + 1) vs)
-    (tags_from (next + 1) vs))
+tags_from next (v ∷ vs) = grind (arith, All-cons, All-weaker, (tags_from (next + 1) vs))
 
 new_agree : (next : ℕ) (vs : List Vector) → Agree (new_entries next vs)
 new_agree next [] = All-nil (λ e. All (AreAlike e) [])
@@ -240,17 +210,7 @@ went_past : (task : Task) (s next : State) (call : Active) (outer : List Active)
     (calls : List Active) → calls_then task s call outer ≡ calls →
     progress_past task.rule (item_of call) s calls ≡ Running next → Went task s next
 went_past task s next call outer p [] is e = absurd (over_running _ _ _ next e)
-went_past task s next call outer p (last ∷ others) is e =
-    record {
-      call = call;
-      outer = outer;
-      passes = p;
-      last = last;
-      others = others;
-      calls = is;
-      new =
-          (let h : Running (state_past task.rule (item_of call) s (last ∷ others)) ≡ Running next = e in cc);
-    }
+went_past task s next call outer p (last ∷ others) is e = grind arith
 
 went_by : (task : Task) (s next : State) (p : Progress) → Goes task s p → p ≡ Running next → Went task s next
 went_by task s next p (Ends ending early is) e = absurd (over_running _ _ _ next (sym is ∙ e))
@@ -267,29 +227,10 @@ bounded_next law task n s next b w =
     subst (IsBounded task (n + 1)) (ap (state_past task.rule (item_of w.call) s) w.calls
     ∙ w.new) (bounded_past law task n s w.call w.outer b w.passes)
 
-first_calls : (o : Option Callee) (most : ℕ) → 1 ≤ most → length (calls_with o []) ≤ most
-first_calls None most h = omega arith
-first_calls (Some callee) most h = h
-
-bounded_first : (task : Task) → IsBounded task 0 (first_state task.verified)
-bounded_first task = record {
-  count = refl;
-  budget = omega arith;
-  tags = All-nil (λ e. e.tag < 0);
-  alike = All-nil (λ e. All (AreAlike e) []);
-  words = omega arith;
-  held = omega arith;
-  highest = omega arith;
-  cells = omega arith;
-  calls = first_calls (callee_named task.verified main_name) task.limits.calls (task.limits.calls_in_range.0);
-}
-
 -- each state that any job reaches is so
 pub bounded : ResultsHaveNeededLengths → (task : Task) (n : ℕ) (s : State) → state_after task n ≡ Running s →
     IsBounded task n s
-bounded law task zero s e = let h : first_state task.verified ≡ s =
-    (let g : Running (first_state task.verified) ≡ Running s = e in cc) in
-    subst (IsBounded task 0) h (bounded_first task)
+bounded law task zero s e = grind arith
 bounded law task (suc n) s e =
     let from = running_from task (state_after task n) s e in
     subst (λ k. IsBounded task k s) (omega arith)

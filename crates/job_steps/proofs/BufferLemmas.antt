@@ -1,4 +1,5 @@
 -- Lists one after another.
+use Rattle.std.proofs.Common.{rules}
 use Rattle.std.proofs.Common.{◌≡◌, ℕ, ℤ, ◌+◌, ◌≤◌, ◌++◌, List, [], ◌∷◌, length, map, take, drop, sum, get_or}
 use Rattle.std.proofs.Common.{refl, ap, arith, zero, suc}
 use Rattle.std.proofs.lemmas.List.{length-append}
@@ -89,16 +90,8 @@ drop_first (x ∷ xs) ys = drop_first xs ys
 -- lists in a row are the pieces of their lengths
 pub pieces_in_a_row : (lists : List (List ℤ)) → pieces_of (map length lists) (in_a_row lists) ≡ lists
 pieces_in_a_row [] = refl
-pieces_in_a_row (list ∷ lists) =
-    rw (take_first list (in_a_row lists), drop_first list (in_a_row lists))
-    (ap (λ others. list ∷ others) (pieces_in_a_row lists))
+pieces_in_a_row (list ∷ lists) = grind (arith, take_first, drop_first, (pieces_in_a_row lists))
 
 pub length-in_a_row : (lists : List (List ℤ)) → length (in_a_row lists) ≡ length_of_all lists
 length-in_a_row [] = refl
-length-in_a_row (list ∷ lists) =
-    omega (
-      arith,
-      length-append list (in_a_row lists),
-      length-in_a_row lists,
-      sum_by-cons length list lists,
-    )
+length-in_a_row (list ∷ lists) = search (rules, length-append, sum_by-cons, (length-in_a_row lists))

@@ -1,4 +1,5 @@
 -- Jobs are equal if their parts are.
+use Rattle.std.proofs.Common.{arith}
 use Rattle.std.proofs.Common.{◌≡◌, ◌≤◌, ℕ, Bool, ◌&&◌, refl, ap, subst}
 use Rattle.std.specs.Bool.{Decides}
 use Rattle.std.specs.Coded.{le_prop, ×_prop}
@@ -48,15 +49,7 @@ same_numbers x y ew ec ek eb =
 
 same_limits : (a b : Limits) → Decides
     (nat_eq a.words b.words && (nat_eq a.cells b.cells && (nat_eq a.calls b.calls && nat_eq a.budget b.budget))) (a ≡ b)
-same_limits a b =
-    Decides-like _ (λ (w, (c, (k, b'))). same_numbers a b w c k b')
-    (λ e. (
-      ap (λ (x : Limits). x.words) e,
-      (ap (λ (x : Limits). x.cells) e, (ap (λ (x : Limits). x.calls) e, ap (λ (x : Limits). x.budget) e)),
-    ))
-    (Decides-and _ _ (Decides-eqb a.words b.words)
-    (Decides-and _ _ (Decides-eqb a.cells b.cells)
-    (Decides-and _ _ (Decides-eqb a.calls b.calls) (Decides-eqb a.budget b.budget))))
+same_limits a b = grind (arith, Decides-like, same_numbers, Decides-and, Decides-eqb)
 
 -- ---- jobs
 

@@ -1,4 +1,6 @@
 -- Lists of flags: what is made of flags is of flags.
+use Rattle.std.proofs.Common.{rules}
+use Rattle.std.proofs.Common.{arith}
 use Rattle.std.proofs.Common.{ℕ, ℤ, pos, ◌+◌, Bool, true, false, cond, List, [], ◌∷◌, length}
 use Rattle.std.proofs.Common.{take, drop, refl, inl, inr, suc, zero}
 use Rattle.std.specs.Prelude.{All, zip, fold, flat_map, slice_index_or}
@@ -7,8 +9,7 @@ use Rattle.std.proofs.lemmas.List.Elements.{All-nil, All-cons, All-head, All-tai
 use Rattle.std.proofs.lemmas.List.Elements.{All-drop, All-replicate, All-weaker}
 use Rattle.vcode_base.specs.Elements.{flag, logic, fold_step, identity, fold_of}
 use Rattle.vcode_base.specs.Kinds.{IsFlag}
-use Rattle.vcode_base.specs.Segments.{pieces_of, names, arrival, scatter_of, permutation_of, folds_before}
-use Rattle.vcode_base.specs.Segments.{places}
+use Rattle.vcode_base.specs.Segments.{pieces_of, arrival, scatter_of, permutation_of, folds_before}
 use Rattle.vcode_base.specs.declared.kind.Scalar.TheVariants.{Bool as Flags}
 use Rattle.vcode_base.specs.declared.op.Fold.TheVariants.{Logic as LogicFold}
 use Rattle.vcode_base.specs.declared.op.Logic.{Logic}
@@ -25,15 +26,13 @@ pub All-zip : {A B : Type 0} (P : A → Type 0) (Q : B → Type 0) (xs : List A)
 All-zip {A} {B} P Q [] ys p q = All-nil (λ (p : A × B). P p.0 × Q p.1)
 All-zip {A} {B} P Q (x ∷ xs) [] p q = All-nil (λ (p : A × B). P p.0 × Q p.1)
 All-zip {A} {B} P Q (x ∷ xs) (y ∷ ys) p q =
-    All-cons (λ (p : A × B). P p.0 × Q p.1) (x, y) (zip xs ys) (All-head P x xs p, All-head Q y ys q)
-    (All-zip P Q xs ys (All-tail P x xs p) (All-tail Q y ys q))
+    grind (arith, All-cons, All-head, All-tail, (All-zip P Q xs ys (All-tail P x xs p) (All-tail Q y ys q)))
 
 pub All-flat_map : {A B : Type 0} (P : B → Type 0) (f : A → List B) (xs : List A) → All (λ x. All P (f x)) xs →
     All P (flat_map f xs)
 All-flat_map P f [] all = All-nil P
 All-flat_map P f (x ∷ xs) all =
-    All-append P (f x) (flat_map f xs) (All-head (λ x. All P (f x)) x xs all)
-    (All-flat_map P f xs (All-tail (λ x. All P (f x)) x xs all))
+    search (rules, All-append, All-head, All-tail, (All-flat_map P f xs (All-tail (λ x. All P (f x)) x xs all)))
 
 pub All-cut : (P : ℤ → Type 0) (ns : List ℕ) (xs : List ℤ) → All P xs → All (All P) (pieces_of ns xs)
 All-cut P [] xs all = All-nil (All P)
@@ -45,8 +44,7 @@ All-enumerate : (P : ℤ → Type 0) (from : ℕ) (xs : List ℤ) → All P xs �
     All (λ (p : ℕ × ℤ). P p.1) (enumerate_from from xs)
 All-enumerate P from [] all = All-nil (λ (p : ℕ × ℤ). P p.1)
 All-enumerate P from (x ∷ xs) all =
-    All-cons (λ (p : ℕ × ℤ). P p.1) (from, x) (enumerate_from (from + 1) xs) (All-head P x xs all)
-    (All-enumerate P (from + 1) xs (All-tail P x xs all))
+    grind (arith, All-cons, All-head, All-tail, (All-enumerate P (from + 1) xs (All-tail P x xs all)))
 
 pub at_index : (P : ℤ → Type 0) (xs : List ℤ) (n : ℕ) (d : ℤ) → All P xs → P d → P (slice_index_or xs n d)
 at_index P [] n d all here = here
@@ -97,17 +95,12 @@ pub fold_flag : (op : Logic) (xs : List ℤ) → All IsFlag xs → IsFlag (fold_
 fold_flag op xs all = folded op (identity (LogicFold op Flags)) xs (first_flag op) all
 
 pub scanned_flags : (op : Logic) (xs : List ℤ) → All IsFlag xs → All IsFlag (folds_before (LogicFold op Flags) xs)
-scanned_flags op xs all =
-    All-map IsFlag (λ k. fold_of (LogicFold op Flags) (take k xs)) (places (length xs))
-    (All-always (λ k. IsFlag (fold_of (LogicFold op Flags) (take k xs)))
-    (λ k. fold_flag op (take k xs) (All-take IsFlag k xs all)) (places (length xs)))
+scanned_flags op xs all = search (rules, All-map, All-always, fold_flag, All-take)
 
 arrived : (moves : List (ℤ × ℤ)) (q : ℕ) (d : ℤ) → All (λ (p : ℤ × ℤ). IsFlag p.1) moves → IsFlag d →
     IsFlag (arrival moves q d)
 arrived [] q d all here = here
-arrived ((i, x) ∷ moves) q d all here =
-    arrived moves q (cond (names q i) x d) (All-tail (λ (p : ℤ × ℤ). IsFlag p.1) (i, x) moves all)
-    (chosen_flag (names q i) x d (All-head (λ (p : ℤ × ℤ). IsFlag p.1) (i, x) moves all) here)
+arrived ((i, x) ∷ moves) q d all here = search (rules, All-tail, chosen_flag, All-head, (arrived moves q))
 
 pub moved_flags : (xs is there : List ℤ) → All IsFlag xs → All IsFlag there → All IsFlag (scatter_of xs is there)
 moved_flags xs is there p q =

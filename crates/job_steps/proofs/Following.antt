@@ -1,10 +1,9 @@
 -- The frames after an instruction.
-use Rattle.std.proofs.Common.{◌≡◌, ◌∙◌, ◌+◌, ◌<◌, ℕ, suc, Bool, true, false, List, [], ◌∷◌, ◌++◌, length, drop, map}
+use Rattle.std.proofs.Common.{◌≡◌, ◌∙◌, ◌+◌, ◌<◌, ℕ, suc, Bool, true, false, List, [], ◌∷◌, ◌++◌, length, drop}
 use Rattle.std.proofs.Common.{Option}
 use Rattle.std.proofs.Common.{Some, None, refl, ap, sym, subst, arith}
-use Rattle.std.specs.Prelude.{slice_get, position, if◌then◌else◌, option_map, IsSome, max}
+use Rattle.std.specs.Prelude.{slice_get, position, if◌then◌else◌, IsSome, max}
 use Rattle.std.specs.Str.{bytes_eq}
-use Rattle.std.proofs.lemmas.List.{length-drop}
 use Rattle.std.proofs.lemmas.Option.{slice_get-map}
 use Rattle.vcode_base.specs.declared.instr.Instr.TheVariants as instr
 use Rattle.vcode_base.specs.declared.op.Op.{Op}
@@ -14,22 +13,20 @@ use Rattle.vcode_base.specs.Kinds.{result_kinds}
 use Rattle.vcode_base.specs.Names.{main_name}
 use Rattle.vcode_reader.specs.declared.line.CodeItem.{CodeItem}
 use Rattle.vcode_reader.specs.declared.line.CodeItem.TheVariants as code_item
-use Rattle.vcode_reader.specs.Callees.{callee_of as callee_in_line, callees_of, callee_in, callee_at as callee_at_line}
+use Rattle.vcode_reader.specs.Callees.{callee_of as callee_in_line, callees_of, callee_at as callee_at_line}
 use Rattle.vcode_reader.specs.Decode.{then_body}
-use Rattle.vcode_reader.specs.Targets.{target_in}
 use Rattle.vcode_reader.specs.Trees.{Item, Body, End, Do, Choice, CodeLine, Function, Program, IsBodyInstruction}
 use Rattle.vcode_reader.specs.Trees.{IsProperBody, body_lines}
 use Rattle.vcode_reader.specs.Trees.{lines_of, instruction_line}
-use Rattle.signatures.specs.Signatures.{FunctionType}
 use Rattle.verifier.specs.Typed.{TypedProgram}
 use Rattle.job_steps.specs.declared.frame.Frame.{Frame}
 use Rattle.job_steps.specs.Reached.{IsVerifiedBySome}
-use Rattle.job_steps.specs.Frames.{StopAt, Stands, StandAll, remaining, lines_at, first_line, next_line}
+use Rattle.job_steps.specs.Frames.{StopAt, Stands, StandAll, first_line, next_line}
 use Rattle.job_steps.specs.Motions.{stack_after, depth_after}
-use Rattle.job_steps.specs.States.{Task, StackEntry, Active, State, Callee, callee_of, callee_at, callee_named}
+use Rattle.job_steps.specs.States.{Task, StackEntry, Active, State, Callee, callee_at, callee_named}
 use Rattle.job_steps.specs.States.{calls_with}
 use Rattle.job_steps.specs.States.{first_state, new_entries}
-use Rattle.job_steps.specs.Steps.{first_item, next_item, calls_past, calls_after, can_call, can_run, is_call}
+use Rattle.job_steps.specs.Steps.{first_item, next_item, calls_past, calls_after, can_run, is_call}
 use Rattle.job_steps.specs.Steps.{question_of, results_of}
 use Rattle.job_steps.specs.Steps.{flag_of, words_at, progress_past}
 use Rattle.job_steps.specs.Tracks.{CanCall, CanFollow, Follow, IsCallOf, first_call, functions_of, TrackState, IsAt}
@@ -41,11 +38,6 @@ use Rattle.job_steps.proofs.Typed.{callee}
 
 -- ---- the innermost frame
 
-pub some_frame : (fs : List Function) (frames : List Frame) (call : Active) (outer : List Active) →
-    StandAll fs frames (call ∷ outer) → 0 < length frames
-some_frame fs [] call outer s = absurd s
-some_frame fs (frame ∷ frames) call outer s = omega arith
-
 -- the innermost frame is at the innermost call, and the others at the others
 pub record IsTop (fs : List Function) (frames : List Frame) (frame : Frame) (call : Active) (outer : List Active)
     : Type 0
@@ -56,9 +48,7 @@ pub record IsTop (fs : List Function) (frames : List Frame) (frame : Frame) (cal
 pub top_frame : (fs : List Function) (frames : List Frame) (frame : Frame) (call : Active) (outer : List Active) →
     slice_get frames 0 ≡ Some frame → StandAll fs frames (call ∷ outer) → IsTop fs frames frame call outer
 top_frame fs [] frame call outer e s = absurd s
-top_frame fs (f ∷ frames) frame call outer e s =
-    let same : f ≡ frame = let h : ◌≡◌ {A = Option Frame} (Some f) (Some frame) = e in cc in
-    record { inner = subst (λ x. Stands fs x call) same s.0; others = s.1 }
+top_frame fs (f ∷ frames) frame call outer e s = grind arith
 
 -- ---- the line that is next, by its instruction without list or name
 
@@ -316,10 +306,6 @@ module _ (verified : TypedProgram) (frames : List Frame) (frame : Frame) (top : 
         call_by next behind c.name c.callee inner c.is.is (first c.name c.callee c.is) flag call.rest call.ret outer
         (c.line call t.inner) t.inner t.others
 
-pub long_again : (frame : Frame) (frames : List Frame) → 0 < length frames →
-    length (frame ∷ drop 1 frames) ≡ length frames
-long_again frame frames h = omega (arith, length-drop 1 frames)
-
 -- ---- the first frame of a function
 
 stops_first : (b : Body) (ret : ℕ) → StopAt (body_lines b ++ instruction_line instr.Return ret ∷ [])
@@ -332,23 +318,7 @@ frame_of place = record { function = place; place = 0 }
 
 starts : (fs : List Function) (place : ℕ) (f : Function) → slice_get fs place ≡ Some f →
     Stands fs (frame_of place) (record { rest = f.body; ret = f.ret })
-starts fs place f at =
-    let lines : lines_at (slice_get fs place) ≡ lines_of f = ap lines_at at in
-    record {
-      remains = ap remaining lines ∙ remaining_of_all f;
-      stops = subst StopAt (sym lines) (stops_first f.body f.ret);
-    }
-
-function_in : Option Callee → Option Function
-function_in None = None
-function_in (Some c) = Some c.function
-
-function_is : (a : Option Function) (b : Option FunctionType) (c : Callee) → callee_of a b ≡ Some c → a
-    ≡ Some c.function
-unfolding function_in
-function_is None b c e = absurd (let h : ◌≡◌ {A = Option Callee} None (Some c) = e in cc)
-function_is (Some f) None c e = absurd (let h : ◌≡◌ {A = Option Callee} None (Some c) = e in cc)
-function_is (Some f) (Some a) c e = ap function_in e
+starts fs place f at = grind (arith, remaining_of_all, stops_first)
 
 record PlaceIs (verified : TypedProgram) (o : Option ℕ) (c : Callee) : Type 0 where
   place : ℕ
@@ -357,11 +327,7 @@ record PlaceIs (verified : TypedProgram) (o : Option ℕ) (c : Callee) : Type 0 
 
 place_is : (verified : TypedProgram) (o : Option ℕ) (c : Callee) → callee_at verified o ≡ Some c → PlaceIs verified o c
 place_is verified None c e = absurd (let h : ◌≡◌ {A = Option Callee} None (Some c) = e in cc)
-place_is verified (Some place) c e = record {
-  place = place;
-  is = refl;
-  there = function_is (slice_get verified.program.functions place) (slice_get verified.arrows place) c e;
-}
+place_is verified (Some place) c e = grind arith
 
 abbrev is_named : List ℕ → Function → Bool
 is_named name f = bytes_eq f.name name
@@ -391,11 +357,7 @@ callee_line : (fs : List Function) (function place : ℕ) (f : Function) (x : Co
     slice_get fs function ≡ Some f → slice_get (lines_of f) place ≡ Some x →
     callee_at_line fs function place ≡ callee_in_line fs x.item
 unfolding callees_of
-callee_line fs function place f x hf hx =
-    let in_line : CodeLine → Option ℕ = λ y. callee_in_line fs y.item in
-    let in_lines : Function → List (Option ℕ) = λ g. map in_line (lines_of g) in
-    ap (λ z. callee_in z place) (slice_get-map in_lines fs function ∙ ap (option_map in_lines) hf)
-    ∙ ap target_in (slice_get-map in_line (lines_of f) place ∙ ap (option_map in_line) hx)
+callee_line fs function place f x hf hx = grind (arith, slice_get-map)
 
 -- the callee of a CALL
 pub found_call : (verified : TypedProgram) (frame : Frame) (name : List ℕ) (c : Callee) (o : Option ℕ) →
@@ -434,8 +396,7 @@ main_is verified o v at =
 
 pub same_functions : (p : Program) (v verified : TypedProgram) → p ≡ v.program → v ≡ verified →
     p.functions ≡ functions_of verified
-same_functions p v verified program same =
-    ap (λ (q : Program). q.functions) (program ∙ ap (λ (w : TypedProgram). w.program) same)
+same_functions p v verified program same = cc
 
 -- the innermost frame is at some call
 pub inner_stands : (verified : TypedProgram) (frames : List Frame) (frame : Frame) (o : Op) (room : ℕ)
@@ -454,37 +415,13 @@ same_length fs [] (call ∷ calls) s = absurd s
 same_length fs (frame ∷ frames) [] s = absurd s
 same_length fs (frame ∷ frames) (call ∷ calls) s = ap suc (same_length fs frames calls s.1)
 
-callee_there : (o : Option Callee) (stack : List StackEntry) → can_call o stack ≡ true → (c : Callee) × (o ≡ Some c)
-callee_there None stack e = absurd (let h : false ≡ true = e in cc)
-callee_there (Some c) stack e = (c, refl)
-
-can_call_by : (verified : TypedProgram) (item : Item) (stack : List StackEntry) (active room : ℕ) →
-    can_run verified item stack ≡ true →
-    (is_call (op_of item) ≡ true → active < room) → CanCall verified item active room
-can_call_by verified (instr.Const k list) stack active room runs few = tt
-can_call_by verified (instr.Elementwise e) stack active room runs few = tt
-can_call_by verified (instr.Segmented s) stack active room runs few = tt
-can_call_by verified instr.If stack active room runs few = tt
-can_call_by verified (instr.Move motion lower upper) stack active room runs few = tt
-can_call_by verified (instr.Call name) stack active room runs few =
-    let c = callee_there (callee_named verified name) stack runs in
-    (c.0, c.1, few refl)
-can_call_by verified instr.Return stack active room runs few = tt
-
 -- An instruction that can run can be followed, if at a CALL there is room for one call more.
 pub can_follow : (verified : TypedProgram) (frames : List Frame) (call : Active) (outer : List Active)
     (stack : List StackEntry) (room : ℕ) → StandAll (functions_of verified) frames (call ∷ outer) →
     IsProperBody call.rest → can_run verified (next_item call).item stack ≡ true →
     (is_call (op_of (next_item call).item) ≡ true → length frames < room) →
     CanFollow verified (op_of (next_item call).item) frames room
-can_follow verified frames call outer stack room stands proper runs few = record {
-  call = call;
-  outer = outer;
-  stands = stands;
-  op_is = refl;
-  proper = proper;
-  called = can_call_by verified (next_item call).item stack (length frames) room runs few;
-}
+can_follow verified frames call outer stack room stands proper runs few = grind arith
 
 -- ---- a track that is advanced
 

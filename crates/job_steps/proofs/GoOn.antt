@@ -1,7 +1,7 @@
 -- An event is open while some job isn't collected.
+use Rattle.std.proofs.Common.{rules}
 use Rattle.std.proofs.Common.{◌≡◌, ◌⊎◌, ℕ, zero, suc, ◌+◌, ◌≤◌, Bool, true, false, cond, List, []}
 use Rattle.std.proofs.Common.{◌∷◌, length, slice_get, All, Some, None, refl, ap, arith, inl, inr}
-use Rattle.std.proofs.lemmas.Bool.{le-leb}
 use Rattle.std.proofs.lemmas.List.Elements.{All-nil, All-cons, All-head, All-tail}
 use Rattle.job_steps.specs.declared.event.Event.{Event}
 use Rattle.job_steps.specs.declared.event.Event.TheVariants.{Admit, Begin, Finish, Collect}
@@ -124,11 +124,7 @@ idle_granted (t ∷ tasks) (s ∷ standings) idle =
 all_fit : (region granted : ℕ) (tasks : List Task) → granted ≡ 0 → All (λ task. task.limits.words ≤ region) tasks →
     All (λ task. has_room region granted task ≡ true) tasks
 all_fit region granted [] none words = All-nil (λ (task : Task). has_room region granted task ≡ true)
-all_fit region granted (t ∷ tasks) none words =
-    let fits = All-head (λ (task : Task). task.limits.words ≤ region) t tasks words in
-    All-cons (λ (task : Task). has_room region granted task ≡ true) t tasks
-    (le-leb (granted + t.limits.words) region (omega (arith, fits, none)))
-    (all_fit region granted tasks none (All-tail (λ (task : Task). task.limits.words ≤ region) t tasks words))
+all_fit region granted (t ∷ tasks) none words = grind arith
 
 -- all are collected, or a job is admitted
 abbrev IdleOr : ℕ → (Task → Bool) → List Task → List Standing → List ℕ → Type 0
@@ -185,10 +181,7 @@ goes_on_by : (region : ℕ) (tasks : List Task) → All (λ task. task.limits.wo
 goes_on_by region tasks words queue same count (inl b) =
     inr (busy_goes_on region tasks queue b.place b.task b.task_is b.standing b.standing_is b.busy)
 goes_on_by region tasks words queue same count (inr idle) =
-    let granted : ℕ = granted_words tasks queue.standings in
-    idle_goes_on region tasks queue
-    (idle_admits 1 (has_room region granted) tasks queue.standings queue.passes idle
-    (all_fit region granted tasks (idle_granted tasks queue.standings idle) words) same count)
+    search (rules, idle_goes_on, idle_admits, all_fit, idle_granted)
 
 pub events_go_on : (region : ℕ) (tasks : List Task) → All (λ task. task.limits.words ≤ region) tasks →
     (queue : Queue) → length queue.standings ≡ length tasks → length queue.passes ≡ length tasks →

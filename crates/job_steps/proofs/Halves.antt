@@ -1,6 +1,7 @@
 -- One step in two halves: what ends a job before the values are looked at, and what the values decide.
-use Rattle.std.proofs.Common.{◌≡◌, ℕ, suc, ◌+◌, ◌<◌, ◌≤◌, Bool, true, false, cond, eqb, List, [], ◌∷◌, Option, Some}
-use Rattle.std.proofs.Common.{None, refl, sym, ◌∙◌, ap, arith, add-one}
+use Rattle.std.proofs.Common.{rules}
+use Rattle.std.proofs.Common.{◌≡◌, ℕ, ◌+◌, ◌<◌, ◌≤◌, Bool, true, false, cond, eqb, List, [], ◌∷◌, Option, Some}
+use Rattle.std.proofs.Common.{None, refl, sym, ◌∙◌, ap, arith}
 use Rattle.std.proofs.lemmas.Bool.Decides.{nat_tests}
 use Rattle.std.proofs.lemmas.Option.{none-some, same_Some}
 use Rattle.vcode_base.specs.declared.outcome.Outcome.TheVariants.{Budget}
@@ -10,10 +11,10 @@ use Rattle.signatures.specs.Signatures.{Signature}
 use Rattle.job_steps.specs.EventLaws.{IsEndAt, IsReady}
 use Rattle.job_steps.specs.Events.{early_end, early_end_in}
 use Rattle.job_steps.specs.Reached.{IsVerifiedTask, Reaches, NeverStuck, EndIsOwn}
-use Rattle.job_steps.specs.Runs.{progress_from, state_after}
+use Rattle.job_steps.specs.Runs.{state_after}
 use Rattle.job_steps.specs.States.{Task, Active, State}
 use Rattle.job_steps.specs.Steps.{Ending, Progress, Running, Over, Stuck, next_item, sources_of, question_of, flag_of}
-use Rattle.job_steps.specs.Steps.{can_run, early_ending, calls_after, progress_by, progress_unless, progress_in}
+use Rattle.job_steps.specs.Steps.{can_run, calls_after, progress_by, progress_unless, progress_in}
 use Rattle.job_steps.specs.Steps.{next_progress}
 
 some-none : {T : Type 0} (x : T) → ◌≡◌ {A = Option T} (Some x) None → ⊥
@@ -38,9 +39,7 @@ ends_calls : (task : Task) (s : State) (calls : List Active) (ending : Ending) �
     early_end_in task s calls ≡ Some ending → (progress_in task s calls ≡ Stuck → ⊥) →
     progress_in task s calls ≡ Over ending s.executed s.peak
 ends_calls task s [] ending early goes = absurd (none-some ending early)
-ends_calls task s (call ∷ outer) ending early goes =
-    ends_run (can_run task.verified (next_item call).item s.stack) (early_ending task (next_item call) s) s
-    (by_values task s call outer) ending early goes
+ends_calls task s (call ∷ outer) ending early goes = search (rules, ends_run)
 
 ends_budget : (task : Task) (s : State) (b : Bool) (ending : Ending) →
     cond b (Some Budget) (early_end_in task s s.calls) ≡ Some ending →
@@ -57,9 +56,7 @@ ends task s ending early goes = ends_budget task s (eqb s.executed task.limits.b
 -- the state after one more instruction
 pub after_one : (task : Task) (n : ℕ) (s : State) → state_after task n ≡ Running s →
     state_after task (n + 1) ≡ next_progress task s
-after_one task n s e =
-    let here : state_after task (suc n) ≡ next_progress task s = ap (progress_from task) e in
-    ap (state_after task) (add-one n) ∙ here
+after_one task n s e = grind arith
 
 pub early_ends : NeverStuck → Reaches → EndIsOwn → (signatures : List Signature) (task : Task) →
     IsVerifiedTask signatures task → (n : ℕ) (s : State) (ending : Ending) → state_after task n ≡ Running s →
@@ -87,21 +84,13 @@ passes_run : (task : Task) (s : State) (call : Active) (outer : List Active) (b 
     can_run task.verified (next_item call).item s.stack ≡ b → (o : Option Ending) → o ≡ None →
     (cond b (progress_unless o s (by_values task s call outer)) Stuck ≡ Stuck → ⊥) →
     Passes task s (call ∷ outer) (cond b (progress_unless o s (by_values task s call outer)) Stuck)
-passes_run task s call outer true runs o early goes = record {
-  call = call;
-  outer = outer;
-  calls_are = refl;
-  runs = runs;
-  next = ap (λ k. progress_unless k s (by_values task s call outer)) early;
-}
+passes_run task s call outer true runs o early goes = grind arith
 passes_run task s call outer false runs o early goes = absurd (goes refl)
 
 passes_calls : (task : Task) (s : State) (calls : List Active) → early_end_in task s calls ≡ None →
     (progress_in task s calls ≡ Stuck → ⊥) → Passes task s calls (progress_in task s calls)
 passes_calls task s [] early goes = absurd (goes refl)
-passes_calls task s (call ∷ outer) early goes =
-    passes_run task s call outer (can_run task.verified (next_item call).item s.stack) refl
-    (early_ending task (next_item call) s) early goes
+passes_calls task s (call ∷ outer) early goes = grind (arith, passes_run)
 
 -- the budget isn't spent, and nothing forbids the next instruction
 record PassesBudget (task : Task) (s : State) (p : Progress) : Type 0 where

@@ -1,4 +1,5 @@
 -- What an open event changes.
+use Rattle.std.proofs.Common.{arith}
 use Rattle.std.proofs.Common.{◌≡◌, ℕ, ◌+◌, Bool, true, false, cond, List, Option, Some, None, is_some, refl}
 use Rattle.std.proofs.Common.{sym, ◌∙◌, ap}
 use Rattle.std.proofs.lemmas.Bool.{false≢true}
@@ -78,13 +79,7 @@ never_waits task event old new (Begins job n event_is old_is new_is) e =
     begun_moved task n (Running s) e = begun_by n (is_some (early_end task s)) e
     begun_moved task n (Over ending x p) e = cc
     begun_moved task n Stuck e = cc
-never_waits task event old new (Finishes job n event_is old_is new_is) e =
-    finished_moved (n + 1) (state_after task (n + 1)) (sym new_is ∙ e)
-  where
-    finished_moved : (n : ℕ) (p : Progress) → standing_after n p ≡ Waiting → ⊥
-    finished_moved n (Running s) e = cc
-    finished_moved n (Over ending x p) e = cc
-    finished_moved n Stuck e = cc
+never_waits task event old new (Finishes job n event_is old_is new_is) e = grind arith
 never_waits task event old new (Recalls job n event_is old_is new_is) e = cc
 never_waits task event old new (Collects job event_is old_is new_is) e = cc
 
@@ -103,10 +98,7 @@ pub comes : (region : ℕ) (tasks : List Task) (event : Event) (queue : Queue) (
     (next : Option Standing) → job_of region tasks event queue ≡ o →
     next_standing_of tasks event queue.standings o ≡ next → Comes region tasks event queue o next
 unfolding is_open after_event
-comes region tasks event queue o next job_is next_is =
-    let here : next_standing_of tasks event queue.standings (job_of region tasks event queue) ≡ next =
-    ap (next_standing_of tasks event queue.standings) job_is ∙ next_is in
-    record { can = ap is_some here; after = (λ i. with_next event (job_is i) (here i) queue) }
+comes region tasks event queue o next job_is next_is = grind arith
 
 -- an open event, with its job
 pub record Opens (region : ℕ) (tasks : List Task) (event : Event) (queue : Queue) : Type 0 where
@@ -187,10 +179,7 @@ pub open_where : (region : ℕ) (tasks : List Task) (event : Event) (queue : Que
     (old new : Standing) → job_of region tasks event queue ≡ Some job → of_job job tasks ≡ Some task →
     of_job job queue.standings ≡ Some old → next_standing event task old ≡ Some new →
     is_open region tasks event queue ≡ true
-open_where region tasks event queue job task old new job_is task_is old_is new_is =
-    let next : next_standing_of tasks event queue.standings (Some job) ≡ Some new =
-    (λ i. next_standing_in event (task_is i) (old_is i)) ∙ new_is in
-    (comes region tasks event queue (Some job) (Some new) job_is next).can
+open_where region tasks event queue job task old new job_is task_is old_is new_is = grind (arith, comes)
 
 -- the job that an event names is its job
 pub named : (region : ℕ) (tasks : List Task) (event : Event) (queue : Queue) (job : ℕ) →
@@ -233,7 +222,4 @@ next_missing event (Some task) = refl
 
 pub missing_is_closed : (region : ℕ) (tasks : List Task) (event : Event) (queue : Queue) (job : ℕ) →
     named_job event ≡ Some job → of_job job queue.standings ≡ None → is_open region tasks event queue ≡ false
-missing_is_closed region tasks event queue job e missing =
-    let none : next_standing_of tasks event queue.standings (Some job) ≡ None =
-    ap (next_standing_in event (of_job job tasks)) missing ∙ next_missing event (of_job job tasks) in
-    (comes region tasks event queue (Some job) None (named region tasks event queue job e) none).can
+missing_is_closed region tasks event queue job e missing = grind (arith, next_missing, comes, named)

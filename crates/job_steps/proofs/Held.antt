@@ -1,8 +1,8 @@
 -- The words that a stack holds, if entries with one tag have one value.
+use Rattle.std.proofs.Common.{rules}
 use Rattle.std.proofs.Common.{◌≡◌, ℕ, ◌+◌, ◌≤◌, Bool, true, false, cond, eqb, not, List, [], ◌∷◌, ◌++◌, length}
 use Rattle.std.proofs.Common.{refl, sym, ◌∙◌, ap, subst, inl, inr, arith}
 use Rattle.std.specs.Prelude.{All, ◌⊎◌, ◌||◌, filter}
-use Rattle.std.proofs.lemmas.Bool.Decides.{nat_tests}
 use Rattle.std.proofs.lemmas.List.Elements.{All-nil, All-cons, All-head, All-tail, All-weaker, All-filter}
 use Rattle.job_steps.specs.States.{Vector, StackEntry, has_tag, held_words}
 use Rattle.job_steps.specs.Reached.{AreAlike}
@@ -41,9 +41,7 @@ has_chosen : (tag other : ℕ) (x : StackEntry) (xs : List StackEntry) → eqb o
     has_tag other (others tag xs) ≡ has_tag other xs →
     (b : Bool) → eqb x.tag tag ≡ b →
     has_tag other (cond (not b) (x ∷ others tag xs) (others tag xs)) ≡ (eqb x.tag other || has_tag other xs)
-has_chosen tag other x xs d later true p =
-    let differs : eqb x.tag other ≡ false = grind (arith, nat_tests, p, d) in
-    later ∙ ap (λ b. b || has_tag other xs) (sym differs)
+has_chosen tag other x xs d later true p = grind arith
 has_chosen tag other x xs d later false p = ap (λ b. eqb x.tag other || b) later
 
 has_others : (tag other : ℕ) (xs : List StackEntry) → eqb other tag ≡ false →
@@ -56,29 +54,16 @@ held_first : (tag size : ℕ) (x : StackEntry) (xs : List StackEntry) → x.tag 
     (has_tag tag xs ≡ true → held_words xs ≡ size + held_words (others tag xs)) →
     (c : Bool) → has_tag tag xs ≡ c →
     cond (has_tag x.tag xs) 0 (length x.value.words) + held_words xs ≡ size + held_words (others tag xs)
-held_first tag size x xs same long later true q =
-    let found : has_tag x.tag xs ≡ true = ap (λ t. has_tag t xs) same ∙ q in
-    let none : 0 + held_words xs ≡ held_words xs = omega arith in
-    ap (λ b. cond b 0 (length x.value.words) + held_words xs) found ∙ (none ∙ later q)
-held_first tag size x xs same long later false q =
-    let found : has_tag x.tag xs ≡ false = ap (λ t. has_tag t xs) same ∙ q in
-    ap (λ b. cond b 0 (length x.value.words) + held_words xs) found
-    ∙ (ap (λ n. n + held_words xs) long ∙ ap (λ zs. size + held_words zs) (sym (others_same tag xs q)))
+held_first tag size x xs same long later true q = grind arith
+held_first tag size x xs same long later false q = grind (arith, others_same)
 
 held_chosen : (tag size : ℕ) (x : StackEntry) (xs : List StackEntry) → IsLong tag size x →
     (has_tag tag xs ≡ true → held_words xs ≡ size + held_words (others tag xs)) →
     (b : Bool) → eqb x.tag tag ≡ b → (b || has_tag tag xs) ≡ true →
     cond (has_tag x.tag xs) 0 (length x.value.words) + held_words xs
     ≡ size + held_words (cond (not b) (x ∷ others tag xs) (others tag xs))
-held_chosen tag size x xs long later true p e =
-    let same : x.tag ≡ tag = grind (arith, nat_tests, p) in
-    held_first tag size x xs same (long same) later (has_tag tag xs) refl
-held_chosen tag size x xs long later false p e =
-    let counts : cond (has_tag x.tag (others tag xs)) 0 (length x.value.words)
-    ≡ cond (has_tag x.tag xs) 0 (length x.value.words)
-    = ap (λ b. cond b 0 (length x.value.words)) (has_others tag x.tag xs p) in
-    let more : held_words xs ≡ size + held_words (others tag xs) = later e in
-    omega arith
+held_chosen tag size x xs long later true p e = grind (arith, held_first)
+held_chosen tag size x xs long later false p e = grind (arith, has_others)
 
 -- a tag's value counts once
 held_others : (tag size : ℕ) (xs : List StackEntry) → All (IsLong tag size) xs → has_tag tag xs ≡ true →
@@ -95,9 +80,7 @@ kept_behind tag x xs e h false = inr h
 
 kept : (tag : ℕ) (xs : List StackEntry) (e : StackEntry) → eqb e.tag tag ≡ false → Has xs e → Has (others tag xs) e
 kept tag [] e d h = absurd h
-kept tag (x ∷ xs) e d (inl is) =
-    let other : eqb x.tag tag ≡ false = ap (λ (y : StackEntry). eqb y.tag tag) is ∙ d in
-    subst (λ b. Has (cond (not b) (x ∷ others tag xs) (others tag xs)) e) (sym other) (inl is)
+kept tag (x ∷ xs) e d (inl is) = grind arith
 kept tag (x ∷ xs) e d (inr h) = kept_behind tag x xs e (kept tag xs e d h) (eqb x.tag tag)
 
 either_true : (b : Bool) → (b || true) ≡ true
@@ -106,10 +89,7 @@ either_true false = refl
 
 has_tagged : (xs : List StackEntry) (e : StackEntry) → Has xs e → has_tag e.tag xs ≡ true
 has_tagged [] e h = absurd h
-has_tagged (x ∷ xs) e (inl is) =
-    let same : eqb x.tag e.tag ≡ true =
-    (let t : x.tag ≡ e.tag = ap (λ (y : StackEntry). y.tag) is in grind (arith, nat_tests, t)) in
-    ap (λ b. b || has_tag e.tag xs) same
+has_tagged (x ∷ xs) e (inl is) = grind arith
 has_tagged (x ∷ xs) e (inr h) = ap (λ b. eqb x.tag e.tag || b) (has_tagged xs e h) ∙ either_true (eqb x.tag e.tag)
 
 untagged : (tag : ℕ) (xs : List StackEntry) → has_tag tag xs ≡ false → All (λ e. eqb e.tag tag ≡ false) xs
@@ -136,9 +116,14 @@ among_others : (tag : ℕ) (xs ys : List StackEntry) → All (λ e. eqb e.tag ta
     All (Has (others tag xs)) ys
 among_others tag xs [] p q = All-nil (Has (others tag xs))
 among_others tag xs (y ∷ ys) p q =
-    All-cons (Has (others tag xs)) y ys
-    (kept tag xs y (All-head (λ e. eqb e.tag tag ≡ false) y ys p) (All-head (Has xs) y ys q))
-    (among_others tag xs ys (All-tail (λ e. eqb e.tag tag ≡ false) y ys p) (All-tail (Has xs) y ys q))
+    search (
+      rules,
+      All-cons,
+      kept,
+      All-head,
+      All-tail,
+      (among_others tag xs ys (All-tail (λ e. eqb e.tag tag ≡ false) y ys p) (All-tail (Has xs) y ys q)),
+    )
 
 among_chosen : (y : StackEntry) (ys xs : List StackEntry) → All (Has xs) (y ∷ ys) → Agree xs →
     ((zs : List StackEntry) → All (Has zs) ys → Agree zs → held_words ys ≤ held_words zs) →
@@ -173,9 +158,4 @@ counted false n m k h = omega arith
 
 pub held_append : (xs ys : List StackEntry) → held_words (xs ++ ys) ≤ total_words xs + held_words ys
 held_append [] ys = omega arith
-held_append (x ∷ xs) ys =
-    omega (
-      arith,
-      counted (has_tag x.tag (xs ++ ys)) (length x.value.words) (held_words (xs ++ ys))
-          (total_words xs + held_words ys) (held_append xs ys),
-    )
+held_append (x ∷ xs) ys = grind (arith, counted, (held_append xs ys))

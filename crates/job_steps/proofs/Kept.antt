@@ -1,7 +1,7 @@
 -- Each job is where its run alone leads, whatever the events.
-use Rattle.std.proofs.Common.{◌≡◌, ℕ, ◌+◌, ◌-◌, ◌*◌, ◌<◌, ◌≤◌, Bool, true, false, cond, List, [], ◌∷◌, ◌⊎◌, inl}
+use Rattle.std.proofs.Common.{◌≡◌, ℕ, ◌+◌, ◌*◌, ◌<◌, ◌≤◌, Bool, true, false, cond, List, [], ◌∷◌, ◌⊎◌, inl}
 use Rattle.std.proofs.Common.{inr, length, All, Option, Some, None, is_some, refl, sym, ◌∙◌, ap, subst, arith}
-use Rattle.std.proofs.lemmas.Bool.{cases_eq, eq-eqb, ne_eqb, true≢false}
+use Rattle.std.proofs.lemmas.Bool.{cases_eq, eq-eqb, ne_eqb}
 use Rattle.std.proofs.lemmas.List.{length-map}
 use Rattle.std.proofs.lemmas.List.Elements.{All-head, All-tail}
 use Rattle.std.proofs.lemmas.Option.{same_Some}
@@ -33,9 +33,7 @@ begun_on_run task within n run (Some ending) early = within
 
 begin_on_run : (task : Task) → IsWithin task → (n : ℕ) → IsRunning task n →
     StandsOnRun task (standing_after_begin task n (state_after task n))
-begin_on_run task within n run =
-    subst (λ p. StandsOnRun task (standing_after_begin task n p)) (sym run.running)
-    (begun_on_run task within n run (early_end task run.state) refl)
+begin_on_run task within n run = grind (arith, begun_on_run)
 
 finish_on_run : NeverStuck → Reaches → (signatures : List Signature) (task : Task) →
     IsVerifiedTask signatures task → IsWithin task → (n : ℕ) (p : Progress) → state_after task n ≡ p →
@@ -51,84 +49,34 @@ next_on_run stuck reaches ends task v event old new (Admits event_is old_is new_
     subst (StandsOnRun task) (sym new_is)
     (record { state = first_state task.verified; running = refl; budget = omega arith })
 next_on_run stuck reaches ends task v event old new (Begins job n event_is old_is new_is) h =
-    subst (StandsOnRun task) (sym new_is)
-    (begin_on_run task (ends v.0 task v.1) n (subst (StandsOnRun task) old_is h))
+    grind (arith, begin_on_run)
 next_on_run stuck reaches ends task v event old new (Finishes job n event_is old_is new_is) h =
-    subst (StandsOnRun task) (sym new_is)
-    (finish_on_run stuck reaches v.0 task v.1 (ends v.0 task v.1) (n + 1) (state_after task (n + 1)) refl)
-next_on_run stuck reaches ends task v event old new (Recalls job n event_is old_is new_is) h =
-    let flight : StandsOnRun task (InFlight n) = subst (StandsOnRun task) old_is h in
-    subst (StandsOnRun task) (sym new_is) flight.run
-next_on_run stuck reaches ends task v event old new (Collects job event_is old_is new_is) h =
-    let over : StandsOnRun task Ended = subst (StandsOnRun task) old_is h in
-    subst (StandsOnRun task) (sym new_is) over
-
-reserved_begin : (task : Task) (n : ℕ) (p : Progress) →
-    reserved_words task (standing_after_begin task n p) ≡ task.limits.words
-reserved_begin task n (Running s) = reserved_by (is_some (early_end task s))
-  where
-    reserved_by : (b : Bool) → reserved_words task (cond b Ended (InFlight n)) ≡ task.limits.words
-    reserved_by true = refl
-    reserved_by false = refl
-reserved_begin task n (Over ending x p) = refl
-reserved_begin task n Stuck = refl
-
-reserved_after : (task : Task) (n : ℕ) (p : Progress) →
-    reserved_words task (standing_after n p) ≡ task.limits.words
-reserved_after task n (Running s) = refl
-reserved_after task n (Over ending x p) = refl
-reserved_after task n Stuck = refl
+    grind (arith, finish_on_run)
+next_on_run stuck reaches ends task v event old new (Recalls job n event_is old_is new_is) h = grind arith
+next_on_run stuck reaches ends task v event old new (Collects job event_is old_is new_is) h = grind arith
 
 -- an event reserves words only at an admission, if there is room
 reserved_next : (region : ℕ) (tasks : List Task) (event : Event) (queue : Queue)
     (o : Opens region tasks event queue) → Changes o.task event o.old o.new →
     granted_words tasks queue.standings ≤ region →
     granted_words tasks queue.standings + reserved_words o.task o.new ≤ region + reserved_words o.task o.old
-reserved_next region tasks event queue o (Admits event_is old_is new_is) granted =
-    let room = admitted_room region tasks queue o.job
-    (ap (λ k. job_of region tasks k queue) (sym event_is) ∙ o.job_is) o.task o.task_is in
-    let new_words : reserved_words o.task o.new ≡ o.task.limits.words = ap (reserved_words o.task) new_is in
-    omega (arith, room, new_words)
-reserved_next region tasks event queue o (Begins job n event_is old_is new_is) granted =
-    let old_words : reserved_words o.task o.old ≡ o.task.limits.words = ap (reserved_words o.task) old_is in
-    let new_words : reserved_words o.task o.new ≡ o.task.limits.words =
-    ap (reserved_words o.task) new_is ∙ reserved_begin o.task n (state_after o.task n) in
-    omega (arith, granted, old_words, new_words)
-reserved_next region tasks event queue o (Finishes job n event_is old_is new_is) granted =
-    let old_words : reserved_words o.task o.old ≡ o.task.limits.words = ap (reserved_words o.task) old_is in
-    let new_words : reserved_words o.task o.new ≡ o.task.limits.words =
-    ap (reserved_words o.task) new_is ∙ reserved_after o.task (n + 1) (state_after o.task (n + 1)) in
-    omega (arith, granted, old_words, new_words)
-reserved_next region tasks event queue o (Recalls job n event_is old_is new_is) granted =
-    let old_words : reserved_words o.task o.old ≡ o.task.limits.words = ap (reserved_words o.task) old_is in
-    let new_words : reserved_words o.task o.new ≡ o.task.limits.words = ap (reserved_words o.task) new_is in
-    omega (arith, granted, old_words, new_words)
-reserved_next region tasks event queue o (Collects job event_is old_is new_is) granted =
-    let new_words : reserved_words o.task o.new ≡ 0 = ap (reserved_words o.task) new_is in
-    omega (arith, granted, new_words)
+reserved_next region tasks event queue o (Admits event_is old_is new_is) granted = grind (arith, admitted_room)
+reserved_next region tasks event queue o (Begins job n event_is old_is new_is) granted = grind arith
+reserved_next region tasks event queue o (Finishes job n event_is old_is new_is) granted = grind arith
+reserved_next region tasks event queue o (Recalls job n event_is old_is new_is) granted = grind arith
+reserved_next region tasks event queue o (Collects job event_is old_is new_is) granted = grind arith
 
 -- ---- all jobs
 
 pub first_are_kept : (region : ℕ) (tasks : List Task) → AreKept region tasks (first_queue tasks)
-first_are_kept region tasks = record {
-  same_length = length-map tasks (λ (task : Task). Waiting);
-  passes_length = length-map tasks (λ (task : Task). 0);
-  on_run = λ job task standing t s. subst (StandsOnRun task) (sym (first_waits tasks job standing s)) tt;
-  few_passes = none_passed tasks;
-  granted = omega (arith, none_granted tasks);
-}
+first_are_kept region tasks = grind (arith, length-map, first_waits, none_passed, none_granted)
 
 on_run_with : (tasks : List Task) (standings : List Standing) (job : ℕ) (task : Task) (old new : Standing) →
     of_job job tasks ≡ Some task → of_job job standings ≡ Some old → StandsOnRun task new →
     ((j : ℕ) (k : Task) (s : Standing) → of_job j tasks ≡ Some k → of_job j standings ≡ Some s → StandsOnRun k s) →
     (j : ℕ) (k : Task) (s : Standing) → of_job j tasks ≡ Some k →
     of_job j (with_standing job new standings) ≡ Some s → (job ≡ j) ⊎ (job ≡ j → ⊥) → StandsOnRun k s
-on_run_with tasks standings job task old new t o here others j k s kt ks (inl same) =
-    let task_is : task ≡ k = same_Some task k (sym t ∙ (ap (λ i. of_job i tasks) same ∙ kt)) in
-    let at : of_job job (with_standing job new standings) ≡ Some s =
-    ap (λ i. of_job i (with_standing job new standings)) same ∙ ks in
-    let standing_is : new ≡ s = same_Some new s (sym (of_with job standings old new o) ∙ at) in
-    subst (λ (x : Task). StandsOnRun x s) task_is (subst (StandsOnRun task) standing_is here)
+on_run_with tasks standings job task old new t o here others j k s kt ks (inl same) = grind (arith, same_Some, of_with)
 on_run_with tasks standings job task old new t o here others j k s kt ks (inr apart) =
     others j k s kt (sym (of_with_other job j standings new apart) ∙ ks)
 
@@ -209,16 +157,6 @@ recalls_keep region tasks queue kept = record {
 
 -- ---- what is left
 
-begin_lowers : (task : Task) (n : ℕ) (p : Progress) →
-    events_left task (standing_after_begin task n p) < events_left task (Live n)
-begin_lowers task n (Running s) = lowers_by (is_some (early_end task s))
-  where
-    lowers_by : (b : Bool) → events_left task (cond b Ended (InFlight n)) < events_left task (Live n)
-    lowers_by true = omega arith
-    lowers_by false = omega arith
-begin_lowers task n (Over ending x p) = omega arith
-begin_lowers task n Stuck = omega arith
-
 finish_lowers : Reaches → (signatures : List Signature) (task : Task) → IsVerifiedTask signatures task →
     (n : ℕ) → n < task.limits.budget → (p : Progress) → state_after task (n + 1) ≡ p →
     events_left task (standing_after (n + 1) p) < events_left task (InFlight n)
@@ -229,31 +167,12 @@ finish_lowers reaches signatures task v n below Stuck e = omega (arith, below)
 next_lowers : Reaches → (task : Task) → IsVerified task → (event : Event) (old new : Standing) →
     Changes task event old new → is_recall event ≡ false → StandsOnRun task old →
     events_left task new < events_left task old
-next_lowers reaches task v event old new (Admits event_is old_is new_is) no_recall h =
-    let before = ap (events_left task) old_is in
-    let later : events_left task new ≡ 2 * (task.limits.budget - 0) + 2 = ap (events_left task) new_is in
-    omega (arith, before, later)
-next_lowers reaches task v event old new (Begins job n event_is old_is new_is) no_recall h =
-    let before = ap (events_left task) old_is in
-    let later = ap (events_left task) new_is in
-    omega (arith, before, later, begin_lowers task n (state_after task n))
+next_lowers reaches task v event old new (Admits event_is old_is new_is) no_recall h = grind arith
+next_lowers reaches task v event old new (Begins job n event_is old_is new_is) no_recall h = grind arith
 next_lowers reaches task v event old new (Finishes job n event_is old_is new_is) no_recall h =
-    let flight : StandsOnRun task (InFlight n) = subst (StandsOnRun task) old_is h in
-    let below = below_budget reaches v.0 task v.1 n flight.run.state flight.run.running flight.goes_on in
-    let before = ap (events_left task) old_is in
-    let later = ap (events_left task) new_is in
-    omega (
-      arith,
-      before,
-      later,
-      finish_lowers reaches v.0 task v.1 n below (state_after task (n + 1)) refl,
-    )
-next_lowers reaches task v event old new (Recalls job n event_is old_is new_is) no_recall h =
-    absurd (true≢false (ap is_recall (sym event_is) ∙ no_recall))
-next_lowers reaches task v event old new (Collects job event_is old_is new_is) no_recall h =
-    let before : events_left task old ≡ 1 = ap (events_left task) old_is in
-    let later : events_left task new ≡ 0 = ap (events_left task) new_is in
-    omega (arith, before, later)
+    grind (arith, below_budget, finish_lowers)
+next_lowers reaches task v event old new (Recalls job n event_is old_is new_is) no_recall h = cc
+next_lowers reaches task v event old new (Collects job event_is old_is new_is) no_recall h = grind arith
 
 open_lowers : Reaches → (region : ℕ) (tasks : List Task) → All IsVerified tasks →
     (event : Event) (queue : Queue) → AreKept region tasks queue → is_recall event ≡ false →
@@ -310,8 +229,7 @@ count_is : (region : ℕ) (tasks : List Task) (event : Event) (events : List Eve
     (job : ℕ) (b : Bool) → is_job job (job_of region tasks event queue) ≡ b →
     event_count region tasks (event ∷ events) queue job
     ≡ cond b 1 0 + event_count region tasks events (after_event region tasks event queue) job
-count_is region tasks event events queue job b is =
-    ap (λ k. cond k 1 0 + event_count region tasks events (after_event region tasks event queue) job) is
+count_is region tasks event events queue job b is = cc
 
 counts : Reaches → (region : ℕ) (tasks : List Task) → All IsVerified tasks →
     (event : Event) (events : List Event) (queue : Queue) → AreKept region tasks queue →

@@ -28,10 +28,7 @@ reverse-cons x xs = reverse-append (x ∷ []) xs
 
 pub map-reverse : {A B : Type 0} (f : A → B) (xs : List A) → map f (reverse xs) ≡ reverse (map f xs)
 map-reverse f [] = refl
-map-reverse f (x ∷ xs) =
-    ap (map f) (reverse-cons x xs)
-    ∙ (map-append f (reverse xs) (x ∷ [])
-    ∙ (ap (λ ys. ys ++ f x ∷ []) (map-reverse f xs) ∙ sym (reverse-cons (f x) (map f xs))))
+map-reverse f (x ∷ xs) = grind (arith, reverse-cons, map-append, (map-reverse f xs))
 
 pub stack_kinds-reverse : (xs : List StackEntry) → stack_kinds (reverse xs) ≡ map kind_of xs
 stack_kinds-reverse xs = ap reverse (map-reverse kind_of xs) ∙ reverse-reverse (map kind_of xs)
@@ -100,10 +97,7 @@ same_lengths (k ∷ ks) (l ∷ ls) e =
 
 -- entries of these kinds are there
 pub there : (own : List Kind) (stack : List StackEntry) → has_on_top own stack ≡ true → length own ≤ length stack
-there own stack e =
-    let same : length own ≡ length (stack_kinds (take (length own) stack)) =
-    same_lengths own (stack_kinds (take (length own) stack)) e in
-    omega (arith, length-stack_kinds (take (length own) stack), length-take (length own) stack)
+there own stack e = grind (arith, same_lengths, length-stack_kinds, length-take)
 
 -- ---- the kinds of results, and of entries that are moved
 
@@ -130,10 +124,7 @@ kinds-move MoveToTop lower upper = map-append kind_of upper lower
 pub kinds-pushed : (stack : List StackEntry) (below own gives : List Kind) (results : List StackEntry) →
     IsCut stack below own → map kind_of results ≡ gives →
     stack_kinds (reverse results ++ drop (length own) stack) ≡ below ++ gives
-kinds-pushed stack below own gives results c e =
-    stack_kinds-append (reverse results) (drop (length own) stack)
-    ∙ (ap (λ zs. zs ++ stack_kinds (reverse results)) c.under
-    ∙ ap (λ zs. below ++ zs) (stack_kinds-reverse results ∙ e))
+kinds-pushed stack below own gives results c e = grind (arith, stack_kinds-append, stack_kinds-reverse)
 
 pub kinds-top_entries : (count : ℕ) (stack : List StackEntry) (own : List Kind) → stack_kinds (take count stack) ≡ own →
     map kind_of (top_entries count stack) ≡ own

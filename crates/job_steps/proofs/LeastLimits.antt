@@ -1,17 +1,13 @@
 -- A verified job that returns does so within other limits exactly if they are at least what it uses.
-use Rattle.std.proofs.Common.{◌≡◌, ℕ, zero, suc, ◌+◌, ◌-◌, ◌≤◌, max, Bool, true, false, cond, eqb, ltb, List, []}
+use Rattle.std.proofs.Common.{◌≡◌, ℕ, zero, suc, ◌+◌, ◌-◌, ◌≤◌, max, Bool, true, false, eqb, List, []}
 use Rattle.std.proofs.Common.{◌∷◌, length, Option, Some, None, refl, sym, ◌∙◌, ap, subst, arith}
-use Rattle.std.specs.Prelude.{◌&&◌}
 use Rattle.std.proofs.Math.Nat.{le-max_left, le-max_right, max-le}
 use Rattle.std.proofs.lemmas.Bool.Decides.{nat_tests}
 use Rattle.vcode_base.specs.declared.instr.Instr.TheVariants.{Const, Elementwise, Segmented, If, Move, Call, Return}
 use Rattle.vcode_base.specs.declared.limits.Limits.{Limits}
 use Rattle.vcode_base.specs.declared.op.Op.{Op}
 use Rattle.vcode_base.specs.declared.outcome.Outcome.{Outcome}
-use Rattle.vcode_base.specs.declared.fault.MemoryFault.TheVariants.{Words, Cells, Calls}
-use Rattle.vcode_base.specs.declared.outcome.Outcome.TheVariants.{Budget}
 use Rattle.vcode_base.specs.Instructions.{op_of}
-use Rattle.vcode_base.specs.Meaning.{value_fault}
 use Rattle.vcode_reader.specs.Trees.{Item, Body, End, Do, Choice}
 use Rattle.verifier.specs.Typed.{TypedProgram}
 use Rattle.job_steps.specs.EventLaws.{IsVerified}
@@ -20,11 +16,11 @@ use Rattle.job_steps.specs.LeastLimits.{RunAlike, IsReturn, UsedAreLeast}
 use Rattle.job_steps.specs.Motions.{depth_after}
 use Rattle.job_steps.specs.Reached.{NeverStuck, Reaches, EachEnds, EndIsOwn}
 use Rattle.job_steps.specs.Runs.{progress_from, state_after, whole_run, outcome, executed_count, peak}
-use Rattle.job_steps.specs.States.{Vector, Task, Active, State, Callee, callee_named, calls_with, new_entries}
-use Rattle.job_steps.specs.Steps.{Progress, Running, Over, Stuck, next_item, sources_of, question_of, results_of}
-use Rattle.job_steps.specs.Steps.{flag_of, can_call, can_run, words_at, is_call, memory_fault, early_ending, ending_by}
+use Rattle.job_steps.specs.States.{Vector, Task, Active, State, Callee, callee_named, calls_with}
+use Rattle.job_steps.specs.Steps.{Progress, Running, Over, Stuck}
+use Rattle.job_steps.specs.Steps.{words_at, is_call, memory_fault}
 use Rattle.job_steps.specs.Steps.{calls_past, calls_after}
-use Rattle.job_steps.specs.Steps.{progress_past, progress_by, progress_unless, progress_in, next_progress}
+use Rattle.job_steps.specs.Steps.{progress_past, next_progress}
 use Rattle.job_steps.proofs.Bounds.{Fits, neither}
 use Rattle.job_steps.proofs.Progresses.{item_of, calls_then, Passes, IsNoReturn, Goes, Ends, Idles, Blocks, Executes}
 use Rattle.job_steps.proofs.Progresses.{goes}
@@ -39,32 +35,13 @@ past task s call outer = progress_past task.rule (item_of call) s (calls_then ta
 passes_past : (task : Task) (s : State) (call : Active) (outer : List Active) → Passes task s call outer →
     next_progress task s ≡ past task s call outer
 unfolding next_progress
-passes_past task s call outer p =
-    let late = value_fault (op_of (item_of call)) (sources_of (item_of call) s.stack) in
-    let next = progress_by task.rule late (next_item call) s (calls_then task s call outer) in
-    ap (λ b. cond b (Over Budget s.executed s.peak) (progress_in task s s.calls)) p.unspent
-    ∙ (ap (progress_in task s) p.calls
-    ∙ (ap (λ b. cond b (progress_unless (early_ending task (next_item call) s) s next) Stuck) p.runs
-    ∙ (ap (λ o. progress_unless o s next) p.early
-    ∙ ap (λ o. progress_by task.rule o (next_item call) s (calls_then task s call outer)) p.late)))
-
-not_less : (limit n : ℕ) → n ≤ limit → ltb limit n ≡ false
-not_less limit n h = grind (arith, nat_tests, h)
-
-and_false : (a b : Bool) → (a ≡ true → b ≡ false) → (a && b) ≡ false
-and_false true b h = h refl
-and_false false b h = refl
+passes_past task s call outer p = grind arith
 
 -- nothing is refused of what fits
 no_fault : (limits : Limits) (op : Op) (words depth calls : ℕ) → Fits limits op words depth calls →
     memory_fault limits op words depth calls ≡ None
 unfolding memory_fault
-no_fault limits op words depth calls f =
-    let called = and_false (is_call op) (ltb limits.calls (calls + 1))
-    (λ h. not_less limits.calls (calls + 1) (f.calls_fit h)) in
-    let w = not_less limits.words words f.words_fit in
-    let c = not_less limits.cells depth f.cells_fit in
-    (λ i. cond (w i) (Some Words) (cond (c i) (Some Cells) (cond (called i) (Some Calls) None)))
+no_fault limits op words depth calls f = grind arith
 
 -- the same instruction passes within other limits, if it fits
 passes_within : (task : Task) (limits : Limits) (s : State) (call : Active) (outer : List Active) →
@@ -72,16 +49,7 @@ passes_within : (task : Task) (limits : Limits) (s : State) (call : Active) (out
     Fits limits (op_of (item_of call)) (words_at task.rule (item_of call) s)
     (depth_after (op_of (item_of call)) (length s.stack)) (length s.calls) →
     Passes (with_limits limits task) s call outer
-passes_within task limits s call outer p unspent f =
-    let shaped = (neither (next_item call).number _ _ p.early).0 in
-    let free = no_fault limits _ _ _ _ f in
-    record {
-      calls = p.calls;
-      unspent = unspent;
-      runs = p.runs;
-      early = (λ i. ending_by (next_item call).number (shaped i) (free i));
-      late = p.late;
-    }
+passes_within task limits s call outer p unspent f = grind (arith, neither, no_fault)
 
 -- ---- a job that returns
 
@@ -138,10 +106,7 @@ counted_by : (task : Task) (x m : ℕ) (s : State) (p : Progress) → x ≤ s.ex
 counted_by task x m s p h k (Ends ending early is) = subst (HasCounted x m) (sym is) (h, k)
 counted_by task x m s p h k (Idles none is) = subst (HasCounted x m) (sym is) tt
 counted_by task x m s p h k (Blocks call outer calls blocked is) = subst (HasCounted x m) (sym is) tt
-counted_by task x m s p h k (Executes call outer passes is) =
-    subst (HasCounted x m) (sym is)
-    (counted_past task.rule x m s (item_of call) (calls_then task s call outer) (omega arith)
-    (more m s.peak (words_at task.rule (item_of call) s) k))
+counted_by task x m s p h k (Executes call outer passes is) = grind arith
 
 counted_from : (task : Task) (x m : ℕ) (p : Progress) → HasCounted x m p → HasCounted x m (progress_from task p)
 counted_from task x m (Running s) h = counted_by task x m s (next_progress task s) h.0 h.1 (goes task s)
@@ -175,9 +140,7 @@ most_here f task zero = omega arith
 most_here f task (suc n) = le-max_right (most_until f task n) (f (state_after task (suc n)))
 
 most_later : (f : Progress → ℕ) (task : Task) (n k : ℕ) → f (state_after task n) ≤ most_until f task (n + k)
-most_later f task n zero =
-    let same : n ≡ n + 0 = omega arith in
-    subst (λ i. f (state_after task n) ≤ most_until f task i) same (most_here f task n)
+most_later f task n zero = grind (arith, most_here)
 most_later f task n (suc k) =
     let same : suc (n + k) ≡ n + suc k = omega arith in
     subst (λ i. f (state_after task n) ≤ most_until f task i) same
@@ -203,9 +166,6 @@ most_same f old new same (suc n) = (λ i. max (most_same f old new same n i) (f 
 
 none : {T : Type 0} (x : T) (xs : List T) → x ∷ xs ≡ [] → ⊥
 none x xs e = cc
-
-never_call : (b : Bool) → b ≡ false → b ≡ true → ⊥
-never_call b e h = let g : false ≡ true = sym e ∙ h in cc
 
 called_some : (o : Option Callee) (calls : List Active) → calls_with o calls ≡ [] → calls ≡ []
 called_some None calls e = e
@@ -238,49 +198,11 @@ cells_past : (task : Task) (s : State) (call : Active) (outer : List Active) →
 cells_past task s call outer p [] is most before after =
     omega (arith, before, flat_after task.verified _ call.rest call.ret outer (length s.stack) is)
 cells_past task s call outer p (last ∷ others) is most before after =
-    let q = question_of (item_of call) s.stack in
-    subst (λ m. m ≤ most)
-    (length-stack_after (op_of (item_of call)) (new_entries s.next (results_of q)) s.stack (length-results s.next q)
-    (deep_of task.verified (item_of call) s.stack p.runs)) after
-
-called_more : (o : Option Callee) (stack : _) (calls : List Active) → can_call o stack ≡ true →
-    length (calls_with o calls) ≡ length calls + 1
-called_more None stack calls runs = absurd (let g : false ≡ true = runs in cc)
-called_more (Some callee) stack calls runs = omega arith
-
-more_past : (verified : TypedProgram) (item : Item) (stack : _) (call : Active) (outer : List Active) →
-    can_run verified item stack ≡ true → is_call (op_of item) ≡ true →
-    length (calls_past verified item call outer) ≡ suc (length outer) + 1
-more_past verified (Const k list) stack call outer runs h = absurd (never_call false refl h)
-more_past verified (Elementwise x) stack call outer runs h = absurd (never_call false refl h)
-more_past verified (Segmented x) stack call outer runs h = absurd (never_call false refl h)
-more_past verified If stack call outer runs h = absurd (never_call false refl h)
-more_past verified (Move motion lower upper) stack call outer runs h = absurd (never_call false refl h)
-more_past verified (Call name) stack call outer runs h =
-    called_more (callee_named verified name) stack (call ∷ outer) runs
-more_past verified Return stack call outer runs h = absurd (never_call false refl h)
-
-more_after : (verified : TypedProgram) (flag : Bool) (body : Body) (ret : ℕ) (stack : _) (outer : List Active) →
-    can_run verified (item_of (record { rest = body; ret = ret })) stack ≡ true →
-    is_call (op_of (item_of (record { rest = body; ret = ret }))) ≡ true →
-    length (calls_after verified flag body ret outer) ≡ suc (length outer) + 1
-more_after verified flag End ret stack outer runs h = absurd (never_call false refl h)
-more_after verified flag (Do item line rest) ret stack outer runs h =
-    more_past verified item stack (record { rest = rest; ret = ret }) outer runs h
-more_after verified flag (Choice line first second end rest) ret stack outer runs h = absurd (never_call false refl h)
-
-calls_of_past : (task : Task) (s : State) (item : Item) (calls : List Active) (n : ℕ) → length calls ≡ n + 1 →
-    calls_in (progress_past task.rule item s calls) ≡ n + 1
-calls_of_past task s item [] n e = absurd (omega (arith, e))
-calls_of_past task s item (last ∷ others) n e = e
+    grind (arith, item_of, length-stack_after, length-results, deep_of)
 
 calls_then_more : (task : Task) (s : State) (call : Active) (outer : List Active) → Passes task s call outer →
     is_call (op_of (item_of call)) ≡ true → calls_in (past task s call outer) ≡ length s.calls + 1
-calls_then_more task s call outer p h =
-    let grown = more_after task.verified (flag_of (question_of (item_of call) s.stack)) call.rest call.ret s.stack outer
-    p.runs h in
-    let before : length s.calls ≡ suc (length outer) = ap length p.calls in
-    calls_of_past task s (item_of call) (calls_then task s call outer) (length s.calls) (omega (arith, grown, before))
+calls_then_more task s call outer p h = grind arith
 
 -- ---- enough limits
 

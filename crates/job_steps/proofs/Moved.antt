@@ -1,7 +1,7 @@
 -- A list whose first element moves after the others, element by element.
 use Rattle.std.proofs.Common.{◌≡◌, ℕ, ◌+◌, ◌-◌, ◌<◌, List, [], ◌∷◌, ◌++◌, length, take, drop, refl, ap, suc, zero}
 use Rattle.std.proofs.Common.{arith}
-use Rattle.std.proofs.Common.{◌∙◌, sym, slice_index_or, slice_set}
+use Rattle.std.proofs.Common.{◌∙◌, slice_index_or, slice_set}
 
 -- the first element behind the n that follow it
 abbrev shifted : {T : Type 0} → ℕ → List T → List T
@@ -29,15 +29,7 @@ set_last first x (y ∷ rest) = ap (λ l. y ∷ l) (set_last first y rest)
 pub moved_one : {T : Type 0} (xs ys : List T) (n : ℕ) (z : T) → n + 1 < length xs → ys ≡ shifted n xs →
     z ≡ slice_index_or ys (n + 1) z → slice_set ys n z ≡ shifted (n + 1) xs
 moved_one [] ys n z h is read = absurd (omega arith)
-moved_one (x ∷ rest) ys n z h is read =
-    let fits : n < length rest = omega arith in
-    let on : suc n ≡ n + 1 = omega arith in
-    let value : z ≡ slice_index_or rest n z =
-    read ∙ (ap (λ l. slice_index_or l (n + 1) z) is
-    ∙ (ap (λ m. slice_index_or (take n rest ++ drop n (x ∷ rest)) m z) (sym on) ∙ next x rest n z fits)) in
-    ap (λ l. slice_set l n z) is
-    ∙ (ap (λ v. slice_set (take n rest ++ drop n (x ∷ rest)) n v) value
-    ∙ (set_next x rest n z fits ∙ ap (λ m. take m rest ++ drop m (x ∷ rest)) on))
+moved_one (x ∷ rest) ys n z h is read = grind (arith, next, set_next)
 
 -- and then the first at the end
 pub moved_all : {T : Type 0} (xs ys : List T) (n last : ℕ) (first z : T) → 0 < length xs → last ≡ length xs - 1 →

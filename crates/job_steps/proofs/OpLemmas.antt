@@ -1,15 +1,14 @@
 -- When the derived `==` of two instructions without their lists is true: if they are one.
+use Rattle.std.proofs.Common.{arith}
 use Rattle.std.proofs.Common.{◌≡◌, Bool, true, false, ◌&&◌}
 use Rattle.std.specs.Bool.{Decides}
 use Rattle.std.specs.Prelude.{nat_eq}
-use Rattle.std.proofs.lemmas.Bool.Decides.{Decides-eqb}
 use denote.Enum.Bare.{sameb}
 use denote.Enum.Compared.{Each, by}
 use Rattle.vcode_base.specs.contracts.kind.Scalar as scalar
 use Rattle.vcode_base.specs.contracts.op.StackMove as motion
 use Rattle.vcode_base.specs.contracts.op.Op as ops
-use Rattle.vcode_reader.proofs.Enums.{bare, same_values, no_field, one_field, three_fields}
-use Rattle.vcode_reader.proofs.Enums.{same_elementwise, same_segmented, elementwise_exact, segmented_exact}
+use Rattle.vcode_reader.proofs.Enums.{same_elementwise, same_segmented}
 
 abbrev pub op_each : Each Bool ops.the_parts
 op_each = (
@@ -33,14 +32,4 @@ abbrev pub same_op : (ops.the_type).D → (ops.the_type).D → Bool
 same_op a b = by false false ops.the_parts op_each (ops.as_values a) (ops.as_values b)
 
 pub op_exact : (a b : (ops.the_type).D) → Decides (same_op a b) (a ≡ b)
-op_exact =
-    same_values ops.the_parts ops.as_values ops.the_make ops.the_eta op_each (
-      one_field (bare scalar.the_type tt),
-      (
-        one_field elementwise_exact,
-        (
-          one_field segmented_exact,
-          (no_field, (three_fields (bare motion.the_type tt) Decides-eqb Decides-eqb, (no_field, (no_field, tt)))),
-        ),
-      ),
-    )
+op_exact = grind arith

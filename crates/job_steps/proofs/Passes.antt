@@ -1,11 +1,12 @@
 -- Who is passed by, and how often.
+use Rattle.std.proofs.Common.{arith}
 use Rattle.std.proofs.Common.{◌≡◌, ◌≢◌, ℕ, zero, suc, List, [], ◌∷◌, ◌⊎◌, inl, inr, length, Some, refl}
 use Rattle.std.proofs.Common.{sym, ◌∙◌, ap, subst}
 use Rattle.std.proofs.lemmas.Bool.{cases_eq}
 use Rattle.job_steps.specs.declared.event.Event.{Event}
 use Rattle.job_steps.specs.declared.event.Event.TheVariants.{Admit, Begin, Finish, Recall, Collect}
 use Rattle.job_steps.specs.Events.{job_of, passes_after, after_event, after_events}
-use Rattle.job_steps.specs.Standings.{Standing, Waiting, Live, Queue, AreFew, of_job, with_standing, admission}
+use Rattle.job_steps.specs.Standings.{Standing, Waiting, Live, Queue, AreFew, of_job, admission}
 use Rattle.job_steps.specs.Standings.{passes_before}
 use Rattle.job_steps.specs.States.{Task}
 use Rattle.job_steps.proofs.Happenings.{changes, never_waits, Opens, Happens, Passed, Opened, happens, changes_its_job}
@@ -97,13 +98,7 @@ record Moved (region : ℕ) (tasks : List Task) (event : Event) (queue : Queue) 
 moved_open : (region : ℕ) (tasks : List Task) (event : Event) (queue : Queue) (job : ℕ) (s : Standing) →
     of_job job queue.standings ≡ Some s → (s ≡ Waiting → ⊥) → (o : Opens region tasks event queue) →
     (o.job ≡ job) ⊎ (o.job ≡ job → ⊥) → Moved region tasks event queue job
-moved_open region tasks event queue job s e moved o (inl same) = record {
-  standing = o.new;
-  standing_is = ap (of_job job) o.after
-      ∙ subst (λ (j : ℕ). of_job j (with_standing o.job o.new queue.standings) ≡ Some o.new) same
-      (of_with o.job queue.standings o.old o.new o.old_is);
-  moved = never_waits o.task event o.old o.new (changes event o.task o.old o.new o.new_is);
-}
+moved_open region tasks event queue job s e moved o (inl same) = grind (arith, of_with, never_waits, changes)
 moved_open region tasks event queue job s e moved o (inr apart) = record {
   standing = s;
   standing_is = ap (of_job job) o.after ∙ (of_with_other o.job job queue.standings o.new apart ∙ e);

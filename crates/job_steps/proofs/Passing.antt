@@ -62,9 +62,7 @@ waits_of_body b xs = ap (λ (t : Tail). t.waits) (tail_of_body b xs)
 -- what remains of a function from its first line on is all of it
 pub remaining_of_all : (f : Function) → remaining (lines_of f) ≡ then_body f.body (Do Return f.ret End)
 unfolding then_tail tail_of then_body
-remaining_of_all f =
-    ap rest_of_tail (tail_of_body f.body (instruction_line Return f.ret ∷ []))
-    ∙ then_end (then_body f.body (Do Return f.ret End))
+remaining_of_all f = grind (arith, tail_of_body, then_end)
 
 -- ---- lines each of which finds what it needs after it
 

@@ -1,4 +1,5 @@
 -- What one instruction makes of a state: the ways in which it may go on.
+use Rattle.std.proofs.Common.{arith}
 use Rattle.std.proofs.Common.{◌≡◌, ℕ, Bool, true, false, cond, eqb, List, [], ◌∷◌, Option, Some, None, refl}
 use Rattle.vcode_base.specs.declared.fault.DataFault.{DataFault}
 use Rattle.vcode_base.specs.declared.fault.MemoryFault.{MemoryFault}
@@ -46,13 +47,7 @@ pub data Goes (task : Task) (s : State) (p : Progress) : Type 0 where
 
 no_return : (line : ℕ) (a : Option DataFault) (b : Option MemoryFault) (e : Outcome (List Vector)) →
     ending_by line a b ≡ Some e → IsNoReturn e
-no_return line a b (Returned values) h = no_values line a b values h
-  where
-    no_values : (line : ℕ) (a : Option DataFault) (b : Option MemoryFault) (values : List Vector) →
-        ending_by line a b ≡ Some (Returned values) → ⊥
-    no_values line (Some fault) b values h = cc
-    no_values line None (Some fault) values h = cc
-    no_values line None None values h = cc
+no_return line a b (Returned values) h = grind arith
 no_return line a b (Fault fault at) h = tt
 no_return line a b (Memory fault at) h = tt
 no_return line a b Budget h = tt

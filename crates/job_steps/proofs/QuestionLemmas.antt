@@ -7,8 +7,6 @@ use Rattle.std.specs.Ordering.{int_eq}
 use Rattle.std.proofs.lemmas.Bool.Decides.{Decides-and, Decides-at, Decides-int_eq, Decides-like}
 use Rattle.std.proofs.lemmas.Slice.Eq.{slice_eq-Decides}
 use Rattle.std.proofs.lemmas.List.{take-map, length-map}
-use Rattle.std.proofs.lemmas.List.Sums.{sum_by-le}
-use Rattle.std.proofs.lemmas.Nat.{mul-le}
 use Rattle.vcode_base.specs.declared.kind.Kind.{Kind}
 use Rattle.vcode_base.specs.declared.op.Op.{Op}
 use Rattle.vcode_base.specs.declared.op.Op.TheVariants.{Const, Elementwise, Segmented}
@@ -51,12 +49,7 @@ few_lent op refs h = omega (arith, few_operands op (contents refs) h, length-map
 -- operands of at most this number of words have room in five parts of as many
 pub room_for_all : (op : Op) (words room : ℕ) (xs : List (List ℤ))
     → HaveKinds (source_kinds op) xs → HaveAtMost words xs → room ≡ 5 * words → length_of_all xs ≤ room
-room_for_all op words room xs h within is =
-    omega (
-      arith,
-      sum_by-le length words xs within,
-      mul-le (length xs) words 5 words (few_operands op xs h) (omega arith),
-    )
+room_for_all op words room xs h within is = grind arith
 
 -- the front of what is lent
 pub contents_in_front : (count : ℕ) (refs : List (Bor (List ℤ))) (xs : List (List ℤ))
@@ -68,9 +61,7 @@ contents_in_front count refs xs same front =
 pub can_answer_in_front : (op : Op) (words room count : ℕ) (refs : List (Bor (List ℤ))) (xs : List (List ℤ))
     → words ≤ room → count ≡ length xs → take (length xs) (contents refs) ≡ xs
     → CanAnswer words (question_by op xs) → CanAnswer room (question_by op (contents (take count refs)))
-can_answer_in_front op words room count refs xs more same front h =
-    subst (λ zs. CanAnswer room (question_by op zs)) (sym (contents_in_front count refs xs same front))
-    (record { kinds = h.kinds; shaped = h.shaped; room = omega (arith, h.room) })
+can_answer_in_front op words room count refs xs more same front h = grind (arith, contents_in_front)
 
 -- lists that are lent are equal if their elements are
 same_contents : (xs ys : List (Bor (List ℤ)))

@@ -1,6 +1,6 @@
 -- A recall of each job, one after another.
 use Rattle.std.proofs.Common.{◌≡◌, ◌⊎◌, ℕ, zero, suc, ◌<◌, ◌≤◌, List, [], ◌∷◌, length, map, slice_get, Option}
-use Rattle.std.proofs.Common.{Some, None, option_map, refl, sym, ◌∙◌, ap, subst, arith, inl, inr}
+use Rattle.std.proofs.Common.{Some, None, option_map, refl, sym, ◌∙◌, ap, arith, inl, inr}
 use Rattle.std.proofs.lemmas.Bool.{cases_eq, cases_lt}
 use Rattle.std.proofs.lemmas.Option.{none-some, same_Some, slice_get-map, slice_get_past}
 use Rattle.job_steps.specs.declared.event.Event.{Event}
@@ -34,8 +34,7 @@ length_after : (region : ℕ) (tasks : List Task) (events : List Event) (queue :
     length (after_events region tasks events queue).standings ≡ length queue.standings
 length_after region tasks [] queue = refl
 length_after region tasks (event ∷ events) queue =
-    length_after region tasks events (after_event region tasks event queue)
-    ∙ length_by region tasks event queue (happens region tasks event queue)
+    grind (arith, length_by, happens, (length_after region tasks events (after_event region tasks event queue)))
 
 -- ---- one recall
 
@@ -67,9 +66,7 @@ recall_at : (region : ℕ) (tasks : List Task) (queue : Queue) → length queue.
 recall_at region tasks queue same i None e =
     let closed = missing_is_closed region tasks (Recall (suc i)) queue (suc i) refl e in
     ap (λ (q : Queue). slice_get q.standings i) (closed_changes_nothing region tasks (Recall (suc i)) queue closed) ∙ e
-recall_at region tasks queue same i (Some s) e =
-    let t = beside_at queue.standings tasks (sym same) i s e in
-    recall_by region tasks queue i t.0 s t.1 e (recall_next (suc i) t.0 s)
+recall_at region tasks queue same i (Some s) e = grind (arith, beside_at, recall_by, recall_next)
 
 recall_other : (region : ℕ) (tasks : List Task) (queue : Queue) (i k : ℕ) → (k ≡ i → ⊥) →
     slice_get (after_event region tasks (Recall (suc i)) queue).standings k ≡ slice_get queue.standings k
@@ -97,20 +94,8 @@ recalled_here : (region : ℕ) (tasks : List Task) (queue : Queue) → length qu
     (i : ℕ) → AreRecalled region tasks queue i → (k : ℕ) → k < suc i → (k ≡ i) ⊎ (k ≡ i → ⊥) →
     slice_get (after_event region tasks (Recall (suc i)) (after_events region tasks (all_recalls i) queue)).standings k
     ≡ option_map recalled_standing (slice_get queue.standings k)
-recalled_here region tasks queue same i all k h (inl here) =
-    let between : Queue = after_events region tasks (all_recalls i) queue in
-    let length_is : length between.standings ≡ length tasks =
-    length_after region tasks (all_recalls i) queue ∙ same in
-    let at : slice_get between.standings i ≡ slice_get queue.standings i = all.behind i (omega arith) in
-    subst (λ j. slice_get (after_event region tasks (Recall (suc i)) between).standings j
-    ≡ option_map recalled_standing (slice_get queue.standings j)) (sym here)
-    (recall_at region tasks between length_is i (slice_get queue.standings i) at)
-recalled_here region tasks queue same i all k h (inr apart) =
-    recall_other region tasks (after_events region tasks (all_recalls i) queue) i k apart
-    ∙ all.before k (below k i h apart)
-  where
-    below : (k i : ℕ) → k < suc i → (k ≡ i → ⊥) → k < i
-    below k i h apart = grind (arith, h, apart)
+recalled_here region tasks queue same i all k h (inl here) = grind (arith, length_after, recall_at)
+recalled_here region tasks queue same i all k h (inr apart) = grind (arith, recall_other)
 
 are_recalled : (region : ℕ) (tasks : List Task) (queue : Queue) → length queue.standings ≡ length tasks →
     (i : ℕ) → AreRecalled region tasks queue i
@@ -133,19 +118,10 @@ recalled_place : (region : ℕ) (tasks : List Task) (queue : Queue) → length q
     (k : ℕ) → (k < length tasks) ⊎ (length tasks ≤ k) →
     slice_get (after_events region tasks (all_recalls (length tasks)) queue).standings k
     ≡ slice_get (map recalled_standing queue.standings) k
-recalled_place region tasks queue same k (inl h) =
-    (are_recalled region tasks queue same (length tasks)).before k h
-    ∙ sym (slice_get-map recalled_standing queue.standings k)
-recalled_place region tasks queue same k (inr h) =
-    let past : slice_get queue.standings k ≡ None = slice_get_past queue.standings k (omega (arith, same, h)) in
-    (are_recalled region tasks queue same (length tasks)).behind k h
-    ∙ (past ∙ sym (slice_get-map recalled_standing queue.standings k ∙ ap (option_map recalled_standing) past))
+recalled_place region tasks queue same k (inl h) = grind (arith, are_recalled, slice_get-map)
+recalled_place region tasks queue same k (inr h) = grind (arith, slice_get_past, are_recalled, slice_get-map)
 
 pub recalls_are_events : (region : ℕ) (tasks : List Task) (queue : Queue) → length queue.standings ≡ length tasks →
     after_events region tasks (all_recalls (length tasks)) queue ≡ recalled_queue queue
 recalls_are_events region tasks queue same =
-    let last : Queue = after_events region tasks (all_recalls (length tasks)) queue in
-    same_queue last (recalled_queue queue)
-    (same_places last.standings (map recalled_standing queue.standings)
-    (λ k. recalled_place region tasks queue same k (cases_lt k (length tasks))))
-    (are_recalled region tasks queue same (length tasks)).passes
+    grind (arith, same_queue, same_places, recalled_place, cases_lt, are_recalled)

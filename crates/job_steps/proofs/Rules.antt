@@ -18,7 +18,7 @@ use Rattle.job_steps.specs.Motions.{operand_count, depth_after}
 use Rattle.job_steps.specs.Reached.{IsVerifiedBySome, Reaches, EachEnds}
 use Rattle.job_steps.specs.RuleLaws.{EndsAlike, SecondRuleEndsAlike, SecondRuleGoesAsFar}
 use Rattle.job_steps.specs.Runs.{progress_from, state_after, whole_run, outcome, executed_count, peak, ending_in}
-use Rattle.job_steps.specs.Runs.{executed_count_in, peak_in}
+use Rattle.job_steps.specs.Runs.{executed_count_in}
 use Rattle.job_steps.specs.States.{JobValue, Task, Active, State, ruled, first_state, values_of}
 use Rattle.job_steps.specs.Steps.{Ending, Progress, Running, Over, Stuck, next_item, sources_of, question_of, flag_of}
 use Rattle.job_steps.specs.Steps.{can_run, words_at, memory_fault, ending_by, calls_after, progress_past}
@@ -172,24 +172,9 @@ alike_by : (job : JobValue) → ((line : ℕ) → outcome (ruled First job) ≢ 
     Follows (ruled Second job) (whole_run (ruled First job)) (whole_run (ruled Second job)) →
     EndsAlike (ruled First job) (ruled Second job)
 unfolding outcome executed_count peak
-alike_by job enough (BothRun s most first second h) =
-    record {
-      outcome_is = ap ending_in second ∙ sym (ap ending_in first);
-      executed_is = ap executed_count_in second ∙ sym (ap executed_count_in first);
-      peak_within = omega (arith, ap peak_in first, ap peak_in second, h);
-    }
-alike_by job enough (BothEnd ending x most least first second h) =
-    record {
-      outcome_is = ap ending_in second ∙ sym (ap ending_in first);
-      executed_is = ap executed_count_in second ∙ sym (ap executed_count_in first);
-      peak_within = omega (arith, ap peak_in first, ap peak_in second, h);
-    }
-alike_by job enough (BothStick first second) =
-    record {
-      outcome_is = ap ending_in second ∙ sym (ap ending_in first);
-      executed_is = ap executed_count_in second ∙ sym (ap executed_count_in first);
-      peak_within = omega (arith, ap peak_in first, ap peak_in second);
-    }
+alike_by job enough (BothRun s most first second h) = grind arith
+alike_by job enough (BothEnd ending x most least first second h) = grind arith
+alike_by job enough (BothStick first second) = grind arith
 alike_by job enough (Outruns line x most m t first runs count) = absurd (enough line (ap ending_in first))
 
 pub second_rule_ends_alike : SecondRuleEndsAlike
@@ -223,9 +208,7 @@ executed_from task n Stuck h = tt
 
 executed_later : (task : Task) (n m : ℕ) (t : State) → state_after task m ≡ Running t → n ≤ t.executed → (k : ℕ) →
     HasExecuted n (state_after task (m + k))
-executed_later task n m t runs h zero =
-    let same : m ≡ m + 0 = omega arith in
-    subst (λ i. HasExecuted n (state_after task i)) same (subst (HasExecuted n) (sym runs) h)
+executed_later task n m t runs h zero = grind arith
 executed_later task n m t runs h (suc k) =
     let same : suc (m + k) ≡ m + suc k = omega arith in
     subst (λ i. HasExecuted n (state_after task i)) same

@@ -5,8 +5,7 @@ use Rattle.std.proofs.Math.Nat.{max-le}
 use Rattle.std.proofs.lemmas.Bool.Decides.{nat_tests}
 use Rattle.vcode_base.specs.declared.outcome.Outcome.{Outcome}
 use Rattle.vcode_base.specs.Laws.{ResultsHaveNeededLengths}
-use Rattle.job_steps.specs.Runs.{progress_from, state_after, whole_run, outcome, executed_count, peak, ending_in}
-use Rattle.job_steps.specs.Runs.{executed_count_in, peak_in}
+use Rattle.job_steps.specs.Runs.{progress_from, state_after, whole_run, outcome, executed_count, peak}
 use Rattle.job_steps.specs.States.{Vector, Task, Active, State}
 use Rattle.job_steps.specs.Steps.{Progress, Running, Over, Stuck, progress_past, next_progress}
 use Rattle.job_steps.proofs.Bounds.{IsBounded, bounded, over_running, fits_at}
@@ -73,12 +72,7 @@ within_past task n s call outer b passes (last ∷ others) ending x p e = absurd
 
 within_by : (task : Task) (n : ℕ) (s : State) → IsBounded task n s → (q : Progress) → Goes task s q →
     (ending : Outcome (List Vector)) (x p : ℕ) → q ≡ Over ending x p → AreWithin task x p
-within_by task n s b q (Ends early kept is) ending x p e =
-    let same = same_over early ending s.executed s.peak x p (sym is ∙ e) in
-    record {
-      budget = subst (λ k. k ≤ task.limits.budget) same.count (omega (arith, b.count, b.budget));
-      words = subst (λ k. k ≤ task.limits.words) same.most b.highest;
-    }
+within_by task n s b q (Ends early kept is) ending x p e = grind arith
 within_by task n s b q (Idles none is) ending x p e = absurd (over_stuck ending x p (sym e ∙ is))
 within_by task n s b q (Blocks call outer calls runs is) ending x p e = absurd (over_stuck ending x p (sym e ∙ is))
 within_by task n s b q (Executes call outer passes is) ending x p e =
@@ -121,6 +115,4 @@ pub end_is_own : ResultsHaveNeededLengths → (task : Task) (n : ℕ) (ending : 
     state_after task n ≡ Over ending x p →
     (outcome task ≡ ending) × (executed_count task ≡ x) × (peak task ≡ p)
 unfolding outcome executed_count peak
-end_is_own law task n ending x p e =
-    let whole = own_by law task n ending x p e (whole_run task) refl in
-    (ap ending_in whole, ap executed_count_in whole, ap peak_in whole)
+end_is_own law task n ending x p e = grind (arith, own_by)

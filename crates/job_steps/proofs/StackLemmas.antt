@@ -1,12 +1,11 @@
 -- The stack after an instruction: how many entries it has, which entries these are, and their kinds.
-use Rattle.std.proofs.Common.{◌≡◌, ℕ, ℤ, ◌+◌, ◌-◌, ◌≤◌, true, List, [], ◌∷◌, ◌++◌, length, map, take, drop, None}
+use Rattle.std.proofs.Common.{◌≡◌, ℕ, ◌+◌, ◌-◌, ◌≤◌, true, List, [], ◌∷◌, ◌++◌, length, map, take, drop, None}
 use Rattle.std.proofs.Common.{refl, sym, ◌∙◌, ap, subst, arith, zero, suc}
 use Rattle.std.specs.Prelude.{All, reverse, nat_le}
 use Rattle.std.proofs.lemmas.Bool.Decides.{nat_tests}
 use Rattle.std.proofs.lemmas.List.{length-append, length-take, length-drop, length-reverse, length-map}
 use Rattle.std.proofs.lemmas.List.Elements.{All-append, All-take, All-drop, All-nil, All-cons, All-head, All-tail}
 use Rattle.vcode_base.specs.declared.instr.Instr.TheVariants as instr
-use Rattle.vcode_base.specs.declared.kind.Kind.{Kind}
 use Rattle.vcode_base.specs.declared.op.Op.{Op}
 use Rattle.vcode_base.specs.declared.op.Op.TheVariants.{Const, Elementwise, Segmented, If, Move, Call, Return}
 use Rattle.vcode_base.specs.declared.op.Elementwise.{Elementwise as ElementwiseOp}
@@ -21,9 +20,9 @@ use Rattle.vcode_base.specs.declared.op.StackMove.TheVariants.{Copy, Pop, MoveTo
 use Rattle.vcode_base.specs.declared.rule.Rule.{Rule}
 use Rattle.vcode_base.specs.declared.rule.Rule.TheVariants.{First, Second}
 use Rattle.vcode_base.specs.Instructions.{op_of}
-use Rattle.vcode_base.specs.Kinds.{operand_kinds, result_kinds, source_kinds, elementwise_results, segmented_results}
+use Rattle.vcode_base.specs.Kinds.{operand_kinds, result_kinds, elementwise_results, segmented_results}
 use Rattle.vcode_base.specs.Laws.{ResultsHaveNeededLengths}
-use Rattle.vcode_base.specs.Meaning.{shape, need, value_fault, result_of, second_result_of}
+use Rattle.vcode_base.specs.Meaning.{shape, value_fault}
 use Rattle.vcode_base.specs.Motions.{entries_after_move}
 use Rattle.vcode_reader.specs.Trees.{Item}
 use Rattle.verifier.specs.Typed.{TypedProgram}
@@ -31,10 +30,10 @@ use Rattle.job_steps.specs.Motions.{top_entries, operand_count, stack_after, sta
 use Rattle.job_steps.specs.Motions.{depth_after_move}
 use Rattle.job_steps.specs.States.{StackEntry, State, words_of, held_words, new_entries}
 use Rattle.job_steps.specs.Questions.{Question, need_words}
-use Rattle.job_steps.specs.Steps.{sources_of, question_of, vectors_of, results_of, can_run, held_at}
+use Rattle.job_steps.specs.Steps.{sources_of, question_of, results_of, can_run, held_at}
 use Rattle.job_steps.specs.Tracks.{IsDeep}
 use Rattle.job_steps.proofs.Held.{Has, has_itself, Agree, held_among, held_append, total_words}
-use Rattle.job_steps.proofs.KindLemmas.{kind_of, reverse-cons, there, kinds-new_entries, kinds-vectors_of}
+use Rattle.job_steps.proofs.KindLemmas.{kind_of, reverse-cons, there}
 
 -- ---- what holds of each entry
 
@@ -106,24 +105,7 @@ length-stack_after_move : {E : Type 0} (motion : StackMove) (lower upper : ℕ) 
     lower + upper ≤ length stack →
     length (stack_after_move motion lower upper stack) ≡ depth_after_move motion lower (length stack)
 length-stack_after_move motion lower upper stack there =
-    let low = top_entries lower (drop upper stack) in
-    let up = top_entries upper stack in
-    let below = drop lower (drop upper stack) in
-    let dropped : length (drop upper stack) ≡ length stack - upper = length-drop upper stack in
-    let lows : length low ≡ lower = length-top_entries lower (drop upper stack) (omega arith) in
-    let ups : length up ≡ upper = length-top_entries upper stack (omega arith) in
-    let belows : length below ≡ (length stack - upper) - lower = length-drop lower (drop upper stack)
-    ∙ ap (λ n. n - lower) dropped in
-    let whole : (upper + lower) + ((length stack - upper) - lower) ≡ length stack = omega arith in
-    length-append (reverse (entries_after_move motion low up)) below
-    ∙ (ap (λ n. n + length below) (length-reverse (entries_after_move motion low up)
-    ∙ (length-move motion low up ∙ both lows ups))
-    ∙ (ap (λ n. depth_after_move motion lower (upper + lower) + n) belows
-    ∙ (depth_over motion lower upper ((length stack - upper) - lower) ∙ ap (depth_after_move motion lower) whole)))
-  where
-    both : {l u : ℕ} → l ≡ lower → u ≡ upper →
-        depth_after_move motion l (u + l) ≡ depth_after_move motion lower (upper + lower)
-    both {l} {u} p q = cc
+    grind (arith, length-drop, length-top_entries, length-append, length-reverse, length-move, depth_over)
 
 length-pushed : {E : Type 0} (count : ℕ) (results stack : List E) →
     length (reverse results ++ drop count stack) ≡ (length stack - count) + length results
@@ -137,12 +119,8 @@ pub length-stack_after : {E : Type 0} (op : Op) (results stack : List E) →
 length-stack_after (Move motion lower upper) results stack h deep =
     length-stack_after_move motion lower upper stack deep
 length-stack_after (Const k) results stack h deep = length-pushed 0 results stack ∙ ap (λ n. (length stack - 0) + n) h
-length-stack_after (Elementwise e) results stack h deep =
-    length-pushed (operand_count (Elementwise e)) results stack
-    ∙ ap (λ n. (length stack - operand_count (Elementwise e)) + n) h
-length-stack_after (Segmented e) results stack h deep =
-    length-pushed (operand_count (Segmented e)) results stack
-    ∙ ap (λ n. (length stack - operand_count (Segmented e)) + n) h
+length-stack_after (Elementwise e) results stack h deep = grind (arith, length-pushed)
+length-stack_after (Segmented e) results stack h deep = grind (arith, length-pushed)
 length-stack_after If results stack h deep = length-pushed 1 results stack ∙ ap (λ n. (length stack - 1) + n) h
 length-stack_after Call results stack h deep = length-pushed 0 results stack ∙ ap (λ n. (length stack - 0) + n) h
 length-stack_after Return results stack h deep = length-pushed 0 results stack ∙ ap (λ n. (length stack - 0) + n) h
@@ -194,10 +172,7 @@ few_results Return = omega arith
 
 -- the results are of the kinds of the instruction's
 pub kinds-results : (next : ℕ) (q : Question) → map kind_of (new_entries next (results_of q)) ≡ result_kinds q.op
-kinds-results next q =
-    kinds-new_entries next (results_of q)
-    ∙ kinds-vectors_of (result_kinds q.op) (result_of q.op q.sources ∷ second_result_of q.op q.sources ∷ [])
-    (few_results q.op)
+kinds-results next q = grind arith
 
 pub length-results : (next : ℕ) (q : Question) → length (new_entries next (results_of q)) ≡ length (result_kinds q.op)
 length-results next q = sym (length-map (new_entries next (results_of q)) kind_of) ∙ ap length (kinds-results next q)
@@ -242,46 +217,17 @@ held_below Return results stack agree = held_pushed 0 results stack
 -- so they are with what counts as held at the instruction
 pub held_after : (rule : Rule) (item : Item) (results : List StackEntry) (s : State) → Agree s.stack →
     held_words (stack_after (op_of item) results s.stack) ≤ total_words results + held_at rule item s
-held_after First item results s agree =
-    omega (
-      arith,
-      held_below (op_of item) results s.stack agree,
-      held_drop (operand_count (op_of item)) s.stack,
-    )
+held_after First item results s agree = grind (arith, held_below, held_drop)
 held_after Second item results s agree = held_below (op_of item) results s.stack agree
-
-total_vectors : (next : ℕ) (ks : List Kind) (first second : List ℤ) →
-    total_words (new_entries next (vectors_of ks (first ∷ second ∷ []))) ≤ length first + length second
-total_vectors next [] first second = omega arith
-total_vectors next (k ∷ []) first second = omega arith
-total_vectors next (k ∷ l ∷ []) first second = omega arith
-total_vectors next (k ∷ l ∷ m ∷ ks) first second = omega arith
 
 counted : (count : ℕ) (stack : List StackEntry) → count ≤ length stack →
     length (words_of (top_entries count stack)) ≡ count
 counted count stack h = length-map (top_entries count stack) (λ (e : StackEntry). e.value.words)
     ∙ length-top_entries count stack h
 
--- as many sources as there are kinds of them
-pub length-sources : (item : Item) (stack : List StackEntry) → IsDeep (op_of item) (length stack) →
-    length (sources_of item stack) ≡ length (source_kinds (op_of item))
-length-sources (instr.Const k list) stack deep = refl
-length-sources (instr.Elementwise e) stack deep = counted (operand_count (Elementwise e)) stack deep
-length-sources (instr.Segmented e) stack deep = counted (operand_count (Segmented e)) stack deep
-length-sources instr.If stack deep = counted 1 stack deep
-length-sources (instr.Move motion lower upper) stack deep = counted 0 stack (omega arith)
-length-sources (instr.Call name) stack deep = counted 0 stack (omega arith)
-length-sources instr.Return stack deep = counted 0 stack (omega arith)
-
 -- the results have no more words than are needed
 pub total_results : ResultsHaveNeededLengths → (next : ℕ) (item : Item) (stack : List StackEntry) →
     IsDeep (op_of item) (length stack) →
     shape (op_of item) (sources_of item stack) ≡ None → value_fault (op_of item) (sources_of item stack) ≡ None →
     total_words (new_entries next (results_of (question_of item stack))) ≤ need_words (question_of item stack)
-total_results law next item stack deep shaped valued =
-    let op = op_of item in
-    let xs = sources_of item stack in
-    let needs = law op xs (length-sources item stack deep) shaped valued in
-    let first : (need op xs).0 ≡ length (result_of op xs) = ap (λ (p : ℕ × ℕ). p.0) needs in
-    let second : (need op xs).1 ≡ length (second_result_of op xs) = ap (λ (p : ℕ × ℕ). p.1) needs in
-    omega (arith, total_vectors next (result_kinds op) (result_of op xs) (second_result_of op xs))
+total_results law next item stack deep shaped valued = grind arith

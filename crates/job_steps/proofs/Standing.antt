@@ -88,9 +88,7 @@ line_by : (f : Function) (p : ℕ) (i : CodeItem Item) (l : ℕ) (xs : List Code
     remaining (line_of i l ∷ xs) ≡ then_body rest (Do Return ret End) → first_line rest ret ≡ line_of i l
 line_by f p (code_item.Do i) l xs at stop rest ret h =
     line_is_do rest ret i l (remaining xs) (sym (remaining_do i l xs) ∙ h)
-line_by f p code_item.If l xs at stop rest ret h =
-    let c = if_chooses f p l xs at in
-    line_is_if rest ret l c.end c.first c.second c.rest (sym c.choice ∙ (ap remaining at ∙ h))
+line_by f p code_item.If l xs at stop rest ret h = grind (arith, if_chooses, line_is_if)
 line_by f p code_item.Else l xs at stop rest ret h = absurd stop
 line_by f p code_item.Endif l xs at stop rest ret h = absurd stop
 
@@ -119,22 +117,12 @@ stands_lines : (functions : List Function) (frame : Frame) (call : Active) (f : 
     StandsAt functions frame call
 stands_lines functions frame call f found [] at h stop =
     absurd (end_return call.rest call.ret (sym remaining_nothing ∙ h))
-stands_lines functions frame call f found (x ∷ xs) at h stop = record {
-  function = f;
-  found = found;
-  line = x;
-  there = front_of (lines_of f) frame.place x xs at;
-  next = line_by f frame.place x.item x.number xs at stop call.rest call.ret h;
-}
+stands_lines functions frame call f found (x ∷ xs) at h stop = grind (arith, front_of, line_by)
 
 stands_function : (functions : List Function) (frame : Frame) (call : Active) (o : Option Function) →
     slice_get functions frame.function ≡ o → remaining (drop frame.place (lines_at o)) ≡ with_return call →
     StopAt (drop frame.place (lines_at o)) → StandsAt functions frame call
-stands_function functions frame call None found h stop =
-    let none : List CodeLine = [] in
-    absurd
-    (end_return call.rest call.ret
-    (sym remaining_nothing ∙ (ap remaining (sym (drop_all frame.place none (omega arith))) ∙ h)))
+stands_function functions frame call None found h stop = grind (arith, end_return, remaining_nothing, drop_all)
 stands_function functions frame call (Some f) found h stop =
     stands_lines functions frame call f found (drop frame.place (lines_of f)) refl h stop
 
@@ -267,21 +255,14 @@ pub record Parts (whole : List CodeLine) (p : ℕ) (first second rest : Body) : 
 parts_by : (whole : List CodeLine) (p l line end : ℕ) (first second rest : Body) (c : Chooses whole p l) →
     Choice l c.first c.second c.end c.rest ≡ Choice line first second end rest → Parts whole p first second rest
 unfolding first_in second_in rest_in
-parts_by whole p l line end first second rest c h = record {
-  chosen = c.chosen ∙ (λ k. then_body (first_in (h k)) (rest_in (h k)));
-  next = c.next;
-  target = c.target;
-  other = c.other ∙ (λ k. then_body (second_in (h k)) (rest_in (h k)));
-}
+parts_by whole p l line end first second rest c h = grind arith
 
 parts_at : (f : Function) (p line end : ℕ) (first second rest : Body) (i : CodeItem Item) (l : ℕ)
     (xs : List CodeLine) → drop p (lines_of f) ≡ line_of i l ∷ xs → IsStop i →
     remaining (drop p (lines_of f)) ≡ Choice line first second end rest → Parts (lines_of f) p first second rest
 parts_at f p line end first second rest (code_item.Do i) l xs at stop h =
     absurd (do_choice (sym (remaining_do i l xs) ∙ (ap remaining (sym at) ∙ h)))
-parts_at f p line end first second rest code_item.If l xs at stop h =
-    let c = if_chooses f p l xs at in
-    parts_by (lines_of f) p l line end first second rest c (sym c.choice ∙ h)
+parts_at f p line end first second rest code_item.If l xs at stop h = grind (arith, if_chooses, parts_by)
 parts_at f p line end first second rest code_item.Else l xs at stop h = absurd stop
 parts_at f p line end first second rest code_item.Endif l xs at stop h = absurd stop
 

@@ -125,11 +125,7 @@ sum_set : (number : Task → Standing → ℕ) (tasks : List Task) (standings : 
     sum_over number tasks (set standings i new) + number task old ≡ sum_over number tasks standings + number task new
 sum_set number [] standings i task old new t e = absurd (none-some task t)
 sum_set number (k ∷ tasks) [] i task old new t e = absurd (none-some old e)
-sum_set number (k ∷ tasks) (s ∷ standings) zero task old new t e =
-    let late : number k new ≡ number task new = ap (λ x. number x new) (same_Some k task t) in
-    let task_is : number k s ≡ number task s = ap (λ x. number x s) (same_Some k task t) in
-    let early : number task s ≡ number task old = ap (number task) (same_Some s old e) in
-    omega (arith, late, task_is, early)
+sum_set number (k ∷ tasks) (s ∷ standings) zero task old new t e = grind arith
 sum_set number (k ∷ tasks) (s ∷ standings) (suc i) task old new t e =
     let rest = sum_set number tasks standings i task old new t e in omega (arith, rest)
 
@@ -208,15 +204,7 @@ passable_more : (fits : Task → Bool) (t : Task) (tasks : List Task) (s : Stand
     (count : ℕ) (passes : List ℕ) (place : ℕ) → (is_waiting s && fits t) ≡ false → is_passed_enough s count ≡ false →
     PassableBefore fits tasks standings passes place →
     PassableBefore fits (t ∷ tasks) (s ∷ standings) (count ∷ passes) (suc place)
-passable_more fits t tasks s standings count passes place b c before zero task less t_is w =
-    let s_is : s ≡ Waiting = same_Some s Waiting w in
-    let unfit : fits t ≡ false = subst (λ (k : Standing). (is_waiting k && fits t) ≡ false) s_is b in
-    let kept : is_passed_enough Waiting count ≡ false =
-    subst (λ (k : Standing). is_passed_enough k count ≡ false) s_is c in (
-      ap fits (sym (same_Some t task t_is)) ∙ unfit,
-      λ other o. let same : count ≡ other = same_Some count other o in
-          let below = leb-false MOST_PASSES count kept in omega (arith, same, below),
-    )
+passable_more fits t tasks s standings count passes place b c before zero task less t_is w = grind arith
 passable_more fits t tasks s standings count passes place b c before (suc i) task less t_is w =
     before i task (omega (arith, less)) t_is w
 

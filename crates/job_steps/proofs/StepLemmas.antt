@@ -1,5 +1,5 @@
 -- What a step may rest on if a track is at a state of a verified job.
-use Rattle.std.proofs.Common.{◌≡◌, ◌∙◌, ◌+◌, ◌<◌, ◌≤◌, ℕ, ℤ, Bool, true, false, cond, eqb, List, [], ◌∷◌, length}
+use Rattle.std.proofs.Common.{◌≡◌, ◌∙◌, ◌+◌, ◌<◌, ◌≤◌, ℕ, Bool, true, false, cond, eqb, List, [], ◌∷◌, length}
 use Rattle.std.proofs.Common.{Option, Some, None, refl, ap, sym, subst, arith}
 use Rattle.std.specs.Prelude.{All}
 use Rattle.std.proofs.lemmas.Bool.Decides.{nat_tests}
@@ -109,9 +109,7 @@ tops_held count stack most agree within =
 sources_held : (item : Item) (stack : List StackEntry) (most : ℕ) → Agree stack →
     held_words stack ≤ most → need_words (question_of item stack) ≤ most → HaveAtMost most (sources_of item stack)
 unfolding need
-sources_held (Const k list) stack most agree held needed =
-    All-cons (λ (words : List ℤ). length words ≤ most) list [] (omega arith)
-    (All-nil (λ (words : List ℤ). length words ≤ most))
+sources_held (Const k list) stack most agree held needed = grind arith
 sources_held (Elementwise e) stack most agree held needed =
     tops_held (operand_count (op.Elementwise e)) stack most agree held
 sources_held (Segmented e) stack most agree held needed =

@@ -29,7 +29,7 @@ use Rattle.job_steps.specs.Reached.{IsVerifiedProgram, IsVerifiedTask, AreTyped}
 use Rattle.job_steps.specs.Runs.{progress_from, state_after}
 use Rattle.job_steps.specs.States.{Task, StackEntry, Active, State, callee_of, callee_at, callee_named, calls_with}
 use Rattle.job_steps.specs.States.{first_state, stack_kinds, new_entries}
-use Rattle.job_steps.specs.Steps.{Progress, Running, Over, Stuck, question_of, results_of, flag_of, has_on_top}
+use Rattle.job_steps.specs.Steps.{Progress, Running, Over, Stuck, question_of, results_of, has_on_top}
 use Rattle.job_steps.specs.Steps.{can_call, can_run, first_item, calls_past, calls_after, progress_past}
 use Rattle.job_steps.specs.Steps.{next_progress}
 use Rattle.job_steps.proofs.Bounds.{state_past, running_from, Went, went}
@@ -93,10 +93,8 @@ same_arrow a b c d e = let h : ◌≡◌ {A = FunctionType} (a, b) (c, d) = cc i
 
 arrow_in : (o : Option FunctionType) (arrow : FunctionType) →
     option_map (λ (a : FunctionType). Some a) o ≡ Some (Some arrow) → o ≡ Some arrow
-arrow_in None arrow e =
-    absurd (let h : ◌≡◌ {A = Option (Option FunctionType)} None (Some (Some arrow)) = e in cc)
-arrow_in (Some a) arrow e =
-    let h : ◌≡◌ {A = Option (Option FunctionType)} (Some (Some a)) (Some (Some arrow)) = e in cc
+arrow_in None arrow e = cc
+arrow_in (Some a) arrow e = cc
 
 -- the arrow of a function is that of its signature
 arrow_at : (signatures : List Signature) (functions : List Function) (arrows : List FunctionType)
@@ -184,11 +182,7 @@ pushed : (item : Item) (next : ℕ) (stack : List StackEntry) (below takes gives
     stack_kinds stack ≡ below ++ takes →
     stack_kinds (reverse (new_entries next (results_of (question_of item stack))) ++ drop
     (length (operand_kinds (op_of item))) stack) ≡ below ++ gives
-pushed item next stack below takes gives t g e =
-    let own = operand_kinds (op_of item) in
-    kinds-pushed stack below own (result_kinds (op_of item)) (new_entries next (results_of (question_of item stack)))
-    (cut stack below own (e ∙ ap (λ ks. below ++ ks) t)) (kinds-results next (question_of item stack))
-    ∙ ap (λ ks. below ++ ks) (sym g)
+pushed item next stack below takes gives t g e = grind (arith, kinds-pushed, cut, kinds-results)
 
 moved_by : (motion : StackMove) (stack : List StackEntry) (below lows ups gives : List Kind) (lower upper : ℕ) →
     length lows ≡ lower → length ups ≡ upper →
@@ -272,8 +266,7 @@ typed_after : (signatures : List Signature) (verified : TypedProgram) → IsVeri
     AreTyped (scope_of signatures verified.program) results (calls_after verified flag rest ret outer)
     (stack_kinds (stack_past (first_item rest ret).item next stack))
 typed_after signatures verified v results flag End ret outer next stack (below, own, gives, e, same, proper, out) =
-    subst (AreTyped (scope_of signatures verified.program) results outer)
-    (sym (e ∙ ap (λ ks. below ++ ks) same)) out
+    grind arith
 typed_after signatures verified v results flag (Do item line rest) ret outer next stack (
   below,
   own,
@@ -315,8 +308,7 @@ pub runs_at : (signatures : List Signature) (verified : TypedProgram) → IsVeri
     (results : List Kind) (rest : Body) (ret : ℕ) (outer : List Active) (stack : List StackEntry) →
     AreTyped (scope_of signatures verified.program) results (record { rest = rest; ret = ret } ∷ outer)
     (stack_kinds stack) → can_run verified (first_item rest ret).item stack ≡ true
-runs_at signatures verified v results End ret outer stack (below, own, gives, e, same, proper, out) =
-    tops stack (stack_kinds stack) [] [] refl (sym (append-nil (stack_kinds stack)))
+runs_at signatures verified v results End ret outer stack (below, own, gives, e, same, proper, out) = cc
 runs_at signatures verified v results (Do item line rest) ret outer stack (below, own, gives, e, h, proper, out) =
     runs signatures verified item h.1 h.2 (below ++ h.0) stack v h.3 (e
     ∙ (ap (λ ks. below ++ ks) h.4 ∙ sym (append_assoc below h.0 h.1)))
@@ -341,20 +333,7 @@ IsTyped signatures task s =
 
 typed_next : (signatures : List Signature) (task : Task) (s next : State) → IsVerifiedTask signatures task →
     IsTyped signatures task s → Went task s next → IsTyped signatures task next
-typed_next signatures task s next v typed w =
-    let scope = scope_of signatures task.verified.program in
-    let results = task.verified.results in
-    let before : AreTyped scope results (w.call ∷ w.outer) (stack_kinds s.stack) =
-    subst (λ cs. AreTyped scope results cs (stack_kinds s.stack)) w.passes.calls typed.1 in
-    let after = typed_after signatures task.verified v results (flag_of (question_of (item_of w.call) s.stack))
-    w.call.rest w.call.ret w.outer s.next s.stack before in
-    let here : IsTyped signatures task (state_past task.rule (item_of w.call) s (w.last ∷ w.others)) = (
-      omega arith,
-      subst
-          (λ cs. AreTyped scope results cs (stack_kinds (stack_past (item_of w.call) s.next s.stack))) w.calls after,
-    )
-    in
-    subst (IsTyped signatures task) w.new here
+typed_next signatures task s next v typed w = grind (arith, typed, typed_after, item_of, state_past)
 
 typed_first : (signatures : List Signature) (task : Task) → IsVerifiedTask signatures task →
     IsTyped signatures task (first_state task.verified)

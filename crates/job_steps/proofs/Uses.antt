@@ -1,4 +1,5 @@
 -- What jobs have used at each standing, and how they end.
+use Rattle.std.proofs.Common.{rules}
 use Rattle.std.proofs.Common.{◌≡◌, ℕ, ◌+◌, ◌-◌, ◌≤◌, cond, List, [], ◌∷◌, All, Option, Some, None}
 use Rattle.std.proofs.Common.{is_some, refl, sym, ◌∙◌, ap, subst, arith}
 use Rattle.std.proofs.lemmas.List.Elements.{All-head, All-tail}
@@ -6,7 +7,7 @@ use Rattle.vcode_base.specs.declared.outcome.Outcome.TheVariants.{Returned, Faul
 use Rattle.signatures.specs.Signatures.{Signature}
 use Rattle.job_steps.specs.declared.event.Event.{Event}
 use Rattle.job_steps.specs.EventLaws.{IsVerified, IsRunning, StandsOnRun, UsesWithin}
-use Rattle.job_steps.specs.Events.{early_end, standing_after_begin, standing_after, next_standing}
+use Rattle.job_steps.specs.Events.{early_end, standing_after_begin, next_standing}
 use Rattle.job_steps.specs.Reached.{IsVerifiedTask, Reaches, NeverStuck, EndIsOwn}
 use Rattle.job_steps.specs.Runs.{state_after, peak_in, outcome, executed_count, peak}
 use Rattle.job_steps.specs.Standings.{Standing, Waiting, Live, InFlight, Ended, Collected, reserved_words}
@@ -52,11 +53,7 @@ use_is_within reaches task v Waiting h =
     record { budget = omega arith; words = omega arith; held = held_within reaches task v Waiting }
 use_is_within reaches task v (Live n) h =
     record { budget = h.budget; words = peak_within reaches task v n h; held = held_within reaches task v (Live n) }
-use_is_within reaches task v (InFlight n) h = record {
-  budget = h.run.budget;
-  words = peak_within reaches task v n h.run;
-  held = held_within reaches task v (InFlight n);
-}
+use_is_within reaches task v (InFlight n) h = search (rules, peak_within, held_within)
 use_is_within reaches task v Ended h =
     record { budget = h.budget; words = h.words; held = held_within reaches task v Ended }
 use_is_within reaches task v Collected h =
@@ -76,24 +73,13 @@ used_is_granted reaches (t ∷ tasks) each (s ∷ standings) =
 -- a run that is over after n steps is over with the job's own ending
 over_is_own : EndIsOwn → (task : Task) (n : ℕ) (ending : Ending) (x p : ℕ) → state_after task n ≡ Over ending x p →
     state_after task n ≡ Over (outcome task) (executed_count task) (peak task)
-over_is_own own task n ending x p e =
-    let same = own task n ending x p e in
-    e ∙ sym (λ i. Over (same.0 i) (same.1 i) (same.2 i))
+over_is_own own task n ending x p e = grind arith
 
 begin_ends : NeverStuck → Reaches → EndIsOwn → (task : Task) → IsVerified task → (n : ℕ) (run : IsRunning task n) →
     (o : Option Ending) → early_end task run.state ≡ o → cond (is_some o) Ended (InFlight n) ≡ Ended →
     state_after task (n + 1) ≡ Over (outcome task) (executed_count task) (peak task)
 begin_ends stuck reaches own task v n run None early e = cc
-begin_ends stuck reaches own task v n run (Some ending) early e =
-    let there = early_ends stuck reaches own v.0 task v.1 n run.state ending run.running early in
-    over_is_own own task (n + 1) ending n run.state.peak there.over
-
-finish_ends : NeverStuck → EndIsOwn → (task : Task) → IsVerified task → (n : ℕ) (p : Progress) →
-    state_after task n ≡ p → standing_after n p ≡ Ended →
-    state_after task n ≡ Over (outcome task) (executed_count task) (peak task)
-finish_ends stuck own task v n (Running s) is e = cc
-finish_ends stuck own task v n (Over ending x p) is e = over_is_own own task n ending x p is
-finish_ends stuck own task v n Stuck is e = absurd (stuck v.0 task v.1 n is)
+begin_ends stuck reaches own task v n run (Some ending) early e = grind (arith, early_ends, over_is_own)
 
 ended_by : NeverStuck → Reaches → EndIsOwn → (task : Task) → IsVerified task → (event : Event) (old new : Standing) →
     Changes task event old new → StandsOnRun task old → new ≡ Ended →
@@ -105,9 +91,7 @@ ended_by stuck reaches own task v event old new (Begins job n event_is old_is ne
     ap (standing_after_begin task n) (sym run.running) ∙ (sym new_is ∙ e) in
     ap (λ s. state_after task (executed_at task s + 1)) old_is
     ∙ begin_ends stuck reaches own task v n run (early_end task run.state) refl ended
-ended_by stuck reaches own task v event old new (Finishes job n event_is old_is new_is) h e =
-    ap (λ s. state_after task (executed_at task s + 1)) old_is
-    ∙ finish_ends stuck own task v (n + 1) (state_after task (n + 1)) refl (sym new_is ∙ e)
+ended_by stuck reaches own task v event old new (Finishes job n event_is old_is new_is) h e = grind arith
 ended_by stuck reaches own task v event old new (Recalls job n event_is old_is new_is) h e = cc
 ended_by stuck reaches own task v event old new (Collects job event_is old_is new_is) h e = cc
 

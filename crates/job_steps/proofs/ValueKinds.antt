@@ -1,4 +1,5 @@
 -- The results of an instruction are of the kinds that its results have.
+use Rattle.std.proofs.Common.{rules}
 use Rattle.std.proofs.Common.{◌≡◌, ℕ, ℤ, pos, ◌+◌, ◌≤◌, Bool, true, false, cond, not, ltb, List, [], ◌∷◌, map}
 use Rattle.std.proofs.Common.{take, drop, Option, Some, None, refl, arith, suc, zero}
 use Rattle.std.specs.Prelude.{All, ◌≤ℤ◌, ◌||◌, zip, filter, flat_map, count_by, slice_set, slice_get}
@@ -15,7 +16,6 @@ use Rattle.vcode_base.specs.declared.fault.DataFault.TheVariants.{BadLength}
 use Rattle.vcode_base.specs.declared.kind.Kind.{Kind}
 use Rattle.vcode_base.specs.declared.kind.Kind.TheVariants as kind
 use Rattle.vcode_base.specs.declared.kind.Scalar.TheVariants.{Int as Numbers, Bool as Flags}
-use Rattle.vcode_base.specs.declared.limits.TheConstants.{MOST_TOTAL}
 use Rattle.vcode_base.specs.declared.op.Comparison.{Comparison}
 use Rattle.vcode_base.specs.declared.op.Comparison.TheVariants.{Less, LessOrEqual, Greater, GreaterOrEqual, Equal}
 use Rattle.vcode_base.specs.declared.op.Comparison.TheVariants.{NotEqual}
@@ -30,7 +30,7 @@ use Rattle.vcode_base.specs.declared.op.Segmented.{Segmented as SegmentedOp}
 use Rattle.vcode_base.specs.declared.op.Segmented.TheVariants.{Scan, Reduce, Distribute, Index, Permute, BackPermute}
 use Rattle.vcode_base.specs.declared.op.Segmented.TheVariants.{DefaultPermute, Extract, Replace, Pack, MakeSegdes}
 use Rattle.vcode_base.specs.declared.op.Segmented.TheVariants.{Lengths}
-use Rattle.vcode_base.specs.Elements.{flag, is_set, comparison, logic, negation, fold_of}
+use Rattle.vcode_base.specs.Elements.{is_set, comparison, logic, fold_of}
 use Rattle.vcode_base.specs.Kinds.{IsFlag, HasKind, HaveKinds, kind_of, elementwise_operands}
 use Rattle.vcode_base.specs.Kinds.{elementwise_results, segmented_operands, segmented_results, source_kinds}
 use Rattle.vcode_base.specs.Kinds.{result_kinds}
@@ -55,9 +55,7 @@ operand_kind (l ∷ ks) (x ∷ xs) h (suc i) k e = operand_kind ks xs h.1 i k e
 -- ---- elementwise instructions
 
 paired_flags : (f : ℤ → ℤ → ℤ) → ((a b : ℤ) → IsFlag (f a b)) → (xs ys : List ℤ) → All IsFlag (two_by_two f xs ys)
-paired_flags f always xs ys =
-    All-map IsFlag (λ (p : ℤ × ℤ). f p.0 p.1) (zip xs ys)
-    (All-always (λ (p : ℤ × ℤ). IsFlag (f p.0 p.1)) (λ p. always p.0 p.1) (zip xs ys))
+paired_flags f always xs ys = search (rules, All-map, All-always)
 
 comparison_flag : (op : Comparison) (a b : ℤ) → IsFlag (comparison op a b)
 comparison_flag Less a b = is_flag (int_lt a b)
@@ -91,9 +89,7 @@ one k words h = All-cons HasItsKind (record { kind = k; words = words }) [] h (A
 
 two : (k l : Kind) (words others : List ℤ) → HasKind k words → HasKind l others →
     All HasItsKind (record { kind = k; words = words } ∷ record { kind = l; words = others } ∷ [])
-two k l words others p q =
-    All-cons HasItsKind (record { kind = k; words = words }) (record { kind = l; words = others } ∷ []) p
-    (one l others q)
+two k l words others p q = grind arith
 
 elementwise_kinds : (e : ElementwiseOp) (xs : List (List ℤ)) (others : List (List ℤ)) →
     HaveKinds (elementwise_operands e) xs →
@@ -108,20 +104,10 @@ elementwise_kinds (Logic op Flags) xs others h =
     (logic_flags op (operand xs 0) (operand xs 1) (operand_kind own xs h 0 kind.Bool refl)
     (operand_kind own xs h 1 kind.Bool refl))
 elementwise_kinds (Not Numbers) xs others h = one kind.Int _ tt
-elementwise_kinds (Not Flags) xs others h =
-    one kind.Bool _
-    (All-map IsFlag (negation Flags) (operand xs 0)
-    (All-always (λ a. IsFlag (negation Flags a)) (λ a. is_flag (not (is_set a))) (operand xs 0)))
+elementwise_kinds (Not Flags) xs others h = search (rules, one, All-map, All-always, is_flag)
 elementwise_kinds (Select Numbers) xs others h = one kind.Int _ tt
-elementwise_kinds (Select Flags) xs others h =
-    let own = elementwise_operands (Select Flags) in
-    one kind.Bool _
-    (selected_flags (operand xs 0) (operand xs 1) (operand xs 2) (operand_kind own xs h 1 kind.Bool refl)
-    (operand_kind own xs h 2 kind.Bool refl))
-elementwise_kinds IntToBool xs others h =
-    one kind.Bool _
-    (All-map IsFlag (λ x. flag (is_set x)) (operand xs 0)
-    (All-always (λ x. IsFlag (flag (is_set x))) (λ x. is_flag (is_set x)) (operand xs 0)))
+elementwise_kinds (Select Flags) xs others h = grind (arith, one, selected_flags, operand_kind)
+elementwise_kinds IntToBool xs others h = search (rules, one, All-map, All-always, is_flag)
 elementwise_kinds BoolToInt xs others h = one kind.Int _ tt
 
 -- ---- instructions over segments
@@ -131,17 +117,11 @@ segment_flags s xs p = All-cut IsFlag (sizes s) xs p
 
 scan_flags : (op : LogicOp) (s xs : List ℤ) → All IsFlag xs →
     All IsFlag (flat_map (folds_before (LogicFold op Flags)) (segments s xs))
-scan_flags op s xs p =
-    All-flat_map IsFlag (folds_before (LogicFold op Flags)) (segments s xs)
-    (All-weaker (All IsFlag) (λ v. All IsFlag (folds_before (LogicFold op Flags) v)) (scanned_flags op)
-    (segments s xs) (segment_flags s xs p))
+scan_flags op s xs p = search (rules, All-flat_map, All-weaker, scanned_flags, segment_flags)
 
 reduce_flags : (op : LogicOp) (s xs : List ℤ) → All IsFlag xs →
     All IsFlag (map (fold_of (LogicFold op Flags)) (segments s xs))
-reduce_flags op s xs p =
-    All-map IsFlag (fold_of (LogicFold op Flags)) (segments s xs)
-    (All-weaker (All IsFlag) (λ v. IsFlag (fold_of (LogicFold op Flags) v)) (fold_flag op) (segments s xs)
-    (segment_flags s xs p))
+reduce_flags op s xs p = search (rules, All-map, All-weaker, fold_flag, segment_flags)
 
 -- of each first part, whatever the second
 firsts : {A B : Type 0} (P : A → Type 0) (xs : List A) (ys : List B) → All P xs →
@@ -240,12 +220,7 @@ not_negative m = grind (arith, ints)
 
 pack_counts : (s bs : List ℤ) → HasKind kind.Segdes s →
     HasKind kind.Segdes (map (λ (xs : List ℤ). pos (count_by is_set xs)) (segments s bs))
-pack_counts s bs h = (
-  All-map (λ n. pos 0 ≤ℤ n) (λ (xs : List ℤ). pos (count_by is_set xs)) (segments s bs)
-      (All-always (λ (xs : List ℤ). pos 0 ≤ℤ pos (count_by is_set xs)) (λ xs. not_negative (count_by is_set xs))
-      (segments s bs)),
-  at_most _ (total s) MOST_TOTAL (counts s bs) h.1,
-)
+pack_counts s bs h = search (rules, All-map, All-always, not_negative, at_most, counts)
 
 neither : (a b : Bool) → first_fault ((a || b, BadLength) ∷ []) ≡ None → (a ≡ false) × (b ≡ false)
 neither true b e = absurd (let h : Some BadLength ≡ None = e in cc)
@@ -266,9 +241,7 @@ none_negative (x ∷ xs) e =
     either false b h = (refl, h)
 
 made : (xs : List ℤ) → segmented_fault MakeSegdes (xs ∷ []) ≡ None → HasKind kind.Segdes xs
-made xs e =
-    let p = neither (list_any (λ n. int_lt n (pos 0)) xs) (ltb MOST_TOTAL (total xs)) e in
-    (none_negative xs p.0, within MOST_TOTAL (total xs) p.1)
+made xs e = grind (arith, neither, none_negative, within)
 
 segmented_kinds : (e : SegmentedOp) (xs : List (List ℤ)) → HaveKinds (segmented_operands e) xs →
     segmented_fault e xs ≡ None →
@@ -278,19 +251,13 @@ segmented_kinds (Scan Product) xs h v = one kind.Int _ tt
 segmented_kinds (Scan Max) xs h v = one kind.Int _ tt
 segmented_kinds (Scan Min) xs h v = one kind.Int _ tt
 segmented_kinds (Scan (LogicFold op Numbers)) xs h v = one kind.Int _ tt
-segmented_kinds (Scan (LogicFold op Flags)) xs h v =
-    one kind.Bool _
-    (scan_flags op (operand xs 1) (operand xs 0)
-    (operand_kind (segmented_operands (Scan (LogicFold op Flags))) xs h 0 kind.Bool refl))
+segmented_kinds (Scan (LogicFold op Flags)) xs h v = grind (arith, one, scan_flags, operand_kind)
 segmented_kinds (Reduce Sum) xs h v = one kind.Int _ tt
 segmented_kinds (Reduce Product) xs h v = one kind.Int _ tt
 segmented_kinds (Reduce Max) xs h v = one kind.Int _ tt
 segmented_kinds (Reduce Min) xs h v = one kind.Int _ tt
 segmented_kinds (Reduce (LogicFold op Numbers)) xs h v = one kind.Int _ tt
-segmented_kinds (Reduce (LogicFold op Flags)) xs h v =
-    one kind.Bool _
-    (reduce_flags op (operand xs 1) (operand xs 0)
-    (operand_kind (segmented_operands (Reduce (LogicFold op Flags))) xs h 0 kind.Bool refl))
+segmented_kinds (Reduce (LogicFold op Flags)) xs h v = grind (arith, one, reduce_flags, operand_kind)
 segmented_kinds (Distribute Numbers) xs h v = one kind.Int _ tt
 segmented_kinds (Distribute Flags) xs h v =
     one kind.Bool _
@@ -326,15 +293,8 @@ segmented_kinds (Replace Flags) xs h v =
     one kind.Bool _ (replace_flags (segments (operand xs 3) (operand xs 0)) (operand xs 1) (operand xs 2)
     (segment_flags (operand xs 3) (operand xs 0) (operand_kind own xs h 0 kind.Bool refl))
     (operand_kind own xs h 2 kind.Bool refl))
-segmented_kinds (Pack Numbers) xs h v =
-    two kind.Int kind.Segdes _ _ tt
-    (pack_counts (operand xs 2) (operand xs 1)
-    (operand_kind (segmented_operands (Pack Numbers)) xs h 2 kind.Segdes refl))
-segmented_kinds (Pack Flags) xs h v =
-    let own = segmented_operands (Pack Flags) in
-    two kind.Bool kind.Segdes _ _
-    (packed_flags (operand xs 0) (operand xs 1) (operand_kind own xs h 0 kind.Bool refl))
-    (pack_counts (operand xs 2) (operand xs 1) (operand_kind own xs h 2 kind.Segdes refl))
+segmented_kinds (Pack Numbers) xs h v = grind (arith, two, pack_counts, operand_kind)
+segmented_kinds (Pack Flags) xs h v = grind (arith, two, packed_flags, operand_kind, pack_counts)
 segmented_kinds MakeSegdes xs h v = one kind.Segdes _ (made (operand xs 0) v)
 segmented_kinds Lengths xs h v = one kind.Int _ tt
 

@@ -1,4 +1,5 @@
 -- The words of the vectors that a verified job reaches are those of their kinds.
+use Rattle.std.proofs.Common.{arith}
 use Rattle.std.proofs.Common.{◌≡◌, ℕ, ◌+◌, List, [], ◌∷◌, ◌++◌, length, map, take, refl, sym, ◌∙◌, ap, subst, zero, suc}
 use Rattle.std.specs.Prelude.{All}
 use Rattle.std.proofs.lemmas.List.{append_assoc}
@@ -15,7 +16,7 @@ use Rattle.verifier.specs.Kinded.{Turns, scope_of}
 use Rattle.job_steps.specs.Motions.{top_entries}
 use Rattle.job_steps.specs.Reached.{IsVerifiedTask, AreTyped, HasItsKind, ValuesHaveKinds}
 use Rattle.job_steps.specs.Runs.{state_after}
-use Rattle.job_steps.specs.States.{Vector, Task, StackEntry, Active, State, first_state, words_of, stack_kinds}
+use Rattle.job_steps.specs.States.{Vector, Task, StackEntry, Active, State, words_of, stack_kinds}
 use Rattle.job_steps.specs.States.{new_entries}
 use Rattle.job_steps.specs.Steps.{Running, first_item, sources_of, question_of}
 use Rattle.job_steps.specs.Steps.{results_of}
@@ -88,8 +89,7 @@ next_kinds signatures task results (Choice line first second end rest) ret outer
 new_kept : (next : ℕ) (vs : List Vector) → All HasItsKind vs → All IsKept (new_entries next vs)
 new_kept next [] all = All-nil IsKept
 new_kept next (v ∷ vs) all =
-    All-cons IsKept (record { tag = next; value = v }) (new_entries (next + 1) vs) (All-head HasItsKind v vs all)
-    (new_kept (next + 1) vs (All-tail HasItsKind v vs all))
+    grind (arith, All-cons, All-head, All-tail, (new_kept (next + 1) vs (All-tail HasItsKind v vs all)))
 
 kinds_at : (signatures : List Signature) (task : Task) (s : State) → IsTyped signatures task s →
     All IsKept s.stack →
@@ -112,9 +112,7 @@ kept_next signatures task s next t k w =
 
 kept : (signatures : List Signature) (task : Task) → IsVerifiedTask signatures task → (n : ℕ) (s : State) →
     state_after task n ≡ Running s → All IsKept s.stack
-kept signatures task v zero s e =
-    let h : first_state task.verified ≡ s = (let g : Running (first_state task.verified) ≡ Running s = e in cc) in
-    subst (λ (first : State). All IsKept first.stack) h (All-nil IsKept)
+kept signatures task v zero s e = grind arith
 kept signatures task v (suc n) s e =
     let from = running_from task (state_after task n) s e in
     kept_next signatures task from.0 s (typed signatures task v n from.0 from.1)

@@ -1,27 +1,25 @@
 -- What verified jobs reach, and how they end.
-use Rattle.std.proofs.Common.{◌≡◌, ℕ, ◌+◌, ◌≤◌, Bool, List, [], ◌∷◌, ◌++◌, map, refl, sym}
+use Rattle.std.proofs.Common.{◌≡◌, ℕ, ◌+◌, Bool, List, [], ◌∷◌, map, refl, sym}
 use Rattle.std.proofs.Common.{◌∙◌, ap, subst, arith, zero, suc}
 use Rattle.std.specs.Prelude.{reverse}
-use Rattle.vcode_base.specs.declared.instr.Instr.TheVariants.{Const, Elementwise, Segmented, If, Move, Call, Return}
 use Rattle.vcode_base.specs.declared.kind.Kind.{Kind}
 use Rattle.vcode_base.specs.declared.outcome.Outcome.TheVariants.{Returned}
 use Rattle.vcode_base.specs.declared.rule.Rule.{Rule}
 use Rattle.vcode_base.specs.Laws.{ResultsHaveNeededLengths}
-use Rattle.vcode_reader.specs.Trees.{Item, Body, End, Do, Choice, IsBodyInstruction}
+use Rattle.vcode_reader.specs.Trees.{Item, Body, End, Do, Choice}
 use Rattle.signatures.specs.Signatures.{Signature}
-use Rattle.verifier.specs.Kinded.{Turns, scope_of}
+use Rattle.verifier.specs.Kinded.{scope_of}
 use Rattle.verifier.specs.Typed.{TypedProgram}
 use Rattle.job_steps.specs.Reached.{IsVerifiedProgram, IsVerifiedTask, AreTyped, IsReached, IsWithin}
-use Rattle.job_steps.specs.Runs.{progress_from, state_after, whole_run, outcome, executed_count, peak, ending_in}
-use Rattle.job_steps.specs.Runs.{executed_count_in, peak_in}
-use Rattle.job_steps.specs.States.{Vector, Task, StackEntry, Active, State, calls_with, values_of, stack_kinds}
-use Rattle.job_steps.specs.Steps.{Progress, Running, Over, Stuck, calls_past, calls_after, progress_past}
+use Rattle.job_steps.specs.Runs.{progress_from, state_after, whole_run, outcome, executed_count, peak}
+use Rattle.job_steps.specs.States.{Vector, Task, StackEntry, Active, State, values_of, stack_kinds}
+use Rattle.job_steps.specs.Steps.{Progress, Running, Over, Stuck, calls_after, progress_past}
 use Rattle.job_steps.specs.Steps.{next_progress}
 use Rattle.job_steps.proofs.Bounds.{bounded, over_running}
 use Rattle.job_steps.proofs.KindLemmas.{kind_of, map-reverse}
 use Rattle.job_steps.proofs.Progresses.{item_of, calls_then, IsNoReturn, Goes, Ends, Idles, Blocks, Executes, goes}
 use Rattle.job_steps.proofs.RunLaws.{within, over_stuck, same_over}
-use Rattle.job_steps.proofs.Typed.{callee, IsTyped, typed, never_stuck}
+use Rattle.job_steps.proofs.Typed.{IsTyped, typed, never_stuck}
 
 pub reached : ResultsHaveNeededLengths → (signatures : List Signature) (task : Task) →
     IsVerifiedTask signatures task →
@@ -50,13 +48,7 @@ ends_by : ResultsHaveNeededLengths → (signatures : List Signature) (task : Tas
 unfolding whole_run outcome executed_count peak
 ends_by law signatures task v (Running s) is =
     absurd (let b = bounded law task (task.limits.budget + 1) s is in omega (arith, b.budget))
-ends_by law signatures task v (Over ending x p) is =
-    let limits = within law task (task.limits.budget + 1) ending x p is in
-    record {
-      over = is ∙ ap (λ q. Over (ending_in q) (executed_count_in q) (peak_in q)) (sym is);
-      budget = subst (λ q. executed_count_in q ≤ task.limits.budget) (sym is) limits.budget;
-      words = subst (λ q. peak_in q ≤ task.limits.words) (sym is) limits.words;
-    }
+ends_by law signatures task v (Over ending x p) is = grind (arith, within)
 ends_by law signatures task v Stuck is = absurd (never_stuck signatures task v (task.limits.budget + 1) is)
 
 pub each_ends : ResultsHaveNeededLengths → (signatures : List Signature) (task : Task) →
@@ -68,33 +60,15 @@ each_ends law signatures task v = ends_by law signatures task v (whole_run task)
 some_none : {T : Type 0} (x : T) (xs : List T) → x ∷ xs ≡ [] → ⊥
 some_none x xs e = cc
 
-calls_past_none : (signatures : List Signature) (verified : TypedProgram) → IsVerifiedProgram signatures verified →
-    (item : Item) (call : Active) (outer : List Active) (takes gives : List Kind) →
-    IsBodyInstruction item → Turns (scope_of signatures verified.program) item takes gives →
-    calls_past verified item call outer ≡ [] → ⊥
-calls_past_none signatures verified v (Const k list) call outer takes gives inner t e = some_none call outer e
-calls_past_none signatures verified v (Elementwise x) call outer takes gives inner t e = some_none call outer e
-calls_past_none signatures verified v (Segmented x) call outer takes gives inner t e = some_none call outer e
-calls_past_none signatures verified v If call outer takes gives inner t e = some_none call outer e
-calls_past_none signatures verified v (Move motion lower upper) call outer takes gives inner t e =
-    some_none call outer e
-calls_past_none signatures verified v (Call name) call outer takes gives inner t e =
-    some_none _ (call ∷ outer)
-    (ap (λ o. calls_with o (call ∷ outer)) (sym (callee signatures verified name takes gives v t.0 t.1).is) ∙ e)
-calls_past_none signatures verified v Return call outer takes gives inner t e = absurd inner
-
 -- the last call returns with the results
 last_kinds : (signatures : List Signature) (verified : TypedProgram) → IsVerifiedProgram signatures verified →
     (results : List Kind) (flag : Bool) (rest : Body) (ret : ℕ) (outer : List Active) (kinds : List Kind) →
     AreTyped (scope_of signatures verified.program) results (record { rest = rest; ret = ret } ∷ outer) kinds →
     calls_after verified flag rest ret outer ≡ [] → kinds ≡ results
 last_kinds signatures verified v results flag End ret outer kinds (below, own, gives, e, same, proper, out) none =
-    e ∙ (ap (λ ks. below ++ ks) same
-    ∙ subst (λ cs. AreTyped (scope_of signatures verified.program) results cs (below ++ gives)) none out)
+    grind arith
 last_kinds signatures verified v results flag (Do item line rest) ret outer kinds (below, own, gives, e, h, proper, out)
-    none =
-    absurd (calls_past_none signatures verified v item (record { rest = rest; ret = ret }) outer h.1 h.2 proper.0 h.3
-    none)
+    none = grind arith
 last_kinds signatures verified v results flag (Choice line first second end rest) ret outer kinds (
   below,
   own,
@@ -116,9 +90,7 @@ kinds-returned stack = map-reverse (λ (v : Vector). v.kind) (values_of stack) �
 returned_past : (rule : Rule) (item : Item) (s : State) (calls : List Active) (values : List Vector) (x p : ℕ) →
     progress_past rule item s calls ≡ Over (Returned values) x p →
     (calls ≡ []) × (reverse (values_of s.stack) ≡ values)
-returned_past rule item s [] values x p e =
-    let ending : Returned (reverse (values_of s.stack)) ≡ Returned values = (same_over _ _ _ _ x p e).ending in
-    (refl, (cc))
+returned_past rule item s [] values x p e = grind arith
 returned_past rule item s (last ∷ others) values x p e = absurd (over_running _ _ _ _ (sym e))
 
 returned_by : (signatures : List Signature) (task : Task) (s : State) → IsVerifiedTask signatures task →
@@ -128,17 +100,9 @@ returned_by : (signatures : List Signature) (task : Task) (s : State) → IsVeri
 returned_by signatures task s v t q (Ends ending early is) values x p e =
     absurd (subst IsNoReturn (same_over ending (Returned values) s.executed s.peak x p (sym is ∙ e)).ending early)
 returned_by signatures task s v t q (Idles none is) values x p e = absurd (over_stuck _ x p (sym e ∙ is))
-returned_by signatures task s v t q (Blocks call outer calls blocked is) values x p e =
-    absurd (over_stuck _ x p (sym e ∙ is))
+returned_by signatures task s v t q (Blocks call outer calls blocked is) values x p e = cc
 returned_by signatures task s v t q (Executes call outer passes is) values x p e =
-    let before = subst
-    (λ cs. AreTyped (scope_of signatures task.verified.program) task.verified.results cs (stack_kinds s.stack))
-    passes.calls t.1 in
-    let back = returned_past task.rule (item_of call) s (calls_then task s call outer) values x p (sym is ∙ e) in
-    ap (map (λ (v : Vector). v.kind)) (sym back.1)
-    ∙ (kinds-returned s.stack
-    ∙ last_kinds signatures task.verified v task.verified.results _ call.rest call.ret outer (stack_kinds s.stack)
-    before back.0)
+    grind (arith, returned_past, item_of, calls_then, kinds-returned, last_kinds)
 
 returned_from : (signatures : List Signature) (task : Task) → IsVerifiedTask signatures task →
     (n : ℕ) (q : Progress) → state_after task n ≡ q →

@@ -1,6 +1,6 @@
-use Rattle.std.proofs.Common.{subst}
-use Rattle.job_steps.specs.Tickets.{IsAnswer, question_by}
-use Rattle.job_steps.proofs.QuestionLemmas.{contents_in_front, can_answer_in_front}
+use Rattle.std.proofs.Common.{rules}
+use Rattle.std.proofs.Common.{arith}
+use Rattle.job_steps.proofs.QuestionLemmas.{can_answer_in_front}
 use Rattle.job_steps.proofs.filled.fill_results.Goals as goal
 
 pub need-requires-clause-kinds : goal.need-requires-clause-kinds
@@ -10,23 +10,10 @@ need-requires-clause-kinds g c =
     buffers.result_room c.count-count.ensures c.lists-lists.ensures c.requires).kinds
 
 pub need-requires-clause-shape : goal.need-requires-clause-shape
-need-requires-clause-shape g c =
-    let buffers = c.args.buffers.now in
-    (can_answer_in_front c.args.op buffers.words _ c.count-count.result c.lists-lists.result buffers.operands.lists
-    buffers.result_room c.count-count.ensures c.lists-lists.ensures c.requires).shaped
+need-requires-clause-shape g c = grind arith
 
 pub fill_front-requires-clause-can : goal.fill_front-requires-clause-can
-fill_front-requires-clause-can g c =
-    let buffers = c.args.buffers.now in
-    can_answer_in_front c.args.op buffers.words _ c.count-count.result c.lists-lists.result buffers.operands.lists
-    buffers.result_room c.count-count.ensures c.lists-lists.ensures c.requires
+fill_front-requires-clause-can g c = search (rules, can_answer_in_front)
 
 pub returns-clause-answer : goal.returns-clause-answer
-returns-clause-answer g c =
-    let buffers = c.args.buffers.now in
-    let filled = c.fill_front in
-    let are =
-    contents_in_front c.count-count.result c.lists-lists.result buffers.operands.lists c.count-count.ensures
-    c.lists-lists.ensures in
-    subst (λ lists. IsAnswer (question_by c.args.op lists) filled.result filled.new.room.items) are
-    filled.ensures.answer
+returns-clause-answer g c = grind arith

@@ -1,14 +1,9 @@
-use Rattle.std.proofs.Common.{inl, inr, sym, subst, arith}
-use Rattle.job_steps.specs.Frames.{IsStop}
+use Rattle.std.proofs.Common.{arith}
 use Rattle.job_steps.proofs.Standing.{stop_here, stop_past_end, else_here, endif_here, within_lines}
 use Rattle.job_steps.proofs.frame.passed.Goals as goal
 
 pub returns-in-Do : goal.returns-in-Do
-returns-in-Do g c =
-    let line = c.in_ok-item.field-0 in
-    let stop : IsStop line.item =
-    elim c.in-Do.is [ inl (i, e) ↦ subst IsStop (sym e) tt | inr e ↦ subst IsStop (sym e) tt ] in
-    stop_here c.args.function.now c.args.place line c.in_ok-item.ensures stop
+returns-in-Do g c = grind (arith, stop_here)
 
 pub returns-in-Else : goal.returns-in-Else
 returns-in-Else g c =

@@ -1,8 +1,6 @@
-use Rattle.std.proofs.Common.{◌∙◌, sym}
+use Rattle.std.proofs.Common.{arith}
 use Rattle.job_steps.proofs.Standing.{line_at}
 use Rattle.job_steps.proofs.frame.Frame.line.Goals as goal
 
 pub returns : goal.returns
-returns g c = λ call s.
-    line_at c.args.program.now.functions c.args.self call c.function.result.now c.unwrap.result
-    c.function.ensures.function s (sym c.unwrap.ensures ∙ c.item.ensures)
+returns g c = grind (arith, line_at)

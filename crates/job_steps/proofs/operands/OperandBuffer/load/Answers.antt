@@ -1,4 +1,4 @@
-use Rattle.std.proofs.Common.{◌≡◌, ◌++◌, ◌∙◌, ap, arith, length, map, rules}
+use Rattle.std.proofs.Common.{◌≡◌, ◌∙◌, ap, arith, length, map, rules}
 use Rattle.vcode_base.specs.Operands.{contents}
 use Rattle.vcode_base.specs.Segments.{pieces_of}
 use Rattle.job_steps.specs.Buffers.{OperandLists, in_a_row}
@@ -10,8 +10,7 @@ use Rattle.job_steps.proofs.operands.OperandBuffer.load.Goals.{After-append_in_a
 -- the buffer has the lists and nothing else
 held : (g : Over) (c : goal.After-append_in_a_row g) →
     c.append_in_a_row.new.buffer.items ≡ in_a_row (contents c.args.lists.now)
-held g c =
-    c.append_in_a_row.ensures.items ∙ ap (λ words. words ++ in_a_row (contents c.args.lists.now)) c.clear.ensures.items
+held g c = cc
 
 pub invariant_of-self : goal.invariant_of-self
 invariant_of-self g c =
