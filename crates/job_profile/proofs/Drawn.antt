@@ -15,9 +15,8 @@ use Rattle.job_steps.specs.Standings.{held_in}
 use Rattle.job_steps.specs.States.{Task, State, Active}
 use Rattle.job_steps.specs.Steps.{Ending, Progress, Running, Over, Stuck, progress_by, progress_past, words_at}
 use Rattle.job_slots.specs.Answers.{demand_before, demand_in}
-use Rattle.job_profile.specs.Walks.{RunState, HasCome, progress_of}
 use Rattle.job_profile.specs.declared.strip.Column.{Column}
-use Rattle.job_profile.specs.Columns.{AreColumns, AreFine, column_at, highest}
+use Rattle.job_profile.specs.Columns.{AreFine, column_at, highest}
 use Rattle.job_profile.specs.Counts.{line_in}
 use Rattle.job_profile.specs.Strips.{IsDrawn, IsStrip}
 use Rattle.job_profile.proofs.Strips.{same_column}
@@ -167,23 +166,4 @@ first_drawn task verified = record {
   };
   fine = inl refl;
   highest_is = refl;
-}
-
-pub drawn_with : (old new : RunState) (columns : List Column) (each room : ℕ) →
-    IsDrawn old.task (progress_of old) columns each room → HasCome old.task (progress_of old) new →
-    IsDrawn new.task (progress_of new) columns each room
-drawn_with old new columns each room h e =
-    subst (λ (t : Task). IsDrawn t (progress_of new) columns each room) (sym e.task_is)
-    (subst (λ (p : Progress). IsDrawn old.task p columns each room) (sym e.progress_is) h)
-
--- what is drawn, in the words of the contract
-pub are_columns : (task : Task) (p : Progress) (columns : List Column) (each room : ℕ) →
-    IsDrawn task p columns each room → AreColumns task (executed_count_in p) each columns
-are_columns task p columns each room h = record {
-  power = h.strip.power;
-  fine = h.fine;
-  few = h.strip.shape.few;
-  enough = omega (arith, h.strip.shape.covered);
-  none_beyond = omega (arith, h.strip.shape.covered, h.strip.shape.left);
-  means = h.strip.means;
 }

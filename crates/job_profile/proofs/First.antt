@@ -33,9 +33,6 @@ none_seen job (suc n) =
 no_blocks : (n : ℕ) → blocks_in (replicate n empty_slot) ≡ 0
 no_blocks n = sum_by-replicate (λ (slot : Slot). cond (nat_lt 0 slot.count) 1 0) n empty_slot ∙ omega arith
 
-abbrev empty_memory : ℕ → ℕ → SharedState
-empty_memory region most = record { room = region; slots = replicate most empty_slot }
-
 pub first_shows : NewIsShown → (rule : Rule) (blocks : JobBlocks) (region most : ℕ) (job : JobValue)
     (slot : SlotState) → blocks.memory ≡ record { room = region; slots = replicate most empty_slot } →
     blocks.grants ≡ replicate 1 None → IsNewSlot job slot → Shows 1 blocks (ruled rule job) slot

@@ -5,22 +5,9 @@ use Rattle.std.proofs.Common.{get_or-set_same}
 use Rattle.std.proofs.Math.ListN.{length-set, set}
 use Rattle.std.proofs.lemmas.Bool.{eqb-true}
 use Rattle.std.proofs.lemmas.Bool.Decides.{nat_tests}
-use Rattle.std.proofs.lemmas.List.Sums.{sum_by-cons, sum_by-set, sum_by-take-drop, sum_by-take-le, sum_by_push}
+use Rattle.std.proofs.lemmas.List.Sums.{sum_by-cons, sum_by-set, sum_by-take-drop, sum_by-take-le}
 use Rattle.std.specs.Prelude.{sum}
 use Rattle.job_profile.specs.Sound.{CountAlike}
-
-get_push : (xs : List ℕ) (k : ℕ) → get_or (xs ++ 0 ∷ []) k 0 ≡ get_or xs k 0
-get_push [] zero = refl
-get_push [] (suc k) = refl
-get_push (x ∷ xs) zero = refl
-get_push (x ∷ xs) (suc k) = get_push xs k
-
--- one count of 0 more
-pub alike_push : (xs ys : List ℕ) → CountAlike xs ys → CountAlike xs (ys ++ 0 ∷ [])
-alike_push xs ys h = record {
-  each = λ k. get_push ys k ∙ h.each k;
-  total = omega (arith, sum_by_push (λ (x : ℕ). x) ys 0, h.total);
-}
 
 -- the counts after one of them has grown
 pub record IsMore (old new : List ℕ) (place more : ℕ) : Type 0 where

@@ -182,11 +182,6 @@ there_is [] n x e = absurd (none-some x e)
 there_is (y ∷ ys) zero x e = omega arith
 there_is (y ∷ ys) (suc n) x e = omega (arith, there_is ys n x e)
 
-none_is : {X : Type 0} (xs : List X) (n : ℕ) → None ≡ slice_get xs n → length xs ≤ n
-none_is [] n e = omega arith
-none_is (y ∷ ys) zero e = absurd (none-some y e)
-none_is (y ∷ ys) (suc n) e = omega (arith, none_is ys n e)
-
 -- the cell of an entry is there, and none of another
 pub cell_there : (task : Task) (blocks : JobBlocks) (slot : SlotState) (desk : ℕ) (r : RunState) →
     IsSound task blocks slot desk → goes_on (progress_at task (standing_of slot)) ≡ true → run_by task slot ≡ r →
@@ -195,17 +190,6 @@ cell_there task blocks slot desk r sound on view depth id at =
     omega (
       arith,
       there_is slot.trace.cells depth id at,
-      cell_count task blocks slot desk sound on,
-      ap (λ (x : RunState). cells_in (progress_of x)) view,
-    )
-
-pub no_cell_there : (task : Task) (blocks : JobBlocks) (slot : SlotState) (desk : ℕ) (r : RunState) →
-    IsSound task blocks slot desk → goes_on (progress_at task (standing_of slot)) ≡ true → run_by task slot ≡ r →
-    (depth : ℕ) → None ≡ slice_get slot.trace.cells depth → cells_in (progress_of r) ≤ depth
-no_cell_there task blocks slot desk r sound on view depth none =
-    omega (
-      arith,
-      none_is slot.trace.cells depth none,
       cell_count task blocks slot desk sound on,
       ap (λ (x : RunState). cells_in (progress_of x)) view,
     )

@@ -13,7 +13,14 @@ use Rattle.job_profile.specs.declared.stop.Stop.TheVariants as stop
 use Rattle.job_profile.specs.Stops.{IsAtNone, IsAtStop, held_until, holds_in}
 use Rattle.job_profile.specs.Used.{AreUses}
 use Rattle.job_profile.specs.Walks.{HasCome, RunState, goes_on, progress_of}
-use Rattle.job_profile.proofs.Whole.{IsPast}
+
+-- the run has come on by `least` steps or more
+pub record IsPast (old : RunState) (least : ℕ) (new : RunState) : Type 0 where
+  pub from : ℕ
+  pub steps : ℕ
+  pub was : progress_of old ≡ state_after old.task from
+  pub least_is : from + least ≤ steps
+  pub come : HasCome old.task (state_after old.task steps) new
 
 -- ---- counts
 

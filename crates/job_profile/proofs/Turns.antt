@@ -1,10 +1,10 @@
 -- What a step in one go makes of a run.
 use Rattle.std.proofs.Common.{add-one, List, ◌≡◌, ℕ, ◌+◌, ◌≤◌, Bool, true, false, cond, length, Option, Some, None}
 use Rattle.std.proofs.Common.{is_some, refl, sym, ◌∙◌, ap, subst, arith}
-use Rattle.std.specs.Prelude.{sum_by, nat_lt}
+use Rattle.std.specs.Prelude.{nat_lt}
 use Rattle.std.proofs.lemmas.Bool.{false≢true}
-use Rattle.refcounts.specs.SharedState.{Slot, block_count, blocks_in, IsTidy}
-use Rattle.job_memory.specs.JobBlocks.{JobBlocks, ChangesOnlyOf, own_slots}
+use Rattle.refcounts.specs.SharedState.{Slot, block_count, IsTidy}
+use Rattle.job_memory.specs.JobBlocks.{JobBlocks, own_slots}
 use Rattle.job_steps.specs.declared.event.Event.TheVariants.{Begin, Finish}
 use Rattle.job_steps.specs.EventLaws.{EndedAreOver, IsVerified, IsRunning, StandsOnRun}
 use Rattle.job_steps.specs.Events.{early_end, standing_after_begin, standing_after, next_standing}
@@ -28,29 +28,6 @@ use Rattle.job_profile.specs.Walks.{RunState, HasCome, goes_on, progress_at, pro
 
 abbrev counts : Slot → ℕ
 counts slot = cond (nat_lt 0 slot.count) 1 0
-
-blocks_are_sum : (slots : List Slot) → blocks_in slots ≡ sum_by counts slots
-blocks_are_sum slots = refl
-
--- what changes the job alone leaves all blocks its own
-pub sound_with : (task : Task) (old new : JobBlocks) (before after : SlotState) (desk : ℕ) →
-    IsSound task old before desk → ChangesOnlyOf 1 old new → Shows 1 new task after → IsAdmitted (standing_of after) →
-    IsSound task new after desk
-sound_with task old new before after desk sound changes shows admitted = record {
-  shows = shows;
-  admitted = admitted;
-  numbers = changes.memory.ids ∙ sound.numbers;
-  counted = omega (
-    arith,
-    sound.counted,
-    changes.memory.balance counts,
-    blocks_are_sum new.memory.slots,
-    blocks_are_sum old.memory.slots,
-    blocks_are_sum (own_slots 1 old),
-    blocks_are_sum (own_slots 1 new),
-  );
-  enough = sound.enough;
-}
 
 -- there are numbers for two blocks more
 pub numbers_left : ShownIsAlone → (task : Task) (blocks : JobBlocks) (slot : SlotState) (desk : ℕ) →

@@ -1,5 +1,5 @@
 -- The run of a job alone, as far as it has come.
-use Rattle.std.specs.Prelude.{◌≡◌, ℕ, ℤ, ◌+◌, ◌≤◌, Bool, true, false, List, [], ◌∷◌, Option, Some, None}
+use Rattle.std.specs.Prelude.{◌≡◌, ℕ, ℤ, ◌+◌, Bool, true, false, List, [], ◌∷◌, Option, Some, None}
 use Rattle.std.specs.Prelude.{refl, reverse, map}
 use Rattle.std.specs.Coded.{Coded, code_by, coded×}
 use Rattle.vcode_base.specs.declared.rule.Rule.{Rule}
@@ -45,14 +45,6 @@ first_run task = record { task = task; standing = Live 0 }
 pub record HasCome (task : Task) (p : Progress) (r : RunState) : Type 0 where
   pub task_is : r.task ≡ task
   pub progress_is : progress_of r ≡ p
-
--- the same job has come to a state of its run that isn't before the one where it was
-pub record HasComeOn (old new : RunState) : Type 0 where
-  pub from : ℕ
-  pub to : ℕ
-  pub was : progress_of old ≡ state_after old.task from
-  pub later : from ≤ to
-  pub come : HasCome old.task (state_after old.task to) new
 
 -- The same job has come to the state of its run that is this many instructions after the one where it was, or is over.
 pub record HasGoneOn (count : ℕ) (old new : RunState) : Type 0 where

@@ -1,17 +1,15 @@
 //! The words that a job holds over time.
 
 ghost use Rattle.std.specs.Prelude.{◌≡◌, IfOk, OnErr, OnOk};
-ghost use Rattle.job_steps.specs.Runs.{executed_count_in, peak_in, progress_from, whole_run};
+ghost use Rattle.job_steps.specs.Runs.{executed_count_in, peak_in, progress_from};
 ghost use Rattle.job_steps.specs.States.{ruled};
-ghost use Rattle.job_profile.specs.Walks.{HasCome, HasComeOn, ending_at, ending_of, first_run, goes_on, progress_of};
+ghost use Rattle.job_profile.specs.Walks.{HasCome, ending_at, ending_of, first_run, goes_on, progress_of};
 ghost use Rattle.job_profile.specs.Columns.{AreColumns, highest};
 
 use crate::profile::{Profile, next_place};
 use crate::strip::{Column, Strip};
 use job_steps::Job;
-use job_steps::laws::{
-    each_ends, early_ends_end, end_is_own, never_stuck, others_are_ready, reached,
-};
+use job_steps::laws::{early_ends_end, never_stuck, others_are_ready, reached};
 use std::alloc::{AllocError, Allocator};
 use std::marker::Model;
 use vcode_base::Rule;
@@ -94,7 +92,7 @@ impl<A: Allocator> Columns<A> {
         reached();
         let run = self.profile.run();
         let (line, most, executed) = (next_place(run), run.demand(), run.executed());
-        let goes_on = self.profile.step_at(line)?;
+        let goes_on = self.profile.step(line)?;
         let run = self.profile.run();
         let least = run.held();
         if run.executed() == executed {
@@ -102,30 +100,6 @@ impl<A: Allocator> Columns<A> {
         }
         self.strip.add(Column { most, least, line });
         Ok(goes_on)
-    }
-
-    /// Executes the job to its end.
-    ///
-    /// # Errors
-    ///
-    /// [`AllocError`] if memory for the counts was refused. The run has come to some later state then, or is where it
-    /// was, and may be run out again.
-    pub fn run_out(&mut self) -> Result<(), AllocError>
-        ensures whole { OnOk result (HasCome self.old.task (whole_run self.old.task) self.new) }
-        ensures come_on { OnErr result (HasComeOn self.old self.new) }
-    {
-        never_stuck();
-        reached();
-        each_ends();
-        end_is_own();
-        let budget = self.profile.run().job().limits().budget;
-        for _ in 0..budget {
-            if !self.step()? {
-                return Ok(());
-            }
-        }
-        self.step()?;
-        Ok(())
     }
 
     /// The profile.

@@ -1,18 +1,16 @@
 //! The profile of a job.
 
 ghost use Rattle.std.specs.Prelude.{◌≡◌, ℕ, nat_lt, if◌then◌else◌, IfOk, OnErr, OnOk, slice_index, sum};
-ghost use Rattle.job_steps.specs.Runs.{executed_count_in, peak_in, progress_from, whole_run};
+ghost use Rattle.job_steps.specs.Runs.{executed_count_in, peak_in, progress_from};
 ghost use Rattle.job_steps.specs.States.{ruled};
-ghost use Rattle.job_profile.specs.Walks.{HasCome, HasComeOn, ending_at, ending_of, first_run, goes_on, progress_of};
+ghost use Rattle.job_profile.specs.Walks.{HasCome, ending_at, ending_of, first_run, goes_on, progress_of};
 ghost use Rattle.job_profile.specs.Counts.{IsFirstPeak, line_in, times_of, times_until};
 
 use crate::run::Run;
 use crate::times::{add, grow, part, sum_of};
 use crate::uses::Uses;
 use job_steps::Job;
-use job_steps::laws::{
-    each_ends, early_ends_end, end_is_own, never_stuck, others_are_ready, reached,
-};
+use job_steps::laws::{early_ends_end, never_stuck, others_are_ready, reached};
 use std::alloc::{AllocError, Allocator};
 use std::marker::Model;
 use vcode_base::Rule;
@@ -67,7 +65,7 @@ fn first_reached(before: usize, peak: usize, after: u64, executed: u64) -> u64
 impl<A: Allocator + Clone> Profile<A> {
     /// The profile of a job that hasn't executed anything. Takes memory for the run, and an error means that the
     /// allocator refused it.
-    pub fn new(alloc: A, rule: Rule, job: Job<A>) -> Result<Profile<A>, AllocError>
+    pub(crate) fn new(alloc: A, rule: Rule, job: Job<A>) -> Result<Profile<A>, AllocError>
         ensures { IfOk result (λ profile. profile ≡ first_run (ruled rule job)) }
     {
         let _verified = job.verified();
@@ -85,7 +83,7 @@ impl<A: Allocator + Clone> Profile<A> {
     /// # Errors
     ///
     /// [`AllocError`] if memory for the results was refused. Nothing changes then.
-    pub fn collect(&mut self) -> Result<(), AllocError>
+    pub(crate) fn collect(&mut self) -> Result<(), AllocError>
         ensures run { HasCome self.old.task (progress_of self.old) self.new }
         ensures collected { OnOk result (ending_of self.new ≡ ending_at (progress_of self.old)) }
         ensures unchanged { OnErr result (self.new ≡ self.old) }
@@ -95,24 +93,14 @@ impl<A: Allocator + Clone> Profile<A> {
 }
 
 impl<A: Allocator> Profile<A> {
-    /// Executes the next instruction and counts it; true if the job goes on. A job whose run is over stays as it is.
+    /// Executes the next instruction, whose line has this number, and counts it; true if the job goes on. A job whose
+    /// run is over stays as it is, and the number is 0.
     ///
     /// # Errors
     ///
     /// [`AllocError`] if memory for the counts was refused. Nothing changes then.
-    pub fn step(&mut self) -> Result<bool, AllocError>
-        ensures run { OnOk result
-            (HasCome self.old.task (progress_from self.old.task (progress_of self.old)) self.new) }
-        ensures goes_on { IfOk result (λ on. on ≡ goes_on (progress_of self.new)) }
-        ensures unchanged { OnErr result (self.new ≡ self.old) }
-    {
-        let place = next_place(self.uses.run());
-        self.step_at(place)
-    }
-
-    /// The same, if the number of the line of the next instruction is known, which is 0 if the run is over.
     #[inline(always)]
-    pub(crate) fn step_at(&mut self, place: usize) -> Result<bool, AllocError>
+    pub(crate) fn step(&mut self, place: usize) -> Result<bool, AllocError>
         requires { place ≡ line_in (progress_of self.old) }
         ensures run { OnOk result
             (HasCome self.old.task (progress_from self.old.task (progress_of self.old)) self.new) }
@@ -132,30 +120,6 @@ impl<A: Allocator> Profile<A> {
         Ok(goes_on)
     }
 
-    /// Executes the job to its end, and counts on the way.
-    ///
-    /// # Errors
-    ///
-    /// [`AllocError`] if memory for the counts was refused. The run has come to some later state then, or is where it
-    /// was, and may be run out again.
-    pub fn run_out(&mut self) -> Result<(), AllocError>
-        ensures whole { OnOk result (HasCome self.old.task (whole_run self.old.task) self.new) }
-        ensures come_on { OnErr result (HasComeOn self.old self.new) }
-    {
-        never_stuck();
-        reached();
-        each_ends();
-        end_is_own();
-        let budget = self.uses.run().job().limits().budget;
-        for _ in 0..budget {
-            if !self.step()? {
-                return Ok(());
-            }
-        }
-        self.step()?;
-        Ok(())
-    }
-
     /// What the run uses of its limits.
     pub fn uses(&self) -> &Uses<A>
         ensures { result.now ≡ self.now }
@@ -171,7 +135,7 @@ impl<A: Allocator> Profile<A> {
     }
 
     /// The job, of which another run may be made.
-    pub fn into_job(self) -> Job<A>
+    pub(crate) fn into_job(self) -> Job<A>
         ensures { ruled self.task.rule result ≡ self.task }
     {
         self.uses.into_job()

@@ -14,7 +14,7 @@ use Rattle.job_profile.proofs.columns.Columns.step.Goals as goal
 pub invariant_of-self-then-executed : goal.invariant_of-self-then-executed
 invariant_of-self-then-executed g c =
     let old = c.self.inside.profile in
-    let new = c.step_at.new.self in
+    let new = c.step.new.self in
     let strip = c.self.inside.strip in
     let come = c.in_ok-goes_on.ensures.run in
     let before : c.executed-executed.result ≡ executed_count_in (progress_of old) =
@@ -29,7 +29,7 @@ invariant_of-self-then-executed g c =
 pub invariant_of-self-2 : goal.invariant_of-self-2
 invariant_of-self-2 g c =
     let old = c.self.inside.profile in
-    let new = c.step_at.new.self in
+    let new = c.step.new.self in
     let strip = c.self.inside.strip in
     let made = c.add.new.self in
     let come = c.in_ok-goes_on.ensures.run in

@@ -5,7 +5,7 @@ use Rattle.job_profile.specs.Walks.{RunState, progress_of}
 use Rattle.job_profile.specs.Counts.{line_in}
 use Rattle.job_profile.proofs.Lists.{given_back}
 use Rattle.job_profile.proofs.Whole.{StepCounts, counted_after, no_less}
-use Rattle.job_profile.proofs.profile.Profile.step_at.Goals as goal
+use Rattle.job_profile.proofs.profile.Profile.step.Goals as goal
 
 pub overflow_sub-now : goal.overflow_sub-now
 overflow_sub-now g c =
