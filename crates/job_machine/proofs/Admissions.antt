@@ -2,7 +2,6 @@
 use Rattle.std.proofs.Common.{◌≡◌, ℕ, zero, suc, ◌+◌, ◌<◌, ◌≤◌, Bool, true, false, cond, ◌||◌, ◌&&◌, List, [], ◌∷◌}
 use Rattle.std.proofs.Common.{length, map, set, drop, get_or, slice_get, Some, None, refl, sym, ◌∙◌, ap, subst, arith}
 use Rattle.std.proofs.Common.{drop-cons}
-use Rattle.std.proofs.Common.{inl, inr}
 use Rattle.std.specs.Prelude.{nat_le, IsTrue, ◌↔◌}
 use Rattle.std.proofs.lemmas.Bool.{le-leb, lt-leb, cases_lt, false≢true}
 use Rattle.std.proofs.lemmas.List.{drop_all}
@@ -45,12 +44,7 @@ pub has_heads : (jobs : List JobValue) (slots : List SlotState) (passes : List �
     (slot : SlotState) (d : ℕ) → place < length slots → length slots ≡ length jobs → length passes ≡ length jobs →
     job ≡ get_or jobs place job → slot ≡ get_or slots place slot →
     HasHeads jobs slots passes place job slot (get_or passes place d)
-has_heads jobs slots passes place job slot d within same long job_is slot_is = record {
-  jobs_are = drop-cons jobs place job (omega (arith, within, same))
-      ∙ ap (λ (x : JobValue). x ∷ drop (suc place) jobs) (sym job_is);
-  slots_are = drop-cons slots place slot within ∙ ap (λ (x : SlotState). x ∷ drop (suc place) slots) (sym slot_is);
-  passes_are = drop-cons passes place d (omega (arith, within, same, long));
-}
+has_heads jobs slots passes place job slot d within same long job_is slot_is = grind (arith, drop-cons)
 
 -- some job is at a place
 pub some_heads : (jobs : List JobValue) (slots : List SlotState) (passes : List ℕ) (place : ℕ) (slot : SlotState)
@@ -74,10 +68,7 @@ fits_by false room granted words own b_is both same = absurd (false≢true b_is)
 pub past_by : (b : Bool) (room granted words own : ℕ) → b ≡ false → (IsTrue b ↔ (granted + words ≤ room)) →
     words ≡ own → room < granted + own
 past_by true room granted words own b_is both same = absurd (false≢true (sym b_is))
-past_by false room granted words own b_is both same = elim (cases_lt room (granted + words)) [
-  | inl past ↦ omega (arith, past, same)
-  | inr fits ↦ absurd (false≢true (both.1 fits))
-]
+past_by false room granted words own b_is both same = grind (arith, cases_lt)
 
 -- what is answered from a place on
 abbrev pub rest_at : Rule → JobBlocks → List JobValue → List SlotState → List ℕ → Bool → ℕ → Admission
@@ -113,9 +104,7 @@ pub rest_skips : (rule : Rule) (blocks : JobBlocks) (jobs : List JobValue) (slot
     HasHeads jobs slots passes place job slot count → next ≡ suc place → is_waiting (standing_of slot) ≡ false →
     rest_at rule blocks jobs slots passes waits place ≡ rest_at rule blocks jobs slots passes waits next
 rest_skips rule blocks jobs slots passes waits place next job slot count h next_is w_is =
-    rest_here rule blocks jobs slots passes waits place job slot count h false
-    (has_room blocks.memory.room (granted_words blocks) (ruled rule job)) (nat_le MOST_PASSES count) w_is refl refl
-    ∙ to_next rule blocks jobs slots passes waits place next next_is
+    grind (arith, rest_here, to_next)
 
 -- the first that waits and fits
 pub rest_admits : (rule : Rule) (blocks : JobBlocks) (jobs : List JobValue) (slots : List SlotState) (passes : List ℕ)
@@ -124,9 +113,7 @@ pub rest_admits : (rule : Rule) (blocks : JobBlocks) (jobs : List JobValue) (slo
     granted_words blocks + job.limits.words ≤ blocks.memory.room →
     rest_at rule blocks jobs slots passes waits place ≡ Admitted next
 rest_admits rule blocks jobs slots passes waits place next job slot count h next_is w_is fits =
-    rest_here rule blocks jobs slots passes waits place job slot count h true true (nat_le MOST_PASSES count) w_is
-    (le-leb (granted_words blocks + job.limits.words) blocks.memory.room fits) refl
-    ∙ ap (λ (k : ℕ). Admitted k) (sym next_is)
+    grind (arith, rest_here, le-leb)
 
 too_many : (a b : ℕ) → b < a → nat_le a b ≡ false
 too_many a b past = lt-leb a b past
@@ -138,9 +125,7 @@ pub rest_stops : (rule : Rule) (blocks : JobBlocks) (jobs : List JobValue) (slot
     blocks.memory.room < granted_words blocks + job.limits.words → MOST_PASSES ≤ count →
     rest_at rule blocks jobs slots passes waits place ≡ NotNow
 rest_stops rule blocks jobs slots passes waits place job slot count h w_is past most =
-    rest_here rule blocks jobs slots passes waits place job slot count h true false true w_is
-    (too_many (granted_words blocks + job.limits.words) blocks.memory.room past) (le-leb MOST_PASSES count most)
-    ∙ ap (λ (b : Bool). admission_by b None) (or_true waits)
+    grind (arith, rest_here, too_many, le-leb, or_true)
 
 -- a job that waits, doesn't fit, and is passed by
 pub rest_passes : (rule : Rule) (blocks : JobBlocks) (jobs : List JobValue) (slots : List SlotState) (passes : List ℕ)
@@ -149,14 +134,7 @@ pub rest_passes : (rule : Rule) (blocks : JobBlocks) (jobs : List JobValue) (slo
     blocks.memory.room < granted_words blocks + job.limits.words → count < MOST_PASSES →
     rest_at rule blocks jobs slots passes waits place ≡ rest_at rule blocks jobs slots passes true next
 rest_passes rule blocks jobs slots passes waits place next job slot count h next_is w_is past few =
-    rest_here rule blocks jobs slots passes waits place job slot count h true false false w_is
-    (too_many (granted_words blocks + job.limits.words) blocks.memory.room past) (too_many MOST_PASSES count few)
-    ∙ (ap
-    (λ (b : Bool). admission_by b
-    (admission_from (suc (suc place)) (has_room blocks.memory.room (granted_words blocks))
-    (map (ruled rule) (drop (suc place) jobs)) (standings_of (drop (suc place) slots)) (drop (suc place) passes)))
-    (or_true waits)
-    ∙ to_next rule blocks jobs slots passes true place next next_is)
+    grind (arith, rest_here, too_many, or_true, to_next)
 
 none_left : (rule : Rule) (blocks : JobBlocks) (waits : Bool) (first : ℕ) (passes : List ℕ) →
     rest_by rule blocks waits first [] [] passes ≡ cond waits NotNow NoneWaiting
@@ -167,10 +145,7 @@ none_left rule blocks false first passes = refl
 pub rest_ends : (rule : Rule) (blocks : JobBlocks) (jobs : List JobValue) (slots : List SlotState) (passes : List ℕ)
     (waits : Bool) (place : ℕ) → length slots ≤ place → length slots ≡ length jobs →
     rest_at rule blocks jobs slots passes waits place ≡ cond waits NotNow NoneWaiting
-rest_ends rule blocks jobs slots passes waits place past same =
-    (λ i. rest_by rule blocks waits (suc place) (drop_all place jobs (omega (arith, past, same)) i)
-    (drop_all place slots past i) (drop place passes))
-    ∙ none_left rule blocks waits (suc place) (drop place passes)
+rest_ends rule blocks jobs slots passes waits place past same = grind (arith, drop_all, none_left)
 
 -- ---- one pass more
 
@@ -181,10 +156,7 @@ before_more : (place : ℕ) (standings : List Standing) (passes : List ℕ) (s :
     ≡ set (passes_before place standings passes) place (passed_once_more s count)
 before_more place [] passes s count s_is count_is = absurd (none-some s s_is)
 before_more place (z ∷ standings) [] s count s_is count_is = absurd (none-some count count_is)
-before_more zero (z ∷ standings) (n ∷ passes) s count s_is count_is =
-    let z_is = same_Some z s s_is in
-    let n_is = same_Some n count count_is in
-    λ i. passed_once_more (z_is i) (n_is i) ∷ passes
+before_more zero (z ∷ standings) (n ∷ passes) s count s_is count_is = grind (arith, same_Some)
 before_more (suc place) (z ∷ standings) (n ∷ passes) s count s_is count_is =
     ap (λ (ks : List ℕ). passed_once_more z n ∷ ks) (before_more place standings passes s count s_is count_is)
 

@@ -9,7 +9,7 @@ use Rattle.job_memory.specs.JobBlocks as jobs
 use Rattle.job_steps.specs.declared.event.Event.TheVariants.{Admit}
 use Rattle.job_steps.specs.EventLaws.{EventsChangeTheirJob, AdmittedHaveRoom, AdmissionsPassOnce, PassesAreFew, HasRoom}
 use Rattle.job_steps.specs.Events.{after_event, next_standing}
-use Rattle.job_steps.specs.Standings.{Standing, Waiting, Live, AreFew, of_job, has_room, admission_from, admission}
+use Rattle.job_steps.specs.Standings.{Standing, Waiting, Live, AreFew, of_job, admission}
 use Rattle.job_steps.specs.Standings.{passes_before}
 use Rattle.job_steps.specs.States.{JobValue, Task, ruled}
 use Rattle.job_slots.specs.declared.status.Status.{Status}
@@ -19,7 +19,7 @@ use Rattle.job_slots.specs.Slots.{SlotState, standing_of, standing_by}
 use Rattle.job_machine.specs.declared.machine.Admission.{Admission}
 use Rattle.job_machine.specs.declared.machine.Admission.TheVariants.{Admitted}
 use Rattle.job_machine.specs.Admissions.{next_by}
-use Rattle.job_machine.specs.Machines.{MachineState, with_queue, machine_after, any_waits, admission_by, admission_in}
+use Rattle.job_machine.specs.Machines.{MachineState, with_queue, machine_after, admission_in}
 use Rattle.job_machine.specs.Sound.{IsSound, standings_of}
 use Rattle.job_machine.proofs.Admissions.{before_length}
 use Rattle.job_machine.proofs.RunningOut.{admitted, not_admitted, after_none}
@@ -33,11 +33,7 @@ next_is : (rule : Rule) (blocks : JobBlocks) (jobs : List JobValue) (slots : Lis
     next_by rule blocks jobs slots passes ≡ admission_in (shown_machine rule blocks (map (ruled rule) jobs) slots
     passes)
 unfolding admission
-next_is rule blocks jobs slots passes sound =
-    ap
-    (λ (n : ℕ). admission_by (any_waits (standings_of slots))
-    (admission_from 1 (has_room blocks.memory.room n) (map (ruled rule) jobs) (standings_of slots) passes))
-    (granted_is blocks (map (ruled rule) jobs) slots sound)
+next_is rule blocks jobs slots passes sound = grind (arith, granted_is)
 
 pub answer_is : {rule : Rule} {blocks : JobBlocks} (jobs : List JobValue) {slots : List SlotState} {passes : List ℕ}
     {m : MachineState} → IsSound blocks (map (ruled rule) jobs) slots passes →

@@ -172,9 +172,7 @@ pub new_more : (jobs : List JobValue) (slots : List SlotState) (job : JobValue) 
     slice_get jobs (length slots) ≡ Some job → IsNewSlot job slot → AreNewSlots jobs slots →
     AreNewSlots jobs (slots ++ slot ∷ [])
 new_more [] slots job slot at new each place j s j_at s_at = absurd (none-some j j_at)
-new_more (k ∷ js) [] job slot at new each zero j s j_at s_at =
-    subst (λ (x : SlotState). IsNewSlot j x) (same_Some slot s s_at)
-    (subst (λ (x : JobValue). IsNewSlot x slot) (same_Some job j (sym at ∙ j_at)) new)
+new_more (k ∷ js) [] job slot at new each zero j s j_at s_at = grind (arith, same_Some)
 new_more (k ∷ js) [] job slot at new each (suc place) j s j_at s_at = absurd (none-some s s_at)
 new_more (k ∷ js) (z ∷ ss) job slot at new each zero j s j_at s_at = each 0 j s j_at s_at
 new_more (k ∷ js) (z ∷ ss) job slot at new each (suc place) j s j_at s_at =

@@ -1,4 +1,5 @@
 -- A desk for each job, when no step has begun.
+use Rattle.std.proofs.Common.{arith}
 use Rattle.std.proofs.Common.{◌≡◌, ℕ, zero, suc, ◌<◌, false, List, [], ◌∷◌, ◌++◌, length, map, take, get_or}
 use Rattle.std.proofs.Common.{slice_get, option_map, Some, refl, sym, ◌∙◌, ap, subst}
 use Rattle.std.proofs.Math.Seq.{take-suc}
@@ -71,9 +72,4 @@ fresh_fits m same (suc i) h is =
 
 pub fresh_fit : {A : Type 0} (m : MachineState) (workbench : List (Workplace A)) → length m.standings ≡ length m.tasks →
     workbench ≡ fresh m.tasks → WorkbenchFits (recalled m) workbench
-fresh_fit {A} m workbench same workbench_is =
-    let all : WorkbenchFits {A = A} (recalled m) (fresh m.tasks) = record {
-      count = length-map m.tasks (λ task. workplace.Free task.limits.words);
-      each = fresh_fits m same;
-    } in
-    subst (WorkbenchFits (recalled m)) (sym workbench_is) all
+fresh_fit {A} m workbench same workbench_is = grind (arith, length-map, fresh_fits)

@@ -1,34 +1,32 @@
 -- Jobs that run by themselves, from a region without a job to one.
-use Rattle.std.proofs.Common.{◌≡◌, ℕ, zero, suc, ◌+◌, ◌-◌, ◌*◌, ◌<◌, ◌≤◌, Bool, true, false, cond, List, [], ◌∷◌}
+use Rattle.std.proofs.Common.{◌≡◌, ℕ, zero, suc, ◌+◌, ◌-◌, ◌<◌, ◌≤◌, Bool, true, false, cond, List, [], ◌∷◌}
 use Rattle.std.proofs.Common.{length, replicate, get_or, slice_get, map, set, is_some, All, Option, Some, None, refl}
 use Rattle.std.proofs.Common.{sym, ◌∙◌, ap, subst, arith}
-use Rattle.std.specs.Prelude.{◌↔◌, sum_by, IfSome, IsTrue}
+use Rattle.std.specs.Prelude.{◌↔◌, IfSome, IsTrue}
 use Rattle.std.proofs.lemmas.Bool.{false≢true}
 use Rattle.std.proofs.lemmas.List.{length-map, map-set}
 use Rattle.std.proofs.lemmas.List.Elements.{All-nil, All-cons, All-head, All-tail}
 use Rattle.std.proofs.lemmas.List.Folds.{sum_by-replicate}
 use Rattle.std.proofs.lemmas.Option.{none-some, same_Some, slice_get_read, slice_get_within, get_or_from_slice_get}
 use Rattle.vcode_base.specs.declared.rule.Rule.{Rule}
-use Rattle.refcounts.specs.SharedState.{Slot, SharedState, empty_slot, slot_in, blocks_in, block_count}
-use Rattle.refcounts.specs.Owners.{slots_seen_by}
-use Rattle.job_memory.specs.JobBlocks.{JobBlocks, ChangesOnlyOf, own_slots, grant_of, words_of}
+use Rattle.refcounts.specs.SharedState.{empty_slot, blocks_in, block_count}
+use Rattle.job_memory.specs.JobBlocks.{JobBlocks, ChangesOnlyOf, own_slots}
 use Rattle.job_memory.specs.Laws.{ChangesJoin}
 use Rattle.job_steps.specs.declared.event.Event.TheVariants.{Finish, Collect}
 use Rattle.job_steps.specs.Events.{early_end, next_standing, standing_after, standing_after_begin}
 use Rattle.job_steps.specs.Runs.{state_after}
 use Rattle.job_steps.specs.Standings.{Standing, Waiting, Live, InFlight, Ended, Collected, of_job, is_waiting}
-use Rattle.job_steps.specs.Standings.{with_standing}
 use Rattle.job_steps.specs.States.{JobValue, Task, ruled}
 use Rattle.job_steps.specs.Steps.{Progress, Running, Over, Stuck}
 use Rattle.job_slots.specs.declared.status.Status.{Status}
 use Rattle.job_slots.specs.declared.status.Status.TheVariants as status
 use Rattle.job_slots.specs.Answers.{StepsLead, HasRun, is_live, or_same, standing_after_step}
-use Rattle.job_slots.specs.Laws.{NewIsShown, OthersAreShown, ShownIsAlone}
-use Rattle.job_slots.specs.Slots.{SlotState, IsNewSlot, Shows, ShowsAs, IsCollectedSlot, HasNumbersOnRun, grant_by}
+use Rattle.job_slots.specs.Laws.{OthersAreShown, ShownIsAlone}
+use Rattle.job_slots.specs.Slots.{SlotState, Shows, ShowsAs, IsCollectedSlot, HasNumbersOnRun}
 use Rattle.job_slots.specs.Slots.{standing_of, standing_by}
 use Rattle.job_machine.specs.Lanes.{EndedState, IsVacant, IsEndOf, CanAdopt, after_adoption}
 use Rattle.job_machine.specs.Machines.{MachineState, place_of}
-use Rattle.job_machine.specs.Sound.{IsSound, standings_of}
+use Rattle.job_machine.specs.Sound.{IsSound}
 use Rattle.job_machine.proofs.FirstSlots.{get_replicate, job_at, none_seen, no_blocks}
 use Rattle.job_machine.proofs.SoundLemmas.{counted_with, place_is}
 use Rattle.job_machine.proofs.TurnLemmas.{HasTurn, shown_machine, some_turn, task_read, turn_shows, turn_sound}
@@ -38,28 +36,7 @@ use Rattle.job_machine.proofs.TurnLemmas.{HasTurn, shown_machine, some_turn, tas
 pub first_vacant : (blocks : JobBlocks) (region most : ℕ) →
     blocks.memory ≡ record { room = region; slots = replicate most empty_slot } →
     blocks.grants ≡ replicate 1 None → IsVacant blocks
-first_vacant blocks region most memory grants =
-    let all : blocks_in blocks.memory.slots ≡ 0 = ap (λ (m : SharedState). blocks_in m.slots) memory ∙ no_blocks most in
-    let own : blocks_in (own_slots 1 blocks) ≡ 0 =
-    ap (λ (m : SharedState). blocks_in (slots_seen_by 1 m)) memory ∙ ap blocks_in (none_seen 1 most)
-    ∙ no_blocks most in
-    let granted : sum_by words_of (replicate 1 None) ≡ 1 * words_of None = sum_by-replicate words_of 1 None in
-    record {
-      is_job = (omega arith, omega (arith, ap length grants));
-      no_grant = ap (λ (gs : List (Option ℕ)). get_or gs 0 None) grants;
-      nothing_granted = omega (arith, ap (λ (gs : List (Option ℕ)). sum_by words_of gs) grants, granted);
-      no_block =
-          (λ id.
-          ap (λ (m : SharedState). slot_in (slots_seen_by 1 m) id) memory
-          ∙ ap (λ (l : List Slot). slot_in l id) (none_seen 1 most) ∙ get_replicate most id empty_slot);
-      counted = omega (arith, all, own);
-    }
-
--- a new slot shows a job there
-pub vacant_shows : NewIsShown → (rule : Rule) (blocks : JobBlocks) (job : JobValue) (slot : SlotState) →
-    IsVacant blocks → IsNewSlot job slot → Shows 1 blocks (ruled rule job) slot
-vacant_shows law rule blocks job slot vacant new =
-    law rule 1 blocks job slot new vacant.is_job vacant.no_grant vacant.no_block
+first_vacant blocks region most memory grants = grind (arith, no_blocks, none_seen, sum_by-replicate, get_replicate)
 
 -- all blocks stay those of the one job
 pub own_alone : (old new : JobBlocks) → block_count old.memory ≡ blocks_in (own_slots 1 old) →
@@ -87,9 +64,13 @@ pub tasks_fit : (rule : Rule) (jobs : List JobValue) (words n : ℕ) → All (λ
     words ≤ n → All (λ (task : Task). task.limits.words ≤ n) (map (ruled rule) jobs)
 tasks_fit rule [] words n all le = All-nil (λ (task : Task). task.limits.words ≤ n)
 tasks_fit rule (j ∷ js) words n all le =
-    All-cons (λ (task : Task). task.limits.words ≤ n) (ruled rule j) (map (ruled rule) js)
-    (omega (arith, All-head (λ (job : JobValue). job.limits.words ≤ words) j js all, le))
-    (tasks_fit rule js words n (All-tail (λ (job : JobValue). job.limits.words ≤ words) j js all) le)
+    grind (
+      arith,
+      All-cons,
+      All-head,
+      All-tail,
+      (tasks_fit rule js words n (All-tail (λ (job : JobValue). job.limits.words ≤ words) j js all) le),
+    )
 
 -- it is enough for those of the job at a place
 pub fits_at : (rule : Rule) (jobs : List JobValue) (place n : ℕ) (job : JobValue) → job ≡ get_or jobs place job →
@@ -118,17 +99,7 @@ pub record IsNumber (rule : Rule) (jobs : List JobValue) (number : ℕ) (task : 
 pub is_number : (rule : Rule) (jobs : List JobValue) (number : ℕ) (task : Task) →
     of_job number (map (ruled rule) jobs) ≡ Some task → IsNumber rule jobs number task
 is_number rule jobs zero task e = absurd (none-some task e)
-is_number rule jobs (suc place) task e =
-    let job = job_at rule jobs place task e in
-    record {
-      least = omega arith;
-      within = omega (
-        arith,
-        slice_get_within (map (ruled rule) jobs) place task e,
-        length-map jobs (ruled rule),
-      );
-      rule_is = sym (ap (λ (t : Task). t.rule) job.2);
-    }
+is_number rule jobs (suc place) task e = grind (arith, job_at, slice_get_within, length-map)
 
 -- a job without its rule
 abbrev plain : Task → JobValue
@@ -137,20 +108,13 @@ plain task = record { name = task.name; verified = task.verified; limits = task.
 -- a task of another rule isn't this one
 pub of_other_rule : (o : Option Task) (task : Task) (own rule : Rule) (job : JobValue) (same : Bool) → o ≡ Some task →
     task.rule ≡ own → same ≡ false → (IsTrue same ↔ (own ≡ rule)) → (IsTrue false ↔ (o ≡ Some (ruled rule job)))
-of_other_rule o task own rule job same is rule_is differs iff = (
-  λ f. absurd (false≢true f),
-  λ e. absurd (false≢true (sym differs
-      ∙ iff.1 (sym rule_is ∙ ap (λ (t : Task). t.rule) (same_Some task (ruled rule job) (sym is ∙ e))))),
-)
+of_other_rule o task own rule job same is rule_is differs iff = grind (arith, same_Some)
 
 -- by the same rule it is this one if the jobs are equal
 pub of_same_rule : (o : Option Task) (own rule : Rule) (mine job : JobValue) (same : Bool) →
     o ≡ Some (ruled own mine) → own ≡ rule → (IsTrue same ↔ (mine ≡ job)) →
     (IsTrue same ↔ (o ≡ Some (ruled rule job)))
-of_same_rule o own rule mine job same is rule_is iff = (
-  λ yes. is ∙ (λ i. Some (ruled (rule_is i) (iff.0 yes i))),
-  λ e. iff.1 (ap plain (same_Some (ruled own mine) (ruled rule job) (sym is ∙ e))),
-)
+of_same_rule o own rule mine job same is rule_is iff = grind (arith, same_Some)
 
 -- ---- to the job's end
 
@@ -235,38 +199,12 @@ shown_collected number blocks task slot shows e =
 -- its slot is that of its end
 pub end_by : (number : ℕ) (blocks : JobBlocks) (task : Task) (slot : SlotState) → Shows number blocks task slot →
     standing_of slot ≡ Collected → IsEndOf task slot
-end_by number blocks task slot shows e =
-    let is = shown_collected number blocks task slot shows e in
-    record {
-      collected = is_collected slot e;
-      limits = shows.limits;
-      executed = is.executed;
-      peak_is = is.peak_is;
-      stored = is.stored;
-      no_cell = is.nothing.no_cell;
-    }
+end_by number blocks task slot shows e = grind (arith, shown_collected, is_collected)
 
 -- no job is in the region
 pub vacant_after : (old new : JobBlocks) (task : Task) (slot : SlotState) → IsVacant old → ChangesOnlyOf 1 old new →
     Shows 1 new task slot → standing_of slot ≡ Collected → IsVacant new
-vacant_after old new task slot vacant changes shows e =
-    let no_grant : grant_of new 1 ≡ None = shows.grant ∙ ap (grant_by task) (is_collected slot e) in
-    let none : words_of None ≡ 0 = refl in
-    record {
-      is_job = shows.is_job;
-      no_grant = no_grant;
-      nothing_granted =
-          omega (
-            arith,
-            changes.granted,
-            vacant.nothing_granted,
-            ap words_of vacant.no_grant,
-            ap words_of no_grant,
-            none,
-          );
-      no_block = (shown_collected 1 new task slot shows e).nothing.no_block;
-      counted = own_alone old new vacant.counted changes;
-    }
+vacant_after old new task slot vacant changes shows e = grind (arith, is_collected, shown_collected, own_alone)
 
 -- ---- to a machine
 
@@ -284,22 +222,7 @@ waits_as slot e = ap (λ (s : Status). standing_by s slot.trace.executed) (waits
 pub adopted_shows : (number : ℕ) (blocks : JobBlocks) (task : Task) (old end : SlotState) →
     Shows number blocks task old → is_waiting (standing_of old) ≡ true → IsEndOf task end →
     Shows number blocks task end
-adopted_shows number blocks task old end shows waits e =
-    let was : old.status ≡ status.Waiting = waits_by old.status old.trace.executed waits in
-    let before = subst (ShowsAs (own_slots number blocks) task old.trace old.outcome) was shows.shown in
-    record {
-      is_job = shows.is_job;
-      verified = shows.verified;
-      limits = e.limits;
-      grant = shows.grant ∙ ap (grant_by task) was ∙ sym (ap (grant_by task) e.collected);
-      shown =
-          subst (ShowsAs (own_slots number blocks) task end.trace end.outcome) (sym e.collected) (record {
-            executed = e.executed;
-            peak_is = e.peak_is;
-            stored = e.stored;
-            nothing = record { no_cell = e.no_cell; no_block = before.nothing.no_block };
-          });
-    }
+adopted_shows number blocks task old end shows waits e = grind (arith, waits_by)
 
 -- the machine shows the job collected
 pub adopted_state : {rule : Rule} {passes : List ℕ} (blocks : JobBlocks) {tasks : List Task} {slots : List SlotState}
@@ -307,21 +230,7 @@ pub adopted_state : {rule : Rule} {passes : List ℕ} (blocks : JobBlocks) {task
     shown_machine rule blocks tasks slots passes ≡ m → HasTurn tasks slots m job place task before →
     IsEndOf task end → shown_machine rule blocks tasks (set slots place end) passes ≡ after_adoption true job m
 adopted_state {rule} {passes} blocks {tasks} {slots} {m} {job} {place} {task} {before} end view h e =
-    let stands : standing_of end ≡ Collected = ap (λ (s : Status). standing_by s end.trace.executed) e.collected in
-    let standings : standings_of (set slots place end) ≡ with_standing job Collected (standings_of slots) =
-    map-set standing_of slots place end
-    ∙ ap (λ (s : Standing). set (standings_of slots) place s) stands
-    ∙ sym (ap (λ (j : ℕ). with_standing j Collected (standings_of slots)) h.job_is) in
-    let here : shown_machine rule blocks tasks (set slots place end) passes
-    ≡ after_adoption true job (shown_machine rule blocks tasks slots passes) =
-    λ i. record {
-      rule = rule;
-      region = blocks.memory.room;
-      tasks = tasks;
-      standings = standings i;
-      passes = passes;
-    } in
-    here ∙ ap (after_adoption true job) view
+    grind (arith, map-set, shown_machine)
 
 -- something is at a place
 something_at : {X : Type 0} (xs : List X) (place : ℕ) → place < length xs → (x : X) × (slice_get xs place ≡ Some x)
@@ -334,13 +243,7 @@ pub slot_within : {rule : Rule} {passes : List ℕ} (blocks : JobBlocks) (tasks 
     (m : MachineState) (job place : ℕ) → IsSound blocks tasks slots passes →
     shown_machine rule blocks tasks slots passes ≡ m → place_of (length m.tasks) job ≡ Some place →
     place < length slots
-slot_within {rule} {passes} blocks tasks slots m job place sound view at =
-    omega (
-      arith,
-      (place_is (length m.tasks) job place at).within,
-      ap (λ (k : MachineState). length k.tasks) view,
-      sound.slots_are,
-    )
+slot_within {rule} {passes} blocks tasks slots m job place sound view at = grind (arith, place_is)
 
 -- what a machine is after an adoption
 pub record Adopts (rule : Rule) (passes : List ℕ) (blocks : JobBlocks) (tasks : List Task) (slots : List SlotState)

@@ -1,6 +1,7 @@
 -- Events that are played one after another.
+use Rattle.std.proofs.Common.{arith}
 use Rattle.std.proofs.Common.{◌≡◌, ℕ, zero, suc, ◌<◌, true, false, List, [], ◌∷◌, length, take, get_or, slice_get, Some}
-use Rattle.std.proofs.Common.{Result, Ok, Err, is_err, OnOk, OnErr, sym, ◌∙◌, ap, subst}
+use Rattle.std.proofs.Common.{Result, Ok, Err, is_err, OnOk, OnErr, sym, ap, subst}
 use Rattle.std.proofs.lemmas.Bool.{false≢true}
 use Rattle.std.proofs.lemmas.Option.{none-some, same_Some, slice_get-get_or}
 use Rattle.job_steps.specs.declared.event.Event.{Event}
@@ -19,24 +20,13 @@ pub played_next : (m self new : MachineState) (events : List Event) (place next 
     next ≡ suc place →
     place < length events → self ≡ after_all (take place events) m →
     new ≡ machine_after (get_or events place event) self → new ≡ after_all (take next events) m
-played_next m self new events place next event next_is within self_is new_is =
-    new_is
-    ∙ (ap (machine_after (get_or events place event)) self_is
-    ∙ (sym (one_more m events place (get_or events place event) (slice_get-get_or events place event within))
-    ∙ ap (λ k. after_all (take k events) m) (sym next_is)))
+played_next m self new events place next event next_is within self_is new_is = grind (arith, one_more, slice_get-get_or)
 
 -- if the event at a place is refused memory
 pub refused_at : (m self new : MachineState) (events : List Event) (place : ℕ) (event : Event) → place < length events →
     self ≡ after_all (take place events) m → IsRefusable (get_or events place event) self → new ≡ self →
     IsRefusedAt events m place × (new ≡ after_all (take place events) m)
-refused_at m self new events place event within self_is refusable same = (
-  record {
-    event = get_or events place event;
-    event_is = slice_get-get_or events place event within;
-    refusable = subst (IsRefusable (get_or events place event)) self_is refusable;
-  },
-  same ∙ self_is,
-)
+refused_at m self new events place event within self_is refusable same = grind (arith, slice_get-get_or)
 
 pub at_err : {T E P : Type 0} (r : Result T E) → true ≡ is_err r → OnErr r P → P
 at_err (Ok x) err p = absurd (false≢true (sym err))

@@ -73,10 +73,7 @@ recalled_twice (s ∷ standings) =
 recalled_here : (xs : List Standing) (i : ℕ) (x : Standing) → map recalled_standing xs ≡ xs → slice_get xs i ≡ Some x →
     recalled_standing x ≡ x
 recalled_here [] i x none e = absurd (none-some x e)
-recalled_here (z ∷ xs) zero x none e =
-    let is : z ≡ x = same_Some z x e in
-    let here : Some (recalled_standing z) ≡ Some z = ap (λ ks. slice_get ks 0) none in
-    subst (λ (k : Standing). recalled_standing k ≡ k) is (same_Some (recalled_standing z) z here)
+recalled_here (z ∷ xs) zero x none e = grind (arith, same_Some)
 recalled_here (z ∷ xs) (suc i) x none e = recalled_here xs i x (tail_of none) e
   where
     rest_of : List Standing → List Standing
@@ -164,13 +161,6 @@ pub others_by : (event : Event) (job : ℕ) (m : MachineState) → Happens m.reg
 others_by event job m (Passed after none) other ne = ap (λ (q : Queue). of_job other q.standings) after
 others_by event job m (Opened o) other ne = ap (of_job other) o.after ∙ of_with_other job other m.standings o.new ne
 
-pub moves : (event : Event) (job : ℕ) (m : MachineState) → job_of m.region m.tasks event (queue_of m) ≡ Some job →
-    Moves job m (machine_after event m)
-moves event job m job_is = record {
-  leads = leads_one event m;
-  others = others_by event job m (happens m.region m.tasks event (queue_of m) job job_is);
-}
-
 pub leads_on : LeadsJoin → (old between new : MachineState) → Leads old between → Leads between new → Leads old new
 leads_on join old between new first second =
     let again : LeadTo old.region old.tasks (queue_of between) (queue_of new) =
@@ -181,13 +171,6 @@ leads_on join old between new first second =
       join old.region old.tasks (queue_of old) (queue_of between) (queue_of new) first.2 again,
       second.3 ∙ first.3,
     )
-
-pub moves_on : LeadsJoin → (job : ℕ) (old between new : MachineState) → Moves job old between → Moves job between new →
-    Moves job old new
-moves_on join job old between new first second = record {
-  leads = leads_on join old between new first.leads second.leads;
-  others = λ other ne. second.others other ne ∙ first.others other ne;
-}
 
 pub goes_on_on : LeadsJoin → (job : ℕ) (old between new : MachineState) → GoesOn job old between →
     GoesOn job between new → GoesOn job old new
@@ -209,9 +192,7 @@ done_by : (event : Event) (job : ℕ) (m : MachineState) (new : Standing) → Ha
     recalled_standing new ≡ new → (after_event m.region m.tasks event (queue_of m)).standings ≡ with_standing job new
     m.standings →
     HasNoStep (machine_after event m)
-done_by event job m new none same after =
-    subst (λ (ss : List Standing). recalled_standings ss ≡ ss) (sym after)
-    (no_step_with job m.standings new none same)
+done_by event job m new none same after = grind (arith, no_step_with)
 
 -- an event that leaves no step leaves none
 pub no_step_after : (event : Event) (job : ℕ) (m : MachineState) → HasNoStep m →
@@ -281,15 +262,8 @@ idle_in job m same none (Some s) s_is live closed =
 pub done_after : (job : ℕ) (m : MachineState) → length m.standings ≡ length m.tasks → HasNoStep m →
     is_running (of_job job m.standings) ≡ false → Happens m.region m.tasks (Collect job) (queue_of m) job →
     IsDone (of_job job (after_event m.region m.tasks (Collect job) (queue_of m)).standings)
-done_after job m same none live (Passed after closed) =
-    subst (λ (q : Queue). IsDone (of_job job q.standings)) (sym after)
-    (idle_in job m same none (of_job job m.standings) refl live closed)
-done_after job m same none live (Opened o) =
-    let is : of_job job (after_event m.region m.tasks (Collect job) (queue_of m)).standings ≡ Some Collected =
-    ap (of_job job) o.after
-    ∙ (of_with job m.standings o.old o.new o.old_is
-    ∙ ap (λ (s : Standing). Some s) (collected_is job o.task o.old o.new o.new_is)) in
-    subst (λ (s : Option Standing). IsDone s) (sym is) tt
+done_after job m same none live (Passed after closed) = grind (arith, idle_in)
+done_after job m same none live (Opened o) = grind (arith, of_with, collected_is)
 
 pub collects : (job : ℕ) (m : MachineState) → HasNoStep m → GoesOn job m (machine_after (Collect job) m)
 collects job m none =
@@ -366,9 +340,7 @@ closed_in : (m : MachineState) (event : Event) (job : ℕ) → All IsWaitingOrCo
     Happens m.region m.tasks event (queue_of m) job →
     job_of m.region m.tasks event (queue_of m) ≡ Some job → ⊥
 unfolding is_open
-closed_in m event job idle ne can (Opened o) job_is =
-    none-some o.new
-    (sym (closed_by event o.task o.old ne (idle_at m.standings idle job o.old o.old_is)) ∙ o.new_is)
+closed_in m event job idle ne can (Opened o) job_is = grind (arith, none-some, closed_by, idle_at)
 closed_in m event job idle ne can (Passed after closed) job_is =
     let none : next_standing_of m.tasks event m.standings (job_of m.region m.tasks event (queue_of m)) ≡ None =
     ap (next_standing_of m.tasks event m.standings) job_is ∙ closed in
@@ -425,11 +397,7 @@ one_more m place =
 
 pub recalled_next : (m self new : MachineState) (place next : ℕ) → next ≡ suc place → self ≡ recalled_to m place →
     new ≡ machine_after (Recall next) self → new ≡ recalled_to m next
-recalled_next m self new place next next_is self_is new_is =
-    new_is
-    ∙ (ap (machine_after (Recall next)) self_is
-    ∙ (ap (λ k. machine_after (Recall k) (recalled_to m place)) next_is
-    ∙ (sym (one_more m place) ∙ ap (recalled_to m) (sym next_is))))
+recalled_next m self new place next next_is self_is new_is = grind (arith, one_more)
 
 -- what is left when the step of each job is given up
 pub record AreRecalled (old new : MachineState) : Type 0 where
@@ -439,17 +407,4 @@ pub record AreRecalled (old new : MachineState) : Type 0 where
 
 pub all_recalled : RecallsAreEvents → (m new : MachineState) (place : ℕ) → length m.standings ≡ length m.tasks →
     place ≡ length m.tasks → new ≡ recalled_to m place → AreRecalled m new
-all_recalled recalls m new place same place_is new_is =
-    let is : new ≡ recalled m =
-    new_is ∙ (ap (recalled_to m) place_is
-    ∙ ap (with_queue m) (recalls m.region m.tasks (queue_of m) same)) in
-    record {
-      recalled_is = is;
-      leads = (
-        ap (λ (k : MachineState). k.region) is,
-        ap (λ (k : MachineState). k.tasks) is,
-        (all_recalls (length m.tasks), recalls m.region m.tasks (queue_of m) same ∙ sym (ap queue_of is)),
-        ap (λ (k : MachineState). k.rule) is,
-      );
-      no_step = subst (λ (k : MachineState). HasNoStep k) (sym is) (recalled_twice m.standings);
-    }
+all_recalled recalls m new place same place_is new_is = grind (arith, recalled_twice)

@@ -44,12 +44,7 @@ pub record HasPlace (count job place : ℕ) : Type 0 where
 
 pub place_is : (count job place : ℕ) → place_of count job ≡ Some place → HasPlace count job place
 place_is count zero place e = absurd (none-some place e)
-place_is count (suc k) place e =
-    let parts = cond_some (nat_lt k count) k place e in
-    record {
-      job_is = ap suc parts.1;
-      within = subst (λ n. n < count) parts.1 (ltb-true k count parts.0);
-    }
+place_is count (suc k) place e = grind (arith, cond_some, ltb-true)
 
 cond_none : {A : Type 0} (b : Bool) (x : A) → cond b (Some x) None ≡ None → b ≡ false
 cond_none true x e = absurd (none-some x (sym e))
@@ -59,9 +54,7 @@ cond_none false x e = refl
 pub no_place : {E : Type 0} (count job : ℕ) (list : List E) → length list ≡ count → place_of count job ≡ None →
     of_job job list ≡ None
 no_place count zero list same e = refl
-no_place count (suc k) list same e =
-    let past : count ≤ k = ltb-false k count (cond_none (nat_lt k count) k e) in
-    slice_get_past list k (omega arith)
+no_place count (suc k) list same e = grind (arith, ltb-false, cond_none, slice_get_past)
 
 -- ---- sums over jobs
 
@@ -75,17 +68,7 @@ sum_to_past (suc n) j f g past same =
 pub sum_to_changed : (n j : ℕ) (f g : ℕ → ℕ) → 1 ≤ j → j ≤ n → ((k : ℕ) → (k ≡ j → ⊥) → g k ≡ f k) →
     sum_to n g + f j ≡ sum_to n f + g j
 sum_to_changed zero j f g least most same = absurd (omega arith)
-sum_to_changed (suc n) j f g least most same = elim (cases_eq j (suc n)) [
-  | inl e ↦
-      let rest = sum_to_past n j f g (omega (arith, e)) same in
-      let old : f j ≡ f (suc n) = ap f e in
-      let new : g j ≡ g (suc n) = ap g e in
-      omega (arith, rest, old, new)
-  | inr ne ↦
-      let rest = sum_to_changed n j f g least (omega (arith, ne)) same in
-      let here : g (suc n) ≡ f (suc n) = same (suc n) (λ e. ne (sym e)) in
-      omega (arith, rest, here)
-]
+sum_to_changed (suc n) j f g least most same = grind (arith, cases_eq, sum_to_past, (sum_to_changed n j f g least))
 
 sum_to_shift : (n : ℕ) (f : ℕ → ℕ) → sum_to (suc n) f ≡ f 1 + sum_to n (λ k. f (suc k))
 sum_to_shift zero f = omega arith
@@ -167,15 +150,7 @@ blocks_are_sum slots = refl
 -- the blocks of all jobs are as many more as the job's own
 pub counted_with : (job : ℕ) (old new : JobBlocks) → ChangesOnlyOf job old new →
     block_count new.memory + blocks_in (own_slots job old) ≡ block_count old.memory + blocks_in (own_slots job new)
-counted_with job old new changes =
-    omega (
-      arith,
-      changes.memory.balance counts,
-      blocks_are_sum new.memory.slots,
-      blocks_are_sum old.memory.slots,
-      blocks_are_sum (own_slots job old),
-      blocks_are_sum (own_slots job new),
-    )
+counted_with job old new changes = grind (arith, blocks_are_sum)
 
 pub sound_with : {passes : List ℕ} → OthersAreShown → (old new : JobBlocks) (tasks : List Task)
     (slots : List SlotState) (place : ℕ) (task : Task) (slot : SlotState) → IsSound old tasks slots passes →
@@ -321,10 +296,7 @@ stands_after_step laws pass region tasks slots passes place task old new at slot
 -- a slot in the same standing, among the others
 pub stands_still : (slots : List SlotState) (place : ℕ) (old new : SlotState) → slice_get slots place ≡ Some old →
     standing_of new ≡ standing_of old → standings_of (set slots place new) ≡ standings_of slots
-stands_still slots place old new slot_at stands =
-    map-set standing_of slots place new
-    ∙ ap (λ (s : Standing). set (standings_of slots) place s) stands
-    ∙ set_back (standings_of slots) place (standing_of old) (standing_at slots place old slot_at)
+stands_still slots place old new slot_at stands = grind (arith, map-set, set_back, standing_at)
 
 -- an event of a job that there isn't changes nothing
 pub missing_after : MissingAreClosed → ClosedChangeNothing → (region : ℕ) (tasks : List Task) (event : Event)

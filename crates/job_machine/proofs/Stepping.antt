@@ -6,7 +6,7 @@ use Rattle.std.proofs.lemmas.Option.{none-some}
 use Rattle.job_steps.specs.declared.event.Event.{Event}
 use Rattle.job_steps.specs.declared.event.Event.TheVariants.{Begin, Finish}
 use Rattle.job_steps.specs.EventLaws.{EventsKeep, EventsUseUp, LeadsJoin, IsVerified, AreKept}
-use Rattle.job_steps.specs.Events.{next_standing, job_of, next_standing_in, next_standing_of, is_open, with_next}
+use Rattle.job_steps.specs.Events.{next_standing, job_of, next_standing_in, is_open, with_next}
 use Rattle.job_steps.specs.Events.{after_event, recalled_standing, recalled_standings, standing_after}
 use Rattle.job_steps.specs.Standings.{Standing, Waiting, Live, InFlight, Ended, Collected, Queue, of_job}
 use Rattle.job_steps.specs.Standings.{with_standing}
@@ -50,14 +50,7 @@ after_by : (region : ℕ) (tasks : List Task) (event : Event) (queue : Queue) (j
     (after_event region tasks event queue).standings
     ≡ with_standing job (or_same old (next_standing event task old)) queue.standings
 unfolding after_event
-after_by region tasks event queue job task old job_is task_is old_is =
-    let next : next_standing_of tasks event queue.standings (Some job) ≡ next_standing event task old =
-    λ i. next_standing_in event (task_is i) (old_is i) in
-    let here : next_standing_of tasks event queue.standings (job_of region tasks event queue)
-    ≡ next_standing event task old =
-    ap (next_standing_of tasks event queue.standings) job_is ∙ next in
-    (λ i. (with_next event (job_is i) (here i) queue).standings)
-    ∙ with_back event job queue old (next_standing event task old) old_is
+after_by region tasks event queue job task old job_is task_is old_is = grind (arith, with_back)
 
 -- at its next standing, if the event is open
 pub after_open : (region : ℕ) (tasks : List Task) (event : Event) (queue : Queue) (job : ℕ) (task : Task)

@@ -1,7 +1,6 @@
 -- What a turn of one job makes of what a machine shows.
 use Rattle.std.proofs.Common.{◌≡◌, ℕ, zero, suc, ◌+◌, ◌<◌, ◌≤◌, List, [], ◌∷◌, length, map, set, get_or, slice_get}
 use Rattle.std.proofs.Common.{All, Option, Some, None, refl, sym, ◌∙◌, ap, subst, arith}
-use Rattle.std.specs.Prelude.{option_map}
 use Rattle.std.proofs.Math.ListN.{get_or-map}
 use Rattle.std.proofs.lemmas.List.{length-map, set-set}
 use Rattle.std.proofs.lemmas.Option.{none-some, same_Some, slice_get-get_or, slice_get_read, get_or_from_slice_get}
@@ -32,13 +31,12 @@ use Rattle.job_slots.specs.Answers.{question_at}
 use Rattle.job_slots.specs.Answers.{Begins, Finishes, or_same, standing_after_begun, standing_after_finished}
 use Rattle.job_slots.specs.Answers.{Steps, StepsLead, standing_after_step, after_stepped}
 use Rattle.job_slots.specs.Laws.{OthersAreShown, ShownIsAlone}
-use Rattle.job_machine.specs.Machines.{MachineState, with_queue, place_of, machine_after, told, told_by, BeginsIn}
+use Rattle.job_machine.specs.Machines.{MachineState, with_queue, place_of, machine_after, BeginsIn}
 use Rattle.job_machine.specs.Machines.{StepsLeadIn, asked_in, asked_of, is_running}
-use Rattle.job_machine.specs.Machines.{FinishesIn, StepsIn, after_begun, after_finished, after_step, outcome_in}
-use Rattle.job_machine.specs.Machines.{outcome_by}
+use Rattle.job_machine.specs.Machines.{FinishesIn, StepsIn, after_begun, after_finished, after_step}
 use Rattle.job_machine.specs.SlotOf.{IsMissing, IsSlotOf}
 use Rattle.job_slots.specs.Slots.{HasNumbersOnRun, SlotState, Shows, standing_of, standing_by, recalled_status}
-use Rattle.job_slots.specs.Slots.{told_outcome, status_of}
+use Rattle.job_slots.specs.Slots.{status_of}
 use Rattle.job_machine.specs.Sound.{IsSound, standings_of}
 use Rattle.job_machine.proofs.Places.{get-set_same}
 use Rattle.job_machine.proofs.SoundLemmas.{queue_by, place_is, no_place, beside_at, standing_at, stands_after}
@@ -69,13 +67,7 @@ pub turn_at : (rule : Rule) (passes : List ℕ) (tasks : List Task) (slots : Lis
     HasTurn tasks slots
     (record { rule = rule; region = region; tasks = tasks; standings = standings_of slots; passes = passes }) job place
     task slot
-turn_at rule passes tasks slots region job place task slot job_is task_at slot_at = record {
-  job_is = job_is;
-  task_at = task_at;
-  slot_at = slot_at;
-  shown_task = ap (λ (j : ℕ). of_job j tasks) job_is ∙ task_at;
-  shown_standing = ap (λ (j : ℕ). of_job j (standings_of slots)) job_is ∙ standing_at slots place slot slot_at;
-}
+turn_at rule passes tasks slots region job place task slot job_is task_at slot_at = grind (arith, standing_at)
 
 has_turn : {rule : Rule} {passes : List ℕ} (blocks : JobBlocks) (tasks : List Task) (slots : List SlotState) (m :
     MachineState)
@@ -124,9 +116,7 @@ within_jobs : {rule : Rule} {passes : List ℕ} (blocks : JobBlocks) (tasks : Li
     (job place : ℕ)
     (o : Option ℕ) → IsSound blocks tasks slots passes → shown_machine rule blocks tasks slots passes ≡ m →
     o ≡ place_of (length m.tasks) job → o ≡ Some place → place < length tasks
-within_jobs {rule} {passes} blocks tasks slots m job place o sound view o_is some =
-    subst (λ (m : MachineState). o ≡ place_of (length m.tasks) job → place < length tasks) view
-    (λ e. (place_is (length tasks) job place (sym e ∙ some)).within) o_is
+within_jobs {rule} {passes} blocks tasks slots m job place o sound view o_is some = grind (arith, place_is)
 
 -- the job of a number is among the jobs and the slots
 pub record IsLent (rule : Rule) (jobs : List JobValue) (slots : List SlotState) (m : MachineState) (number place : ℕ)
@@ -206,10 +196,7 @@ pub turn_still : {rule : Rule} {passes : List ℕ} (old new : JobBlocks) {tasks 
     new.memory.room ≡ old.memory.room → standing_of after ≡ standing_of before →
     shown_machine rule new tasks (set slots place after) passes ≡ m
 turn_still {rule} {passes} old new {tasks} {slots} {m} {job} {place} {task} {before} after view h room stands =
-    let standings = stands_still slots place before after h.slot_at stands in
-    let here : shown_machine rule new tasks (set slots place after) passes ≡ shown_machine rule old tasks slots passes =
-    λ i. record { rule = rule; region = room i; tasks = tasks; standings = standings i; passes = passes } in
-    here ∙ view
+    grind (arith, stands_still)
 
 -- an event of a job that there isn't
 pub no_turn : {rule : Rule} {passes : List ℕ} → MissingAreClosed → ClosedChangeNothing →
@@ -234,13 +221,6 @@ pub no_job : {E : Type 0} (list : List E) (tasks : List Task) (job : ℕ) (o : O
 no_job list tasks job o same e none = no_place (length tasks) job list same (sym e ∙ none)
 
 -- ---- answers
-
-pub told_in : {T : Type 0} (of : Task → Standing → T) (tasks : List Task) (slots : List SlotState) (m : MachineState)
-    (job place : ℕ) (task : Task) (slot : SlotState) → HasTurn tasks slots m job place task slot →
-    (told of job m) ≡ Some (of task (standing_of slot))
-told_in of tasks slots m job place task slot h =
-    ap (λ o. told_by of o (of_job job m.standings)) h.shown_task
-    ∙ ap (λ o. told_by of (Some task) o) h.shown_standing
 
 pub begins_in : {A : Type 0} (words : ℕ) {tasks : List Task} {slots : List SlotState} {m : MachineState}
     {job place : ℕ} {task : Task} {slot : SlotState} (answer : Begun A) → HasTurn tasks slots m job place task slot →
@@ -436,8 +416,7 @@ pub turn_fits : {tasks : List Task} {slots : List SlotState} {m : MachineState} 
     {slot : SlotState} (words : ℕ) → HasTurn tasks slots m job place task slot →
     All (λ task. task.limits.words ≤ words) tasks → task.limits.words ≤ words
 turn_fits {tasks} {slots} {m} {job} {place} {task} {slot} words h fits =
-    subst (λ (k : Task). k.limits.words ≤ words) (get_or_from_slice_get tasks place task task h.task_at)
-    (fits place task (slice_get_within tasks place task h.task_at))
+    grind (arith, get_or_from_slice_get, slice_get_within)
 
 -- there are numbers for two blocks more
 pub numbers_left : {passes : List ℕ} → ShownIsAlone →
@@ -489,13 +468,7 @@ on_run alone blocks tasks slots sound tidy (suc place) task standing t s =
 pub are_kept : {passes : List ℕ} → ShownIsAlone → (blocks : JobBlocks) (tasks : List Task) (slots : List SlotState) →
     IsSound blocks tasks slots passes → IsTidy blocks.memory → jobs.granted_words blocks ≤ blocks.memory.room →
     AreKept blocks.memory.room tasks (queue_by slots passes)
-are_kept alone blocks tasks slots sound tidy within = record {
-  same_length = length-map slots standing_of ∙ sound.slots_are;
-  passes_length = sound.passes_are;
-  few_passes = sound.few_passes;
-  on_run = on_run alone blocks tasks slots sound tidy;
-  granted = omega (arith, within, granted_is blocks tasks slots sound);
-}
+are_kept alone blocks tasks slots sound tidy within = grind (arith, length-map, on_run, granted_is)
 
 -- ---- what a slot shows
 
@@ -523,51 +496,7 @@ pub slot_missing : {rule : Rule} {passes : List ℕ} (blocks : JobBlocks) (tasks
     (job : ℕ)
     (o : Option ℕ) → IsSound blocks tasks slots passes → shown_machine rule blocks tasks slots passes ≡ m →
     o ≡ place_of (length m.tasks) job → o ≡ None → IsMissing job m
-slot_missing {rule} {passes} blocks tasks slots m job o sound view o_is none =
-    subst (λ (m : MachineState). o ≡ place_of (length m.tasks) job → IsMissing job m) view
-    (λ e. record {
-      no_task = no_job tasks tasks job o refl e none;
-      no_standing = no_job (standings_of slots) tasks job o (length-map slots standing_of ∙ sound.slots_are) e none;
-    })
-    o_is
-
--- what a slot shows holds of its job
-pub told_of : {T : Type 0} (of : Task → Standing → T) (m : MachineState) (job : ℕ) (slot : SlotState) (value : T) →
-    (h : IsSlotOf job m slot) → value ≡ of h.task (standing_of slot) → Some value ≡ told of job m
-told_of of m job slot value h is =
-    ap (λ v. Some v) is
-    ∙ sym (ap (λ o. told_by of o (of_job job m.standings)) h.task_is
-    ∙ ap (λ o. told_by of (Some h.task) o) h.standing_is)
-
-pub told_none : {T : Type 0} (of : Task → Standing → T) (m : MachineState) (job : ℕ) → IsMissing job m →
-    told of job m ≡ None
-told_none of m job h = ap (λ o. told_by of o (of_job job m.standings)) h.no_task
-
-pub outcome_of : (m : MachineState) (job : ℕ) (slot : SlotState) → (h : IsSlotOf job m slot) →
-    told_outcome slot ≡ outcome_in job m
-outcome_of m job slot h =
-    h.outcome_is
-    ∙ sym (ap (λ o. outcome_by o (of_job job m.standings)) h.task_is
-    ∙ ap (λ o. outcome_by (Some h.task) o) h.standing_is)
-
-pub outcome_none : (m : MachineState) (job : ℕ) → IsMissing job m → outcome_in job m ≡ None
-outcome_none m job h = ap (λ o. outcome_by o (of_job job m.standings)) h.no_task
-
-status_by : (s : Status) (n : ℕ) → status_of (standing_by s n) ≡ s
-status_by status.Waiting n = refl
-status_by status.Live n = refl
-status_by status.InFlight n = refl
-status_by status.Ended n = refl
-status_by status.Collected n = refl
-
-pub status_in : (m : MachineState) (job : ℕ) (slot : SlotState) (value : Status) → IsSlotOf job m slot →
-    value ≡ slot.status → Some value ≡ option_map status_of (of_job job m.standings)
-status_in m job slot value h is =
-    ap (λ v. Some v) (is ∙ sym (status_by slot.status slot.trace.executed))
-    ∙ sym (ap (option_map status_of) h.standing_is)
-
-pub status_none : (m : MachineState) (job : ℕ) → IsMissing job m → option_map status_of (of_job job m.standings) ≡ None
-status_none m job h = ap (option_map status_of) h.no_standing
+slot_missing {rule} {passes} blocks tasks slots m job o sound view o_is none = grind (arith, no_job, length-map)
 
 pub all_verified : {passes : List ℕ} (blocks : JobBlocks) (tasks : List Task) (slots : List SlotState) →
     IsSound blocks tasks slots passes →
@@ -584,18 +513,10 @@ pub passed_in : {rule : Rule} {blocks : JobBlocks} {tasks : List Task} {slots : 
     shown_machine rule blocks tasks slots passes ≡ m → o ≡ place_of (length m.tasks) job → o ≡ Some place →
     count ≡ get_or passes place d → Some count ≡ of_job job m.passes
 passed_in {rule} {blocks} {tasks} {slots} {passes} job place o count d sound view o_is some count_is =
-    subst (λ (m : MachineState). o ≡ place_of (length m.tasks) job → Some count ≡ of_job job m.passes) view
-    (λ e.
-    let is = place_is (length tasks) job place (sym e ∙ some) in
-    ap (λ (k : ℕ). Some k) count_is
-    ∙ sym (ap (λ (j : ℕ). of_job j passes) is.job_is
-    ∙ slice_get-get_or passes place d (omega (arith, is.within, sound.passes_are))))
-    o_is
+    grind (arith, place_is, slice_get-get_or)
 
 pub passed_missing : {rule : Rule} {blocks : JobBlocks} {tasks : List Task} {slots : List SlotState}
     {passes : List ℕ} {m : MachineState} (job : ℕ) (o : Option ℕ) → IsSound blocks tasks slots passes →
     shown_machine rule blocks tasks slots passes ≡ m → o ≡ place_of (length m.tasks) job → o ≡ None →
     of_job job m.passes ≡ None
-passed_missing {rule} {blocks} {tasks} {slots} {passes} job o sound view o_is none =
-    subst (λ (m : MachineState). o ≡ place_of (length m.tasks) job → of_job job m.passes ≡ None) view
-    (λ e. no_job passes tasks job o sound.passes_are e none) o_is
+passed_missing {rule} {blocks} {tasks} {slots} {passes} job o sound view o_is none = grind (arith, no_job)

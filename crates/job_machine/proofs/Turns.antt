@@ -6,12 +6,12 @@ use Rattle.std.proofs.lemmas.Option.{none-some, same_Some, slice_get-get_or}
 use Rattle.job_steps.specs.declared.event.Event.TheVariants.{Admit, Collect}
 use Rattle.job_steps.specs.EventLaws.{EventsGoOn, EventsKeep, EventsUseUp, LeadsJoin, AdmittedHaveRoom, IsVerified}
 use Rattle.job_steps.specs.EventLaws.{AreKept}
-use Rattle.job_steps.specs.Events.{next_standing, next_standing_in, recalled_standing, recalled_standings}
+use Rattle.job_steps.specs.Events.{next_standing, next_standing_in, recalled_standing}
 use Rattle.job_steps.specs.Events.{all_events_left}
-use Rattle.job_steps.specs.Standings.{Standing, Waiting, Live, InFlight, Ended, Collected, Queue, of_job, admission}
+use Rattle.job_steps.specs.Standings.{Standing, Waiting, Live, InFlight, Ended, Collected, of_job, admission}
 use Rattle.job_steps.specs.States.{Task}
 use Rattle.job_machine.specs.declared.machine.Admission.TheVariants.{Admitted}
-use Rattle.job_machine.specs.Machines.{MachineState, queue_of, machine_after, Leads, HasNoStep, HasReturnedIn, GoesOn}
+use Rattle.job_machine.specs.Machines.{MachineState, queue_of, machine_after, Leads, HasNoStep, GoesOn}
 use Rattle.job_machine.specs.Machines.{IsWaitingOrCollected, IsDone, admission_in, is_running}
 use Rattle.job_machine.proofs.RunningOut.{Opens, Happens, Passed, Opened, happens, leads_on, goes_on_on, all_kept}
 use Rattle.job_machine.proofs.RunningOut.{no_step_after, fewer_after, collects, done_after, admitted, idle_at}
@@ -32,10 +32,7 @@ pub record Runs (job : ℕ) (old new : MachineState) : Type 0 where
   pub no_more : left_in new ≤ left_in old
 
 pub runs_first : (job : ℕ) (m : MachineState) → HasNoStep m → Runs job m m
-runs_first job m none = record {
-  goes_on = record { leads = leads_none m; no_step = none; others = λ other ne. refl };
-  no_more = omega arith;
-}
+runs_first job m none = grind (arith, leads_none)
 
 -- what collects a job and leaves it collected, if it doesn't wait
 pub record RunsOut (job : ℕ) (old new : MachineState) : Type 0 where
@@ -76,10 +73,6 @@ runs_out join keep use_up job old between new verified kept r idle new_is =
 -- if the collection is refused nothing changes
 pub runs_still : (job : ℕ) (old between new : MachineState) → Runs job old between → new ≡ between → Runs job old new
 runs_still job old between new r new_is = subst (Runs job old) (sym new_is) r
-
-pub returned_still : (job : ℕ) (between new : MachineState) → HasReturnedIn between job → new ≡ between →
-    HasReturnedIn new job
-returned_still job between new r new_is = subst (λ (m : MachineState). HasReturnedIn m job) (sym new_is) r
 
 -- ---- the jobs that don't wait
 
@@ -225,12 +218,8 @@ out_by : LeadsJoin → EventsGoOn → (old between : MachineState) →
     All (λ task. task.limits.words ≤ between.region) between.tasks →
     AreKept between.region between.tasks (queue_of between) → RunsIdle old between →
     ((job : ℕ) → admission_in between ≡ Admitted job → ⊥) → AreOut old (machine_after Admit between)
-out_by join go_on old between fitting kept r nobody = record {
-  leads = leads_on join old between (machine_after Admit between) r.leads (leads_one Admit between);
-  no_step = subst (λ (q : Queue). recalled_standings q.standings ≡ q.standings)
-      (sym (after_none between (not_admitted between nobody))) r.no_step;
-  collected = all_collected go_on between fitting kept r.idle nobody;
-}
+out_by join go_on old between fitting kept r nobody =
+    grind (arith, leads_on, leads_one, after_none, not_admitted, all_collected)
 
 fits_on : (old between : MachineState) → Leads old between → All (λ task. task.limits.words ≤ old.region) old.tasks →
     All (λ task. task.limits.words ≤ between.region) between.tasks

@@ -1,5 +1,5 @@
 -- The greatest words of jobs.
-use Rattle.std.proofs.Common.{◌≡◌, ℕ, ◌+◌, ◌<◌, ◌≤◌, max, List, take, get_or, length, All, sym, ap, ◌∙◌, arith}
+use Rattle.std.proofs.Common.{◌≡◌, ℕ, ◌+◌, ◌<◌, ◌≤◌, max, List, take, get_or, length, All, arith}
 use Rattle.std.specs.Prelude.{fold}
 use Rattle.std.proofs.lemmas.List.Elements.{All-more, All-weaker}
 use Rattle.std.proofs.lemmas.List.Sums.{fold_more}
@@ -20,6 +20,4 @@ pub most_more : (jobs : List JobValue) (place old new : ℕ) (any : JobValue) �
     old ≡ fold (λ most job. max most job.limits.words) 0 (take place jobs) → new ≡ max old
     (get_or jobs place any).limits.words →
     new ≡ fold (λ most job. max most job.limits.words) 0 (take (place + 1) jobs)
-most_more jobs place old new any within so_far greater =
-    greater ∙ ap (λ most. max most (get_or jobs place any).limits.words) so_far
-    ∙ sym (fold_more (λ most job. max most job.limits.words) 0 jobs place any within)
+most_more jobs place old new any within so_far greater = grind (arith, fold_more)

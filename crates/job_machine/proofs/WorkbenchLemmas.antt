@@ -73,9 +73,7 @@ no_workplace (suc i) h workbench none = none_back workbench i h none
 -- there is no such job
 pub takes_none : {A T : Type 0} (of : T → Workplace A) (job : ℕ) (old new : List (Workplace A)) (result : Option T) →
     None ≡ of_job job old → new ≡ with_workplace job workplace.Empty old → result ≡ None → Takes of job old new result
-takes_none of job old new result none new_is result_is =
-    subst (Takes of job old new) (sym result_is)
-    ((λ taken is. none-some (of taken) (none ∙ is)), new_is ∙ no_workplace job workplace.Empty old (sym none))
+takes_none of job old new result none new_is result_is = grind (arith, none-some, no_workplace)
 
 -- the workplace is otherwise, and is put back
 pub takes_other : {A T : Type 0} (of : T → Workplace A)
@@ -83,12 +81,8 @@ pub takes_other : {A T : Type 0} (of : T → Workplace A)
     Some own ≡ of_job job old → between ≡ with_workplace job workplace.Empty old →
     new ≡ with_workplace job own between →
     ((taken : T) → own ≡ of taken → ⊥) → Takes of job old new None
-takes_other of job old between new own own_is between_is new_is otherwise = (
-  (λ taken is. otherwise taken (same_Some own (of taken) (own_is ∙ is))),
-  new_is
-      ∙ (ap (with_workplace job own) between_is
-      ∙ (workplace_twice job workplace.Empty own old ∙ workplace_back job own old (sym own_is))),
-)
+takes_other of job old between new own own_is between_is new_is otherwise =
+    grind (arith, same_Some, workplace_twice, workplace_back)
 
 -- ---- an event of one job
 
@@ -115,10 +109,7 @@ workplace_by : {A : Type 0} (m after : MachineState) (workbench : List (Workplac
     FitsIn after job new → (other : ℕ) → (h : Workplace A) → of_job other (with_workplace job new workbench) ≡ Some h →
     (other ≡ job) ⊎ (other ≡ job → ⊥) → FitsIn after other h
 workplace_by m after workbench job own new fit own_is tasks others f other h h_is (inl here) =
-    let new_is : of_job other (with_workplace job new workbench) ≡ Some new =
-    ap (λ k. of_job k (with_workplace job new workbench)) here ∙ of_with_workplace job workbench own new own_is in
-    subst (λ k. FitsIn after k h) (sym here)
-    (subst (λ k. FitsIn after job k) (same_Some new h (sym new_is ∙ h_is)) f)
+    grind (arith, of_with_workplace, same_Some)
 workplace_by m after workbench job own new fit own_is tasks others f other h h_is (inr apart) =
     stays_fit m after other h tasks (others other apart)
     (fit.each other h (sym (other_with_workplace job other workbench new apart) ∙ h_is))
@@ -128,17 +119,12 @@ workbench_with : {A : Type 0} (m after : MachineState) (workbench : List (Workpl
     (own new : Workplace A) →
     WorkbenchFits m workbench → of_job job workbench ≡ Some own → after.tasks ≡ m.tasks → OthersStand job m after →
     FitsIn after job new → WorkbenchFits after (with_workplace job new workbench)
-workbench_with m after workbench job own new fit own_is tasks others f = record {
-  count = count_with job new workbench ∙ (fit.count ∙ sym (ap length tasks));
-  each = λ other h h_is. workplace_by m after workbench job own new fit own_is tasks others f other h h_is
-      (cases_eq other job);
-}
+workbench_with m after workbench job own new fit own_is tasks others f =
+    grind (arith, count_with, workplace_by, cases_eq)
 
 others_stand : (stay : OthersStay) (event : Event) (m : MachineState) (job : ℕ) →
     job_of m.region m.tasks event (queue_of m) ≡ Some job → OthersStand job m (machine_after event m)
-others_stand stay event m job job_is other apart =
-    stay m.region m.tasks event (queue_of m) other
-    (is_apart m.region m.tasks event (queue_of m) job other job_is apart)
+others_stand stay event m job job_is other apart = grind (arith, is_apart)
 
 -- an event of a job, whose workplace changes so that it fits
 pub workbench_after : {A : Type 0} (stay : OthersStay) (event : Event) (m : MachineState)
@@ -234,9 +220,7 @@ still : {A : Type 0} (event : Event) (m new : MachineState) (workbench after : L
     WorkbenchFits m workbench → job_of m.region m.tasks event (queue_of m) ≡ Some job → after ≡ workbench →
     next_standing_in event (of_job job m.tasks) (of_job job m.standings) ≡ None → new ≡ machine_after event m →
     Played event m new after
-still event m new workbench after job fit job_is same closed is =
-    turned event m new workbench after is
-    (subst (λ (k : MachineState). WorkbenchFits k workbench) (sym (passed event m job job_is closed)) fit) same
+still event m new workbench after job fit job_is same closed is = grind (arith, turned, passed)
 
 -- ---- a begin
 
@@ -479,9 +463,7 @@ still_fits event m job workplace.Empty rests job_is f (Some new) next_is = absur
 still_at : {A : Type 0} (stay : OthersStay) (event : Event) (m : MachineState) (job : ℕ) (h : Workplace A) →
     IsOfNoStep event → (own : Option ℕ) → job_of m.region m.tasks event (queue_of m) ≡ own → FitsIn m job h →
     FitsIn (machine_after event m) job h
-still_at stay event m job h rests None own_is f =
-    stays_fit m (machine_after event m) job h refl
-    (stay m.region m.tasks event (queue_of m) job (λ is. none-some job (sym own_is ∙ is))) f
+still_at stay event m job h rests None own_is f = grind (arith, stays_fit, none-some)
 still_at stay event m job h rests (Some own) own_is f = still_by (cases_eq job own)
   where
     still_by : (job ≡ own) ⊎ (job ≡ own → ⊥) → FitsIn (machine_after event m) job h
@@ -495,13 +477,7 @@ still_at stay event m job h rests (Some own) own_is f = still_by (cases_eq job o
 
 still_fit : {A : Type 0} (stay : OthersStay) (event : Event) (m new : MachineState) (workbench : List (Workplace A)) →
     IsOfNoStep event → WorkbenchFits m workbench → new ≡ machine_after event m → WorkbenchFits new workbench
-still_fit {A} stay event m new workbench rests fit new_is =
-    let all : WorkbenchFits (machine_after event m) workbench = record {
-      count = fit.count;
-      each = λ job h is. still_at stay event m job h rests (job_of m.region m.tasks event (queue_of m)) refl
-          (fit.each job h is);
-    } in
-    subst (λ (k : MachineState). WorkbenchFits k workbench) (sym new_is) all
+still_fit {A} stay event m new workbench rests fit new_is = grind (arith, still_at)
 
 pub fit_admitted : {A : Type 0} (stay : OthersStay) (m new : MachineState) (workbench : List (Workplace A)) →
     WorkbenchFits m workbench → new ≡ machine_after Admit m → WorkbenchFits new workbench

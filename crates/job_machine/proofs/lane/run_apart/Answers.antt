@@ -1,3 +1,4 @@
+use Rattle.std.proofs.Common.{arith}
 use Rattle.std.proofs.Common.{◌≡◌}
 use Rattle.job_memory.specs.JobBlocks.{ChangesOnlyOf}
 use Rattle.job_slots.specs.Slots.{standing_of}
@@ -9,9 +10,7 @@ use Rattle.job_machine.proofs.lane.run_apart.Goals as goal
 use Rattle.job_machine.proofs.lane.run_apart.Goals.{In_ok-collect}
 
 pub run_slot-requires-clause-numbers : goal.run_slot-requires-clause-numbers
-run_slot-requires-clause-numbers g c =
-    lane_numbers c.shown_is_alone.ensures c.args.blocks.now c.admit.new.blocks (ruled c.args.rule c.args.job.now)
-    c.requires.vacant c.admit.ensures.others c.requires.numbers
+run_slot-requires-clause-numbers g c = grind (arith, lane_numbers)
 
 -- the job is collected
 collected : (g : Over) (c : In_ok-collect g) → standing_of c.collect.new.self ≡ Collected

@@ -1,4 +1,4 @@
-use Rattle.std.proofs.Common.{◌≡◌, arith, take}
+use Rattle.std.proofs.Common.{arith}
 use Rattle.std.proofs.lemmas.Grind.{common_steps}
 use Rattle.std.proofs.lemmas.List.{take_all}
 use Rattle.job_machine.proofs.WordLemmas.{more_within, most_more}
@@ -17,13 +17,7 @@ loop-job-preserved g c =
     }
 
 pub returns-clause-value : goal.returns-clause-value
-returns-clause-value g c =
-    let whole : take c.loop-job.job-index c.args.jobs.now ≡ c.args.jobs.now =
-    take_all c.loop-job.job-index c.args.jobs.now (grind (arith, common_steps)) in
-    rw whole at c.loop-job.invariant.value
+returns-clause-value g c = grind (arith, take_all, common_steps)
 
 pub returns-clause-each : goal.returns-clause-each
-returns-clause-each g c =
-    let whole : take c.loop-job.job-index c.args.jobs.now ≡ c.args.jobs.now =
-    take_all c.loop-job.job-index c.args.jobs.now (grind (arith, common_steps)) in
-    rw whole at c.loop-job.invariant.each
+returns-clause-each g c = grind (arith, take_all, common_steps)

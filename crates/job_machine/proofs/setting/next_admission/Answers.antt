@@ -1,6 +1,5 @@
-use Rattle.std.proofs.Common.{◌+◌, Bool, cond, get_or, sym, ◌∙◌, ap, arith}
+use Rattle.std.proofs.Common.{◌+◌, Bool, get_or, sym, ◌∙◌, ap, arith}
 use Rattle.vcode_base.specs.declared.limits.Limits.{Limits}
-use Rattle.job_machine.specs.declared.machine.Admission.TheVariants.{NotNow, NoneWaiting}
 use Rattle.job_machine.proofs.Admissions.{has_heads, some_heads, rest_at, fits_by, past_by, rest_skips, rest_admits}
 use Rattle.job_machine.proofs.Admissions.{rest_stops}
 use Rattle.job_machine.proofs.Admissions.{rest_passes, rest_ends}
@@ -74,15 +73,7 @@ loop-place-preserved g c rule =
     ]
 
 pub returns-then-waiting : goal.returns-then-waiting
-returns-then-waiting g c rule =
-    sym (c.loop-place.invariant rule
-    ∙ (rest_ends rule c.args.blocks.now c.args.jobs.now c.args.slots.now c.args.passes.now c.loop-place.waiting
-    c.loop-place.place c.loop-place-test.false c.requires.slots
-    ∙ ap (λ b. cond b NotNow NoneWaiting) c.if-waiting.true))
+returns-then-waiting g c rule = grind (arith, rest_ends)
 
 pub returns-else-waiting : goal.returns-else-waiting
-returns-else-waiting g c rule =
-    sym (c.loop-place.invariant rule
-    ∙ (rest_ends rule c.args.blocks.now c.args.jobs.now c.args.slots.now c.args.passes.now c.loop-place.waiting
-    c.loop-place.place c.loop-place-test.false c.requires.slots
-    ∙ ap (λ b. cond b NotNow NoneWaiting) c.if-waiting.false))
+returns-else-waiting g c rule = grind (arith, rest_ends)

@@ -1,4 +1,4 @@
-use Rattle.std.proofs.Common.{rules, ◌+◌, ◌^◌, ◌<◌, ◌≡◌, length, get_or, refl, sym, ◌∙◌, ap, arith}
+use Rattle.std.proofs.Common.{◌+◌, ◌≡◌, length, refl, sym, ◌∙◌, ap, arith}
 use Rattle.std.proofs.lemmas.List.{length-map}
 use Rattle.std.proofs.lemmas.Option.{slice_get_read}
 use Rattle.job_slots.specs.Slots.{standing_of}
@@ -10,18 +10,7 @@ use Rattle.job_machine.proofs.setting.pass_before.Goals as goal
 use Rattle.job_machine.proofs.setting.pass_before.Goals.{then-waits, else-waits}
 
 pub overflow_add-passes : goal.overflow_add-passes
-overflow_add-passes g c =
-    let slots = c.args.slots.now in
-    let long = length-map slots standing_of in
-    let counts : Counts (standings_of slots) c.args.passes.now c.loop-before.passes c.loop-before.before = record {
-      now_is = c.loop-before.invariant;
-      same = c.requires.same ∙ sym long;
-      within = omega (arith, c.loop-before-test.true, c.requires.within, long);
-    } in
-    let few =
-    count_few (standings_of slots) c.args.passes.now c.loop-before.passes c.loop-before.before counts c.requires.few in
-    let fits : get_or c.loop-before.passes c.loop-before.before 0 + 1 < 2 ^ 8 = omega (arith, few) in
-    search rules
+overflow_add-passes g c = grind (arith, length-map, Counts, count_few)
 
 pub loop-before-preserved : goal.loop-before-preserved
 loop-before-preserved g c =

@@ -11,14 +11,7 @@ use Rattle.job_machine.proofs.lane.Lane.run.Goals.{After-index-as_slice-job}
 -- the number is that of a job
 within : (g : Over) (c : After-index-as_slice-job g) →
     c.args.job - 1 < length (arc_value c.self.inside.jobs).items
-within g c =
-    omega (
-      arith,
-      c.requires.0,
-      c.requires.1,
-      ap length c.self.view_is,
-      length-map (arc_value c.self.inside.jobs).items (ruled c.self.inside.rule),
-    )
+within g c = grind (arith, length-map)
 
 -- the job is the one of that number
 own : (g : Over) (c : After-index-as_slice-job g) →

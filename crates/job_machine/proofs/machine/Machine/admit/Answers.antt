@@ -124,17 +124,7 @@ admit-granted-requires-clause-waits g c =
 late : (g : Over) (c : goal.After-job_at g) →
     (with_items c.self.inside.passes c.pass_before.new.passes).items
     ≡ passes_before (c.in-Admitted.job - 1) (standings_of c.self.inside.slots.items) c.self.inside.passes.items
-late g c =
-    with_items_is c.self.inside.passes c.pass_before.new.passes
-    (omega (
-      arith,
-      c.pass_before.auto.passes,
-      ap length c.as_mut_slice.ensures.value,
-      c.self.inside.passes.ok,
-    ))
-    ∙ c.pass_before.ensures
-    ∙ (λ i. passes_before (c.in-Admitted.job - 1) (standings_of (c.as_slice-4.ensures.value i))
-    (c.as_mut_slice.ensures.value i))
+late g c = grind (arith, with_items_is)
 
 pub invariant_of-self : goal.invariant_of-self
 invariant_of-self g c =

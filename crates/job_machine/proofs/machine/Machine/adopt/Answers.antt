@@ -1,4 +1,4 @@
-use Rattle.std.proofs.Common.{◌≡◌, false, map, subst, refl, arith, Option}
+use Rattle.std.proofs.Common.{map, subst, refl, arith, Option}
 use Rattle.std.specs.Arc.{arc_value}
 use Rattle.std.specs.Prelude.{IfNone, ℕ}
 use Rattle.std.proofs.lemmas.Bool.{false≢true}

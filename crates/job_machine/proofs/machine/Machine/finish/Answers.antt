@@ -45,10 +45,7 @@ invariant_of-self g c =
     c.finish.ensures.others c.finish.ensures.shows
 
 pub finish-requires-clause-numbers : goal.finish-requires-clause-numbers
-finish-requires-clause-numbers g c =
-    numbers_left c.shown_is_alone.ensures c.self.inside.blocks
-    (map (ruled c.self.inside.rule) (arc_value c.self.inside.jobs).items)
-    c.self.inside.slots.items c.self.invariant c.used-used.ensures.tidy
+finish-requires-clause-numbers g c = grind (arith, numbers_left)
 
 pub returns-clause-answer : goal.returns-clause-answer
 returns-clause-answer g c =

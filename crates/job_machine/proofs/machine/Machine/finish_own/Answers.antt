@@ -47,10 +47,7 @@ invariant_of-self g c =
     c.finish_own.ensures.others c.finish_own.ensures.shows
 
 pub finish_own-requires-clause-numbers : goal.finish_own-requires-clause-numbers
-finish_own-requires-clause-numbers g c =
-    numbers_left c.shown_is_alone.ensures c.self.inside.blocks
-    (map (ruled c.self.inside.rule) (arc_value c.self.inside.jobs).items)
-    c.self.inside.slots.items c.self.invariant c.used-used.ensures.tidy
+finish_own-requires-clause-numbers g c = grind (arith, numbers_left)
 
 pub finish_own-requires-clause-own : goal.finish_own-requires-clause-own
 finish_own-requires-clause-own g c =

@@ -1,14 +1,12 @@
-use Rattle.std.proofs.Common.{◌≤◌, List, All, ap, subst, ◌∙◌}
+use Rattle.std.proofs.Common.{arith}
+use Rattle.std.proofs.Common.{◌≤◌, List, All, subst}
 use Rattle.std.proofs.lemmas.List.Elements.{All-map}
 use Rattle.job_steps.specs.States.{Task, ruled}
-use Rattle.job_machine.specs.Machines.{most_words}
 use Rattle.job_machine.proofs.Rules.{most_ruled}
 use Rattle.job_machine.proofs.machine.Machine.most_words.Goals as goal
 
 pub returns-clause-value : goal.returns-clause-value
-returns-clause-value g c =
-    c.most_words.ensures.value
-    ∙ (most_ruled c.args.self.now.rule c.in_order.result.now ∙ ap most_words c.in_order.ensures)
+returns-clause-value g c = grind (arith, most_ruled)
 
 pub returns-clause-each : goal.returns-clause-each
 returns-clause-each g c =

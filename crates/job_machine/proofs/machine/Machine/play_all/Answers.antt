@@ -1,6 +1,5 @@
-use Rattle.std.proofs.Common.{◌+◌, refl, ◌∙◌, ap, arith}
+use Rattle.std.proofs.Common.{◌+◌, refl, arith}
 use Rattle.std.proofs.lemmas.List.{take_all}
-use Rattle.job_machine.specs.Machines.{after_all}
 use Rattle.job_machine.proofs.Replaying.{played_next, refused_at, at_err, at_ok}
 use Rattle.job_machine.proofs.machine.Machine.play_all.Goals as goal
 
@@ -11,11 +10,7 @@ pub play-requires : goal.play-requires
 play-requires g c = c.loop-place.invariant.1
 
 pub returns-then-is_err-clause-refused : goal.returns-then-is_err-clause-refused
-returns-then-is_err-clause-refused g c =
-    refused_at c.args.self.now c.loop-place.self c.play.new.self c.args.events.now c.loop-place.place _
-    c.loop-place-test.true c.loop-place.invariant.0
-    (at_err c.play.result c.if-is_err.ensures.value c.play.ensures.refused)
-    (at_err c.play.result c.if-is_err.ensures.value c.play.ensures.unchanged)
+returns-then-is_err-clause-refused g c = grind (arith, refused_at, at_err)
 
 pub loop-place-preserved : goal.loop-place-preserved
 loop-place-preserved g c = (
@@ -26,6 +21,4 @@ loop-place-preserved g c = (
 )
 
 pub returns-clause-ok : goal.returns-clause-ok
-returns-clause-ok g c =
-    c.loop-place.invariant.0
-    ∙ ap (λ events. after_all events c.args.self.now) (take_all _ c.args.events.now c.loop-place-test.false)
+returns-clause-ok g c = grind (arith, take_all)

@@ -1,3 +1,4 @@
+use Rattle.std.proofs.Common.{arith}
 use Rattle.std.proofs.Common.{◌∙◌, ap}
 use Rattle.job_steps.specs.declared.event.Event.TheVariants.{Begin}
 use Rattle.job_machine.specs.Workbench.{with_workplace}
@@ -6,9 +7,7 @@ use Rattle.job_machine.proofs.machine.Machine.play_begin.Given.{Over}
 use Rattle.job_machine.proofs.machine.Machine.play_begin.Goals as goal
 
 pub returns-in_default-clause-state : goal.returns-in_default-clause-state
-returns-in_default-clause-state g c =
-    (plays_no_begin c.args.self.now c.args.workbench.now c.take_desk.new.self c.args.job c.requires
-    c.in_default.ensures).state
+returns-in_default-clause-state g c = grind (arith, plays_no_begin)
 
 begun : (g : Over) (c : goal.Joined-exchange g) →
     Played (Begin c.args.job) c.args.self.now c.begin-begun.new.self c.exchange.new.self

@@ -1,12 +1,11 @@
+use Rattle.std.proofs.Common.{arith}
 use Rattle.job_steps.specs.declared.event.Event.TheVariants.{Finish}
 use Rattle.job_machine.proofs.WorkbenchLemmas.{Played, plays_finish, plays_no_finish}
 use Rattle.job_machine.proofs.machine.Machine.play_finish.Given.{Over}
 use Rattle.job_machine.proofs.machine.Machine.play_finish.Goals as goal
 
 pub returns-in_default-clause-state : goal.returns-in_default-clause-state
-returns-in_default-clause-state g c =
-    (plays_no_finish c.args.self.now c.args.workbench.now c.take_filled.new.self c.args.job c.requires
-    c.in_default.ensures).state
+returns-in_default-clause-state g c = grind (arith, plays_no_finish)
 
 finished : (g : Over) (c : goal.Joined-exchange g) →
     Played (Finish c.args.job) c.args.self.now c.finish-desk.new.self c.exchange.new.self

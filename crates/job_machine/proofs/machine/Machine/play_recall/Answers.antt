@@ -1,3 +1,4 @@
+use Rattle.std.proofs.Common.{arith}
 use Rattle.job_machine.proofs.WorkbenchLemmas.{plays_recall, plays_no_recall}
 use Rattle.job_machine.proofs.machine.Machine.play_recall.Goals as goal
 
@@ -8,6 +9,4 @@ returns-in-Some-clause-fit g c =
     c.recall.ensures.state c.exchange.ensures.state).fit
 
 pub returns-in_default-clause-fit : goal.returns-in_default-clause-fit
-returns-in_default-clause-fit g c =
-    (plays_no_recall c.args.self.now c.recall.new.self c.args.workbench.now c.take_filled.new.self c.args.job c.requires
-    c.in_default.ensures c.recall.ensures.state).fit
+returns-in_default-clause-fit g c = grind (arith, plays_no_recall)

@@ -11,12 +11,7 @@ loop-place-preserved g c =
     recalled_next _ _ _ c.loop-place.place _ (omega arith) c.loop-place.invariant c.recall.ensures.state
 
 all : (g : Over) (c : goal.After-loop-place g) → AreRecalled c.args.self.now c.loop-place.self
-all g c =
-    let past = c.loop-place-test.false in
-    let within = c.loop-place.auto.place-end in
-    let count = c.jobs-jobs.ensures.count in
-    all_recalled c.recalls_are_events.ensures _ _ c.loop-place.place c.jobs-jobs.ensures.kept.same_length
-    (omega (arith, past, within, count)) c.loop-place.invariant
+all g c = grind (arith, all_recalled)
 
 pub returns-clause-recalled : goal.returns-clause-recalled
 returns-clause-recalled g c = (all g c).recalled_is

@@ -1,4 +1,4 @@
-use Rattle.std.proofs.Common.{◌≤◌, ℕ, ◌+◌, All, length, subst, sym, ◌∙◌, ap, refl, arith}
+use Rattle.std.proofs.Common.{◌+◌, ◌∙◌, refl, arith}
 use Rattle.job_steps.specs.Standings.{of_job}
 use Rattle.job_machine.specs.Machines.{IsDone}
 use Rattle.job_machine.proofs.RunningOut.{leads_on}
@@ -9,9 +9,7 @@ pub loop-place-init : goal.loop-place-init
 loop-place-init g c = (to_first _ c.requires.no_step, refl)
 
 pub run_job-ran-requires-clause-words : goal.run_job-ran-requires-clause-words
-run_job-ran-requires-clause-words g c =
-    subst (λ (k : ℕ). All (λ task. task.limits.words ≤ k) c.loop-place.self.tasks) (sym c.loop-place.invariant.1)
-    (words_on _ _ _ c.loop-place.invariant.0.leads c.requires.words)
+run_job-ran-requires-clause-words g c = grind (arith, words_on)
 
 pub run_job-ran-requires-clause-no_step : goal.run_job-ran-requires-clause-no_step
 run_job-ran-requires-clause-no_step g c = c.loop-place.invariant.0.no_step
@@ -39,13 +37,7 @@ pub returns-clause-no_step : goal.returns-clause-no_step
 returns-clause-no_step g c = c.loop-place.invariant.0.no_step
 
 pub returns-clause-ok : goal.returns-clause-ok
-returns-clause-ok g c =
-    let past = c.loop-place-test.false in
-    let within = c.loop-place.auto.place-end in
-    let count = c.jobs-jobs.ensures.count in
-    let same = c.jobs-jobs-2.ensures.kept.same_length in
-    let tasks = ap length c.loop-place.invariant.0.leads.1 in
-    all_to c.loop-place.place _ _ c.loop-place.invariant.0 (omega (arith, past, within, count, same, tasks))
+returns-clause-ok g c = grind (arith, all_to)
 
 pub returns-clause-desk : goal.returns-clause-desk
 returns-clause-desk g c = c.loop-place.invariant.1

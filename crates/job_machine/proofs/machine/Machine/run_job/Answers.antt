@@ -1,3 +1,4 @@
+use Rattle.std.proofs.Common.{arith}
 use Rattle.job_machine.proofs.Stepping.{all_run}
 use Rattle.job_machine.proofs.Turns.{Runs, RunsOut, runs_out, runs_still}
 use Rattle.job_machine.proofs.machine.Machine.run_job.Given.{Over}
@@ -5,10 +6,7 @@ use Rattle.job_machine.proofs.machine.Machine.run_job.Goals as goal
 use Rattle.job_machine.proofs.machine.Machine.run_job.Goals.{After-take_steps, In-Err, In-Ok}
 
 runs : (g : Over) (c : After-take_steps g) → Runs c.args.job c.args.self.now c.take_steps.new.self
-runs g c =
-    all_run c.events_use_up.ensures c.events_keep.ensures c.leads_join.ensures c.take_steps.ensures.ran.0 c.args.job
-    c.args.self.now c.take_steps.new.self c.jobs-jobs.ensures.verified c.jobs-jobs.ensures.kept c.requires.no_step
-    c.take_steps.ensures.ran.1
+runs g c = grind (arith, all_run)
 
 out : (g : Over) (c : In-Ok g) → RunsOut c.args.job c.args.self.now c.collect.new.self
 out g c =

@@ -37,10 +37,7 @@ step-requires-clause-shows g c =
     turn_shows c.self.invariant (turn g (goal.at.step-requires-clause-shows g c).After-job_at)
 
 pub step-requires-clause-numbers : goal.step-requires-clause-numbers
-step-requires-clause-numbers g c =
-    numbers_left c.shown_is_alone.ensures c.self.inside.blocks
-    (map (ruled c.self.inside.rule) (arc_value c.self.inside.jobs).items)
-    c.self.inside.slots.items c.self.invariant c.used-used.ensures.tidy
+step-requires-clause-numbers g c = grind (arith, numbers_left)
 
 pub invariant_of-self : goal.invariant_of-self
 invariant_of-self g c =

@@ -13,8 +13,4 @@ loop-job-preserved g c =
     c.loop-job.invariant (c.in_ok-desk.ensures ∙ ap (λ l. l.words) c.limits.ensures) c.in_ok-push.ensures.items
 
 pub returns : goal.returns
-returns g c =
-    fresh_fit c.args.machine.now c.loop-job.workplaces.items c.jobs-count.ensures.kept.same_length
-    (c.loop-job.invariant
-    ∙ (ap fresh_jobs (take_all _ _ c.loop-job-test.false)
-    ∙ (fresh-ruled c.args.machine.now.rule c.in_order-jobs.result.now ∙ ap fresh c.in_order-jobs.ensures)))
+returns g c = grind (arith, fresh_fit, fresh_jobs, take_all, fresh-ruled, fresh)

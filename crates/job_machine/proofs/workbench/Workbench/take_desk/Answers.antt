@@ -1,11 +1,10 @@
+use Rattle.std.proofs.Common.{arith}
 use Rattle.job_machine.specs.declared.workbench.Workplace.TheVariants as workplace
 use Rattle.job_machine.proofs.WorkbenchLemmas.{takes_none, takes_other}
 use Rattle.job_machine.proofs.workbench.Workbench.take_desk.Goals as goal
 
 pub returns-in_err-other : goal.returns-in_err-other
-returns-in_err-other g c =
-    takes_none (λ taken. workplace.Free taken) c.args.job c.args.self.now c.exchange.new.self c.from_residual.result
-    c.in_err-other.ensures.own c.in_err-other.ensures.state c.from_residual.ensures
+returns-in_err-other g c = grind (arith, takes_none)
 
 pub returns-in_default : goal.returns-in_default
 returns-in_default g c =
