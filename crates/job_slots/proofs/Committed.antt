@@ -14,7 +14,7 @@ use Rattle.job_memory.specs.JobBlocks.{JobBlocks, IsJob, ChangesOnlyOf, grant_of
 use Rattle.job_steps.specs.declared.event.Event.TheVariants as event
 use Rattle.job_steps.specs.declared.frame.Frame.{Frame}
 use Rattle.job_steps.specs.EventLaws.{OthersAreReady, IsVerified}
-use Rattle.job_steps.specs.Events.{next_standing, standing_after}
+use Rattle.job_steps.specs.Events.{early_end, next_standing, standing_after}
 use Rattle.job_steps.specs.Frames.{StandAll}
 use Rattle.job_steps.specs.Questions.{Question}
 use Rattle.job_steps.specs.Reached.{Reaches, EndIsOwn, IsVerifiedTask}
@@ -65,13 +65,13 @@ pub record FaultEnds (task : Task) (t : TrackState ℕ) (fault : DataFault) (lin
   pub standing : standing_after (t.executed + 1) (state_after task (t.executed + 1)) ≡ Ended
 
 pub fault_ends : OthersAreReady → EndIsOwn → (slots : List Slot) (task : Task) (t : TrackState ℕ) (question : Question)
-    (fault : DataFault) (line : ℕ) → IsVerified task → IsFlyingSlot slots task t →
+    (fault : DataFault) (line : ℕ) → IsVerified task → (run : IsRunningSlot slots task t) →
+    early_end task run.state ≡ None →
     question_at task t.executed ≡ Some question → value_fault question.op question.sources ≡ Some fault →
     line_at task t.executed ≡ Some line → FaultEnds task t fault line
-fault_ends others_are_ready end_is_own slots task t question fault line verified flying asked faulty at =
-    let run = flying.run in
+fault_ends others_are_ready end_is_own slots task t question fault line verified run goes_on asked faulty at =
     let s = run.state in
-    let ready = others_are_ready verified.0 task verified.1 t.executed s run.running flying.goes_on in
+    let ready = others_are_ready verified.0 task verified.1 t.executed s run.running goes_on in
     let same = asked_is task t.executed s ready.call ready.outer question run.running ready.calls asked in
     let line_same = line_is task t.executed s ready.call ready.outer line run.running ready.calls at in
     let item = (next_item ready.call).item in
@@ -268,9 +268,9 @@ fault_commits others_are_ready end_is_own number blocks task slot filled inside 
     ∙ fits.question in
     let here : line_at task slot.trace.executed ≡ Some line =
     subst (λ (t : TrackState ℕ). line_at task t.executed ≡ Some line) same at in
+    let shown = flying_shown number blocks task slot shows flying in
     let ends = fault_ends others_are_ready end_is_own (own_slots number blocks) task slot.trace filled.question fault
-    line
-    shows.verified (flying_shown number blocks task slot shows flying) asked faulty here in
+    line shows.verified shown.run shown.goes_on asked faulty here in
     record {
       ending = ends.ending;
       next =

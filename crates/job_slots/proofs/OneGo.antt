@@ -20,7 +20,7 @@ use Rattle.job_slots.specs.declared.status.Status.{Status}
 use Rattle.job_slots.specs.declared.status.Status.TheVariants as status
 use Rattle.job_slots.specs.Answers.{question_at, line_at, early_end_at, is_live, or_same, standing_after_step}
 use Rattle.job_slots.specs.Answers.{HasRoomFor, Steps, EndsByStep}
-use Rattle.job_slots.specs.Slots.{SlotState, Shows, IsRunningSlot, IsFlyingSlot, standing_of, standing_by}
+use Rattle.job_slots.specs.Slots.{SlotState, Shows, IsRunningSlot, standing_of, standing_by}
 use Rattle.job_slots.proofs.Begins.{early_end_when}
 use Rattle.job_slots.proofs.Committed.{fault_ends}
 use Rattle.job_slots.proofs.EarlyEnds.{is_ending}
@@ -62,11 +62,8 @@ pub ends_by_fault : OthersAreReady → EndIsOwn → (slots : List Slot) (number 
     value_fault question.op question.sources ≡ Some fault → line_at task t.executed ≡ Some line →
     EndsByStep number task t.executed t.peak (Fault fault line)
 ends_by_fault ready own slots number task t run question fault line verified early asked faulty at =
-    let flying : IsFlyingSlot slots task t = record {
-      run = run;
-      goes_on = sym (early_end_when task t.executed run.state run.running) ∙ early;
-    } in
-    let ends = fault_ends ready own slots task t question fault line verified flying asked faulty at in
+    let goes_on = sym (early_end_when task t.executed run.state run.running) ∙ early in
+    let ends = fault_ends ready own slots task t question fault line verified run goes_on asked faulty at in
     record {
       is = ends.ending;
       standing =

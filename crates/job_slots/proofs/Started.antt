@@ -1,15 +1,18 @@
 -- The standing in which a begin leaves a job.
-use Rattle.std.proofs.Common.{◌≡◌, ◌≤◌, ℕ, cond, Option, Some, None, sym, ◌∙◌, ap, subst}
+use Rattle.std.proofs.Common.{◌≡◌, ◌≤◌, ℕ, cond, List, Option, Some, None, sym, ◌∙◌, ap, subst}
 use Rattle.std.specs.Prelude.{is_some}
 use Rattle.job_memory.specs.JobBlocks.{JobBlocks, HasGrant, own_slots}
 use Rattle.job_steps.specs.declared.event.Event.TheVariants as event
 use Rattle.job_steps.specs.EventLaws.{EarlyEndsEnd}
 use Rattle.job_steps.specs.Events.{next_standing, standing_after_begin}
+use Rattle.job_steps.specs.declared.frame.Frame.{Frame}
+use Rattle.job_steps.specs.Frames.{IsSettled, StandAll}
 use Rattle.job_steps.specs.Runs.{state_after}
 use Rattle.job_steps.specs.Standings.{Standing, Live, InFlight, Ended}
-use Rattle.job_steps.specs.States.{Task, State}
+use Rattle.job_steps.specs.States.{Task, Active, State}
 use Rattle.job_steps.specs.Steps.{Ending, Progress, Running}
 use Rattle.job_steps.specs.Tickets.{Asked}
+use Rattle.job_steps.specs.Tracks.{TrackState, functions_of}
 use Rattle.job_slots.specs.declared.status.Status.{Status}
 use Rattle.job_slots.specs.declared.status.Status.TheVariants as status
 use Rattle.job_slots.specs.Slots.{SlotState, Shows, ShowsAs, IsRunningSlot, standing_of, standing_by}
@@ -75,9 +78,9 @@ is_ticket number words blocks task slot ticket shows live asked enough = record 
 }
 
 pub shows_flying : (number : ℕ) (blocks : JobBlocks) (task : Task) (slot : SlotState) → Shows number blocks task slot →
-    slot.status ≡ status.Live → early_end_at task slot.trace.executed ≡ None →
-    Shows number blocks task (flying slot)
-shows_flying number blocks task slot shows live goes_on =
+    slot.status ≡ status.Live → IsSettled (functions_of task.verified) slot.trace.frames →
+    early_end_at task slot.trace.executed ≡ None → Shows number blocks task (flying slot)
+shows_flying number blocks task slot shows live settled goes_on =
     let run = runs number blocks task slot shows live in
     record {
       is_job = shows.is_job;
@@ -87,7 +90,37 @@ shows_flying number blocks task slot shows live goes_on =
       shown = record {
         run = run;
         goes_on = sym (early_end_when task slot.trace.executed run.state run.running) ∙ goes_on;
+        settled = settled;
       };
+    }
+
+-- a live job still shows if its frames stand wherever the old ones did
+pub settled_shows : (number : ℕ) (blocks : JobBlocks) (task : Task) (slot : SlotState) (frames : List Frame) →
+    Shows number blocks task slot → slot.status ≡ status.Live →
+    ((calls : List Active) → StandAll (functions_of task.verified) slot.trace.frames calls →
+    StandAll (functions_of task.verified) frames calls) →
+    Shows number blocks task (record slot { trace = record slot.trace { frames = frames } })
+settled_shows number blocks task slot frames shows live stand =
+    let run = runs number blocks task slot shows live in
+    let now : TrackState ℕ = record slot.trace { frames = frames } in
+    let running : IsRunningSlot (own_slots number blocks) task now = record {
+      state = run.state;
+      running = run.running;
+      at = record {
+        limits = run.at.limits;
+        cells = run.at.cells;
+        frames = stand run.state.calls run.at.frames;
+        executed = run.at.executed;
+        peak = run.at.peak;
+      };
+      holds = run.holds;
+    } in
+    record {
+      is_job = shows.is_job;
+      verified = shows.verified;
+      limits = shows.limits;
+      grant = shows.grant;
+      shown = subst (ShowsAs (own_slots number blocks) task now slot.outcome) (sym live) running;
     }
 
 pub stands_flying : (number : ℕ) (blocks : JobBlocks) (task : Task) (slot : SlotState) → Shows number blocks task slot →

@@ -11,7 +11,8 @@ use Rattle.job_steps.specs.Runs.{state_after, outcome, executed_count, peak}
 use Rattle.job_steps.specs.Standings.{Standing, Waiting, Live, InFlight, Ended, Collected, held_in, left_words}
 use Rattle.job_steps.specs.States.{Vector, JobValue, Task, StackEntry, State, values_of, held_words}
 use Rattle.job_steps.specs.Steps.{Progress, Running, Over, Stuck}
-use Rattle.job_steps.specs.Tracks.{TrackState, IsFirst, IsAt, IsThrough}
+use Rattle.job_steps.specs.Frames.{IsSettled}
+use Rattle.job_steps.specs.Tracks.{TrackState, IsFirst, IsAt, IsThrough, functions_of}
 use Rattle.job_slots.specs.declared.status.Status.{Status}
 use Rattle.job_slots.specs.declared.status.Status.TheVariants as status
 use Rattle.job_slots.specs.Holdings.{HoldStack, HoldNothing}
@@ -50,10 +51,11 @@ pub record IsRunningSlot (slots : List shared.Slot) (task : Task) (t : TrackStat
   pub at : IsAt task t state
   pub holds : HoldStack slots t.cells state.stack
 
--- and nothing ends it before the values of its next instruction are looked at
+-- and nothing ends it before the values of its next instruction are looked at, at whose line the track is
 pub record IsFlyingSlot (slots : List shared.Slot) (task : Task) (t : TrackState ℕ) : Type 0 where
   pub run : IsRunningSlot slots task t
   pub goes_on : early_end task run.state ≡ None
+  pub settled : IsSettled (functions_of task.verified) t.frames
 
 -- the job has returned, and the cells hold its results
 pub record HasReturned (slots : List shared.Slot) (task : Task) (t : TrackState ℕ) : Type 0 where

@@ -1,6 +1,7 @@
 //! What an instruction that is executed does to the cells and the blocks.
 
 ghost use Rattle.std.specs.Prelude.{◌≡◌, ◌+◌, ◌<◌, ◌≤◌, length, reverse, Some, IfSome, MatchResult};
+ghost use Rattle.vcode_base.specs.declared.op.Op.TheVariants.{Return};
 ghost use Rattle.vcode_base.specs.declared.rule.Rule.{Rule};
 ghost use Rattle.vcode_base.specs.Kinds.{result_kinds};
 ghost use Rattle.vcode_base.specs.Meaning.{value_fault};
@@ -118,6 +119,7 @@ pub(crate) fn execute<C: Class, A: Allocator>(
     ensures limits { track.new.limits ≡ track.old.limits }
     ensures others { ChangesOnlyOf turn.number blocks.old blocks.new }
     ensures same_grant { grant_of blocks.new turn.number ≡ grant_of blocks.old turn.number }
+    ensures goes_on { (made.entry.op ≡ Return → ⊥) → 0 < length track.new.frames }
 {
     steps_execute();
     let _used = blocks.used();

@@ -1,6 +1,7 @@
 //! Computing a result where it is placed.
 
-ghost use Rattle.std.specs.Prelude.{◌≡◌, ◌+◌, ◌≤◌, ℤ, List, length, false, IfSome, IfErr, OnOk, OnErr, Some};
+ghost use Rattle.std.specs.Prelude.{◌≡◌, ◌+◌, ◌<◌, ◌≤◌, ℤ, List, length, false, IfSome, IfErr, OnOk, OnErr, Some};
+ghost use Rattle.vcode_base.specs.declared.op.Op.TheVariants.{Return};
 ghost use Rattle.vcode_base.specs.Meaning.{value_fault};
 ghost use Rattle.refcounts.specs.SharedState.{block_count};
 ghost use Rattle.job_memory.specs.JobBlocks.{IsJob, ChangesOnlyOf, grant_of, own_slots};
@@ -154,6 +155,7 @@ pub(crate) fn execute_in_place<A: Allocator>(
     ensures limits { track.new.limits ≡ track.old.limits }
     ensures others { OnOk result (ChangesOnlyOf turn.number blocks.old blocks.new) }
     ensures same_grant { grant_of blocks.new turn.number ≡ grant_of blocks.old turn.number }
+    ensures goes_on { OnOk result ((placement.op ≡ Return → ⊥) → 0 < length track.new.frames) }
     ensures unchanged { OnErr result ((track.new ≡ track.old) × (blocks.new ≡ blocks.old)) }
     ensures fault { IfErr result (λ fault.
         value_fault placement.op (operands_in blocks.old placement.op track.old.cells) ≡ Some fault) }

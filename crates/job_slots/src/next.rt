@@ -10,10 +10,11 @@ ghost use Rattle.job_memory.specs.JobBlocks.{own_slots};
 ghost use Rattle.vcode_reader.specs.Pools.{list_in};
 ghost use Rattle.job_steps.specs.declared.operands.TheConstants.{MOST_OPERANDS};
 ghost use Rattle.job_steps.specs.EventLaws.{IsVerified};
-ghost use Rattle.job_steps.specs.Frames.{instruction_in};
+ghost use Rattle.job_steps.specs.Frames.{IsSettled, instruction_in};
 ghost use Rattle.job_steps.specs.Motions.{operand_count, top_entries};
 ghost use Rattle.job_steps.specs.States.{StackEntry, ruled, words_of};
 ghost use Rattle.job_steps.specs.Steps.{sources_of};
+ghost use Rattle.job_steps.specs.Tracks.{functions_of};
 ghost use Rattle.job_slots.specs.Slots.{IsRunningSlot};
 ghost use Rattle.job_slots.specs.Answers.{IsNext, line_at, question_at};
 ghost use Rattle.job_slots.specs.InPlace.{is_constant};
@@ -94,7 +95,24 @@ pub(crate) fn next_line<'a, A: Allocator>(
     track.line(job.verified().program())
 }
 
-/// The next instruction of a job that runs, which is this one, and no `CONST`.
+/// The same of a track that is at that line, which takes less time.
+#[inline(always)]
+pub(crate) fn settled_line<'a, A: Allocator>(
+    turn: Turn,
+    job: &'a Job<A>,
+    track: &Track<BlockId, A>,
+    blocks: &JobMemory<A>,
+) -> CodeLine<'a>
+    requires running { IsRunningSlot (own_slots turn.number blocks.now) (ruled turn.rule job.now) track.now }
+    requires verified { IsVerified (ruled turn.rule job.now) }
+    requires settled { IsSettled (functions_of job.now.verified) track.now.frames }
+    ensures { IsLineOf (ruled turn.rule job.now) track.now result }
+{
+    steps_can_begin::<BlockId>();
+    track.settled_line(job.verified().program())
+}
+
+/// The next instruction of a job that runs, at whose line the track is, which is this one, and no `CONST`.
 #[inline(always)]
 pub(crate) fn next_at<'a, A: Allocator>(
     turn: Turn,
@@ -105,6 +123,7 @@ pub(crate) fn next_at<'a, A: Allocator>(
 ) -> Next<'a>
     requires running { IsRunningSlot (own_slots turn.number blocks.now) (ruled turn.rule job.now) track.now }
     requires verified { IsVerified (ruled turn.rule job.now) }
+    requires settled { IsSettled (functions_of job.now.verified) track.now.frames }
     requires op { IsOpOfNext (ruled turn.rule job.now) track.now op }
     requires no_list { is_constant op ≡ false }
     ensures next { IsNext (ruled turn.rule job.now) track.now.executed result.op result.line
@@ -112,7 +131,7 @@ pub(crate) fn next_at<'a, A: Allocator>(
     ensures kinds { HaveKinds (source_kinds result.op) (contents (take result.operands.count result.operands.lists)) }
 {
     steps_can_begin::<BlockId>();
-    let line = next_line(turn, job, track, blocks);
+    let line = settled_line(turn, job, track, blocks);
     Next {
         op,
         line: line.number,

@@ -3,6 +3,7 @@
 ghost use Rattle.std.specs.Prelude.{◌≡◌, ◌+◌, ◌<◌, ◌≤◌, ◌↔◌, ℕ, [], false, true, length, IsErr, IfOk, IfErr};
 ghost use Rattle.std.specs.Prelude.{OnOk, OnErr, None, Some, is_some, option_copied};
 ghost use Rattle.vcode_base.specs.declared.limits.TheConstants.{MOST_WORDS};
+ghost use Rattle.vcode_base.specs.declared.op.Op.TheVariants.{Return};
 ghost use Rattle.vcode_base.specs.declared.outcome.Outcome.TheVariants.{Returned};
 ghost use Rattle.vcode_base.specs.Meaning.{value_fault};
 ghost use Rattle.refcounts.specs.SharedState.{block_count};
@@ -10,9 +11,11 @@ ghost use Rattle.job_memory.specs.JobBlocks.{HasGrant, ChangesOnlyOf, granted_wo
 ghost use Rattle.job_steps.specs.declared.event.Event.TheVariants as event;
 ghost use Rattle.job_steps.specs.EventLaws.{IsVerified};
 ghost use Rattle.job_steps.specs.Events.{next_standing};
+ghost use Rattle.job_steps.specs.Frames.{IsSettled};
 ghost use Rattle.job_steps.specs.Runs.{outcome, executed_count, peak, state_after};
 ghost use Rattle.job_steps.specs.Standings.{Live, InFlight, Ended};
 ghost use Rattle.job_steps.specs.States.{ruled};
+ghost use Rattle.job_steps.specs.Tracks.{functions_of};
 ghost use Rattle.job_slots.specs.Answers.{EndsByStep, demand_in, early_end_at, told_demand_in, told_need_in};
 ghost use Rattle.job_slots.specs.Executions.{IsMade};
 ghost use Rattle.job_slots.specs.Lines.{HasNoOperands, IsListOfNext, IsOpOfNext};
@@ -33,7 +36,7 @@ use crate::class::{self, Class};
 use crate::collect::results;
 use crate::commit::{Made, execute, made_in_flight};
 use crate::in_place::{Placement, execute_in_place, placement_of};
-use crate::next::{is_asked, line_of_next, next_at, next_line, read_next};
+use crate::next::{is_asked, line_of_next, next_at, read_next, settled_line};
 use crate::status::Status;
 use crate::ticket::{
     Halted, Plain, Ready, demand_of, need_of, ready_for, ticket_of, words_without_operands,
@@ -194,7 +197,6 @@ impl<A: Allocator> Slot<A> {
         ensures unchanged { IsPutOff result → (self.new ≡ self.old) × (blocks.new ≡ blocks.old) }
     {
         changes_join();
-        early_ends_end();
         match self.status {
             Status::Live => {}
             Status::Waiting | Status::InFlight | Status::Ended | Status::Collected => {
@@ -204,6 +206,32 @@ impl<A: Allocator> Slot<A> {
         if desk.words() < job.limits().words {
             return Begun::SmallDesk(desk);
         }
+        self.settle(turn, job, blocks);
+        self.begin_settled(turn, job, blocks, desk)
+    }
+
+    /// Begins the next step of the job, which is live, on a desk of at least its words, or ends the job.
+    fn begin_settled(
+        &mut self,
+        turn: Turn,
+        job: &Job<A>,
+        blocks: &mut JobMemory<A>,
+        desk: Desk<A>,
+    ) -> Begun<A>
+        requires shows { Shows turn.number blocks.old (ruled turn.rule job.now) self.old }
+        requires live { self.old.status ≡ status.Live }
+        requires settled { IsSettled (functions_of job.now.verified) self.old.trace.frames }
+        requires enough { job.now.limits.words ≤ desk }
+        ensures answer { Begins turn.number desk (ruled turn.rule job.now) (standing_of self.old) result }
+        ensures shows { Shows turn.number blocks.new (ruled turn.rule job.now) self.new }
+        ensures others { ChangesOnlyOf turn.number blocks.old blocks.new }
+        ensures standing { standing_of self.new ≡ standing_after_begun result (standing_of self.old)
+            (or_same (standing_of self.old)
+            (next_standing (event.Begin turn.number) (ruled turn.rule job.now) (standing_of self.old))) }
+        ensures begins { IsPutOff result → ⊥ }
+    {
+        changes_join();
+        early_ends_end();
         match ticket_of(turn, job, &self.track, blocks, desk) {
             Ok(ticket) => {
                 self.status = Status::InFlight;
@@ -321,7 +349,9 @@ impl<A: Allocator> Slot<A> {
         if desk.words() < job.limits().words {
             return Stepped::SmallDesk;
         }
-        self.step_live(turn, job, blocks, desk)
+        let stepped = self.step_live(turn, job, blocks, desk);
+        self.settle_live(turn, job, blocks);
+        stepped
     }
 
     /// Carries out the instructions of the job, if it is live, until it is over. The desk, which has at least the job's
@@ -352,7 +382,7 @@ impl<A: Allocator> Slot<A> {
         }
     }
 
-    /// Carries out the next instruction of a job that is live, by its class.
+    /// Carries out the next instruction of a job that is live.
     #[inline(always)]
     fn step_live(
         &mut self,
@@ -373,7 +403,60 @@ impl<A: Allocator> Slot<A> {
         ensures desk { desk.new ≡ desk.old }
         ensures steps { IsPassedOver result → ⊥ }
     {
-        let line = next_line(turn, job, &self.track, blocks);
+        self.settle(turn, job, blocks);
+        self.step_settled(turn, job, blocks, desk)
+    }
+
+    /// Passes over each `ELSE` and `ENDIF` before the next instruction of the job, if it is live.
+    #[inline(always)]
+    fn settle_live(&mut self, turn: Turn, job: &Job<A>, blocks: &JobMemory<A>)
+        requires { Shows turn.number blocks.now (ruled turn.rule job.now) self.old }
+        ensures shows { Shows turn.number blocks.now (ruled turn.rule job.now) self.new }
+        ensures same_standing { standing_of self.new ≡ standing_of self.old }
+    {
+        match self.status {
+            Status::Live => self.settle(turn, job, blocks),
+            Status::Waiting | Status::InFlight | Status::Ended | Status::Collected => {}
+        }
+    }
+
+    /// Passes over each `ELSE` and `ENDIF` before the next instruction of the job, which is live.
+    #[inline(always)]
+    fn settle(&mut self, turn: Turn, job: &Job<A>, blocks: &JobMemory<A>)
+        requires shows { Shows turn.number blocks.now (ruled turn.rule job.now) self.old }
+        requires live { self.old.status ≡ status.Live }
+        ensures shows { Shows turn.number blocks.now (ruled turn.rule job.now) self.new }
+        ensures still_live { self.new.status ≡ status.Live }
+        ensures same_standing { standing_of self.new ≡ standing_of self.old }
+        ensures settled { IsSettled (functions_of job.now.verified) self.new.trace.frames }
+    {
+        steps_can_begin::<BlockId>();
+        self.track.settle(job.verified().program());
+    }
+
+    /// Carries out the next instruction of a job that is live, at whose line the track is, by its class.
+    #[inline(always)]
+    fn step_settled(
+        &mut self,
+        turn: Turn,
+        job: &Job<A>,
+        blocks: &mut JobMemory<A>,
+        desk: &mut Desk<A>,
+    ) -> Stepped
+        requires shows { Shows turn.number blocks.old (ruled turn.rule job.now) self.old }
+        requires live { self.old.status ≡ status.Live }
+        requires settled { IsSettled (functions_of job.now.verified) self.old.trace.frames }
+        requires numbers { block_count blocks.old.memory + 2 ≤ length blocks.old.memory.slots }
+        requires enough { job.now.limits.words ≤ desk.old }
+        ensures answer { Steps turn.number desk.old (ruled turn.rule job.now) (standing_of self.old) result }
+        ensures shows { Shows turn.number blocks.new (ruled turn.rule job.now) self.new }
+        ensures others { ChangesOnlyOf turn.number blocks.old blocks.new }
+        ensures standing { standing_of self.new
+            ≡ standing_after_step turn.number (ruled turn.rule job.now) (standing_of self.old) }
+        ensures desk { desk.new ≡ desk.old }
+        ensures steps { IsPassedOver result → ⊥ }
+    {
+        let line = settled_line(turn, job, &self.track, blocks);
         match &line.item {
             CodeItem::Do(Instr::Const(elements, list)) => {
                 let class = class::Constant(*elements);
@@ -423,6 +506,7 @@ impl<A: Allocator> Slot<A> {
     ) -> Stepped
         requires shows { Shows turn.number blocks.old (ruled turn.rule job.now) self.old }
         requires live { self.old.status ≡ status.Live }
+        requires settled { IsSettled (functions_of job.now.verified) self.old.trace.frames }
         requires numbers { block_count blocks.old.memory + 2 ≤ length blocks.old.memory.slots }
         requires enough { job.now.limits.words ≤ desk.old }
         requires next { IsOpOfNext (ruled turn.rule job.now) self.old.trace (C.among_all class) }
@@ -482,6 +566,7 @@ impl<A: Allocator> Slot<A> {
     ) -> Stepped
         requires shows { Shows turn.number blocks.old (ruled turn.rule job.now) self.old }
         requires live { self.old.status ≡ status.Live }
+        requires settled { IsSettled (functions_of job.now.verified) self.old.trace.frames }
         requires numbers { block_count blocks.old.memory + 2 ≤ length blocks.old.memory.slots }
         requires next { IsOpOfNext (ruled turn.rule job.now) self.old.trace (C.among_all class) }
         requires list { IsListOfNext (ruled turn.rule job.now) self.old.trace list.now }
@@ -572,6 +657,7 @@ impl<A: Allocator> Slot<A> {
     ) -> Stepped
         requires shows { Shows turn.number blocks.old (ruled turn.rule job.now) self.old }
         requires live { self.old.status ≡ status.Live }
+        requires settled { IsSettled (functions_of job.now.verified) self.old.trace.frames }
         requires goes_on { early_end_at (ruled turn.rule job.now) self.old.trace.executed ≡ None }
         requires made { IsMade (ruled turn.rule job.now) turn.number blocks.old self.old.trace made }
         requires numbers { block_count blocks.old.memory + 2 ≤ length blocks.old.memory.slots }
@@ -602,6 +688,7 @@ impl<A: Allocator> Slot<A> {
     ) -> Stepped
         requires shows { Shows turn.number blocks.old (ruled turn.rule job.now) self.old }
         requires live { self.old.status ≡ status.Live }
+        requires settled { IsSettled (functions_of job.now.verified) self.old.trace.frames }
         requires goes_on { early_end_at (ruled turn.rule job.now) self.old.trace.executed ≡ None }
         requires placeable { IsPlaceable (ruled turn.rule job.now) turn.number blocks.old self.old.trace placement }
         requires numbers { block_count blocks.old.memory + 2 ≤ length blocks.old.memory.slots }
@@ -657,8 +744,9 @@ impl<A: Allocator> Slot<A> {
     {
         reached();
         end_is_own();
+        let op = placement.op;
         match execute_in_place(turn, job, &mut self.track, blocks, placement) {
-            Ok(()) => Ok(self.go_on()),
+            Ok(()) => Ok(self.go_on(op)),
             Err(fault) => Err(fault),
         }
     }
@@ -803,13 +891,38 @@ impl<A: Allocator> Slot<A> {
     {
         reached();
         end_is_own();
+        let op = made.op;
         execute::<C, A>(turn, job, &mut self.track, blocks, made);
-        self.go_on()
+        self.go_on(op)
     }
 
-    /// After an instruction: true if the job runs on, and false if it has returned and its results are on its stack.
+    /// After this instruction: true if the job runs on, and false if it has returned and its results are on its stack.
+    /// Only a `RET` can leave no call.
     #[inline(always)]
-    fn go_on(&mut self) -> bool
+    fn go_on(&mut self, op: Op) -> bool
+        requires { (op ≡ Return → ⊥) → 0 < length self.old.trace.frames }
+        ensures done { result ≡ true → (0 < length self.old.trace.frames)
+            × (self.new ≡ record self.old { status = status.Live }) }
+        ensures ended { result ≡ false → (self.old.trace.frames ≡ [])
+            × (self.new ≡ record self.old { status = status.Ended; outcome = None }) }
+    {
+        match op {
+            Op::Return => self.go_on_after_return(),
+            Op::Const(_)
+            | Op::Elementwise(_)
+            | Op::Segmented(_)
+            | Op::If
+            | Op::Move(..)
+            | Op::Call => {
+                self.status = Status::Live;
+                true
+            }
+        }
+    }
+
+    /// The same after a `RET`.
+    #[inline(always)]
+    fn go_on_after_return(&mut self) -> bool
         ensures done { result ≡ true → (0 < length self.old.trace.frames)
             × (self.new ≡ record self.old { status = status.Live }) }
         ensures ended { result ≡ false → (self.old.trace.frames ≡ [])

@@ -1,9 +1,10 @@
 -- The frames after an instruction.
-use Rattle.std.proofs.Common.{◌≡◌, ◌∙◌, ◌+◌, ◌<◌, ℕ, suc, Bool, true, false, List, [], ◌∷◌, ◌++◌, length, drop}
+use Rattle.std.proofs.Common.{◌≡◌, ◌∙◌, ◌+◌, ◌<◌, ℕ, suc, Bool, true, false, List, [], ◌∷◌, length, drop, map}
 use Rattle.std.proofs.Common.{Option}
 use Rattle.std.proofs.Common.{Some, None, refl, ap, sym, subst, arith}
-use Rattle.std.specs.Prelude.{slice_get, position, if◌then◌else◌, IsSome, max}
+use Rattle.std.specs.Prelude.{slice_get, position, if◌then◌else◌, option_map, IsSome, max}
 use Rattle.std.specs.Str.{bytes_eq}
+use Rattle.std.proofs.lemmas.List.{length-drop}
 use Rattle.std.proofs.lemmas.Option.{slice_get-map}
 use Rattle.vcode_base.specs.declared.instr.Instr.TheVariants as instr
 use Rattle.vcode_base.specs.declared.op.Op.{Op}
@@ -13,30 +14,38 @@ use Rattle.vcode_base.specs.Kinds.{result_kinds}
 use Rattle.vcode_base.specs.Names.{main_name}
 use Rattle.vcode_reader.specs.declared.line.CodeItem.{CodeItem}
 use Rattle.vcode_reader.specs.declared.line.CodeItem.TheVariants as code_item
-use Rattle.vcode_reader.specs.Callees.{callee_of as callee_in_line, callees_of, callee_at as callee_at_line}
+use Rattle.vcode_reader.specs.Callees.{callee_of as callee_in_line, callees_of, callee_in, callee_at as callee_at_line}
 use Rattle.vcode_reader.specs.Decode.{then_body}
+use Rattle.vcode_reader.specs.Targets.{target_in}
 use Rattle.vcode_reader.specs.Trees.{Item, Body, End, Do, Choice, CodeLine, Function, Program, IsBodyInstruction}
-use Rattle.vcode_reader.specs.Trees.{IsProperBody, body_lines}
-use Rattle.vcode_reader.specs.Trees.{lines_of, instruction_line}
+use Rattle.vcode_reader.specs.Trees.{IsProperBody}
+use Rattle.vcode_reader.specs.Trees.{lines_of}
+use Rattle.signatures.specs.Signatures.{FunctionType}
 use Rattle.verifier.specs.Typed.{TypedProgram}
 use Rattle.job_steps.specs.declared.frame.Frame.{Frame}
 use Rattle.job_steps.specs.Reached.{IsVerifiedBySome}
-use Rattle.job_steps.specs.Frames.{StopAt, Stands, StandAll, first_line, next_line}
+use Rattle.job_steps.specs.Frames.{AreActive, GoesOnAt, IsSettled, StopAt, Stands, StandAll, remaining, lines_at}
+use Rattle.job_steps.specs.Frames.{first_line, lines_from, next_line}
 use Rattle.job_steps.specs.Motions.{stack_after, depth_after}
-use Rattle.job_steps.specs.States.{Task, StackEntry, Active, State, Callee, callee_at, callee_named}
+use Rattle.job_steps.specs.States.{Task, StackEntry, Active, State, Callee, callee_of, callee_at, callee_named}
 use Rattle.job_steps.specs.States.{calls_with}
 use Rattle.job_steps.specs.States.{first_state, new_entries}
-use Rattle.job_steps.specs.Steps.{first_item, next_item, calls_past, calls_after, can_run, is_call}
+use Rattle.job_steps.specs.Steps.{first_item, next_item, calls_past, calls_after, can_call, can_run, is_call}
 use Rattle.job_steps.specs.Steps.{question_of, results_of}
 use Rattle.job_steps.specs.Steps.{flag_of, words_at, progress_past}
 use Rattle.job_steps.specs.Tracks.{CanCall, CanFollow, Follow, IsCallOf, first_call, functions_of, TrackState, IsAt}
 use Rattle.job_steps.specs.Tracks.{IsWhere, IsDeep, Advances, EachTrackFollows}
 use Rattle.job_steps.proofs.Passing.{remaining_of_all}
 use Rattle.job_steps.proofs.StackLemmas.{length-stack_after, length-results}
-use Rattle.job_steps.proofs.Standing.{stands_at, line_at}
+use Rattle.job_steps.proofs.Standing.{stands_at, stands_past, line_at, line_found}
 use Rattle.job_steps.proofs.Typed.{callee}
 
 -- ---- the innermost frame
+
+pub some_frame : (fs : List Function) (frames : List Frame) (call : Active) (outer : List Active) →
+    StandAll fs frames (call ∷ outer) → 0 < length frames
+some_frame fs [] call outer s = absurd s
+some_frame fs (frame ∷ frames) call outer s = omega arith
 
 -- the innermost frame is at the innermost call, and the others at the others
 pub record IsTop (fs : List Function) (frames : List Frame) (frame : Frame) (call : Active) (outer : List Active)
@@ -48,16 +57,26 @@ pub record IsTop (fs : List Function) (frames : List Frame) (frame : Frame) (cal
 pub top_frame : (fs : List Function) (frames : List Frame) (frame : Frame) (call : Active) (outer : List Active) →
     slice_get frames 0 ≡ Some frame → StandAll fs frames (call ∷ outer) → IsTop fs frames frame call outer
 top_frame fs [] frame call outer e s = absurd s
-top_frame fs (f ∷ frames) frame call outer e s = grind arith
+top_frame fs (f ∷ frames) frame call outer e s =
+    let same : f ≡ frame = let h : ◌≡◌ {A = Option Frame} (Some f) (Some frame) = e in cc in
+    record { inner = subst (λ x. Stands fs x call) same s.0; others = s.1 }
 
 -- ---- the line that is next, by its instruction without list or name
 
 -- whichever calls a frame is at, the same line is next
-one_line : (fs : List Function) (frame : Frame) (a b : Active) → Stands fs frame a → Stands fs frame b →
-    next_line a ≡ next_line b
-one_line fs frame a b s t =
+one_line : (fs : List Function) (frame : Frame) (a b : Active) → StopAt (lines_from fs frame) → Stands fs frame a →
+    Stands fs frame b → next_line a ≡ next_line b
+one_line fs frame a b stop s t =
     let at = stands_at fs frame a s in
-    at.next ∙ line_at fs frame b at.function at.line at.found t (sym at.there)
+    line_found fs frame a s stop ∙ line_at fs frame b at.function at.line at.found t stop (sym at.there)
+
+-- the innermost frame of settled ones
+pub stop_top : (fs : List Function) (frames : List Frame) (frame : Frame) → slice_get frames 0 ≡ Some frame →
+    IsSettled fs frames → StopAt (lines_from fs frame)
+stop_top fs [] frame e settled = absurd (let h : ◌≡◌ {A = Option Frame} None (Some frame) = e in cc)
+stop_top fs (f ∷ frames) frame e settled =
+    let same : f ≡ frame = let h : ◌≡◌ {A = Option Frame} (Some f) (Some frame) = e in cc in
+    subst (λ x. StopAt (lines_from fs x)) same settled
 
 -- a CALL, with its name
 call_named : (item : Item) → op_of item ≡ op.Call → (name : List ℕ) × (item ≡ instr.Call name)
@@ -246,7 +265,8 @@ module _ (verified : TypedProgram) (frames : List Frame) (frame : Frame) (top : 
     pub few : length frames < room
 
   -- where the next instruction, without its list or name, is this one
-  module _ (o : Op) (room : ℕ) (can : CanFollow verified o frames room) where
+  module _ (o : Op) (room : ℕ) (can : CanFollow verified o frames room)
+      (settled : IsSettled (functions_of verified) frames) where
     pub inner_call : Stands (functions_of verified) frame can.call
     inner_call =
         let t = top_frame (functions_of verified) frames frame can.call can.outer top can.stands in
@@ -254,7 +274,9 @@ module _ (verified : TypedProgram) (frames : List Frame) (frame : Frame) (top : 
 
     next_is : LineIs (next_line can.call).item
     next_is call s =
-        ap (λ (x : CodeLine). x.item) (one_line (functions_of verified) frame call can.call s inner_call)
+        ap (λ (x : CodeLine). x.item)
+        (one_line (functions_of verified) frame call can.call (stop_top (functions_of verified) frames frame top settled)
+        s inner_call)
 
     do_is : (o ≡ op.If → ⊥) → LineIs (code_item.Do (next_item can.call).item)
     do_is other call s =
@@ -306,19 +328,31 @@ module _ (verified : TypedProgram) (frames : List Frame) (frame : Frame) (top : 
         call_by next behind c.name c.callee inner c.is.is (first c.name c.callee c.is) flag call.rest call.ret outer
         (c.line call t.inner) t.inner t.others
 
--- ---- the first frame of a function
+pub long_again : (frame : Frame) (frames : List Frame) → 0 < length frames →
+    length (frame ∷ drop 1 frames) ≡ length frames
+long_again frame frames h = omega (arith, length-drop 1 frames)
 
-stops_first : (b : Body) (ret : ℕ) → StopAt (body_lines b ++ instruction_line instr.Return ret ∷ [])
-stops_first End ret = tt
-stops_first (Do i l r) ret = tt
-stops_first (Choice l x y e r) ret = tt
+-- ---- the first frame of a function
 
 abbrev pub frame_of : ℕ → Frame
 frame_of place = record { function = place; place = 0 }
 
 starts : (fs : List Function) (place : ℕ) (f : Function) → slice_get fs place ≡ Some f →
     Stands fs (frame_of place) (record { rest = f.body; ret = f.ret })
-starts fs place f at = grind (arith, remaining_of_all, stops_first)
+starts fs place f at =
+    let lines : lines_at (slice_get fs place) ≡ lines_of f = ap lines_at at in
+    record { remains = ap remaining lines ∙ remaining_of_all f }
+
+function_in : Option Callee → Option Function
+function_in None = None
+function_in (Some c) = Some c.function
+
+function_is : (a : Option Function) (b : Option FunctionType) (c : Callee) → callee_of a b ≡ Some c → a
+    ≡ Some c.function
+unfolding function_in
+function_is None b c e = absurd (let h : ◌≡◌ {A = Option Callee} None (Some c) = e in cc)
+function_is (Some f) None c e = absurd (let h : ◌≡◌ {A = Option Callee} None (Some c) = e in cc)
+function_is (Some f) (Some a) c e = ap function_in e
 
 record PlaceIs (verified : TypedProgram) (o : Option ℕ) (c : Callee) : Type 0 where
   place : ℕ
@@ -327,7 +361,11 @@ record PlaceIs (verified : TypedProgram) (o : Option ℕ) (c : Callee) : Type 0 
 
 place_is : (verified : TypedProgram) (o : Option ℕ) (c : Callee) → callee_at verified o ≡ Some c → PlaceIs verified o c
 place_is verified None c e = absurd (let h : ◌≡◌ {A = Option Callee} None (Some c) = e in cc)
-place_is verified (Some place) c e = grind arith
+place_is verified (Some place) c e = record {
+  place = place;
+  is = refl;
+  there = function_is (slice_get verified.program.functions place) (slice_get verified.arrows place) c e;
+}
 
 abbrev is_named : List ℕ → Function → Bool
 is_named name f = bytes_eq f.name name
@@ -357,16 +395,21 @@ callee_line : (fs : List Function) (function place : ℕ) (f : Function) (x : Co
     slice_get fs function ≡ Some f → slice_get (lines_of f) place ≡ Some x →
     callee_at_line fs function place ≡ callee_in_line fs x.item
 unfolding callees_of
-callee_line fs function place f x hf hx = grind (arith, slice_get-map)
+callee_line fs function place f x hf hx =
+    let in_line : CodeLine → Option ℕ = λ y. callee_in_line fs y.item in
+    let in_lines : Function → List (Option ℕ) = λ g. map in_line (lines_of g) in
+    ap (λ z. callee_in z place) (slice_get-map in_lines fs function ∙ ap (option_map in_lines) hf)
+    ∙ ap target_in (slice_get-map in_line (lines_of f) place ∙ ap (option_map in_line) hx)
 
 -- the callee of a CALL
 pub found_call : (verified : TypedProgram) (frame : Frame) (name : List ℕ) (c : Callee) (o : Option ℕ) →
-    IsCallOf verified frame name c → o ≡ callee_at_line (functions_of verified) frame.function frame.place →
+    StopAt (lines_from (functions_of verified) frame) → IsCallOf verified frame name c → o ≡ callee_at_line (functions_of verified) frame.function frame.place →
     Found verified o c
-found_call verified frame name c o call at =
+found_call verified frame name c o stop call at =
     let s = stands_at (functions_of verified) frame call.call call.stands in
     let item : s.line.item ≡ code_item.Do (instr.Call name) =
-    sym (ap (λ (x : CodeLine). x.item) s.next) ∙ call.next in
+    sym (ap (λ (x : CodeLine). x.item) (line_found (functions_of verified) frame call.call call.stands stop))
+    ∙ call.next in
     found_by verified name o c
     (at ∙ (callee_line (functions_of verified) frame.function frame.place s.function s.line s.found s.there
     ∙ ap (callee_in_line (functions_of verified)) item)) call.is
@@ -396,14 +439,64 @@ main_is verified o v at =
 
 pub same_functions : (p : Program) (v verified : TypedProgram) → p ≡ v.program → v ≡ verified →
     p.functions ≡ functions_of verified
-same_functions p v verified program same = cc
+same_functions p v verified program same =
+    ap (λ (q : Program). q.functions) (program ∙ ap (λ (w : TypedProgram). w.program) same)
 
 -- the innermost frame is at some call
 pub inner_stands : (verified : TypedProgram) (frames : List Frame) (frame : Frame) (o : Op) (room : ℕ)
     (fs : List Function) → slice_get frames 0 ≡ Some frame → CanFollow verified o frames room →
     fs ≡ functions_of verified → (call : Active) × Stands fs frame call
 inner_stands verified frames frame o room fs top can same =
-    (can.call, subst (λ gs. Stands gs frame can.call) (sym same) (inner_call verified frames frame top o room can))
+    let t = top_frame (functions_of verified) frames frame can.call can.outer top can.stands in
+    (can.call, subst (λ gs. Stands gs frame can.call) (sym same) t.inner)
+
+-- and at the line that is executed next
+pub inner_settled : (verified : TypedProgram) (frames : List Frame) (frame : Frame) (fs : List Function) →
+    slice_get frames 0 ≡ Some frame → IsSettled (functions_of verified) frames → fs ≡ functions_of verified →
+    StopAt (lines_from fs frame)
+inner_settled verified frames frame fs top settled same =
+    subst (λ gs. StopAt (lines_from gs frame)) (sym same)
+    (stop_top (functions_of verified) frames frame top settled)
+
+-- ---- lines that are passed over
+
+-- what of the innermost call is still to come
+abbrev pub lines_left : List Function → List Frame → ℕ
+lines_left fs [] = 0
+lines_left fs (frame ∷ frames) = length (lines_from fs frame)
+
+-- the same calls are active
+abbrev pub StandToo : List Function → (old new : List Frame) → Type 0
+StandToo fs old new = (calls : List Active) → StandAll fs old calls → StandAll fs new calls
+
+-- the innermost frame goes on at another
+pub record HasPassed (fs : List Function) (old new : List Frame) : Type 0 where
+  pub stand : StandToo fs old new
+  pub fewer : lines_left fs new < lines_left fs old
+
+passed_stand : (fs : List Function) (f next : Frame) (frames : List Frame) → GoesOnAt fs f next →
+    StandToo fs (f ∷ frames) (next ∷ frames)
+passed_stand fs f next frames goes [] s = absurd s
+passed_stand fs f next frames goes (call ∷ calls) s = (stands_past fs f next call goes s.0, s.1)
+
+pub has_passed : (fs : List Function) (frames : List Frame) (frame next : Frame) → slice_get frames 0 ≡ Some frame →
+    GoesOnAt fs frame next → HasPassed fs frames (next ∷ drop 1 frames)
+has_passed fs [] frame next top goes = absurd (let h : ◌≡◌ {A = Option Frame} None (Some frame) = top in cc)
+has_passed fs (f ∷ frames) frame next top goes =
+    let same : f ≡ frame = let h : ◌≡◌ {A = Option Frame} (Some f) (Some frame) = top in cc in
+    let here : GoesOnAt fs f next = subst (λ x. GoesOnAt fs x next) (sym same) goes in
+    record { stand = passed_stand fs f next frames here; fewer = here.fewer }
+
+pub settled_by : (fs : List Function) (frames : List Frame) (frame : Frame) → slice_get frames 0 ≡ Some frame →
+    StopAt (lines_from fs frame) → IsSettled fs frames
+settled_by fs [] frame top stop = tt
+settled_by fs (f ∷ frames) frame top stop =
+    let same : f ≡ frame = let h : ◌≡◌ {A = Option Frame} (Some f) (Some frame) = top in cc in
+    subst (λ x. StopAt (lines_from fs x)) (sym same) stop
+
+pub top_active : (fs : List Function) (frames : List Frame) (frame : Frame) → slice_get frames 0 ≡ Some frame →
+    AreActive fs frames → (call : Active) × Stands fs frame call
+top_active fs frames frame top active = (active.0, (top_frame fs frames frame active.0 active.1 top active.2).inner)
 
 -- ---- when a job's next instruction can be followed
 
@@ -415,13 +508,37 @@ same_length fs [] (call ∷ calls) s = absurd s
 same_length fs (frame ∷ frames) [] s = absurd s
 same_length fs (frame ∷ frames) (call ∷ calls) s = ap suc (same_length fs frames calls s.1)
 
+callee_there : (o : Option Callee) (stack : List StackEntry) → can_call o stack ≡ true → (c : Callee) × (o ≡ Some c)
+callee_there None stack e = absurd (let h : false ≡ true = e in cc)
+callee_there (Some c) stack e = (c, refl)
+
+can_call_by : (verified : TypedProgram) (item : Item) (stack : List StackEntry) (active room : ℕ) →
+    can_run verified item stack ≡ true →
+    (is_call (op_of item) ≡ true → active < room) → CanCall verified item active room
+can_call_by verified (instr.Const k list) stack active room runs few = tt
+can_call_by verified (instr.Elementwise e) stack active room runs few = tt
+can_call_by verified (instr.Segmented s) stack active room runs few = tt
+can_call_by verified instr.If stack active room runs few = tt
+can_call_by verified (instr.Move motion lower upper) stack active room runs few = tt
+can_call_by verified (instr.Call name) stack active room runs few =
+    let c = callee_there (callee_named verified name) stack runs in
+    (c.0, c.1, few refl)
+can_call_by verified instr.Return stack active room runs few = tt
+
 -- An instruction that can run can be followed, if at a CALL there is room for one call more.
 pub can_follow : (verified : TypedProgram) (frames : List Frame) (call : Active) (outer : List Active)
     (stack : List StackEntry) (room : ℕ) → StandAll (functions_of verified) frames (call ∷ outer) →
     IsProperBody call.rest → can_run verified (next_item call).item stack ≡ true →
     (is_call (op_of (next_item call).item) ≡ true → length frames < room) →
     CanFollow verified (op_of (next_item call).item) frames room
-can_follow verified frames call outer stack room stands proper runs few = grind arith
+can_follow verified frames call outer stack room stands proper runs few = record {
+  call = call;
+  outer = outer;
+  stands = stands;
+  op_is = refl;
+  proper = proper;
+  called = can_call_by verified (next_item call).item stack (length frames) room runs few;
+}
 
 -- ---- a track that is advanced
 

@@ -3,8 +3,8 @@ use Rattle.std.proofs.Common.{◌≡◌, ◌∙◌, ◌+◌, ◌<◌, ℕ, zero,
 use Rattle.std.proofs.Common.{get_or, Some, None, refl, ap, sym, subst, arith}
 use Rattle.std.specs.Prelude.{slice_get, if◌then◌else◌, MatchOption}
 use Rattle.std.proofs.lemmas.Bool.{false≢true}
-use Rattle.std.proofs.lemmas.List.{drop_all, drop_more}
-use Rattle.std.proofs.lemmas.Option.{none-some, same_Some, slice_get_within, get_or_from_slice_get}
+use Rattle.std.proofs.lemmas.List.{drop_all, drop_more, length-drop}
+use Rattle.std.proofs.lemmas.Option.{none-some, slice_get_within, get_or_from_slice_get}
 use Rattle.vcode_base.specs.declared.instr.Instr.TheVariants.{Return}
 use Rattle.vcode_reader.specs.declared.line.CodeItem.{CodeItem}
 use Rattle.vcode_reader.specs.declared.line.CodeItem.TheVariants as code_item
@@ -13,7 +13,8 @@ use Rattle.vcode_reader.specs.Targets.{target_at, EachTargetIsFirst}
 use Rattle.vcode_reader.specs.Trees.{Item, Body, End, Do, Choice, CodeLine, Function, line_of, instruction_line}
 use Rattle.vcode_reader.specs.Trees.{lines_of}
 use Rattle.job_steps.specs.declared.frame.Frame.{Frame}
-use Rattle.job_steps.specs.Frames.{IsStop, StopAt, Stands, remaining, lines_at, with_return, first_line}
+use Rattle.job_steps.specs.Frames.{GoesOnAt, IsStop, StopAt, Stands, remaining, lines_at, lines_from, with_return}
+use Rattle.job_steps.specs.Frames.{first_line}
 use Rattle.job_steps.specs.Frames.{next_line, instruction_of}
 use Rattle.job_steps.specs.States.{Active}
 use Rattle.job_steps.specs.Steps.{next_item, first_item}
@@ -88,7 +89,9 @@ line_by : (f : Function) (p : ℕ) (i : CodeItem Item) (l : ℕ) (xs : List Code
     remaining (line_of i l ∷ xs) ≡ then_body rest (Do Return ret End) → first_line rest ret ≡ line_of i l
 line_by f p (code_item.Do i) l xs at stop rest ret h =
     line_is_do rest ret i l (remaining xs) (sym (remaining_do i l xs) ∙ h)
-line_by f p code_item.If l xs at stop rest ret h = grind (arith, if_chooses, line_is_if)
+line_by f p code_item.If l xs at stop rest ret h =
+    let c = if_chooses f p l xs at in
+    line_is_if rest ret l c.end c.first c.second c.rest (sym c.choice ∙ (ap remaining at ∙ h))
 line_by f p code_item.Else l xs at stop rest ret h = absurd stop
 line_by f p code_item.Endif l xs at stop rest ret h = absurd stop
 
@@ -109,27 +112,40 @@ pub record StandsAt (functions : List Function) (frame : Frame) (call : Active) 
   pub found : slice_get functions frame.function ≡ Some function
   pub line : CodeLine
   pub there : slice_get (lines_of function) frame.place ≡ Some line
-  pub next : next_line call ≡ line
 
 stands_lines : (functions : List Function) (frame : Frame) (call : Active) (f : Function) →
     slice_get functions frame.function ≡ Some f →
-    (xs : List CodeLine) → drop frame.place (lines_of f) ≡ xs → remaining xs ≡ with_return call → StopAt xs →
+    (xs : List CodeLine) → drop frame.place (lines_of f) ≡ xs → remaining xs ≡ with_return call →
     StandsAt functions frame call
-stands_lines functions frame call f found [] at h stop =
+stands_lines functions frame call f found [] at h =
     absurd (end_return call.rest call.ret (sym remaining_nothing ∙ h))
-stands_lines functions frame call f found (x ∷ xs) at h stop = grind (arith, front_of, line_by)
+stands_lines functions frame call f found (x ∷ xs) at h = record {
+  function = f;
+  found = found;
+  line = x;
+  there = front_of (lines_of f) frame.place x xs at;
+}
 
 stands_function : (functions : List Function) (frame : Frame) (call : Active) (o : Option Function) →
     slice_get functions frame.function ≡ o → remaining (drop frame.place (lines_at o)) ≡ with_return call →
-    StopAt (drop frame.place (lines_at o)) → StandsAt functions frame call
-stands_function functions frame call None found h stop = grind (arith, end_return, remaining_nothing, drop_all)
-stands_function functions frame call (Some f) found h stop =
-    stands_lines functions frame call f found (drop frame.place (lines_of f)) refl h stop
+    StandsAt functions frame call
+stands_function functions frame call None found h =
+    let none : List CodeLine = [] in
+    absurd
+    (end_return call.rest call.ret
+    (sym remaining_nothing ∙ (ap remaining (sym (drop_all frame.place none (omega arith))) ∙ h)))
+stands_function functions frame call (Some f) found h =
+    stands_lines functions frame call f found (drop frame.place (lines_of f)) refl h
 
 pub stands_at : (functions : List Function) (frame : Frame) (call : Active) → Stands functions frame call →
     StandsAt functions frame call
 stands_at functions frame call s =
-    stands_function functions frame call (slice_get functions frame.function) refl s.remains s.stops
+    stands_function functions frame call (slice_get functions frame.function) refl s.remains
+
+-- the frame that it goes on at is at the same call
+pub stands_past : (functions : List Function) (frame next : Frame) (call : Active) → GoesOnAt functions frame next →
+    Stands functions frame call → Stands functions next call
+stands_past functions frame next call goes s = record { remains = goes.same ∙ s.remains }
 
 -- of this function
 pub record StandsIn (functions : List Function) (frame : Frame) (f : Function) : Type 0 where
@@ -155,18 +171,27 @@ module _ (functions gs : List Function) (frame : Frame) (call : Active) (same : 
       subst (λ f. slice_get (lines_of f) frame.place ≡ Some at.line) is_it at.there in
       record { found = found; within = slice_get_within (lines_of g) frame.place at.line there }
 
+-- the lines of a frame from its place on, in its function
+pub lines_in : (functions : List Function) (frame : Frame) (g : Function) →
+    slice_get functions frame.function ≡ Some g → lines_from functions frame ≡ drop frame.place (lines_of g)
+lines_in functions frame g found = ap (λ o. drop frame.place (lines_at o)) found
+
 -- the line at the place of a frame
 pub line_at : (functions : List Function) (frame : Frame) (call : Active) (g : Function) (x : CodeLine) →
-    slice_get functions frame.function ≡ Some g → Stands functions frame call →
+    slice_get functions frame.function ≡ Some g → Stands functions frame call → StopAt (lines_from functions frame) →
     Some x ≡ slice_get (lines_of g) frame.place → x ≡ next_line call
-line_at functions frame call g x found s here =
+line_at functions frame call g x found s stop here =
+    let at = at_place (lines_of g) frame.place x (sym here) in
+    let from = lines_in functions frame g found ∙ at in
+    sym (line_by g frame.place x.item x.number (drop (frame.place + 1) (lines_of g)) at (subst StopAt from stop)
+    call.rest call.ret (ap remaining (sym from) ∙ s.remains))
+
+-- the same of the line that is found there
+pub line_found : (functions : List Function) (frame : Frame) (call : Active) (s : Stands functions frame call) →
+    StopAt (lines_from functions frame) → next_line call ≡ (stands_at functions frame call s).line
+line_found functions frame call s stop =
     let at = stands_at functions frame call s in
-    let is_it : at.function ≡ g =
-    sym (get_or_from_slice_get functions frame.function at.function g at.found)
-    ∙ get_or_from_slice_get functions frame.function g g found in
-    let there : slice_get (lines_of g) frame.place ≡ Some at.line =
-    subst (λ f. slice_get (lines_of f) frame.place ≡ Some at.line) is_it at.there in
-    same_Some x at.line (here ∙ there) ∙ sym at.next
+    sym (line_at functions frame call at.function at.line at.found s stop (sym at.there))
 
 -- what remains of a function from a place on
 abbrev pub remaining_from : Function → ℕ → Body
@@ -190,11 +215,31 @@ module _ (functions : List Function) (frame : Frame) (g : Function) (place : ℕ
   from_here : (p : ℕ) → drop p (lines_at (slice_get functions frame.function)) ≡ drop p (lines_of g)
   from_here p = ap (λ o. drop p (lines_at o)) found
 
-  made : (call : Active) → remaining (drop place (lines_of g)) ≡ with_return call → StopAt (drop place (lines_of g)) →
-      Stands functions frame_at call
-  made call h stop = record {
-    remains = ap remaining (from_here place) ∙ h;
-    stops = subst StopAt (sym (from_here place)) stop;
+  made : (call : Active) → remaining (drop place (lines_of g)) ≡ with_return call → Stands functions frame_at call
+  made call h = record { remains = ap remaining (from_here place) ∙ h }
+
+  -- the frame at the place that the code goes on at
+  pub stands_settled : remaining (drop place (lines_of g)) ≡ remaining (drop frame.place (lines_of g)) →
+      (call : Active) → Stands functions frame call → Stands functions frame_at call
+  stands_settled same call s = made call (same ∙ (ap remaining (sym (from_here frame.place)) ∙ s.remains))
+
+  pub stop_from : StopAt (drop place (lines_of g)) → StopAt (lines_from functions frame_at)
+  stop_from stop = subst StopAt (sym (from_here place)) stop
+
+  pub goes_on_at : frame.place < place → frame.place < length (lines_of g) →
+      remaining (drop place (lines_of g)) ≡ remaining (drop frame.place (lines_of g)) →
+      GoesOnAt functions frame frame_at
+  goes_on_at later within same = record {
+    same = ap remaining (from_here place) ∙ (same ∙ ap remaining (sym (from_here frame.place)));
+    fewer = omega (
+      arith,
+      ap length (from_here place),
+      ap length (from_here frame.place),
+      length-drop place (lines_of g),
+      length-drop frame.place (lines_of g),
+      later,
+      within,
+    );
   }
 
   rest_of_do : (item : Item) (line ret : ℕ) (rest : Body) (x : CodeLine) (xs : List CodeLine) →
@@ -205,11 +250,11 @@ module _ (functions : List Function) (frame : Frame) (g : Function) (place : ℕ
   rest_of_do item line ret rest x xs at is h =
       ap rest_in (sym (remaining_do item line xs) ∙ (ap (λ y. remaining (y ∷ xs)) is ∙ (ap remaining (sym at) ∙ h)))
 
-  pub stands_next : remaining (drop place (lines_of g)) ≡ remaining (drop (frame.place + 1) (lines_of g)) →
-      StopAt (drop place (lines_of g)) → (item : Item) (line ret : ℕ) (rest : Body) →
+  pub stands_next : place ≡ frame.place + 1 → StopAt (lines_from functions frame) →
+      (item : Item) (line ret : ℕ) (rest : Body) →
       Stands functions frame (record { rest = Do item line rest; ret = ret }) →
       Stands functions frame_at (record { rest = rest; ret = ret })
-  stands_next same stop item line ret rest s =
+  stands_next is stop item line ret rest s =
       let call : Active = record { rest = Do item line rest; ret = ret } in
       let at = stands_at functions frame call s in
       let there : slice_get (lines_at (slice_get functions frame.function)) frame.place ≡ Some at.line =
@@ -217,31 +262,29 @@ module _ (functions : List Function) (frame : Frame) (g : Function) (place : ℕ
       let here : slice_get (lines_of g) frame.place ≡ Some at.line =
       sym (ap (λ o. slice_get (lines_at o) frame.place) found) ∙ there in
       let split = at_place (lines_of g) frame.place at.line here in
-      let behind = rest_of_do item line ret rest at.line (drop (frame.place + 1) (lines_of g)) split at.next
+      let behind = rest_of_do item line ret rest at.line (drop (frame.place + 1) (lines_of g)) split
+      (line_found functions frame call s stop)
       (ap remaining (sym (from_here frame.place)) ∙ s.remains) in
-      made (record { rest = rest; ret = ret }) (same ∙ behind) stop
+      made (record { rest = rest; ret = ret }) (ap (remaining_from g) is ∙ behind)
 
-  pub stands_chosen : (flag : Bool) (part : ℕ) →
-      remaining (drop place (lines_of g)) ≡ remaining (drop part (lines_of g)) →
-      StopAt (drop place (lines_of g)) →
+  pub stands_chosen : (flag : Bool) → StopAt (lines_from functions frame) →
       ((line end : ℕ) (first second rest : Body) →
       remaining (drop frame.place (lines_of g)) ≡ Choice line first second end rest →
       StopAt (drop frame.place (lines_of g)) →
-      remaining (drop part (lines_of g)) ≡ then_body (if flag then first else second) rest) →
+      remaining (drop place (lines_of g)) ≡ then_body (if flag then first else second) rest) →
       (line end ret : ℕ) (first second rest : Body) →
       Stands functions frame (record { rest = Choice line first second end rest; ret = ret }) →
       Stands functions frame_at (record { rest = then_body (if flag then first else second) rest; ret = ret })
   unfolding then_body
-  stands_chosen flag part same stop by line end ret first second rest s =
+  stands_chosen flag stop by line end ret first second rest s =
       let chosen : Body = if flag then first else second in
       let here : remaining (drop frame.place (lines_of g))
       ≡ Choice line first second end (then_body rest (Do Return ret End)) =
       ap remaining (sym (from_here frame.place)) ∙ s.remains in
       made (record { rest = then_body chosen rest; ret = ret })
-      (same
-      ∙ (by line end first second (then_body rest (Do Return ret End)) here (subst StopAt
-      (from_here frame.place) s.stops)
-      ∙ sym (then_assoc chosen rest (Do Return ret End)))) stop
+      (by line end first second (then_body rest (Do Return ret End)) here (subst StopAt
+      (from_here frame.place) stop)
+      ∙ sym (then_assoc chosen rest (Do Return ret End)))
 
 -- ---- the parts of an IF
 
@@ -255,14 +298,21 @@ pub record Parts (whole : List CodeLine) (p : ℕ) (first second rest : Body) : 
 parts_by : (whole : List CodeLine) (p l line end : ℕ) (first second rest : Body) (c : Chooses whole p l) →
     Choice l c.first c.second c.end c.rest ≡ Choice line first second end rest → Parts whole p first second rest
 unfolding first_in second_in rest_in
-parts_by whole p l line end first second rest c h = grind arith
+parts_by whole p l line end first second rest c h = record {
+  chosen = c.chosen ∙ (λ k. then_body (first_in (h k)) (rest_in (h k)));
+  next = c.next;
+  target = c.target;
+  other = c.other ∙ (λ k. then_body (second_in (h k)) (rest_in (h k)));
+}
 
 parts_at : (f : Function) (p line end : ℕ) (first second rest : Body) (i : CodeItem Item) (l : ℕ)
     (xs : List CodeLine) → drop p (lines_of f) ≡ line_of i l ∷ xs → IsStop i →
     remaining (drop p (lines_of f)) ≡ Choice line first second end rest → Parts (lines_of f) p first second rest
 parts_at f p line end first second rest (code_item.Do i) l xs at stop h =
     absurd (do_choice (sym (remaining_do i l xs) ∙ (ap remaining (sym at) ∙ h)))
-parts_at f p line end first second rest code_item.If l xs at stop h = grind (arith, if_chooses, parts_by)
+parts_at f p line end first second rest code_item.If l xs at stop h =
+    let c = if_chooses f p l xs at in
+    parts_by (lines_of f) p l line end first second rest c (sym c.choice ∙ h)
 parts_at f p line end first second rest code_item.Else l xs at stop h = absurd stop
 parts_at f p line end first second rest code_item.Endif l xs at stop h = absurd stop
 

@@ -1,5 +1,5 @@
 -- The place of an active call: a line of its function's code, and what of the function remains from there.
-use Rattle.std.specs.Prelude.{◌≡◌, ℕ, List, [], ◌∷◌, ◌++◌, drop, Option, Some, None, slice_get}
+use Rattle.std.specs.Prelude.{◌≡◌, ◌<◌, ℕ, List, [], ◌∷◌, ◌++◌, drop, length, Option, Some, None, slice_get}
 use Rattle.vcode_base.specs.declared.instr.Instr.TheVariants.{If, Return}
 use Rattle.vcode_reader.specs.declared.line.CodeItem.{CodeItem}
 use Rattle.vcode_reader.specs.declared.line.CodeItem.TheVariants as code_item
@@ -73,7 +73,16 @@ with_return call = then_body call.rest (Do Return call.ret End)
 -- a frame is at a call if its lines are what remains of the call
 pub record Stands (functions : List Function) (frame : Frame) (call : Active) : Type 0 where
   pub remains : remaining (lines_from functions frame) ≡ with_return call
-  pub stops : StopAt (lines_from functions frame)
+
+-- the innermost frame is at the line that is executed next, and not before it at one that is passed over
+abbrev pub IsSettled : List Function → List Frame → Type 0
+IsSettled functions [] = Unit {0}
+IsSettled functions (frame ∷ frames) = StopAt (lines_from functions frame)
+
+-- a frame goes on at another, which has fewer lines to come, and as much remains
+pub record GoesOnAt (functions : List Function) (old new : Frame) : Type 0 where
+  pub same : remaining (lines_from functions new) ≡ remaining (lines_from functions old)
+  pub fewer : length (lines_from functions new) < length (lines_from functions old)
 
 -- each frame is at the call of the same index, the innermost first
 abbrev pub StandAll : List Function → List Frame → List Active → Type 0

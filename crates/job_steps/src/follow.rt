@@ -1,8 +1,9 @@
 //! The frames of the active calls after an instruction.
 
-ghost use Rattle.std.specs.Prelude.{◌≡◌, ℕ, List, [], ◌∷◌, IfOk};
-ghost use Rattle.job_steps.specs.Frames.{Stands, StandAll};
-ghost use Rattle.job_steps.specs.States.{Callee, first_state};
+ghost use Rattle.std.specs.Prelude.{◌≡◌, ◌<◌, ℕ, List, [], ◌∷◌, length, IfOk};
+ghost use Rattle.vcode_base.specs.declared.op.Op.TheVariants.{Return};
+ghost use Rattle.job_steps.specs.Frames.{AreActive, IsSettled, Stands, StandAll, StopAt, lines_from};
+ghost use Rattle.job_steps.specs.States.{Active, Callee, first_state};
 ghost use Rattle.job_steps.specs.Tracks.{CanFollow, Follow, IsCallOf, first_call, functions_of};
 
 use crate::bounded_stack::BoundedStack;
@@ -10,6 +11,7 @@ use crate::frame::Frame;
 use crate::job::Job;
 use std::alloc::{AllocError, Allocator};
 use vcode_base::Op;
+use vcode_reader::Program;
 
 /// The frame of the first line of `MAIN`, with room for as many as the job may have calls.
 pub(crate) fn first_frames<A: Allocator>(
@@ -34,8 +36,22 @@ fn main_frame<A: Allocator>(job: &Job<A>) -> Frame
     Frame::first(program.position(b"MAIN").unwrap())
 }
 
-/// Follows the next instruction of the innermost call, which is this one without its list or name. The flag is
-/// that of an `IF`, and of no account elsewhere.
+/// Passes over each `ELSE` and `ENDIF` before the line that is executed next.
+#[inline(always)]
+pub(crate) fn settle<A: Allocator>(frames: &mut BoundedStack<Frame, A>, program: &Program<A>)
+    requires { AreActive program.now.functions frames.old.entries }
+    ensures room { frames.new.room ≡ frames.old.room }
+    ensures stand { (calls : List Active) → StandAll program.now.functions frames.old.entries calls
+        → StandAll program.now.functions frames.new.entries calls }
+    ensures settled { IsSettled program.now.functions frames.new.entries }
+{
+    while let Some(frame) = frames.at(0).passed(program) {
+        frames.replace_top(frame);
+    }
+}
+
+/// Follows the next instruction of the innermost call, which is at its line, and is this one without its list or name.
+/// The flag is that of an `IF`, and of no account elsewhere.
 #[inline(always)]
 pub(crate) fn follow<A: Allocator>(
     frames: &mut BoundedStack<Frame, A>,
@@ -43,9 +59,11 @@ pub(crate) fn follow<A: Allocator>(
     op: Op,
     flag: bool,
 )
-    requires { CanFollow job.now.verified op frames.old.entries frames.old.room }
+    requires can { CanFollow job.now.verified op frames.old.entries frames.old.room }
+    requires settled { IsSettled (functions_of job.now.verified) frames.old.entries }
     ensures room { frames.new.room ≡ frames.old.room }
     ensures frames { Follow job.now.verified flag frames.old.entries frames.new.entries }
+    ensures goes_on { (op ≡ Return → ⊥) → 0 < length frames.new.entries }
 {
     let program = job.verified().program();
     let frame = frames.at(0);
@@ -66,7 +84,8 @@ pub(crate) fn follow<A: Allocator>(
 /// The first frame of the function that a `CALL` names.
 #[inline(always)]
 fn called<A: Allocator>(frame: Frame, job: &Job<A>) -> Frame
-    requires { (name : List ℕ) × (callee : Callee) × IsCallOf job.now.verified frame name callee }
+    requires called { (name : List ℕ) × (callee : Callee) × IsCallOf job.now.verified frame name callee }
+    requires settled { StopAt (lines_from (functions_of job.now.verified) frame) }
     ensures { (name : List ℕ) (callee : Callee) → IsCallOf job.now.verified frame name callee
         → Stands (functions_of job.now.verified) result (first_call callee) }
 {

@@ -4,14 +4,15 @@ ghost use Rattle.std.specs.Prelude.{◌≡◌, ◌+◌, ◌<◌, ℕ, drop, leng
 ghost use Rattle.std.specs.List.{slice_get};
 ghost use Rattle.vcode_reader.specs.Decode.{then_body};
 ghost use Rattle.vcode_reader.specs.Trees.{Item, Body, Do, Choice, lines_of};
-ghost use Rattle.job_steps.specs.Frames.{StopAt, Stands, remaining, next_line};
+ghost use Rattle.job_steps.specs.Frames.{GoesOnAt, StopAt, Stands, lines_from, remaining, next_line};
 ghost use Rattle.job_steps.specs.States.{Active};
 
 use std::alloc::Allocator;
 use vcode_reader::laws::each_target_is_first;
 use vcode_reader::{CodeItem, CodeLine, Function, Program};
 
-/// A line of the code at which an active call goes on: an instruction or an `IF`.
+/// A line of the code at which an active call goes on: an instruction or an `IF`, or before it an `ELSE` or an `ENDIF`,
+/// which are passed over.
 #[derive(Clone, Copy, PartialEq, Eq, Debug)]
 pub struct Frame {
     /// The place of its function in the program, counted from 0.
@@ -29,19 +30,62 @@ impl Frame {
         Frame { function, place: 0 }
     }
 
-    /// Its line.
+    /// The line that is executed next.
     #[inline(always)]
     pub(crate) fn line<'a, A: Allocator>(self, program: &'a Program<A>) -> CodeLine<'a>
         requires { (call : Active) × Stands program.now.functions self call }
         ensures { (call : Active) → Stands program.now.functions self call → result ≡ next_line call }
     {
+        self.settled(program).settled_line(program)
+    }
+
+    /// Its line, which is executed next.
+    #[inline(always)]
+    pub(crate) fn settled_line<'a, A: Allocator>(self, program: &'a Program<A>) -> CodeLine<'a>
+        requires stands { (call : Active) × Stands program.now.functions self call }
+        requires settled { StopAt (lines_from program.now.functions self) }
+        ensures { (call : Active) → Stands program.now.functions self call → result ≡ next_line call }
+    {
         self.function(program).item(self.place).unwrap()
     }
 
-    /// The frame after an instruction that goes on at what follows it.
+    /// The frame at the line that is executed next.
+    #[inline(always)]
+    fn settled<A: Allocator>(self, program: &Program<A>) -> Frame
+        requires { (call : Active) × Stands program.now.functions self call }
+        ensures stands { (call : Active) → Stands program.now.functions self call
+            → Stands program.now.functions result call }
+        ensures settled { StopAt (lines_from program.now.functions result) }
+    {
+        let function = self.function(program);
+        Frame {
+            function: self.function,
+            place: settled(function, self.place),
+        }
+    }
+
+    /// The frame at which an `ELSE` or an `ENDIF` goes on, which is passed over.
+    #[inline(always)]
+    pub(crate) fn passed<A: Allocator>(self, program: &Program<A>) -> Option<Frame>
+        requires { (call : Active) × Stands program.now.functions self call }
+        ensures { MatchOption result
+            (StopAt (lines_from program.now.functions self))
+            (λ next. GoesOnAt program.now.functions self next) }
+    {
+        match passed(self.function(program), self.place) {
+            Some(place) => Some(Frame {
+                function: self.function,
+                place,
+            }),
+            None => None,
+        }
+    }
+
+    /// The frame after an instruction, which is at its place, that goes on at what follows it.
     #[inline(always)]
     pub(crate) fn next<A: Allocator>(self, program: &Program<A>) -> Frame
-        requires { (call : Active) × Stands program.now.functions self call }
+        requires stands { (call : Active) × Stands program.now.functions self call }
+        requires settled { StopAt (lines_from program.now.functions self) }
         ensures { (item : Item) (line ret : ℕ) (rest : Body)
             → Stands program.now.functions self (record { rest = Do item line rest; ret = ret })
             → Stands program.now.functions result (record { rest = rest; ret = ret }) }
@@ -49,14 +93,15 @@ impl Frame {
         let function = self.function(program);
         Frame {
             function: self.function,
-            place: settled(function, behind(function, self.place)),
+            place: behind(function, self.place),
         }
     }
 
-    /// The frame at the part of an `IF` that its flag chooses.
+    /// The frame at the part of an `IF`, which is at its place, that its flag chooses.
     #[inline(always)]
     pub(crate) fn chosen<A: Allocator>(self, program: &Program<A>, flag: bool) -> Frame
-        requires { (call : Active) × Stands program.now.functions self call }
+        requires stands { (call : Active) × Stands program.now.functions self call }
+        requires settled { StopAt (lines_from program.now.functions self) }
         ensures { (line end ret : ℕ) (first second rest : Body)
             → Stands program.now.functions self (record { rest = Choice line first second end rest; ret = ret })
             → Stands program.now.functions result
@@ -65,7 +110,7 @@ impl Frame {
         let function = self.function(program);
         Frame {
             function: self.function,
-            place: settled(function, part(function, self.place, flag)),
+            place: part(function, self.place, flag),
         }
     }
 

@@ -2,16 +2,17 @@
 
 ghost use Rattle.std.specs.Prelude.{◌≡◌, ◌+◌, ◌<◌, ◌≤◌, List, [], ◌∷◌, length, max, reverse, IfOk};
 ghost use Rattle.vcode_base.specs.declared.limits.TheConstants.{MOST_BUDGET};
+ghost use Rattle.vcode_base.specs.declared.op.Op.TheVariants.{Return};
 ghost use Rattle.vcode_base.specs.Kinds.{result_kinds};
-ghost use Rattle.job_steps.specs.Frames.{AreActive, StandAll, instruction_of, next_line};
+ghost use Rattle.job_steps.specs.Frames.{AreActive, IsSettled, StandAll, instruction_of, next_line};
 ghost use Rattle.job_steps.specs.Motions.{stack_after, depth_after};
 ghost use Rattle.job_steps.specs.States.{Active};
 ghost use Rattle.job_steps.specs.Steps.{memory_fault, next_item};
-ghost use Rattle.job_steps.specs.Tracks.{IsFirst, IsDeep, CanFollow, Advances};
+ghost use Rattle.job_steps.specs.Tracks.{IsFirst, IsDeep, CanFollow, Advances, functions_of};
 
 use crate::bounded_stack::BoundedStack;
 use crate::fault::memory_fault;
-use crate::follow::{first_frames, follow};
+use crate::follow::{first_frames, follow, settle};
 use crate::frame::Frame;
 use crate::job::Job;
 use std::alloc::{AllocError, Allocator};
@@ -133,6 +134,30 @@ impl<C: Copy, A: Allocator> Track<C, A> {
         self.frames.at(0).line(program)
     }
 
+    /// The same of a track that is settled, which takes less time.
+    #[inline(always)]
+    pub fn settled_line<'a>(&self, program: &'a Program<A>) -> CodeLine<'a>
+        requires active { AreActive program.now.functions self.now.frames }
+        requires settled { IsSettled program.now.functions self.now.frames }
+        ensures { (call : Active) (outer : List Active)
+            → StandAll program.now.functions self.now.frames (call ∷ outer)
+            → next_item call ≡ instruction_of result }
+    {
+        self.frames.at(0).settled_line(program)
+    }
+
+    /// Passes over each `ELSE` and `ENDIF` before the line of the next instruction. Some call has to be active.
+    #[inline(always)]
+    pub fn settle(&mut self, program: &Program<A>)
+        requires { AreActive program.now.functions self.old.frames }
+        ensures same { self.new ≡ record self.old { frames = self.new.frames } }
+        ensures stand { (calls : List Active) → StandAll program.now.functions self.old.frames calls
+            → StandAll program.now.functions self.new.frames calls }
+        ensures settled { IsSettled program.now.functions self.new.frames }
+    {
+        settle(&mut self.frames, program);
+    }
+
     /// The first limit that an instruction would pass, given that `words` words are held and needed: that of words,
     /// then of cells, then at a `CALL` that of calls. `None` if it passes none.
     #[inline(always)]
@@ -147,8 +172,8 @@ impl<C: Copy, A: Allocator> Track<C, A> {
     /// from the bottom up, `words` is the number of words that were held and needed, and `flag` is that of
     /// an `IF`, and of no account elsewhere.
     ///
-    /// The entries that it takes have to be there, no limit may be passed, and a function that it calls has
-    /// to be there. At `RET` of the only active call none is active afterwards, and the entries stay.
+    /// The entries that it takes have to be there, no limit may be passed, a function that it calls has to be there, and
+    /// the track has to be settled. At `RET` of the only active call none is active afterwards, and the entries stay.
     #[inline(always)]
     pub fn advance(&mut self, job: &Job<A>, op: Op, flag: bool, results: &[C], words: usize)
         requires budget { self.old.executed < self.old.limits.budget }
@@ -156,7 +181,9 @@ impl<C: Copy, A: Allocator> Track<C, A> {
         requires given { length results.now ≡ length (result_kinds op) }
         requires cells { depth_after op (length self.old.cells) ≤ self.old.limits.cells }
         requires calls { CanFollow job.now.verified op self.old.frames self.old.limits.calls }
-        ensures { Advances job.now.verified op flag results.now words self.old self.new }
+        requires settled { IsSettled (functions_of job.now.verified) self.old.frames }
+        ensures advances { Advances job.now.verified op flag results.now words self.old self.new }
+        ensures goes_on { (op ≡ Return → ⊥) → 0 < length self.new.frames }
     {
         replace(&mut self.cells, op, results);
         follow(&mut self.frames, job, op, flag);
@@ -170,7 +197,8 @@ impl<C: Copy, A: Allocator> Track<C, A> {
         self.cells.clear();
     }
 
-    /// The places at which the active calls go on, that of the innermost last.
+    /// The places at which the active calls go on, that of the innermost last. After
+    /// [`settle`](Track::settle) that is the line of the next instruction.
     pub fn frames(&self) -> &[Frame]
         ensures { result.now ≡ reverse self.now.frames }
     {

@@ -62,7 +62,7 @@ counted : (g : Over) (c : goal.After-advance g) →
     (held_under c.args.turn.rule c.args.turn.number c.args.made.op c.args.track.now.cells c.args.blocks.now
     + length c.args.made.first.now + length c.args.made.second.now) c.args.track.now c.advance.new.self
 counted g c =
-    let past = c.advance.ensures in
+    let past = c.advance.ensures.advances in
     record {
       limits = past.limits;
       cells = past.cells;
@@ -87,3 +87,6 @@ returns-clause-after g c = (executed g c).after
 
 pub returns-clause-others : goal.returns-clause-others
 returns-clause-others g c = (executed g c).others
+
+pub advance-requires-clause-settled : goal.advance-requires-clause-settled
+advance-requires-clause-settled g c = c.requires.flying.settled

@@ -155,7 +155,7 @@ executed g c =
       settled = here.is;
     }) refl
     (subst (λ (n : ℕ). Advances c.args.job.now.verified c.args.placement.op c.args.placement.flag (c.in-Ok.id ∷ []) n
-    c.args.track.now c.advance.new.self) all c.advance.ensures)
+    c.args.track.now c.advance.new.self) all c.advance.ensures.advances)
 
 pub returns-in-Ok-clause-after : goal.returns-in-Ok-clause-after
 returns-in-Ok-clause-after g c = (executed g (goal.at.returns-in-Ok-clause-after g c).After-advance).after
@@ -168,3 +168,6 @@ returns-in-Err-clause-fault g c =
     ap (λ (ids : List ℕ). value_fault c.args.placement.op (map (words_at c.args.blocks.now.memory) ids))
     (sym (operands_are g (goal.at.returns-in-Err-clause-fault g c).After-top-operands))
     ∙ c.in-Err.ensures.fault
+
+pub advance-requires-clause-settled : goal.advance-requires-clause-settled
+advance-requires-clause-settled g c = c.requires.flying.settled

@@ -4,40 +4,41 @@ use Rattle.job_steps.specs.declared.frame.Frame.{Frame}
 use Rattle.job_steps.specs.Piles.{PileState}
 use Rattle.job_steps.specs.Tracks.{Follow, functions_of}
 use Rattle.job_steps.proofs.Following.{IsBehind, IsChosen, call_is, follow_call, follow_if, follow_plain, follow_return}
-use Rattle.job_steps.proofs.Following.{is_plain, inner_stands, same_functions}
+use Rattle.job_steps.proofs.Following.{is_plain, inner_settled, inner_stands, same_functions}
+use Rattle.job_steps.proofs.Following.{stop_top}
 use Rattle.job_steps.proofs.follow.follow.Goals as goal
 
-pub chosen-requires : goal.chosen-requires
-chosen-requires g c =
+pub chosen-requires-clause-stands : goal.chosen-requires-clause-stands
+chosen-requires-clause-stands g c =
     let verified = c.args.job.now.verified in
     let same = same_functions c.program-program.result.now c.verified.result.now verified c.program-program.ensures.same
     c.verified.ensures.same in
     inner_stands verified c.args.frames.now.entries c.at-frame.result c.args.op c.args.frames.now.room
-    c.program-program.result.now.functions c.at-frame.ensures c.requires same
+    c.program-program.result.now.functions c.at-frame.ensures c.requires.can same
 
-pub called-callee-requires : goal.called-callee-requires
-called-callee-requires g c =
+pub called-callee-requires-clause-called : goal.called-callee-requires-clause-called
+called-callee-requires-clause-called g c =
     let verified = c.args.job.now.verified in
     let called =
     call_is verified c.args.frames.now.entries c.at-frame.result c.at-frame.ensures c.args.op c.args.frames.now.room
-    c.requires c.in-Call.is in
+    c.requires.can c.requires.settled c.in-Call.is in
     (called.name, called.callee, called.is)
 
-pub next-requires : goal.next-requires
-next-requires g c =
+pub next-requires-clause-stands : goal.next-requires-clause-stands
+next-requires-clause-stands g c =
     let verified = c.args.job.now.verified in
     let same = same_functions c.program-program.result.now c.verified.result.now verified c.program-program.ensures.same
     c.verified.ensures.same in
     inner_stands verified c.args.frames.now.entries c.at-frame.result c.args.op c.args.frames.now.room
-    c.program-program.result.now.functions c.at-frame.ensures c.requires same
+    c.program-program.result.now.functions c.at-frame.ensures c.requires.can same
 
-pub next-requires-in-Const : goal.next-requires-in-Const
-next-requires-in-Const g c =
+pub next-requires-in-Const-clause-stands : goal.next-requires-in-Const-clause-stands
+next-requires-in-Const-clause-stands g c =
     let verified = c.args.job.now.verified in
     let same = same_functions c.program-program.result.now c.verified.result.now verified c.program-program.ensures.same
     c.verified.ensures.same in
     inner_stands verified c.args.frames.now.entries c.at-frame.result c.args.op c.args.frames.now.room
-    c.program-program.result.now.functions c.at-frame.ensures c.requires same
+    c.program-program.result.now.functions c.at-frame.ensures c.requires.can same
 
 pub returns-in-If-clause-frames : goal.returns-in-If-clause-frames
 returns-in-If-clause-frames g c =
@@ -50,8 +51,8 @@ returns-in-If-clause-frames g c =
     subst (λ (fs : List Function). IsChosen fs c.args.flag frame c.chosen.result) same c.chosen.ensures in
     subst (λ (xs : List Frame). Follow verified c.args.flag frames xs)
     (sym (ap (λ (p : PileState Frame). p.entries) c.replace_top.ensures))
-    (follow_if verified frames frame c.at-frame.ensures c.args.op c.args.frames.now.room c.requires c.in-If.is
-    c.args.flag c.chosen.result chosen)
+    (follow_if verified frames frame c.at-frame.ensures c.args.op c.args.frames.now.room c.requires.can
+    c.requires.settled c.in-If.is c.args.flag c.chosen.result chosen)
 
 pub returns-in-Return-clause-frames : goal.returns-in-Return-clause-frames
 returns-in-Return-clause-frames g c =
@@ -59,8 +60,8 @@ returns-in-Return-clause-frames g c =
     let frames = c.args.frames.now.entries in
     subst (λ (xs : List Frame). Follow verified c.args.flag frames xs)
     (sym (ap (λ (p : PileState Frame). p.entries) c.lower.ensures))
-    (follow_return verified frames c.at-frame.result c.at-frame.ensures c.args.op c.args.frames.now.room c.requires
-    c.in-Return.is c.args.flag)
+    (follow_return verified frames c.at-frame.result c.at-frame.ensures c.args.op c.args.frames.now.room c.requires.can
+    c.requires.settled c.in-Return.is c.args.flag)
 
 pub returns-in-Call-clause-frames : goal.returns-in-Call-clause-frames
 returns-in-Call-clause-frames g c =
@@ -75,11 +76,11 @@ returns-in-Call-clause-frames g c =
     ap (λ (p : PileState Frame). p.entries) c.push.ensures
     ∙ ap (λ (p : PileState Frame). c.called-callee.result ∷ p.entries) c.replace_top-in-Call.ensures in
     subst (λ (xs : List Frame). Follow verified c.args.flag frames xs) (sym now)
-    (follow_call verified frames frame c.at-frame.ensures c.args.op c.args.frames.now.room c.requires c.in-Call.is
-    c.args.flag c.next.result c.called-callee.result behind c.called-callee.ensures)
+    (follow_call verified frames frame c.at-frame.ensures c.args.op c.args.frames.now.room c.requires.can
+    c.requires.settled c.in-Call.is c.args.flag c.next.result c.called-callee.result behind c.called-callee.ensures)
 
-pub returns-in-Const : goal.returns-in-Const
-returns-in-Const g c =
+pub returns-in-Const-clause-frames : goal.returns-in-Const-clause-frames
+returns-in-Const-clause-frames g c =
     let verified = c.args.job.now.verified in
     let frames = c.args.frames.now.entries in
     let frame = c.at-frame.result in
@@ -94,10 +95,36 @@ returns-in-Const g c =
       | inr (inr (inl (x, e))) ↦ ap is_plain e
       | inr (inr (inr (motion, lower, upper, e))) ↦ ap is_plain e
     ] in
-    record {
-      room = ap (λ (p : PileState Frame). p.room) c.replace_top-in-Const.ensures;
-      frames = subst (λ (xs : List Frame). Follow verified c.args.flag frames xs)
-          (sym (ap (λ (p : PileState Frame). p.entries) c.replace_top-in-Const.ensures))
-          (follow_plain verified frames frame c.at-frame.ensures c.args.op c.args.frames.now.room c.requires plain
-          c.args.flag c.next-in-Const.result behind);
-    }
+    subst (λ (xs : List Frame). Follow verified c.args.flag frames xs)
+    (sym (ap (λ (p : PileState Frame). p.entries) c.replace_top-in-Const.ensures))
+    (follow_plain verified frames frame c.at-frame.ensures c.args.op c.args.frames.now.room c.requires.can
+    c.requires.settled plain c.args.flag c.next-in-Const.result behind)
+
+pub chosen-requires-clause-settled : goal.chosen-requires-clause-settled
+chosen-requires-clause-settled g c =
+    let verified = c.args.job.now.verified in
+    let same = same_functions c.program-program.result.now c.verified.result.now verified c.program-program.ensures.same
+    c.verified.ensures.same in
+    inner_settled verified c.args.frames.now.entries c.at-frame.result c.program-program.result.now.functions
+    c.at-frame.ensures c.requires.settled same
+
+pub next-requires-clause-settled : goal.next-requires-clause-settled
+next-requires-clause-settled g c =
+    let verified = c.args.job.now.verified in
+    let same = same_functions c.program-program.result.now c.verified.result.now verified c.program-program.ensures.same
+    c.verified.ensures.same in
+    inner_settled verified c.args.frames.now.entries c.at-frame.result c.program-program.result.now.functions
+    c.at-frame.ensures c.requires.settled same
+
+pub next-requires-in-Const-clause-settled : goal.next-requires-in-Const-clause-settled
+next-requires-in-Const-clause-settled g c =
+    let verified = c.args.job.now.verified in
+    let same = same_functions c.program-program.result.now c.verified.result.now verified c.program-program.ensures.same
+    c.verified.ensures.same in
+    inner_settled verified c.args.frames.now.entries c.at-frame.result c.program-program.result.now.functions
+    c.at-frame.ensures c.requires.settled same
+
+pub called-callee-requires-clause-settled : goal.called-callee-requires-clause-settled
+called-callee-requires-clause-settled g c =
+    stop_top (functions_of c.args.job.now.verified) c.args.frames.now.entries c.at-frame.result c.at-frame.ensures
+    c.requires.settled

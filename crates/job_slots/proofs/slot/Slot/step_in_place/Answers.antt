@@ -23,7 +23,7 @@ carry_out_in_place-requires-clause-shows g c =
     (sym c.self.view_is)
     (shows_flying c.args.turn.number c.args.blocks.now (ruled c.args.turn.rule c.args.job.now) c.args.self.now
     c.requires.shows
-    c.requires.live c.requires.goes_on)
+    c.requires.live c.requires.settled c.requires.goes_on)
 
 pub carry_out_in_place-requires-clause-placeable : goal.carry_out_in_place-requires-clause-placeable
 carry_out_in_place-requires-clause-placeable g c =
@@ -98,7 +98,7 @@ end_by_step-requires-clause-shows g c =
     subst (λ (s : SlotState). Shows c.args.turn.number c.args.blocks.now task s) (sym same.0)
     (subst (λ (s : SlotState). Shows c.args.turn.number c.args.blocks.now task (flying s)) (sym c.self.view_is)
     (shows_flying c.args.turn.number c.args.blocks.now task c.args.self.now c.requires.shows c.requires.live
-    c.requires.goes_on)) in
+    c.requires.settled c.requires.goes_on)) in
     subst (λ (b : JobBlocks). Shows c.args.turn.number b task c.carry_out_in_place.new.self) (sym same.1) before
 
 pub end_by_step-requires-clause-active : goal.end_by_step-requires-clause-active

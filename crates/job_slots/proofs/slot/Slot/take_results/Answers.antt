@@ -16,7 +16,7 @@ carry_out-requires-clause-shows g c =
     (sym c.self.view_is)
     (shows_flying c.args.turn.number c.args.blocks.now (ruled c.args.turn.rule c.args.job.now) c.args.self.now
     c.requires.shows
-    c.requires.live c.requires.goes_on)
+    c.requires.live c.requires.settled c.requires.goes_on)
 
 pub carry_out-requires-clause-made : goal.carry_out-requires-clause-made
 carry_out-requires-clause-made g c =

@@ -1,8 +1,6 @@
-use Rattle.std.proofs.Common.{◌≡◌, ◌≤◌, Some, sym, ◌∙◌, subst, ap, arith}
-use Rattle.vcode_base.specs.declared.limits.Limits.{Limits}
+use Rattle.std.proofs.Common.{◌≡◌, Some, sym, ◌∙◌, subst, ap}
 use Rattle.job_steps.specs.Standings.{InFlight}
 use Rattle.job_steps.specs.States.{ruled}
-use Rattle.job_slots.specs.declared.status.Status.TheVariants as status
 use Rattle.job_slots.specs.Answers.{IsAskedOf, early_end_at}
 use Rattle.job_slots.specs.Slots.{SlotState, Shows}
 use Rattle.job_slots.proofs.Started.{
@@ -15,17 +13,14 @@ use Rattle.job_slots.proofs.Started.{
   next_of,
   stands_ended,
 }
-use Rattle.job_slots.proofs.slot.Slot.begin.Given.{Over}
-use Rattle.job_slots.proofs.slot.Slot.begin.Goals as goal
-use Rattle.job_slots.proofs.slot.Slot.begin.Goals.{In-Live, In-Ok, In-Err}
-
-live : (g : Over) (c : goal.In-Live g) → c.args.self.now.status ≡ status.Live
-live g c = sym (ap (λ (s : SlotState). s.status) c.self.view_is) ∙ c.in-Live.is
+use Rattle.job_slots.proofs.slot.Slot.begin_settled.Given.{Over}
+use Rattle.job_slots.proofs.slot.Slot.begin_settled.Goals as goal
+use Rattle.job_slots.proofs.slot.Slot.begin_settled.Goals.{In-Ok, In-Err}
 
 pub ticket_of-requires-clause-has_grant : goal.ticket_of-requires-clause-has_grant
 ticket_of-requires-clause-has_grant g c =
-    has_grant c.args.turn.number c.args.blocks.now (ruled c.args.turn.rule c.args.job.now) c.args.self.now c.requires
-    (live g (goal.at.ticket_of-requires-clause-has_grant g c).In-Live)
+    has_grant c.args.turn.number c.args.blocks.now (ruled c.args.turn.rule c.args.job.now) c.args.self.now c.requires.shows
+    c.requires.live
 
 -- ---- the job ends
 
@@ -41,25 +36,23 @@ end-requires-clause-ending g c =
     let at = goal.at.end-requires-clause-ending g c in
     ends c.early_ends_end.ensures c.args.turn.number c.args.blocks.now (ruled c.args.turn.rule c.args.job.now)
     c.args.self.now
-    c.in-Err.halted.ending c.requires (live g at.In-Live) (halts g at.In-Err)
+    c.in-Err.halted.ending c.requires.shows c.requires.live (halts g at.In-Err)
 
 pub returns-in-Err-clause-answer : goal.returns-in-Err-clause-answer
 returns-in-Err-clause-answer g c =
     let at = goal.at.returns-in-Err-clause-answer g c in
     let next =
     next_of c.args.turn.number c.args.blocks.now (ruled c.args.turn.rule c.args.job.now) c.args.self.now
-    (Some c.in-Err.halted.ending) c.requires
-    (live g at.In-Live) (halts g at.In-Err) in
-    let enough : c.args.job.now.limits.words ≤ c.args.desk =
-    omega (arith, ap (λ (l : Limits). l.words) c.limits.ensures) in
-    (next, enough, c.in-Err.ensures.1)
+    (Some c.in-Err.halted.ending) c.requires.shows
+    c.requires.live (halts g at.In-Err) in
+    (next, c.requires.enough, c.in-Err.ensures.1)
 
 pub returns-in-Err-clause-standing : goal.returns-in-Err-clause-standing
 returns-in-Err-clause-standing g c =
     let at = goal.at.returns-in-Err-clause-standing g c in
     stands_ended c.args.turn.number c.args.blocks.now (ruled c.args.turn.rule c.args.job.now) c.args.self.now
     c.end.new.self
-    c.in-Err.halted.ending c.requires (live g at.In-Live) (halts g at.In-Err) c.end.ensures.ended
+    c.in-Err.halted.ending c.requires.shows c.requires.live (halts g at.In-Err) c.end.ensures.ended
 
 -- ---- the step begins
 
@@ -76,8 +69,8 @@ pub returns-in-Ok-clause-answer : goal.returns-in-Ok-clause-answer
 returns-in-Ok-clause-answer g c =
     let at = goal.at.returns-in-Ok-clause-answer g c in
     is_ticket c.args.turn.number c.args.desk c.args.blocks.now (ruled c.args.turn.rule c.args.job.now) c.args.self.now
-    c.in-Ok.ticket c.requires
-    (live g at.In-Live) (asked g at.In-Ok) (omega (arith, ap (λ (l : Limits). l.words) c.limits.ensures))
+    c.in-Ok.ticket c.requires.shows
+    c.requires.live (asked g at.In-Ok) c.requires.enough
 
 pub returns-in-Ok-clause-shows : goal.returns-in-Ok-clause-shows
 returns-in-Ok-clause-shows g c =
@@ -86,8 +79,8 @@ returns-in-Ok-clause-shows g c =
     (flying s))
     (sym c.self.view_is)
     (shows_flying c.args.turn.number c.args.blocks.now (ruled c.args.turn.rule c.args.job.now) c.args.self.now
-    c.requires
-    (live g at.In-Live)
+    c.requires.shows
+    c.requires.live c.requires.settled
     (asked g at.In-Ok).goes_on)
 
 pub returns-in-Ok-clause-standing : goal.returns-in-Ok-clause-standing
@@ -95,6 +88,6 @@ returns-in-Ok-clause-standing g c =
     let at = goal.at.returns-in-Ok-clause-standing g c in
     ap (λ (s : SlotState). InFlight s.trace.executed) c.self.view_is
     ∙ stands_flying c.args.turn.number c.args.blocks.now (ruled c.args.turn.rule c.args.job.now) c.args.self.now
-    c.requires
-    (live g at.In-Live)
+    c.requires.shows
+    c.requires.live
     (asked g at.In-Ok).goes_on
