@@ -382,7 +382,7 @@ impl<A: Allocator> Slot<A> {
         }
     }
 
-    /// Carries out the next instruction of a job that is live.
+    /// Carries out the next instruction of a job that is live, by its class.
     #[inline(always)]
     fn step_live(
         &mut self,
@@ -404,58 +404,6 @@ impl<A: Allocator> Slot<A> {
         ensures steps { IsPassedOver result → ⊥ }
     {
         self.settle(turn, job, blocks);
-        self.step_settled(turn, job, blocks, desk)
-    }
-
-    /// Passes over each `ELSE` and `ENDIF` before the next instruction of the job, if it is live.
-    #[inline(always)]
-    fn settle_live(&mut self, turn: Turn, job: &Job<A>, blocks: &JobMemory<A>)
-        requires { Shows turn.number blocks.now (ruled turn.rule job.now) self.old }
-        ensures shows { Shows turn.number blocks.now (ruled turn.rule job.now) self.new }
-        ensures same_standing { standing_of self.new ≡ standing_of self.old }
-    {
-        match self.status {
-            Status::Live => self.settle(turn, job, blocks),
-            Status::Waiting | Status::InFlight | Status::Ended | Status::Collected => {}
-        }
-    }
-
-    /// Passes over each `ELSE` and `ENDIF` before the next instruction of the job, which is live.
-    #[inline(always)]
-    fn settle(&mut self, turn: Turn, job: &Job<A>, blocks: &JobMemory<A>)
-        requires shows { Shows turn.number blocks.now (ruled turn.rule job.now) self.old }
-        requires live { self.old.status ≡ status.Live }
-        ensures shows { Shows turn.number blocks.now (ruled turn.rule job.now) self.new }
-        ensures still_live { self.new.status ≡ status.Live }
-        ensures same_standing { standing_of self.new ≡ standing_of self.old }
-        ensures settled { IsSettled (functions_of job.now.verified) self.new.trace.frames }
-    {
-        steps_can_begin::<BlockId>();
-        self.track.settle(job.verified().program());
-    }
-
-    /// Carries out the next instruction of a job that is live, at whose line the track is, by its class.
-    #[inline(always)]
-    fn step_settled(
-        &mut self,
-        turn: Turn,
-        job: &Job<A>,
-        blocks: &mut JobMemory<A>,
-        desk: &mut Desk<A>,
-    ) -> Stepped
-        requires shows { Shows turn.number blocks.old (ruled turn.rule job.now) self.old }
-        requires live { self.old.status ≡ status.Live }
-        requires settled { IsSettled (functions_of job.now.verified) self.old.trace.frames }
-        requires numbers { block_count blocks.old.memory + 2 ≤ length blocks.old.memory.slots }
-        requires enough { job.now.limits.words ≤ desk.old }
-        ensures answer { Steps turn.number desk.old (ruled turn.rule job.now) (standing_of self.old) result }
-        ensures shows { Shows turn.number blocks.new (ruled turn.rule job.now) self.new }
-        ensures others { ChangesOnlyOf turn.number blocks.old blocks.new }
-        ensures standing { standing_of self.new
-            ≡ standing_after_step turn.number (ruled turn.rule job.now) (standing_of self.old) }
-        ensures desk { desk.new ≡ desk.old }
-        ensures steps { IsPassedOver result → ⊥ }
-    {
         let line = settled_line(turn, job, &self.track, blocks);
         match &line.item {
             CodeItem::Do(Instr::Const(elements, list)) => {
@@ -492,6 +440,33 @@ impl<A: Allocator> Slot<A> {
                 self.step_as(turn, job, blocks, desk, class::If)
             }
         }
+    }
+
+    /// Passes over each `ELSE` and `ENDIF` before the next instruction of the job, if it is live.
+    #[inline(always)]
+    fn settle_live(&mut self, turn: Turn, job: &Job<A>, blocks: &JobMemory<A>)
+        requires { Shows turn.number blocks.now (ruled turn.rule job.now) self.old }
+        ensures shows { Shows turn.number blocks.now (ruled turn.rule job.now) self.new }
+        ensures same_standing { standing_of self.new ≡ standing_of self.old }
+    {
+        match self.status {
+            Status::Live => self.settle(turn, job, blocks),
+            Status::Waiting | Status::InFlight | Status::Ended | Status::Collected => {}
+        }
+    }
+
+    /// Passes over each `ELSE` and `ENDIF` before the next instruction of the job, which is live.
+    #[inline(always)]
+    fn settle(&mut self, turn: Turn, job: &Job<A>, blocks: &JobMemory<A>)
+        requires shows { Shows turn.number blocks.now (ruled turn.rule job.now) self.old }
+        requires live { self.old.status ≡ status.Live }
+        ensures shows { Shows turn.number blocks.now (ruled turn.rule job.now) self.new }
+        ensures still_live { self.new.status ≡ status.Live }
+        ensures same_standing { standing_of self.new ≡ standing_of self.old }
+        ensures settled { IsSettled (functions_of job.now.verified) self.new.trace.frames }
+    {
+        steps_can_begin::<BlockId>();
+        self.track.settle(job.verified().program());
     }
 
     /// Carries out the next instruction of a job that is live, which is this one. It is compiled for each class apart.
