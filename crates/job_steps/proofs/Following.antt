@@ -42,11 +42,6 @@ use Rattle.job_steps.proofs.Typed.{callee}
 
 -- ---- the innermost frame
 
-pub some_frame : (fs : List Function) (frames : List Frame) (call : Active) (outer : List Active) →
-    StandAll fs frames (call ∷ outer) → 0 < length frames
-some_frame fs [] call outer s = absurd s
-some_frame fs (frame ∷ frames) call outer s = omega arith
-
 -- the innermost frame is at the innermost call, and the others at the others
 pub record IsTop (fs : List Function) (frames : List Frame) (frame : Frame) (call : Active) (outer : List Active)
     : Type 0
@@ -328,10 +323,6 @@ module _ (verified : TypedProgram) (frames : List Frame) (frame : Frame) (top : 
         call_by next behind c.name c.callee inner c.is.is (first c.name c.callee c.is) flag call.rest call.ret outer
         (c.line call t.inner) t.inner t.others
 
-pub long_again : (frame : Frame) (frames : List Frame) → 0 < length frames →
-    length (frame ∷ drop 1 frames) ≡ length frames
-long_again frame frames h = omega (arith, length-drop 1 frames)
-
 -- ---- the first frame of a function
 
 abbrev pub frame_of : ℕ → Frame
@@ -473,26 +464,6 @@ StandToo fs old new = (calls : List Active) → StandAll fs old calls → StandA
 pub record HasPassed (fs : List Function) (old new : List Frame) : Type 0 where
   pub stand : StandToo fs old new
   pub fewer : lines_left fs new < lines_left fs old
-
-passed_stand : (fs : List Function) (f next : Frame) (frames : List Frame) → GoesOnAt fs f next →
-    StandToo fs (f ∷ frames) (next ∷ frames)
-passed_stand fs f next frames goes [] s = absurd s
-passed_stand fs f next frames goes (call ∷ calls) s = (stands_past fs f next call goes s.0, s.1)
-
-pub has_passed : (fs : List Function) (frames : List Frame) (frame next : Frame) → slice_get frames 0 ≡ Some frame →
-    GoesOnAt fs frame next → HasPassed fs frames (next ∷ drop 1 frames)
-has_passed fs [] frame next top goes = absurd (let h : ◌≡◌ {A = Option Frame} None (Some frame) = top in cc)
-has_passed fs (f ∷ frames) frame next top goes =
-    let same : f ≡ frame = let h : ◌≡◌ {A = Option Frame} (Some f) (Some frame) = top in cc in
-    let here : GoesOnAt fs f next = subst (λ x. GoesOnAt fs x next) (sym same) goes in
-    record { stand = passed_stand fs f next frames here; fewer = here.fewer }
-
-pub settled_by : (fs : List Function) (frames : List Frame) (frame : Frame) → slice_get frames 0 ≡ Some frame →
-    StopAt (lines_from fs frame) → IsSettled fs frames
-settled_by fs [] frame top stop = tt
-settled_by fs (f ∷ frames) frame top stop =
-    let same : f ≡ frame = let h : ◌≡◌ {A = Option Frame} (Some f) (Some frame) = top in cc in
-    subst (λ x. StopAt (lines_from fs x)) (sym same) stop
 
 pub top_active : (fs : List Function) (frames : List Frame) (frame : Frame) → slice_get frames 0 ≡ Some frame →
     AreActive fs frames → (call : Active) × Stands fs frame call

@@ -101,17 +101,6 @@ there own stack e = grind (arith, same_lengths, length-stack_kinds, length-take)
 
 -- ---- the kinds of results, and of entries that are moved
 
-pub kinds-vectors_of : (ks : List Kind) (lists : List (List ℤ)) → length ks ≤ length lists →
-    map (λ (v : Vector). v.kind) (vectors_of ks lists) ≡ ks
-kinds-vectors_of [] lists h = refl
-kinds-vectors_of (k ∷ ks) [] h = absurd (omega arith)
-kinds-vectors_of (k ∷ ks) (words ∷ lists) h = ap (λ zs. k ∷ zs) (kinds-vectors_of ks lists (omega arith))
-
-pub kinds-new_entries : (next : ℕ) (vs : List Vector) →
-    map kind_of (new_entries next vs) ≡ map (λ (v : Vector). v.kind) vs
-kinds-new_entries next [] = refl
-kinds-new_entries next (v ∷ vs) = ap (λ zs. v.kind ∷ zs) (kinds-new_entries (next + 1) vs)
-
 kinds-move : (motion : StackMove) (lower upper : List StackEntry) →
     map kind_of (entries_after_move motion lower upper)
     ≡ entries_after_move motion (map kind_of lower) (map kind_of upper)

@@ -46,11 +46,6 @@ pub few_lent : (op : Op) (refs : List (Bor (List ℤ)))
     → HaveKinds (source_kinds op) (contents refs) → length refs ≤ 5
 few_lent op refs h = omega (arith, few_operands op (contents refs) h, length-map refs (λ r. r.now))
 
--- operands of at most this number of words have room in five parts of as many
-pub room_for_all : (op : Op) (words room : ℕ) (xs : List (List ℤ))
-    → HaveKinds (source_kinds op) xs → HaveAtMost words xs → room ≡ 5 * words → length_of_all xs ≤ room
-room_for_all op words room xs h within is = grind arith
-
 -- the front of what is lent
 pub contents_in_front : (count : ℕ) (refs : List (Bor (List ℤ))) (xs : List (List ℤ))
     → count ≡ length xs → take (length xs) (contents refs) ≡ xs → contents (take count refs) ≡ xs
