@@ -289,7 +289,7 @@ module _ (front : ℕ) (words words' : List ℤ) (starts : List ℕ) (spans : Li
   }
 
 -- what is known of a number's block by its span
-words_of-span : (front : ℕ) (words : List ℤ) (spans : List (Option Span)) (n : ℕ) (s : Span)
+pub words_of-span : (front : ℕ) (words : List ℤ) (spans : List (Option Span)) (n : ℕ) (s : Span)
     → value_at spans n ≡ Some s → words_at (slots_from front words spans) n ≡ take s.len (drop s.place words)
 words_of-span front words spans n s there = ap words_of (value_at-there front words spans n s there)
 
@@ -498,9 +498,10 @@ pub has_span : (front : ℕ) (words : List ℤ) (spans : List (Option Span)) (n 
 has_span front words spans n =
     ap is_some (value_at-slots front words spans n) ∙ some_span front words (value_at spans n)
 
--- a span lies apart from words of the region that no block covers
+-- a span lies apart from words of the region of which its block covers none
 pub span_apart : (front : ℕ) (words : List ℤ) (starts : List ℕ) (spans : List (Option Span)) (n place len : ℕ)
-    → AreSpans front words starts spans → IsBare (slots_from front words spans) place len
+    → AreSpans front words starts spans
+    → ((word : ℕ) → place ≤ word → word < place + len → Covers (slots_from front words spans) n word → ⊥)
     → IsApart (length words) (front + place) len (span_in spans n)
 span_apart front words starts spans n place len a bare = by_span (value_at spans n) refl
   where
@@ -512,9 +513,9 @@ span_apart front words starts spans n place len a bare = by_span (value_at spans
           | inl over ↦ elim (cases_lt s.place (front + place + len)) [
             | inr behind ↦ inr behind
             | inl under ↦ elim (cases_lt s.place (front + place)) [
-              | inl lower ↦ absurd (bare n place (omega arith) (omega arith)
+              | inl lower ↦ absurd (bare place (omega arith) (omega arith)
                   (Covers-span front words spans n place s there region (omega arith) over))
-              | inr higher ↦ absurd (bare n (s.place - front) (omega arith) (omega arith)
+              | inr higher ↦ absurd (bare (s.place - front) (omega arith) (omega arith)
                   (Covers-span front words spans n (s.place - front) s there region (omega arith) (omega arith)))
             ]
           ]
@@ -534,6 +535,39 @@ span_apart front words starts spans n place len a bare = by_span (value_at spans
     by_span : (o : Option Span) → value_at spans n ≡ o → IsApart (length words) (front + place) len (span_of o)
     by_span None there = (omega arith, λ some. (omega arith, inl refl))
     by_span (Some s) there = (a.within n s there, λ some. (a.within n s there, outside s there some))
+
+-- a span lies apart from that of another number, whose words no other block covers
+pub other_apart : (front : ℕ) (words : List ℤ) (starts : List ℕ) (spans : List (Option Span)) (n m : ℕ) (s : Span)
+    → AreSpans front words starts spans → value_at spans n ≡ Some s → m ≢ n
+    → IsClear (slots_from front words spans) n (s.place - front) (covered_in front s)
+    → IsApart (length words) s.place s.len (span_in spans m)
+other_apart front words starts spans n m s a there other clear =
+    elim (a.home n s there) [
+      | inl own ↦ beside_own own (value_at spans m) refl
+      | inr region ↦
+          let here : front + (s.place - front) ≡ s.place = omega arith in
+          let whole : covered_in front s ≡ s.len = omega arith in
+          subst (λ (place : ℕ). IsApart (length words) place s.len (span_in spans m)) here
+          (span_apart front words starts spans m (s.place - front) s.len a
+          (λ word from below covers. other (clear m word from (rw whole below) covers)))
+    ]
+  where
+    beside_own : (s.place ≡ n) × (s.len ≡ 1) × (n < front) → (o : Option Span) → value_at spans m ≡ o
+        → IsApart (length words) s.place s.len (span_of o)
+    beside_own own None none = (omega arith, λ some. (omega arith, inl refl))
+    beside_own own (Some t) is =
+        let apart : (t.place + t.len ≤ s.place) ⊎ (s.place + s.len ≤ t.place) =
+        elim (a.home m t is) [
+          | inr region ↦ inr (omega (arith, own.0, own.1, own.2))
+          | inl its_own ↦ elim (cases_lt m n) [
+            | inl lower ↦ inl (omega (arith, own.0, its_own.0, its_own.1))
+            | inr higher ↦ elim (cases_eq m n) [
+              | inl same ↦ absurd (other same)
+              | inr differs ↦ inr (omega (arith, own.0, own.1, its_own.0, higher, differs))
+            ]
+          ]
+        ] in
+        (a.within m t is, λ some. (a.within m t is, inr apart))
 
 -- a block that goes
 pub slots_from-remove : (words : List ℤ) (spans : List (Option Span)) (n : ℕ)

@@ -545,11 +545,15 @@ can_rewrite layout holes used n new r live same =
           (record { owner = k; words = new }) in c) (sym owner));
     }
 
--- the lists that a writer of a new block is lent
+-- the words of a block that is lent, and the lists of all that are
+pub lent_words : (slots : List (Option PlacedBlock)) (n : ℕ) → words_at slots n
+    ≡ content_words_at (content_of slots) n
+lent_words slots n = sym (words_at-content_of slots n)
+
 pub lent_lists : (slots : List (Option PlacedBlock)) (content : Content) (lent : List ℕ)
     → content_of slots ≡ content → map (words_at slots) lent ≡ map (content_words_at content) lent
 lent_lists slots content lent same =
-    (λ i. map (λ n. sym (words_at-content_of slots n) i) lent)
+    (λ i. map (λ n. lent_words slots n i) lent)
     ∙ ap (λ (k : Content). map (content_words_at k) lent) same
 
 -- a block that was put is one that was placed, with words of which this is so

@@ -31,6 +31,13 @@ span_of (Some s) = s
 abbrev pub span_at : List (Option Span) → ℕ → Span
 span_at spans id = span_of (value_at spans id)
 
+-- these words came over as many others, this is what that changed, and the words have this property
+pub record IsRewrittenBy (old : List ℤ) (changed is : List ℤ → Type 0) : Type 0 where
+  pub words : List ℤ
+  pub same_length : length words ≡ length old
+  pub rewritten : changed words
+  pub so : is words
+
 -- one block of `len` words more, which covers this many words of the region. Its words have this property
 abbrev pub IsPutWith : Layout → Layout → (number owner place covered len : ℕ) → (List ℤ → Type 0) → Type 0
 IsPutWith old new number owner place covered len is =

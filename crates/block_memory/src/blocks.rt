@@ -2,18 +2,18 @@
 //! of its own.
 ghost use Rattle.std.specs.Prelude.{◌≡◌, ◌+◌, ◌^◌, ◌<◌, ◌≤◌, ℕ, length, take, drop, replicate, None, Some};
 ghost use Rattle.std.specs.Prelude.{IsSome, is_some, IfOk, IfSome, IfNone, All, MatchResult, map, slice_index_or};
-ghost use Rattle.std.specs.Prelude.{vec_capacity, [], ◌-◌, ◌⊎◌};
+ghost use Rattle.std.specs.Prelude.{vec_capacity, [], ◌-◌, ◌⊎◌, ◌≢◌};
 ghost use Rattle.block_memory.specs.BlocksInside.{covered_in};
 ghost use Rattle.block_memory.specs.Table.{value_at, value_count};
 ghost use Rattle.block_memory.specs.Layout.{IsBare, IsClear, Begins, owner_at, place_at, covered_at, words_at};
 ghost use Rattle.block_memory.specs.Layout.{with_slot, layout_after_move, layout_after_rewrite};
 ghost use Rattle.block_memory.specs.BlocksWritten.{IsWritten, IsMarked, IsLengthened};
-ghost use Rattle.block_memory.specs.Writing.{IsPutWith, IsApart, span_at, span_of, words_in};
+ghost use Rattle.block_memory.specs.Writing.{IsPutWith, IsRewrittenBy, IsApart, span_at, span_of, words_in};
 
 use crate::memory::{BlockId, MOST_BLOCKS};
 use crate::span::{Freed, Span};
 use crate::table::Table;
-use crate::writer::{MOST_LENT, Writer, write_block};
+use crate::writer::{MOST_LENT, Rewriter, Writer, write_block};
 use holes::LONGEST_REGION;
 use std::alloc::{AllocError, Allocator};
 use std::marker::Model;
@@ -130,24 +130,26 @@ fn lent_span<A: Allocator>(spans: &Table<Span, A>, lent: &[BlockId], index: usiz
     }
 }
 
-// Writes the words of a block at a place where none is, lent those of other blocks.
-fn write_lent<A: Allocator, W: Writer>(
+// Writes the words of a block at a place where no other is, lent those of other blocks.
+fn write_lent<A: Allocator, R: Rewriter>(
     words: &mut [i64],
     spans: &Table<Span, A>,
     place: usize,
     len: usize,
     lent: &[BlockId],
-    writer: &W,
-) -> Result<(), W::Fault>
+    writer: &R,
+) -> Result<(), R::Fault>
     requires within { place + len ≤ length words.old }
     requires few { length lent.now ≤ MOST_LENT }
     requires there { All (λ id. IsSome (value_at spans.now id)) lent.now }
     requires apart { All (λ id. IsApart (length words.old) place len (span_at spans.now id)) lent.now }
-    requires can { W.can_write writer.now (map (λ id. words_in words.old (span_at spans.now id)) lent.now) len }
+    requires can { R.can_rewrite writer.now (map (λ id. words_in words.old (span_at spans.now id)) lent.now)
+        (take len (drop place words.old)) }
     ensures written { IsWritten words.old words.new place (take len (drop place words.new)) }
     ensures by_writer { let others = map (λ id. words_in words.old (span_at spans.now id)) lent.now in
-        MatchResult result (λ _. W.writes writer.now others (take len (drop place words.new)))
-        (λ fault. W.faults writer.now others fault) }
+        let old = take len (drop place words.old) in
+        MatchResult result (λ _. R.rewrites writer.now others old (take len (drop place words.new)))
+        (λ fault. R.faults_over writer.now others old fault) }
 {
     let lent_spans = [
         lent_span(spans, lent, 0),
@@ -422,7 +424,7 @@ impl<A: Allocator> Blocks<A> {
         let front = self.spans.len();
         let at = front + place;
         lengthen(&mut self.words, at + len, 0);
-        let written = write_lent(&mut self.words, &self.spans, at, len, lent, writer);
+        let written = write_lent(&mut self.words, &self.spans, at, len, lent, &writer);
         let span = Span {
             owner,
             place: at,
@@ -444,6 +446,32 @@ impl<A: Allocator> Blocks<A> {
     {
         let span = *self.spans.value(number);
         write_words(&mut self.words, span.place, words);
+    }
+
+    /// Writes other words over those of the block of a number, which shares none with another. A rewriter writes them,
+    /// and is lent the words of other blocks for that. If it finds a fault, nothing is said of the block's words.
+    pub(crate) fn rewrite_with<R: Rewriter>(
+        &mut self,
+        number: usize,
+        lent: &[BlockId],
+        rewriter: &R,
+    ) -> Result<(), R::Fault>
+        requires there { IsSome (value_at self.old.slots number) }
+        requires clear { IsClear self.old.slots number (place_at self.old.slots number)
+            (covered_at self.old.slots number) }
+        requires few { length lent.now ≤ MOST_LENT }
+        requires lent_there { All (λ id. IsSome (value_at self.old.slots id)) lent.now }
+        requires others { All (λ id. id ≢ number) lent.now }
+        requires can { R.can_rewrite rewriter.now (map (words_at self.old.slots) lent.now)
+            (words_at self.old.slots number) }
+        ensures { IsRewrittenBy (words_at self.old.slots number) (λ words. self.new
+            ≡ layout_after_rewrite self.old number words) (λ words. MatchResult result
+            (λ _. R.rewrites rewriter.now (map (words_at self.old.slots) lent.now) (words_at self.old.slots number) words)
+            (λ fault. R.faults_over rewriter.now (map (words_at self.old.slots) lent.now)
+            (words_at self.old.slots number) fault)) }
+    {
+        let span = *self.spans.value(number);
+        write_lent(&mut self.words, &self.spans, span.place, span.len, lent, rewriter)
     }
 
     /// Takes the block of a number away, and answers what it had.

@@ -23,4 +23,4 @@ pub use holes::LONGEST_REGION;
 pub use memory::{BlockId, LendingMemory, MOST_BLOCKS, NoRoom, RewritableMemory, VectorMemory};
 pub use plain::PlainMemory;
 pub use region::{PackedRegion, RegionMemory, SlidingMemory};
-pub use writer::{MOST_LENT, Writer};
+pub use writer::{MOST_LENT, Rewriter, Writer};

@@ -1,11 +1,11 @@
 //! The contract of a vector memory.
 ghost use Rattle.std.specs.Prelude.{◌≡◌, ◌+◌, ◌<◌, ◌≤◌, ◌↔◌, ℕ, Bool, Option, Some, None, length, map, All, slice_get};
-ghost use Rattle.std.specs.Prelude.{IsTrue, IfOk, IfErr, OnErr};
+ghost use Rattle.std.specs.Prelude.{IsTrue, IfOk, IfErr, OnErr, MatchResult, ◌≢◌};
 ghost use Rattle.block_memory.specs.Content.{Content, IsLive, block_at, owner_at, words_at, used_words};
 ghost use Rattle.block_memory.specs.Content.{block_count, with_block, without_block};
-ghost use Rattle.block_memory.specs.Placing.{IsPlacedWith};
+ghost use Rattle.block_memory.specs.Placing.{IsPlacedWith, IsRewrittenWith};
 
-use crate::writer::{MOST_LENT, Writer};
+use crate::writer::{MOST_LENT, Rewriter, Writer};
 use std::marker::Model;
 
 /// The most blocks that a memory may be made for.
@@ -163,7 +163,7 @@ pub trait RewritableMemory: VectorMemory {
         ensures same_room { Self.room self.new ≡ Self.room self.old };
 }
 
-/// A memory that lends the words of its blocks to a [`Writer`] of a new one.
+/// A memory that lends the words of its blocks to what writes another: a [`Writer`] of a new one, or a [`Rewriter`].
 pub trait LendingMemory: VectorMemory {
     /// Places a new block of `len` words, which fit, for an owner. A writer writes it where it lies, and is lent the
     /// words of other blocks for that. There has to be a number without a block.
@@ -187,5 +187,29 @@ pub trait LendingMemory: VectorMemory {
             (W.writes writer.now (map (words_at (Self.content self.old)) lent.now))) }
         ensures unchanged { OnErr result (Self.content self.new ≡ Self.content self.old) }
         ensures fault { IfErr result (W.faults writer.now (map (words_at (Self.content self.old)) lent.now)) }
+        ensures same_room { Self.room self.new ≡ Self.room self.old };
+
+    /// Writes other words over those of a block. A rewriter writes them where they lie, and is lent the words of other
+    /// blocks for that.
+    ///
+    /// # Errors
+    ///
+    /// The fault that the rewriter finds. Nothing is said of the block's words then.
+    fn rewrite_with<R: Rewriter>(
+        &mut self,
+        id: BlockId,
+        lent: &[BlockId],
+        rewriter: &R,
+    ) -> Result<(), R::Fault>
+        requires live { IsLive (Self.content self.old) id }
+        requires few { length lent.now ≤ MOST_LENT }
+        requires lent_live { All (IsLive (Self.content self.old)) lent.now }
+        requires others { All (λ other. other ≢ id) lent.now }
+        requires can { R.can_rewrite rewriter.now (map (words_at (Self.content self.old)) lent.now)
+            (words_at (Self.content self.old) id) }
+        ensures rewritten { let lists = map (words_at (Self.content self.old)) lent.now in
+            let old = words_at (Self.content self.old) id in
+            IsRewrittenWith (Self.content self.old) (Self.content self.new) id (λ words. MatchResult result
+            (λ _. R.rewrites rewriter.now lists old words) (λ fault. R.faults_over rewriter.now lists old fault)) }
         ensures same_room { Self.room self.new ≡ Self.room self.old };
 }

@@ -12,7 +12,7 @@ use crate::pack::WholePacking;
 use crate::packing::{MoveCounts, Packing};
 use crate::places::Places;
 use crate::slide::SlidingPacking;
-use crate::writer::{MOST_LENT, Writer};
+use crate::writer::{MOST_LENT, Rewriter, Writer};
 use holes::LONGEST_REGION;
 use std::alloc::{AllocError, Allocator};
 use std::marker::{Model, PhantomData};
@@ -310,5 +310,14 @@ impl<P: Packing, A: Allocator> LendingMemory for PackedRegion<P, A> {
                 Err(fault)
             }
         }
+    }
+
+    fn rewrite_with<R: Rewriter>(
+        &mut self,
+        id: BlockId,
+        lent: &[BlockId],
+        rewriter: &R,
+    ) -> Result<(), R::Fault> {
+        self.blocks.rewrite_with(id.number(), lent, rewriter)
     }
 }

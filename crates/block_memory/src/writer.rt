@@ -1,4 +1,4 @@
-//! What writes the words of a new block where it lies, from the words of other blocks.
+//! What writes the words of a block where it lies, from the words of other blocks.
 ghost use Rattle.std.specs.Prelude.{◌≡◌, ◌≤◌, ◌+◌, ◌^◌, ◌<◌, ◌++◌, ℕ, ℤ, List, [], All, MatchResult, slice_index_or};
 ghost use Rattle.std.specs.Prelude.{length, take, drop, map};
 ghost use Rattle.std.specs.List.{SameBelow, SameFrom};
@@ -34,6 +34,50 @@ pub trait Writer {
         requires { can_write self.now (contents lent.now) (length block.old) }
         ensures { MatchResult result (λ _. writes self.now (contents lent.now) block.new)
             (λ fault. faults self.now (contents lent.now) fault) };
+}
+
+/// Writes other words over those of a block from the words of other blocks.
+pub trait Rewriter {
+    ghost use Rattle.std.specs.Prelude.{List, ℤ, MatchResult};
+
+    /// Why there are no words to write.
+    type Fault;
+
+    /// A block of these words can be written from these lists.
+    ghost can_rewrite: { Self → List (List ℤ) → List ℤ → Type 0 };
+
+    /// Over the words of a block others are written from these lists.
+    ghost rewrites: { Self → List (List ℤ) → List ℤ → List ℤ → Type 0 };
+
+    /// These lists and the words of a block have this fault.
+    ghost faults_over: { Self → List (List ℤ) → List ℤ → Self.Fault → Type 0 };
+
+    /// Writes over the words of a block from lists that are lent.
+    ///
+    /// # Errors
+    ///
+    /// The fault that they have. Nothing is said of the block's words then.
+    fn rewrite(&self, lent: &[&[i64]], block: &mut [i64]) -> Result<(), Self::Fault>
+        requires { can_rewrite self.now (contents lent.now) block.old }
+        ensures { MatchResult result (λ _. rewrites self.now (contents lent.now) block.old block.new)
+            (λ fault. faults_over self.now (contents lent.now) block.old fault) };
+}
+
+/// A writer of new blocks, whatever words the block had.
+impl<W: Writer> Rewriter for &W {
+    ghost use Rattle.std.specs.Prelude.{length};
+
+    type Fault = W::Fault;
+
+    ghost can_rewrite = { λ w lent old. W.can_write w.now lent (length old) };
+
+    ghost rewrites = { λ w lent old new. W.writes w.now lent new };
+
+    ghost faults_over = { λ w lent old fault. W.faults w.now lent fault };
+
+    fn rewrite(&self, lent: &[&[i64]], block: &mut [i64]) -> Result<(), W::Fault> {
+        self.write(lent, block)
+    }
 }
 
 // The words of a span that lies outside of a block, or has none. `before` and `behind` are the words of the region
@@ -75,21 +119,21 @@ fn words_at<'a>(
 }
 
 // Writes a block from the words of spans outside of it.
-fn write_between<W: Writer>(
+fn write_between<R: Rewriter>(
     before: &[i64],
     block: &mut [i64],
     behind: &[i64],
     spans: &[Span],
-    writer: &W,
-) -> Result<(), W::Fault>
+    writer: &R,
+) -> Result<(), R::Fault>
     requires few { length spans.now ≤ MOST_LENT }
     requires outside { All (IsOutside (length before.now + length block.old + length behind.now) (length before.now)
         (length block.old)) spans.now }
     requires size { length before.now + length block.old + length behind.now < 2 ^ 64 }
-    requires can { W.can_write writer.now (map (words_in (before.now ++ block.old ++ behind.now)) spans.now)
-        (length block.old) }
+    requires can { R.can_rewrite writer.now (map (words_in (before.now ++ block.old ++ behind.now)) spans.now) block.old }
     ensures { let lent = map (words_in (before.now ++ block.old ++ behind.now)) spans.now in
-        MatchResult result (λ _. W.writes writer.now lent block.new) (λ fault. W.faults writer.now lent fault) }
+        MatchResult result (λ _. R.rewrites writer.now lent block.old block.new)
+        (λ fault. R.faults_over writer.now lent block.old fault) }
 {
     let len = block.len();
     let lent = [
@@ -99,24 +143,24 @@ fn write_between<W: Writer>(
         words_at(before, behind, len, spans, 3),
         words_at(before, behind, len, spans, 4),
     ];
-    writer.write(&lent[..spans.len()], block)
+    writer.rewrite(&lent[..spans.len()], block)
 }
 
 /// Writes `len` words of a region from a place on, from the words of spans outside of them.
-pub(crate) fn write_block<W: Writer>(
+pub(crate) fn write_block<R: Rewriter>(
     region: &mut [i64],
     place: usize,
     len: usize,
     spans: &[Span],
-    writer: &W,
-) -> Result<(), W::Fault>
+    writer: &R,
+) -> Result<(), R::Fault>
     requires inside { place + len ≤ length region.old }
     requires few { length spans.now ≤ MOST_LENT }
     requires apart { All (IsApart (length region.old) place len) spans.now }
-    requires can { W.can_write writer.now (map (words_in region.old) spans.now) len }
-    ensures written { let lent = map (words_in region.old) spans.now in
-        MatchResult result (λ _. W.writes writer.now lent (take len (drop place region.new)))
-        (λ fault. W.faults writer.now lent fault) }
+    requires can { R.can_rewrite writer.now (map (words_in region.old) spans.now) (take len (drop place region.old)) }
+    ensures written { let lent = map (words_in region.old) spans.now in let old = take len (drop place region.old) in
+        MatchResult result (λ _. R.rewrites writer.now lent old (take len (drop place region.new)))
+        (λ fault. R.faults_over writer.now lent old fault) }
     ensures same_size { length region.new ≡ length region.old }
     ensures below { SameBelow region.old region.new place }
     ensures behind { SameFrom region.old region.new (place + len) }

@@ -37,15 +37,17 @@ write_block-requires-clause-apart g c =
 
 pub write_block-requires-clause-can : goal.write_block-requires-clause-can
 write_block-requires-clause-can g c =
-    subst (λ ws. g.W.Writer.can_write c.args.writer.now ws c.args.len)
+    subst (λ ws. g.R.Rewriter.can_rewrite c.args.writer.now ws (take c.args.len (drop c.args.place c.args.words.now)))
     (sym (lists g (goal.at.write_block-requires-clause-can g c).After-lent_span-5)) c.requires.can
 
 pub returns-in-Ok-clause-by_writer : goal.returns-in-Ok-clause-by_writer
 returns-in-Ok-clause-by_writer g c =
-    subst (λ ws. g.W.Writer.writes c.args.writer.now ws (take c.args.len (drop c.args.place c.write_block.new.region)))
+    subst (λ ws. g.R.Rewriter.rewrites c.args.writer.now ws (take c.args.len (drop c.args.place c.args.words.now))
+    (take c.args.len (drop c.args.place c.write_block.new.region)))
     (lists g (goal.at.returns-in-Ok-clause-by_writer g c).After-lent_span-5) c.in-Ok.ensures.written
 
 pub returns-in-Err-clause-by_writer : goal.returns-in-Err-clause-by_writer
 returns-in-Err-clause-by_writer g c =
-    subst (λ ws. g.W.Writer.faults c.args.writer.now ws c.in-Err.fault)
+    subst (λ ws. g.R.Rewriter.faults_over c.args.writer.now ws (take c.args.len (drop c.args.place c.args.words.now))
+    c.in-Err.fault)
     (lists g (goal.at.returns-in-Err-clause-by_writer g c).After-lent_span-5) c.in-Err.ensures.written

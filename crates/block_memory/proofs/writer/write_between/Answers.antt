@@ -24,13 +24,14 @@ are g c =
     (c.words_at.ensures block refl) (c.words_at-2.ensures block refl) (c.words_at-3.ensures block refl)
     (c.words_at-4.ensures block refl) (c.words_at-5.ensures block refl)
 
-pub write-requires : goal.write-requires
-write-requires g c =
-    subst (λ ws. g.W.Writer.can_write c.args.writer.now ws (length c.args.block.now))
-    (sym (are g (goal.at.write-requires g c).After-words_at-5)) c.requires.can
+pub rewrite-requires : goal.rewrite-requires
+rewrite-requires g c =
+    subst (λ ws. g.R.Rewriter.can_rewrite c.args.writer.now ws c.args.block.now)
+    (sym (are g (goal.at.rewrite-requires g c).After-words_at-5)) c.requires.can
 
 pub returns : goal.returns
 returns g c =
-    subst (λ ws. MatchResult c.write.result (λ _. g.W.Writer.writes c.args.writer.now ws c.write.new.block)
-    (λ fault. g.W.Writer.faults c.args.writer.now ws fault))
-    (are g (goal.at.returns g c).After-words_at-5) c.write.ensures
+    subst (λ ws. MatchResult c.rewrite.result
+    (λ _. g.R.Rewriter.rewrites c.args.writer.now ws c.args.block.now c.rewrite.new.block)
+    (λ fault. g.R.Rewriter.faults_over c.args.writer.now ws c.args.block.now fault))
+    (are g (goal.at.returns g c).After-words_at-5) c.rewrite.ensures

@@ -2,7 +2,8 @@ use Rattle.std.proofs.Common.{◌≡◌, ℤ, ◌+◌, ◌≤◌, vec_capacity, 
 use Rattle.std.proofs.Common.{subst, arith}
 use Rattle.std.proofs.Math.Nat.{le-max_right}
 use Rattle.std.proofs.lemmas.List.{length-set}
-use Rattle.std.specs.Prelude.{All, MatchResult, Option}
+use Rattle.std.specs.Prelude.{All, MatchResult, Option, slice_index_or}
+use Rattle.block_memory.specs.BlocksInside.{slots_from}
 use Rattle.block_memory.specs.Layout.{Layout, PlacedBlock, IsBare, words_at, with_slot}
 use Rattle.block_memory.specs.Writing.{IsApart, span_at, words_in}
 use Rattle.block_memory.proofs.Lists.{items_after_write}
@@ -40,12 +41,13 @@ pub write_lent-written-requires-clause-apart : goal.write_lent-written-requires-
 write_lent-written-requires-clause-apart g c =
     let here = c.self.inside in
     let after = now g (goal.at.write_lent-written-requires-clause-apart g c).After-lengthen in
-    let bare : IsBare c.args.self.now.slots c.args.place c.args.len = c.requires.bare in
+    let bare : IsBare (slots_from (length here.spans) c.lengthen.new.list.items here.spans) c.args.place c.args.len =
+    rw after.slots (rw (← c.self.view_is) at c.requires.bare) in
     rw c.len-front.ensures (subst (λ (ws : List ℤ).
     All (λ id. IsApart (length ws) (length here.spans + c.args.place) c.args.len (span_at here.spans id))
     c.args.lent.now) (sym c.deref_mut.ensures.value)
     (λ k d within. span_apart (length here.spans) c.lengthen.new.list.items here.starts.items here.spans _ c.args.place
-    c.args.len after.are_spans (rw after.slots (rw (← c.self.view_is) at bare))))
+    c.args.len after.are_spans (bare (slice_index_or c.args.lent.now k d))))
 
 pub write_lent-written-requires-clause-can : goal.write_lent-written-requires-clause-can
 write_lent-written-requires-clause-can g c =
@@ -58,7 +60,14 @@ write_lent-written-requires-clause-can g c =
     ∙ (ap (λ (slots : List (Option PlacedBlock)). map (words_at slots) c.args.lent.now)
     (now g at.After-lengthen).slots
     ∙ ap (λ (l : Layout). map (words_at l.slots) c.args.lent.now) c.self.view_is)) in
-    subst (λ ws. g.W.Writer.can_write c.args.writer.now ws c.args.len) (sym lists) c.requires.can
+    let reached =
+    le-max_right (length here.words.items) (length here.spans + c.args.place + c.args.len) in
+    let lengthened = rw c.len-front.ensures at c.lengthen.ensures.lengthened in
+    let size = length-part c.deref_mut.result.now (c.len-front.result + c.args.place) c.args.len
+    (omega (arith, ap length c.deref_mut.ensures.value, c.len-front.ensures, reached, lengthened.long)) in
+    subst (λ n. g.W.Writer.can_write c.args.writer.now (map (λ id. words_in c.deref_mut.result.now
+    (span_at here.spans id)) c.args.lent.now) n) (sym size)
+    (subst (λ ws. g.W.Writer.can_write c.args.writer.now ws c.args.len) (sym lists) c.requires.can)
 
 -- the words that were written are as many as were asked for
 long : (g : Over) (c : goal.After-write_lent-written g) →
