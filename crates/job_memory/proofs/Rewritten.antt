@@ -8,8 +8,10 @@ use Rattle.refcounts.specs.SharedState.{Slot, SharedState, empty_slot, slot_at, 
 use Rattle.refcounts.specs.SharedState.{raised_slot, lowered_slot, state_after_share, state_after_release}
 use Rattle.refcounts.specs.SharedState.{state_after_releases, occurrences, AreNamed}
 use Rattle.refcounts.specs.Laws.{ReleasesAreCounted, ReleasesKeepBlocks}
-use Rattle.job_memory.specs.JobBlocks.{JobBlocks, AreOwn, with_memory}
-use Rattle.job_memory.proofs.Slots.{live_within, own_count, own_owner, own_shared}
+use Rattle.refcounts.specs.Owners.{slot_seen_by}
+use Rattle.job_memory.specs.JobBlocks.{JobBlocks, AreOwn, with_memory, with_block}
+use Rattle.std.proofs.lemmas.Bool.Decides.{nat_tests}
+use Rattle.job_memory.proofs.Slots.{live_within, own_count, own_owner, own_shared, seen_at}
 use Rattle.job_memory.proofs.Turns.{at_set_here, at_set_other, count_shared}
 
 abbrev of_slots : ℕ → List Slot → SharedState
@@ -148,3 +150,85 @@ turned_over are_counted kept job id taken blocks own listed single =
       fresh =
           tidy_releases m id taken (λ none. absurd (omega (arith, none, single))) (omega (arith, gone, once, single));
     }
+
+-- the job's is a block that is listed
+pub owner_is : (job id : ℕ) (taken : List ℕ) (blocks : JobBlocks) → AreOwn job blocks taken → 1 ≤ occurrences id taken
+    → (slot_at blocks.memory id).owner ≡ job
+owner_is job id taken blocks own listed = own_owner job blocks.memory id (omega (arith, own id, listed))
+
+-- ---- a block that is written over before its last reference goes with others
+
+-- a job sees all references to a block of its own
+seen_own : (job : ℕ) (words : List ℤ) → (slot_seen_by job (new_slot job words)).count ≡ 1
+seen_own job words = grind (arith, nat_tests)
+
+-- other words change nothing of what the job owns
+own_written : (job id : ℕ) (taken : List ℕ) (words : List ℤ) (blocks : JobBlocks) → AreOwn job blocks taken
+    → (slot_at blocks.memory id).count ≡ 1 → AreOwn job (with_block blocks job id words) taken
+own_written job id taken words blocks own single k =
+    let m : SharedState = blocks.memory in
+    let n : SharedState = with_slot m id (new_slot job words) in
+    let after = ap (λ (s : Slot). s.count) (seen_at job n k) in
+    elim (cases_eq k id) [
+      | inl e ↦
+          (let here = at_set_here m id k (new_slot job words) e (live_within m.slots id (omega (arith, single))) in
+          let now = ap (λ (s : Slot). (slot_seen_by job s).count) here in
+          let one = ap (λ (i : ℕ). (slot_at m i).count) e in
+          omega (arith, own k, own_count job m k, after, now, seen_own job words, one, single))
+      | inr ne ↦
+          (let now = ap (λ (s : Slot). (slot_seen_by job s).count) (at_set_other m id k (new_slot job words) ne) in
+          let before = ap (λ (s : Slot). s.count) (seen_at job m k) in
+          omega (arith, own k, after, now, before))
+    ]
+
+same_slot : (s : Slot) (job : ℕ) (words : List ℤ) → s.owner ≡ job → s.count ≡ 1 → s.words ≡ words
+    → s ≡ new_slot job words
+same_slot s job words owner count is =
+    ap (λ (k : ℕ). let t : Slot = record { owner = k; count = s.count; words = s.words } in t) owner
+    ∙ (ap (λ (k : ℕ). let t : Slot = record { owner = job; count = k; words = s.words } in t) count
+    ∙ ap (new_slot job) is)
+
+-- what is known of such a block once it is written over
+pub record IsHandedOver (job id : ℕ) (taken : List ℕ) (words : List ℤ) (old written : JobBlocks) : Type 0 where
+  pub live : IsLive written.memory id
+  pub single : (slot_at written.memory id).count ≡ 1
+  pub own : AreOwn job (with_memory written (state_after_share written.memory id)) taken
+  pub same : with_memory written (state_after_releases (state_after_share written.memory id) taken)
+      ≡ with_block (with_memory old (state_after_releases old.memory taken)) job id words
+
+handed_over_then : ReleasesAreCounted → ReleasesKeepBlocks → (job id : ℕ) (taken : List ℕ) (words : List ℤ)
+    (old : JobBlocks) → AreOwn job old taken → 1 ≤ occurrences id taken → (slot_at old.memory id).count ≡ 1
+    → IsHandedOver job id taken words old (with_block old job id words)
+handed_over_then are_counted kept job id taken words old own listed single =
+    let m : SharedState = old.memory in
+    let s : Slot = new_slot job words in
+    let n : SharedState = with_slot m id s in
+    let here : slot_at n id ≡ s = get_or-set_same m.slots id s empty_slot
+    (live_within m.slots id (omega (arith, single))) in
+    let one : (slot_at n id).count ≡ 1 = ap (λ (t : Slot). t.count) here in
+    let known = turned_over are_counted kept job id taken (with_memory old n)
+    (own_written job id taken words old own single) listed one in
+    let left : SharedState = state_after_releases (state_after_share n id) taken in
+    let is : slot_at left id ≡ s =
+    same_slot (slot_at left id) job words known.owner known.single (known.words ∙ ap (λ (t : Slot). t.words) here) in
+    let there : left ≡ with_slot left id s =
+    sym (ap (of_slots left.room) (set-get_or left.slots id empty_slot))
+    ∙ ap (λ (t : Slot). with_slot left id t) is in
+    let before : with_slot (state_after_releases n taken) id s ≡ with_slot (state_after_releases m taken) id s =
+    releases_but m id s (slot_at m id) s taken
+    ∙ ap (λ (k : SharedState). with_slot (state_after_releases k taken) id s)
+    (ap (of_slots m.room) (set-get_or m.slots id empty_slot)) in
+    record {
+      live = omega (arith, one);
+      single = one;
+      own = known.own;
+      same = ap (with_memory old) (there ∙ (releases_shared n id s taken ∙ before));
+    }
+
+pub handed_over : ReleasesAreCounted → ReleasesKeepBlocks → (job id : ℕ) (taken : List ℕ) (words : List ℤ)
+    (old written : JobBlocks) → AreOwn job old taken → 1 ≤ occurrences id taken → (slot_at old.memory id).count ≡ 1
+    → written ≡ with_block old (slot_at old.memory id).owner id words → IsHandedOver job id taken words old written
+handed_over are_counted kept job id taken words old written own listed single is =
+    subst (IsHandedOver job id taken words old)
+    (sym (is ∙ ap (λ (k : ℕ). with_block old k id words) (owner_is job id taken old own listed)))
+    (handed_over_then are_counted kept job id taken words old own listed single)

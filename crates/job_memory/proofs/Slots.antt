@@ -88,7 +88,7 @@ empty_seen : (job : ℕ) → slot_seen_by job empty_slot ≡ empty_slot
 empty_seen job =
     elim (eqb 0 job) as (λ b. cond b empty_slot empty_slot ≡ empty_slot) [ true ↦ refl | false ↦ refl ]
 
-seen_at : (job : ℕ) (memory : SharedState) (id : ℕ)
+pub seen_at : (job : ℕ) (memory : SharedState) (id : ℕ)
     → slot_in (slots_seen_by job memory) id ≡ slot_seen_by job (slot_at memory id)
 seen_at job memory id =
     ap (get_or (slots_seen_by job memory) id) (sym (empty_seen job))
